@@ -1,0 +1,38 @@
+-- The pieces of a text: blanks, comments, parentheses, connectives, strings and words.
+use Rattle.std.specs.Prelude.{◌==◌, ◌||◌, ℕ, Bool, false, not, List, [], ◌∷◌, Result, Ok, Err, map, if◌then◌else◌}
+use Rattle.cb_forms.specs.Bytes.{is_blank, is_line_end, is_single, is_delimiter}
+use Rattle.cb_forms.specs.Cutting.{cut}
+use Rattle.cb_forms.specs.Strings.{is_unclosed, content_of}
+use Rattle.cb_forms.specs.Words.{token_of}
+use Rattle.cb_forms.specs.declared.fault.Fault.{Fault}
+use Rattle.cb_forms.specs.declared.fault.Fault.TheVariants.{FormNotClosed}
+use Rattle.cb_forms.specs.declared.lexeme.Lexeme.{Lexeme}
+use Rattle.cb_forms.specs.declared.lexeme.Lexeme.TheVariants.{Gap, Opening, Closing, Atom}
+use Rattle.cb_forms.specs.declared.token.Token.{Token}
+use Rattle.cb_forms.specs.declared.token.Token.TheVariants.{Str, And, Or, Not}
+
+-- A comment goes on up to a line end, a string through its closing quote and a word up to a delimiter. All else is one byte.
+abbrev pub piece_takes : List ℕ → ℕ → Bool
+piece_takes [] b = false
+piece_takes (c ∷ cs) b =
+    if c == 59 then not (is_line_end b) else (if c == 34 then is_unclosed cs else (if is_single c then false else not (is_delimiter b)))
+
+unfoldable pub pieces : List ℕ → List (List ℕ)
+pieces s = cut piece_takes s
+
+-- a string, by the bytes behind its opening quote
+abbrev pub string_token : List ℕ → Result Token Fault
+string_token cs = if is_unclosed cs then Err FormNotClosed else Ok (Str (content_of cs))
+
+-- what a piece is, by its first byte
+abbrev pub lexeme_of : List ℕ → Lexeme
+lexeme_of [] = Gap
+lexeme_of (c ∷ cs) =
+    if is_blank c || c == 59 then Gap else (
+    if c == 40 then Opening else (
+    if c == 41 then Closing else (
+    if c == 38 then Atom (Ok And) else (
+    if c == 124 then Atom (Ok Or) else (if c == 126 then Atom (Ok Not) else (if c == 34 then Atom (string_token cs) else Atom (token_of (c ∷ cs))))))))
+
+abbrev pub lexemes : List ℕ → List Lexeme
+lexemes s = map lexeme_of (pieces s)

@@ -1,0 +1,22 @@
+-- What stands between the quotes of a string.
+use Rattle.std.specs.Prelude.{◌==◌, ℕ, Bool, true, false, List, [], ◌∷◌, if◌then◌else◌}
+
+-- The bytes behind an opening quote hold no closing one: a backslash takes its quote from the byte behind it.
+abbrev mutual
+  pub is_unclosed : List ℕ → Bool
+  is_unclosed [] = true
+  is_unclosed (b ∷ bs) = if b == 34 then false else (if b == 92 then is_unclosed_escaped bs else is_unclosed bs)
+
+  pub is_unclosed_escaped : List ℕ → Bool
+  is_unclosed_escaped [] = true
+  is_unclosed_escaped (b ∷ bs) = is_unclosed bs
+
+-- what the bytes behind an opening quote say up to the closing one: a backslash gives the byte behind it
+abbrev mutual
+  pub content_of : List ℕ → List ℕ
+  content_of [] = []
+  content_of (b ∷ bs) = if b == 34 then [] else (if b == 92 then escaped_content_of bs else b ∷ content_of bs)
+
+  pub escaped_content_of : List ℕ → List ℕ
+  escaped_content_of [] = []
+  escaped_content_of (b ∷ bs) = b ∷ content_of bs

@@ -1,0 +1,153 @@
+//! Cutting a script into items while its bytes come.
+ghost use Rattle.std.specs.Prelude.{◌≡◌, ◌≤◌, List, [], ◌∷◌, ◌++◌, true, false, None, IfOk, OnOk, OnErr, IsErr, length};
+ghost use Rattle.cb_forms.specs.Cuts.{item_readings, cut_items, is_too_long};
+ghost use Rattle.cb_forms.specs.Cutter.{readings_in};
+ghost use Rattle.cb_forms.specs.Items.{items, whole, rest, over};
+
+use crate::cut::Cut;
+use crate::form::Item;
+use crate::no_memory::NoMemory;
+use crate::open_part::OpenPart;
+use crate::trace::Trace;
+use std::alloc::Global;
+use std::marker::Model;
+
+/// Cuts a script into items, byte by byte (`docs/LANGUAGE.md`, "Items").
+///
+/// It keeps the bytes of the item that is open, at most the limit, and nothing else of the script. How the bytes are
+/// cut into pieces doesn't matter, since each is a step of its own. A byte costs constant time, spread over the item
+/// that it belongs to.
+///
+/// Contracts see its limit, the bytes stepped and the items given since it was new or since its last `end`, and whether
+/// it has failed.
+#[derive(Drop)]
+pub struct Cutter {
+    alloc: Global,
+    limit: usize,
+    part: OpenPart,
+    over: bool,
+    failed: bool,
+    stepped: Trace<u8>,
+    given: Trace<Item>,
+}
+
+impl Model for Cutter {
+    ghost use Rattle.std.specs.Prelude.{◌≡◌, false};
+    ghost use Rattle.std.specs.Coded.{codes};
+    ghost use Rattle.cb_forms.specs.Cutter.{Progress, readings_in, IsInStep};
+    ghost use Rattle.cb_forms.specs.contracts.form.Item as item;
+
+    ghost Value = { Progress };
+
+    ghost coded = { Prim.hlevel (codes, item.the_row.coded) };
+
+    ghost view = { λ c. record { limit = c.limit; stepped = c.stepped.items; given = c.given.items; failed = c.failed } };
+
+    ghost invariant = { λ c. c.failed ≡ false → IsInStep c.limit c.stepped.items (readings_in c.given.items) c.part c.over };
+}
+
+impl Cutter {
+    ghost use Rattle.cb_forms.specs.Cutter.{fresh_progress};
+
+    /// A cutter that takes items of at most `limit` bytes, from an item's first byte to its last, blanks and comments
+    /// between them included.
+    pub fn new(alloc: Global, limit: usize) -> Cutter
+        ensures { result ≡ fresh_progress limit }
+    {
+        Cutter {
+            alloc,
+            limit,
+            part: OpenPart::new(alloc),
+            over: false,
+            failed: false,
+            stepped: Trace::new(),
+            given: Trace::new(),
+        }
+    }
+
+    /// Takes the next byte, and gives the items that end with it or before it.
+    ///
+    /// `TooLong` comes from the first byte on with which an item has more bytes than the limit; then the text is given
+    /// up, and every later step answers it too. Growth is refused as `NoMemory`, and then so is every later call.
+    pub fn step(&mut self, byte: u8) -> Result<Cut, NoMemory>
+        ensures limit { self.new.limit ≡ self.old.limit }
+        ensures stepped { OnOk result (self.new.stepped ≡ self.old.stepped ++ byte ∷ []) }
+        ensures given { IfOk result (λ cut. self.new.given ≡ self.old.given ++ cut_items cut) }
+        // The items given are those that have ended in the bytes stepped.
+        ensures items { OnOk result (over self.new.limit self.new.stepped ≡ false → readings_in self.new.given ≡ whole self.new.stepped) }
+        ensures too_long { IfOk result (λ cut. is_too_long cut ≡ over self.new.limit self.new.stepped) }
+        ensures ok { OnOk result (self.new.failed ≡ false) }
+        ensures err { OnErr result (self.new.failed ≡ true) }
+        ensures once { self.old.failed ≡ true → IsErr result }
+    {
+        if self.failed {
+            return Err(NoMemory);
+        }
+        if self.over {
+            self.stepped = self.stepped.and(&byte);
+            return Ok(Cut::TooLong);
+        }
+        self.failed = true;
+        let cut = self.part.step(self.alloc, self.limit, byte)?;
+        self.over = cut.is_too_long();
+        self.stepped = self.stepped.and(&byte);
+        self.given = noted(&self.given, &cut);
+        self.failed = false;
+        Ok(cut)
+    }
+
+    /// Ends the text: gives the item that is open there, if there is one. Then the cutter is as new, but after a
+    /// `TooLong`, when this gives nothing and changes nothing. Growth is refused as `NoMemory`, and then so is every
+    /// later call.
+    pub fn end(&mut self) -> Result<Option<Item>, NoMemory>
+        // With the item that is open at the end, the items given are those of the text.
+        ensures items { IfOk result (λ item. over self.old.limit self.old.stepped ≡ false → readings_in self.old.given ++ item_readings item ≡ items self.old.stepped) }
+        ensures fresh { OnOk result (over self.old.limit self.old.stepped ≡ false → self.new ≡ fresh_progress self.old.limit) }
+        ensures too_long { IfOk result (λ item. over self.old.limit self.old.stepped ≡ true → item ≡ None) }
+        ensures still { OnOk result (over self.old.limit self.old.stepped ≡ true → self.new ≡ self.old) }
+        ensures ok { OnOk result (self.new.failed ≡ false) }
+        ensures err { OnErr result (self.new.failed ≡ true) }
+        ensures once { self.old.failed ≡ true → IsErr result }
+    {
+        if self.failed {
+            return Err(NoMemory);
+        }
+        if self.over {
+            return Ok(None);
+        }
+        self.failed = true;
+        let item = self.part.finish(self.alloc)?;
+        self.stepped = Trace::new();
+        self.given = Trace::new();
+        self.failed = false;
+        Ok(item)
+    }
+
+    /// The bytes of the item that is open, at most the limit; none after a `TooLong`. After a `NoMemory` they may be
+    /// any.
+    pub fn held(&self) -> &[u8]
+        ensures rest { self.now.failed ≡ false → over self.now.limit self.now.stepped ≡ false → result.now ≡ rest self.now.stepped }
+        ensures too_long { self.now.failed ≡ false → over self.now.limit self.now.stepped ≡ true → result.now ≡ [] }
+        ensures within { self.now.failed ≡ false → length result.now ≤ self.now.limit }
+    {
+        self.part.bytes.as_slice()
+    }
+
+    /// Whether a call has answered `NoMemory`.
+    pub fn failed(&self) -> bool
+        ensures { result ≡ self.now.failed }
+    {
+        self.failed
+    }
+}
+
+/// The items given, with those of one more step.
+fn noted(given: &Trace<Item>, cut: &Cut) -> Trace<Item>
+    ensures { result.items ≡ given.now.items ++ cut_items cut.now }
+{
+    match cut {
+        Cut::More | Cut::TooLong => given.again(),
+        Cut::Item(item) => given.and(item),
+        Cut::TwoItems(first, second) => given.and(first).and(second),
+    }
+}

@@ -1,0 +1,134 @@
+//! The part that a script so far ends with.
+ghost use Rattle.std.specs.Prelude.{◌≡◌, ◌||◌, ◌≤◌, nat_lt, List, [], ◌∷◌, ◌++◌, true, false, IfOk, OnOk, if◌then◌else◌};
+ghost use Rattle.cb_forms.specs.Cuts.{item_readings, opened_readings, open_bytes, part_with, readings_before};
+ghost use Rattle.cb_forms.specs.Items.{part_takes, readings_of, ended_readings};
+ghost use Rattle.cb_forms.specs.OpenParts.{IsKept, Reaches};
+ghost use Rattle.cb_forms.specs.Places.{mode_is_open, IsPlaceIn};
+
+use crate::byte_kinds::is_blank;
+use crate::cut::Cut;
+use crate::fault::Fault;
+use crate::form::Item;
+use crate::no_memory::NoMemory;
+use crate::part::read_part;
+use crate::place::Place;
+use crate::trace::Trace;
+use std::alloc::Global;
+
+/// A part that may go on: its bytes where it is an item, and the place behind its last byte.
+#[derive(Drop)]
+pub(crate) struct OpenPart {
+    pub(crate) bytes: Vec<u8>,
+    pub(crate) place: Place,
+    /// All its bytes, those of a comment too.
+    pub(crate) spelled: Trace<u8>,
+}
+
+impl OpenPart {
+    /// Before the first byte of a script.
+    pub(crate) fn new(alloc: Global) -> OpenPart
+        ensures kept { IsKept result }
+        ensures spelled { result.spelled.items ≡ [] }
+    {
+        OpenPart {
+            bytes: Vec::new(alloc),
+            place: Place::START,
+            spelled: Trace::new(),
+        }
+    }
+
+    /// Takes the next byte, which goes on with the part or begins another. An item that gets longer than the limit is
+    /// let go.
+    pub(crate) fn step(&mut self, alloc: Global, limit: usize, byte: u8) -> Result<Cut, NoMemory>
+        requires { IsKept self.old }
+        ensures { IfOk result (λ cut. Reaches limit (part_with self.old.spelled.items byte) (readings_before self.old.spelled.items byte) cut self.new) }
+    {
+        if self.place.takes(byte) {
+            self.go_on(alloc, limit, byte)
+        } else {
+            self.begin(alloc, limit, byte)
+        }
+    }
+
+    fn go_on(&mut self, alloc: Global, limit: usize, byte: u8) -> Result<Cut, NoMemory>
+        requires kept { IsKept self.old }
+        requires takes { part_takes self.old.spelled.items byte ≡ true }
+        ensures { IfOk result (λ cut. Reaches limit (self.old.spelled.items ++ byte ∷ []) [] cut self.new) }
+    {
+        self.place = self.place.after(byte);
+        self.spelled = self.spelled.and(&byte);
+        if self.bytes.is_empty() {
+            // a comment
+            return Ok(Cut::More);
+        }
+        if self.bytes.len() >= limit {
+            self.bytes.clear();
+            return Ok(Cut::TooLong);
+        }
+        self.bytes.push(byte)?;
+        let item = take_ended(alloc, &mut self.bytes, self.place)?;
+        Ok(Cut::of(None, item))
+    }
+
+    fn begin(&mut self, alloc: Global, limit: usize, byte: u8) -> Result<Cut, NoMemory>
+        requires { IsKept self.old }
+        ensures { IfOk result (λ cut. Reaches limit (byte ∷ []) (opened_readings self.old.spelled.items) cut self.new) }
+    {
+        let first = take_open(alloc, &mut self.bytes, self.place)?;
+        self.place = Place::fresh(byte);
+        self.spelled = Trace::new().and(&byte);
+        if is_blank(byte) || byte == b';' {
+            return Ok(Cut::of(first, None));
+        }
+        if limit == 0 {
+            return Ok(Cut::TooLong);
+        }
+        self.bytes.push(byte)?;
+        let second = take_ended(alloc, &mut self.bytes, self.place)?;
+        Ok(Cut::of(first, second))
+    }
+
+    /// The open item, as if the script ended here, or none. Then no part has begun.
+    pub(crate) fn finish(&mut self, alloc: Global) -> Result<Option<Item>, NoMemory>
+        requires { IsKept self.old }
+        ensures item { IfOk result (λ item. item_readings item ≡ opened_readings self.old.spelled.items) }
+        ensures kept { OnOk result (IsKept self.new) }
+        ensures spelled { OnOk result (self.new.spelled.items ≡ []) }
+    {
+        let item = take_open(alloc, &mut self.bytes, self.place)?;
+        self.place = Place::START;
+        self.spelled = Trace::new();
+        Ok(item)
+    }
+}
+
+/// The item of these bytes, if it has ended with the last of them. Then the bytes are let go.
+fn take_ended(alloc: Global, bytes: &mut Vec<u8>, place: Place) -> Result<Option<Item>, NoMemory>
+    requires { IsPlaceIn bytes.old.items place.mode place.depth }
+    ensures item { IfOk result (λ item. item_readings item ≡ ended_readings bytes.old.items) }
+    ensures bytes { OnOk result (bytes.new.items ≡ open_bytes bytes.old.items) }
+{
+    if place.is_open() {
+        return Ok(None);
+    }
+    let item = read_part(alloc, bytes.as_slice())?;
+    bytes.clear();
+    Ok(item)
+}
+
+/// The item of these bytes, if one is open at their end. Then the bytes are let go.
+fn take_open(alloc: Global, bytes: &mut Vec<u8>, place: Place) -> Result<Option<Item>, NoMemory>
+    requires { (nat_lt 0 place.depth || mode_is_open place.mode) ≡ true → IsPlaceIn bytes.old.items place.mode place.depth }
+    ensures item { IfOk result (λ item. item_readings item ≡ (if nat_lt 0 place.depth || mode_is_open place.mode then readings_of bytes.old.items else [])) }
+    ensures bytes { OnOk result (bytes.new.items ≡ []) }
+{
+    let item = if !place.is_open() {
+        None
+    } else if place.depth > 0 {
+        Some(Item::Bad(Fault::FormNotClosed))
+    } else {
+        read_part(alloc, bytes.as_slice())?
+    };
+    bytes.clear();
+    Ok(item)
+}

@@ -1,0 +1,132 @@
+//! The one place where output goes through.
+ghost use Rattle.std.specs.Prelude.{◌≡◌, ◌<◌, ◌++◌, [], true, false, IsErr, OnOk, OnErr};
+ghost use Rattle.cb_forms.specs.Moved.{Took};
+ghost use Rattle.cb_forms.specs.Output.{Passed, PassedSome};
+
+use crate::sink::{Sink, WriteFault};
+use std::marker::Model;
+
+/// Passes bytes on to a sink in order, and after a first fault writes no byte more.
+///
+/// What was put may wait in memory of its own until a later `put` or a `flush` writes it: those bytes
+/// are pending. No call takes memory.
+#[derive(Drop)]
+pub struct Out<K: Sink> {
+    sink: K,
+    fault: bool,
+}
+
+impl<K: Sink> Model for Out<K> {
+    ghost use Rattle.std.specs.Prelude.{[]};
+    ghost use Rattle.cb_forms.specs.Output.{OutState, out_state_code};
+
+    ghost Value = { OutState K };
+
+    ghost coded = { out_state_code K.code };
+
+    ghost view = { λ o. record { sink = o.sink; pending = []; fault = o.fault } };
+}
+
+impl<K: Sink> Out<K> {
+    /// Writes to this sink. Nothing is pending, and no fault was answered.
+    pub fn new(sink: K) -> Out<K>
+        ensures { result ≡ record { sink = sink; pending = []; fault = false } }
+    {
+        Out { sink, fault: false }
+    }
+
+    /// The sink as it is now, without the bytes that are pending.
+    pub fn sink(&self) -> &K
+        ensures { result.now ≡ self.now.sink }
+    {
+        &self.sink
+    }
+
+    /// Puts all of these bytes behind those that are pending, and writes some beginning of the whole,
+    /// which may be all of it or nothing.
+    ///
+    /// A `WriteFault` comes where the sink failed during this call, and at each call after one that
+    /// answered a fault. The sink then has a beginning of what was put, and gets no byte more.
+    pub fn put(&mut self, bytes: &[u8]) -> Result<(), WriteFault>
+        ensures ok { let all = self.old.pending ++ bytes.now in
+            OnOk result (Passed (K.has self.old.sink) (K.has self.new.sink) all self.new.pending) }
+        ensures ok_counts { OnOk result (K.failures self.new.sink ≡ K.failures self.old.sink) }
+        ensures ok_before { OnOk result (self.old.fault ≡ false) }
+        ensures ok_after { OnOk result (self.new.fault ≡ false) }
+
+        // The first fault.
+        ensures err { let all = self.old.pending ++ bytes.now in
+            OnErr result (self.old.fault ≡ false
+            → PassedSome (K.has self.old.sink) (K.has self.new.sink) all) }
+        ensures err_counts { OnErr result (self.old.fault ≡ false
+            → K.failures self.old.sink < K.failures self.new.sink) }
+        ensures err_after { OnErr result (self.new.fault ≡ true) }
+
+        // After a fault.
+        ensures stuck { self.old.fault ≡ true → IsErr result }
+        ensures still { self.old.fault ≡ true → self.new ≡ self.old }
+    {
+        check(self.fault)?;
+        self.fault = true;
+        write_all(&mut self.sink, bytes)?;
+        self.fault = false;
+        Ok(())
+    }
+
+    /// Writes all that is pending.
+    ///
+    /// A `WriteFault` comes where the sink failed during this call, and at each call after one that
+    /// answered a fault. The sink then has a beginning of what was put, and gets no byte more.
+    pub fn flush(&mut self) -> Result<(), WriteFault>
+        ensures ok { OnOk result (Took (K.has self.old.sink) (K.has self.new.sink) self.old.pending) }
+        ensures ok_pending { OnOk result (self.new.pending ≡ []) }
+        ensures ok_counts { OnOk result (K.failures self.new.sink ≡ K.failures self.old.sink) }
+        ensures ok_before { OnOk result (self.old.fault ≡ false) }
+        ensures ok_after { OnOk result (self.new.fault ≡ false) }
+
+        // The first fault.
+        ensures err { OnErr result (self.old.fault ≡ false
+            → PassedSome (K.has self.old.sink) (K.has self.new.sink) self.old.pending) }
+        ensures err_counts { OnErr result (self.old.fault ≡ false
+            → K.failures self.old.sink < K.failures self.new.sink) }
+        ensures err_after { OnErr result (self.new.fault ≡ true) }
+
+        // After a fault.
+        ensures stuck { self.old.fault ≡ true → IsErr result }
+        ensures still { self.old.fault ≡ true → self.new ≡ self.old }
+    {
+        check(self.fault)
+    }
+}
+
+// Answers a fault again that was answered before.
+fn check(fault: bool) -> Result<(), WriteFault>
+    ensures ok { OnOk result (fault ≡ false) }
+    ensures err { OnErr result (fault ≡ true) }
+{
+    if fault {
+        return Err(WriteFault);
+    }
+    Ok(())
+}
+
+// Writes all of the slice; where the sink fails, a beginning of it was written.
+fn write_all<K: Sink>(sink: &mut K, bytes: &[u8]) -> Result<(), WriteFault>
+    ensures ok { OnOk result (Took (K.has sink.old) (K.has sink.new) bytes.now) }
+    ensures counts { OnOk result (K.failures sink.new ≡ K.failures sink.old) }
+    ensures err { OnErr result (PassedSome (K.has sink.old) (K.has sink.new) bytes.now) }
+    ensures err_counts { OnErr result (K.failures sink.old < K.failures sink.new) }
+{
+    let mut done = 0;
+    while done < bytes.len() {
+        let n = sink.write(&bytes[done..])?;
+        if n == 0 {
+            return Err(WriteFault);
+        }
+        done += n;
+    }
+    Ok(())
+}
+
+#[cfg(test)]
+mod tests;

@@ -1,0 +1,49 @@
+//! Where bytes come from.
+ghost use Rattle.std.specs.Prelude.{◌≡◌, ◌≤◌, ◌<◌, ◌+◌, List, ℕ, Option, length, take, IfOk, OnOk, OnErr};
+ghost use Rattle.cb_forms.specs.Moved.{Gave, IsAtEnd};
+
+use thiserror::Error;
+
+/// A read failed, and gave no byte.
+#[derive(Clone, Copy, Debug, PartialEq, Eq, Error)]
+#[error("read failed")]
+pub struct ReadFault;
+
+/// Something that gives bytes in order, as standard input or a slice in memory.
+pub trait Source {
+    // the bytes that it hasn't given yet, or `None` where it doesn't tell
+    ghost left: { Self → Option (List ℕ) };
+
+    // how many reads failed so far
+    ghost failures: { Self → ℕ };
+
+    /// Reads the next bytes into the buffer's front, and answers how many: at most the buffer's length,
+    /// and often fewer. What stands in the buffer behind them is left open.
+    ///
+    /// 0 for a buffer that isn't empty is the end of the bytes.
+    ///
+    /// A `ReadFault` comes whenever the source likes. It moves no byte and raises the count of failures
+    /// by one, and no other answer changes that count; a later read may succeed.
+    fn read(&mut self, buf: &mut [u8]) -> Result<usize, ReadFault>
+        ensures within { IfOk result (λ n. n ≤ length buf.old) }
+        ensures gave { IfOk result (λ n. Gave (left self.old) (left self.new) (take n buf.new)) }
+        ensures end { IfOk result (λ n. n ≡ 0 → 0 < length buf.old → IsAtEnd (left self.new)) }
+        ensures counts_ok { OnOk result (failures self.new ≡ failures self.old) }
+        ensures counts_err { OnErr result (failures self.new ≡ failures self.old + 1) }
+        ensures err { OnErr result (left self.new ≡ left self.old) };
+}
+
+#[cfg(test)]
+mod tests {
+    use super::*;
+    use std::test::Fail;
+
+    #[test]
+    fn fault_reads(rt: HostRuntime) -> Result<(), Fail> {
+        assert_eq!(rt;
+            format!(in rt.alloc(); "{ReadFault}")?.as_str(),
+            "read failed"
+        );
+        Ok(())
+    }
+}

@@ -1,0 +1,30 @@
+//! The content of a string (`docs/LANGUAGE.md`, "Tokens").
+ghost use Rattle.std.specs.Prelude.{◌≡◌, IfOk};
+ghost use Rattle.cb_forms.specs.Strings.{content_of};
+
+use crate::byte_string::ByteString;
+use crate::no_memory::NoMemory;
+use std::alloc::Global;
+
+#[cfg(test)]
+mod tests;
+
+/// What the bytes behind an opening quote say up to the closing one, which need not be there: a backslash gives the
+/// byte behind it.
+pub(crate) fn read_content(alloc: Global, body: &[u8]) -> Result<ByteString, NoMemory>
+    ensures { IfOk result (λ s. s ≡ content_of body.now) }
+{
+    let mut content = Vec::new(alloc);
+    let mut is_escaped = false;
+    for byte in body {
+        match *byte {
+            b'"' if !is_escaped => return Ok(ByteString::from_vec(content)),
+            b'\\' if !is_escaped => is_escaped = true,
+            byte => {
+                content.push(byte)?;
+                is_escaped = false;
+            }
+        }
+    }
+    Ok(ByteString::from_vec(content))
+}

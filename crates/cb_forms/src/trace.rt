@@ -1,0 +1,59 @@
+//! A list that only contracts read.
+ghost use Rattle.std.specs.Prelude.{◌≡◌, List, [], ◌∷◌, ◌++◌};
+ghost use Rattle.std.specs.Borrow.{ftrue};
+
+use std::marker::{Model, PhantomData};
+
+/// A history that exists for contracts alone: a clause reads the list as `items`, and at run time it
+/// takes no bytes and its methods do nothing.
+///
+/// A type keeps one where its contract speaks of what happened so far, as the bytes that it was told
+/// or how many calls failed. Being a list and not a number, it never overflows.
+///
+/// By itself a trace says nothing: no memory backs it, so it holds whatever its owner noted. The
+/// owner ties it to what is real, by a `Model` whose `invariant` relates it to the real fields, or by
+/// clauses that fix it in each method.
+#[derive(Drop)]
+pub struct Trace<T> {
+    of: PhantomData<T>,
+    pub ghost items: { List T },
+}
+
+impl<T> Model for Trace<T> {
+    ghost also_owns = { λ _. ftrue };
+}
+
+impl<T> Trace<T> {
+    /// The empty list.
+    pub fn new() -> Trace<T>
+        ensures { result.items ≡ [] }
+    {
+        Trace { of: PhantomData }
+    }
+
+    /// This list with one more item at its end. The list itself stays, so it is replaced by writing
+    /// `self.told = self.told.and(&byte)`.
+    pub fn and(&self, last: &T) -> Trace<T>
+        ensures { result.items ≡ self.now.items ++ last.now ∷ [] }
+    {
+        Trace { of: PhantomData }
+    }
+
+    /// The same list once more, for a branch in which nothing happened.
+    pub fn again(&self) -> Trace<T>
+        ensures { result.items ≡ self.now.items }
+    {
+        Trace { of: PhantomData }
+    }
+}
+
+#[cfg(test)]
+mod tests {
+    use super::*;
+
+    #[test]
+    fn takes_no_bytes(rt: HostRuntime) {
+        let told = Trace::new().and(&7u64).again();
+        assert_eq!(rt; std::mem::size_of_val(&told), 0);
+    }
+}
