@@ -1,5 +1,6 @@
 pub mod CutterLaws
 pub mod CuttingLaws
+pub mod FittingLaws
 pub mod Lasts
 pub mod ListLaws
 pub mod Modes

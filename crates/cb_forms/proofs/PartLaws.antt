@@ -99,7 +99,7 @@ over-push limit p b h =
     ] in
     over-split limit (p ++ b ∷ []) ∙ rw (but_last-push p b, front, tail-push p b) refl
 
-longer-push : (limit : ℕ) (w : List ℕ) (b : ℕ) → is_longer limit w ≡ true → is_longer limit (w ++ b ∷ []) ≡ true
+pub longer-push : (limit : ℕ) (w : List ℕ) (b : ℕ) → is_longer limit w ≡ true → is_longer limit (w ++ b ∷ []) ≡ true
 longer-push limit [] b h = absurd (false≢true h)
 longer-push limit (c ∷ cs) b h =
     let both = and_parts (not (is_gap (c ∷ cs))) (nat_lt limit (length (c ∷ cs))) h in

@@ -6,27 +6,34 @@ use Rattle.cb_forms.specs.declared.fault.Fault.TheVariants.{NestingTooDeep}
 use Rattle.cb_forms.specs.declared.lexeme.Lexeme.{Lexeme}
 use Rattle.cb_forms.specs.declared.lexeme.Lexeme.TheVariants.{Gap, Opening, Closing, Atom}
 
--- the first fault up to the closing of the outermost list, where n lists are open
+-- how deep lists may nest
+abbrev pub deepest : ℕ
+deepest = 200
+
+-- The first fault of a list, in the order of its bytes, where n lists are open so far. A `(` where the deepest is open is
+-- one. The `)` of the outermost list ends the search.
 abbrev pub first_fault : ℕ → List Lexeme → Option Fault
 first_fault n [] = None
 first_fault n (Gap ∷ ls) = first_fault n ls
-first_fault n (Opening ∷ ls) = if nat_le 200 n then Some NestingTooDeep else first_fault (n + 1) ls
+first_fault n (Opening ∷ ls) = if nat_le deepest n then Some NestingTooDeep else first_fault (n + 1) ls
 first_fault n (Closing ∷ ls) = if nat_le n 1 then None else first_fault (n - 1) ls
 first_fault n (Atom (Ok t) ∷ ls) = first_fault n ls
 first_fault n (Atom (Err f) ∷ ls) = Some f
 
--- a tree in front of the first level
+-- a tree in front of the first level (there always is one)
 abbrev pub put_first : Tree → List (List Tree) → List (List Tree)
 put_first t [] = (t ∷ []) ∷ []
 put_first t (ts ∷ levels) = (t ∷ ts) ∷ levels
 
--- A list begins with these trees. The first level closes it, and the list stands in front of the next.
+-- The first level is the inside of a list, behind the trees ts that the list has already. The list stands in front of the
+-- next level.
 abbrev pub listed : List Tree → List (List Tree) → List (List Tree)
 listed ts [] = put_first (branch (trees_of ts)) []
 listed ts (us ∷ levels) = put_first (branch (trees_of (ts ++ us))) levels
 
--- The trees of a run of lexemes, level by level: first those up to the `)` that closes the level at the front of the
--- run, then those behind it in the list around, and so on.
+-- The trees of a run of lexemes, level by level: first those up to a `)` that nothing in the run opens, then those up to
+-- the next such `)`, and so on. The levels of `a (b c) ) d ) e` are those of `a (b c)`, of `d` and of `e`. A fault is left
+-- out: a list that holds one has no tree.
 abbrev pub levels_of : List Lexeme → List (List Tree)
 levels_of [] = [] ∷ []
 levels_of (Gap ∷ ls) = levels_of ls
@@ -44,7 +51,7 @@ abbrev pub fault_or : Option Fault → Tree → Reading
 fault_or None t = Ok t
 fault_or (Some f) t = Err f
 
--- what a closed list says: its first fault, or its tree
+-- what a closed list says, by its lexemes: its first fault, or its tree
 abbrev pub list_reading : List Lexeme → Reading
 list_reading ls = fault_or (first_fault 0 ls) (first_tree (levels_of ls))
 

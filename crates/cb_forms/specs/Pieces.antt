@@ -1,6 +1,7 @@
--- The pieces of a text: blanks, comments, parentheses, connectives, strings and words.
+-- The pieces of a text: blanks, comments, parentheses, connectives, strings and words. What they are doesn't depend on
+-- the lists around them.
 use Rattle.std.specs.Prelude.{◌==◌, ◌||◌, ℕ, Bool, false, not, List, [], ◌∷◌, Result, Ok, Err, map, if◌then◌else◌}
-use Rattle.cb_forms.specs.Bytes.{is_blank, is_line_end, is_single, is_delimiter}
+use Rattle.cb_forms.specs.Bytes.{is_blank, is_line_end, is_single, is_delimiter, ampersand, bar, closing, opening, quote, semicolon, tilde}
 use Rattle.cb_forms.specs.Cutting.{cut}
 use Rattle.cb_forms.specs.Strings.{is_unclosed, content_of}
 use Rattle.cb_forms.specs.Words.{token_of}
@@ -15,12 +16,12 @@ use Rattle.cb_forms.specs.declared.token.Token.TheVariants.{Str, And, Or, Not}
 abbrev pub piece_takes : List ℕ → ℕ → Bool
 piece_takes [] b = false
 piece_takes (c ∷ cs) b =
-    if c == 59 then not (is_line_end b) else (if c == 34 then is_unclosed cs else (if is_single c then false else not (is_delimiter b)))
+    if c == semicolon then not (is_line_end b) else (if c == quote then is_unclosed cs else (if is_single c then false else not (is_delimiter b)))
 
 unfoldable pub pieces : List ℕ → List (List ℕ)
 pieces s = cut piece_takes s
 
--- a string, by the bytes behind its opening quote
+-- a string, by the bytes behind its opening quote: without a closing one it is open
 abbrev pub string_token : List ℕ → Result Token Fault
 string_token cs = if is_unclosed cs then Err FormNotClosed else Ok (Str (content_of cs))
 
@@ -28,11 +29,11 @@ string_token cs = if is_unclosed cs then Err FormNotClosed else Ok (Str (content
 abbrev pub lexeme_of : List ℕ → Lexeme
 lexeme_of [] = Gap
 lexeme_of (c ∷ cs) =
-    if is_blank c || c == 59 then Gap else (
-    if c == 40 then Opening else (
-    if c == 41 then Closing else (
-    if c == 38 then Atom (Ok And) else (
-    if c == 124 then Atom (Ok Or) else (if c == 126 then Atom (Ok Not) else (if c == 34 then Atom (string_token cs) else Atom (token_of (c ∷ cs))))))))
+    if is_blank c || c == semicolon then Gap else (
+    if c == opening then Opening else (
+    if c == closing then Closing else (
+    if c == ampersand then Atom (Ok And) else (
+    if c == bar then Atom (Ok Or) else (if c == tilde then Atom (Ok Not) else (if c == quote then Atom (string_token cs) else Atom (token_of (c ∷ cs))))))))
 
 abbrev pub lexemes : List ℕ → List Lexeme
 lexemes s = map lexeme_of (pieces s)

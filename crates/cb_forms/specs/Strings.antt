@@ -1,11 +1,12 @@
 -- What stands between the quotes of a string.
 use Rattle.std.specs.Prelude.{◌==◌, ℕ, Bool, true, false, List, [], ◌∷◌, if◌then◌else◌}
+use Rattle.cb_forms.specs.Bytes.{backslash, quote}
 
--- The bytes behind an opening quote hold no closing one: a backslash takes its quote from the byte behind it.
+-- The bytes behind an opening quote hold no closing one. A byte behind a backslash closes nothing.
 abbrev mutual
   pub is_unclosed : List ℕ → Bool
   is_unclosed [] = true
-  is_unclosed (b ∷ bs) = if b == 34 then false else (if b == 92 then is_unclosed_escaped bs else is_unclosed bs)
+  is_unclosed (b ∷ bs) = if b == quote then false else (if b == backslash then is_unclosed_escaped bs else is_unclosed bs)
 
   pub is_unclosed_escaped : List ℕ → Bool
   is_unclosed_escaped [] = true
@@ -15,7 +16,7 @@ abbrev mutual
 abbrev mutual
   pub content_of : List ℕ → List ℕ
   content_of [] = []
-  content_of (b ∷ bs) = if b == 34 then [] else (if b == 92 then escaped_content_of bs else b ∷ content_of bs)
+  content_of (b ∷ bs) = if b == quote then [] else (if b == backslash then escaped_content_of bs else b ∷ content_of bs)
 
   pub escaped_content_of : List ℕ → List ℕ
   escaped_content_of [] = []

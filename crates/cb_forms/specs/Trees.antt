@@ -1,4 +1,4 @@
--- Forms as trees, and trees as they are written.
+-- Forms as trees, without the capacities that a `Vec` has.
 use Rattle.std.specs.Prelude.{List, [], ◌∷◌, map, Result, Ok, Err}
 use Rattle.cb_forms.specs.declared.fault.Fault.{Fault}
 use Rattle.cb_forms.specs.declared.form.Form.{Form, fold-Form}
@@ -32,7 +32,7 @@ tree_of = fold-Form Tree tree_step
 abbrev pub trees_in : List Form → List Tree
 trees_in fs = map tree_of fs
 
--- an item is read: its tree, or its first fault
+-- what an item says: its tree, or its fault
 abbrev pub Reading : Type 0
 Reading = Result Tree Fault
 

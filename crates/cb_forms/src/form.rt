@@ -16,6 +16,7 @@ pub enum Form {
 pub enum Item {
     /// A form that is spelled without a fault.
     Form(Form),
-    /// The first fault in the item's spelling: CB01 to CB05.
+    /// The item's fault: CB01 where a list or string is open at the script's end, whatever it holds; CB02 for a `)` outside
+    /// every list; else the first of CB03 to CB05 in the order of its bytes.
     Bad(Fault),
 }

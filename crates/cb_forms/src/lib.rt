@@ -1,7 +1,7 @@
 //! The lowest layer of clipsbatch: bytes in, items out, bytes put.
 //!
-//! A script is cut into items while its bytes come ([`Cutter`]), each an atom or a list ([`Form`]) or the first fault
-//! that stands in it ([`Fault`]). Bytes come from a [`Source`] and go to a [`Sink`], through [`Out`].
+//! A script is cut into items while its bytes come ([`Cutter`]), each an atom or a list ([`Form`]) or a fault
+//! ([`Fault`]). Bytes come from a [`Source`] and go to a [`Sink`], through [`Out`].
 //! `docs/ARCHITECTURE.md` says where the layer stands.
 #![tactic(auto)]
 
