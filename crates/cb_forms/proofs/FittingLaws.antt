@@ -93,8 +93,8 @@ fitting-whole limit p b some fits long =
     let taken : part_takes (tail p) b ≡ true = elim (cases_Bool (part_takes (tail p) b)) [
       | inl e ↦ e
       | inr e ↦
-      let one = and_parts (not (is_gap (b ∷ []))) (nat_lt limit 1) (sym (ap (λ t. is_longer limit (if t then tail p ++ b ∷ [] else b ∷ [])) e) ∙ grown_long) in
-      let lt = ltb-true limit 1 one.1 in absurd (omega arith)
+          let one = and_parts (not (is_gap (b ∷ []))) (nat_lt limit 1) (sym (ap (λ t. is_longer limit (if t then tail p ++ b ∷ [] else b ∷ [])) e) ∙ grown_long) in
+          let lt = ltb-true limit 1 one.1 in absurd (omega arith)
     ] in fitting-cut limit p b fits long ∙ ap (λ t. if t then whole p else items p) taken
 
 -- whatever follows, what has ended is a beginning of what fits
@@ -129,3 +129,16 @@ whole-fitting limit p (b ∷ r) fits =
       | inl long ↦ let cut = cut-begins limit p b fits long in record { more = cut.more; is = fitting-kept limit (p ++ b ∷ []) r long ∙ cut.is }
       | inr fine ↦ let next = whole-push p b in begins_with_more (whole p) (whole (p ++ b ∷ [])) next.more next.is (fitting limit ((p ++ b ∷ []) ++ r)) (whole-fitting limit (p ++ b ∷ []) r fine)
     ])
+
+-- an item that is too long stays so
+pub over-kept_all : (limit : ℕ) (p r : List ℕ) → over limit p ≡ true → over limit (p ++ r) ≡ true
+over-kept_all limit p [] long = ap (over limit) (append-nil p) ∙ long
+over-kept_all limit p (b ∷ r) long = ap (over limit) (sym (append_assoc p (b ∷ []) r)) ∙ over-kept_all limit (p ++ b ∷ []) r (over-kept limit p b long)
+
+-- what has ended stays, and more may come
+pub whole-more : (p r : List ℕ) → Begins (whole p) (whole (p ++ r))
+whole-more p [] = record { more = []; is = ap whole (append-nil p) ∙ sym (append-nil (whole p)) }
+whole-more p (b ∷ r) =
+    let P : List ℕ → Type 0 = λ s. Begins (whole p) (whole s) in
+    let next = whole-push p b in
+    subst P (append_assoc p (b ∷ []) r) (begins_with_more (whole p) (whole (p ++ b ∷ [])) next.more next.is (whole ((p ++ b ∷ []) ++ r)) (whole-more (p ++ b ∷ []) r))

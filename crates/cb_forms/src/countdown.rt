@@ -6,7 +6,7 @@ use std::marker::Model;
 
 /// Counts calls down to the one that is to fail.
 #[derive(Drop)]
-pub struct Countdown {
+pub(crate) struct Countdown {
     left: Option<u64>,
 }
 
@@ -20,14 +20,14 @@ impl Model for Countdown {
 
 impl Countdown {
     /// The call that is to fail, counted from 1; `None` and `Some(0)` are none.
-    pub fn new(left: Option<u64>) -> Countdown
+    pub(crate) fn new(left: Option<u64>) -> Countdown
         ensures { result ≡ left }
     {
         Countdown { left }
     }
 
     /// Counts one call, and answers whether it is the one that is to fail.
-    pub fn call(&mut self) -> bool
+    pub(crate) fn call(&mut self) -> bool
         ensures due { IsTrue result ↔ IsDue self.old }
         ensures counted { self.new ≡ calls_left self.old }
     {

@@ -15,7 +15,7 @@ use std::marker::Model;
 /// Cuts a script into items, byte by byte (`docs/LANGUAGE.md`, "Items").
 ///
 /// It keeps the bytes of the item that is open, at most the limit, and nothing else of the script. How the bytes are
-/// cut into pieces doesn't matter, since each is a step of its own. A byte costs constant time, spread over the item
+/// cut into blocks doesn't matter, since each is a step of its own. A byte costs constant time, spread over the item
 /// that it belongs to.
 ///
 /// Contracts see its limit, the bytes stepped and the items given since it was new or since its last `end`, and whether
@@ -50,7 +50,7 @@ impl Cutter {
     ghost use Rattle.cb_forms.specs.Cutter.{fresh_progress};
 
     /// A cutter that takes items of at most `limit` bytes, from an item's first byte to its last, blanks and comments
-    /// between them included.
+    /// between them included. With a limit of 0 every item is too long.
     pub fn new(alloc: Global, limit: usize) -> Cutter
         ensures { result ≡ fresh_progress limit }
     {
@@ -151,3 +151,6 @@ fn noted(given: &Trace<Item>, cut: &Cut) -> Trace<Item>
         Cut::TwoItems(first, second) => given.and(first).and(second),
     }
 }
+
+#[cfg(test)]
+mod tests;

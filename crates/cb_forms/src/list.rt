@@ -43,5 +43,6 @@ pub(crate) fn read_list(alloc: Global, list: &[u8]) -> Result<Item, NoMemory>
             Lexeme::Atom(Err(fault)) => return Ok(Item::Bad(fault)),
         }
     }
+    // A list whose matching `)` is its last byte never comes here.
     Ok(Item::Bad(Fault::FormNotClosed))
 }

@@ -36,8 +36,8 @@ impl<'a> Model for MemSource<'a> {
 }
 
 impl<'a> MemSource<'a> {
-    /// Gives these bytes, at most `chunk` of them a read. The `fail_at`-th read, counted from 1, fails;
-    /// with `None`, and with `Some(0)`, none does.
+    /// Gives these bytes, at most `chunk` of them a read, which is at least 1. The `fail_at`-th read, counted from 1,
+    /// fails; with `None`, and with `Some(0)`, none does.
     pub fn new(bytes: &'a [u8], chunk: usize, fail_at: Option<u64>) -> MemSource<'a>
         requires { 0 < chunk }
         ensures { result ≡ record { left = bytes.now; chunk = chunk; fails_in = fail_at; failures = 0 } }

@@ -1,5 +1,5 @@
 //! The lists that are open while a list is read.
-ghost use Rattle.std.specs.Prelude.{◌≡◌, ◌+◌, List, [], ◌∷◌, ◌++◌, length, OnOk, OnErr, IfOk, MatchOption, ◌<◌};
+ghost use Rattle.std.specs.Prelude.{◌≡◌, ◌+◌, List, [], ◌∷◌, ◌++◌, length, OnOk, OnErr, IfOk, IfSome, Ok, None, MatchOption, ◌<◌};
 ghost use Rattle.cb_forms.specs.Lists.{put_first, listed, first_tree};
 ghost use Rattle.cb_forms.specs.Nests.{frames_of, closed_up};
 ghost use Rattle.cb_forms.specs.Trees.{Tree, tree_of};
@@ -56,7 +56,8 @@ impl Nest {
 
     /// Closes the innermost list. If it was the only one, the list is the answer.
     pub(crate) fn close(&mut self) -> Result<Option<Form>, NoMemory>
-        ensures inner { IfOk result (λ list. MatchOption list ((levels : List (List Tree)) → closed_up (frames_of self.new) levels ≡ closed_up (frames_of self.old) ([] ∷ levels)) (λ form. (levels : List (List Tree)) → first_tree (closed_up (frames_of self.old) ([] ∷ levels)) ≡ tree_of form)) }
+        ensures inner { result ≡ Ok None → (levels : List (List Tree)) → closed_up (frames_of self.new) levels ≡ closed_up (frames_of self.old) ([] ∷ levels) }
+        ensures only { IfOk result (λ list. IfSome list (λ form. (levels : List (List Tree)) → first_tree (closed_up (frames_of self.old) ([] ∷ levels)) ≡ tree_of form)) }
         ensures depth { IfOk result (λ list. MatchOption list (length (frames_of self.old) ≡ length (frames_of self.new) + 1) (λ _. length (frames_of self.old) ≡ 1)) }
     {
         let list = Form::List(mem::replace(&mut self.inner, Vec::new(self.alloc)));

@@ -88,7 +88,7 @@ impl OpenPart {
         Ok(Cut::of(first, second))
     }
 
-    /// The open item, as if the script ended here, or none. Then no part has begun.
+    /// The open item, as if the script ended here, or none. Afterwards it is as before the first byte.
     pub(crate) fn finish(&mut self, alloc: Global) -> Result<Option<Item>, NoMemory>
         requires { IsKept self.old }
         ensures item { IfOk result (λ item. item_readings item ≡ opened_readings self.old.spelled.items) }

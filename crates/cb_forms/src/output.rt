@@ -8,8 +8,8 @@ use std::marker::Model;
 
 /// Passes bytes on to a sink in order, and after a first fault writes no byte more.
 ///
-/// What was put may wait in memory of its own until a later `put` or a `flush` writes it: those bytes
-/// are pending. No call takes memory.
+/// What was put may wait until a later `put` or a `flush` writes it: those bytes are pending. No call
+/// takes memory.
 #[derive(Drop)]
 pub struct Out<K: Sink> {
     sink: K,
@@ -99,7 +99,7 @@ impl<K: Sink> Out<K> {
     }
 }
 
-// Answers a fault again that was answered before.
+/// Answers a fault again that was answered before.
 fn check(fault: bool) -> Result<(), WriteFault>
     ensures ok { OnOk result (fault ≡ false) }
     ensures err { OnErr result (fault ≡ true) }
@@ -110,7 +110,7 @@ fn check(fault: bool) -> Result<(), WriteFault>
     Ok(())
 }
 
-// Writes all of the slice; where the sink fails, a beginning of it was written.
+/// Writes all of the slice; where the sink fails, a beginning of it was written.
 fn write_all<K: Sink>(sink: &mut K, bytes: &[u8]) -> Result<(), WriteFault>
     ensures ok { OnOk result (Took (K.has sink.old) (K.has sink.new) bytes.now) }
     ensures counts { OnOk result (K.failures sink.new ≡ K.failures sink.old) }

@@ -32,7 +32,7 @@ impl<T> Trace<T> {
     }
 
     /// This list with one more item at its end. The list itself stays, so it is replaced by writing
-    /// `self.told = self.told.and(&byte)`.
+    /// `self.stepped = self.stepped.and(&byte)`.
     pub fn and(&self, last: &T) -> Trace<T>
         ensures { result.items ≡ self.now.items ++ last.now ∷ [] }
     {

@@ -1,4 +1,4 @@
-use Rattle.std.proofs.Common.{ℕ, List, [], ◌∷◌, length, sym, ◌∙◌, subst, arith}
+use Rattle.std.proofs.Common.{ℕ, List, [], ◌∷◌, length, refl, sym, ◌∙◌, subst, arith}
 use Rattle.std.proofs.lemmas.Bool.{eqb-true}
 use Rattle.cb_forms.specs.Nests.{frames_of}
 use Rattle.cb_forms.specs.Trees.{Tree, trees_in}
@@ -22,7 +22,7 @@ pub loop-rest-preserved-in_default : goal.loop-rest-preserved-in_default
 loop-rest-preserved-in_default c =
     let lexeme_is = sym c.in-Closing.is ∙ c.in_ok-read_piece.ensures in
     let closed = c.in_ok-form-in-Closing.ensures in
-    let inner = rw c.in_default.is at closed.inner in
+    let inner = (rw c.in_default.is at closed.inner) refl in
     let depth = rw c.in_default.is at closed.depth in
     let some = frames-some (frames_in c.close.new.self.outer.items) (trees_in c.close.new.self.inner.items) in
     list-close c.args.list.now (frames_of c.loop-rest.nest) c.loop-rest.rest.now c.split_piece.result.0.now c.split_piece.result.1.now c.loop-rest.invariant c.split_piece.ensures.cut (frames_of c.close.new.self) lexeme_is inner depth some
