@@ -84,3 +84,20 @@ module _ {X : Type 0} (takes : List X → X → Bool) where
   cut-joined ([] ∷ parts) h = absurd h
   cut-joined ((x ∷ xs) ∷ parts) h =
       cut_from-takes (x ∷ []) xs (joined parts) h.0 ∙ (cut_from-ends (x ∷ xs) parts h.1 h.2 ∙ ap (λ more. (x ∷ xs) ∷ more) (cut-joined parts h.2))
+
+  ends_before-front : (part : List X) (qs ps : List (List X)) → EndsBefore takes part (qs ++ ps) → EndsBefore takes part qs
+  ends_before-front part [] ps h = tt
+  ends_before-front part ([] ∷ qs) ps h = h
+  ends_before-front part ((x ∷ xs) ∷ qs) ps h = h
+
+  -- parts at the front of a cut
+  pub are_cut-front : (qs ps : List (List X)) → AreCut takes (qs ++ ps) → AreCut takes qs
+  are_cut-front [] ps h = tt
+  are_cut-front ([] ∷ qs) ps h = h
+  are_cut-front ((x ∷ xs) ∷ qs) ps h = (h.0, ends_before-front (x ∷ xs) qs ps h.1, are_cut-front qs ps h.2)
+
+  -- and at its end
+  pub are_cut-back : (qs ps : List (List X)) → AreCut takes (qs ++ ps) → AreCut takes ps
+  are_cut-back [] ps h = h
+  are_cut-back ([] ∷ qs) ps h = absurd h
+  are_cut-back ((x ∷ xs) ∷ qs) ps h = are_cut-back qs ps h.2

@@ -1,6 +1,9 @@
 pub mod CutterLaws
 pub mod CuttingLaws
+pub mod DepthLaws
+mod Examples
 pub mod FittingLaws
+pub mod FormLaws
 pub mod Lasts
 pub mod ListLaws
 pub mod Modes
@@ -11,7 +14,12 @@ pub mod PartLaws
 pub mod Passing
 pub mod PieceLaws
 pub mod PlaceLaws
+pub mod ReaderLaws
+pub mod ReadingLaws
+pub mod SpellingLaws
 pub mod Splits
+pub mod TextLaws
 mod Vectors
 mod Walks
 mod WordLemmas
+pub mod WritingLaws

@@ -18,13 +18,13 @@ use Rattle.cb_forms.specs.declared.token.Token.{Token}
 use Rattle.cb_forms.specs.declared.token.Token.TheVariants.{And, Or, Not}
 use Rattle.cb_forms.proofs.NestLaws.{closed_up-open}
 
-abbrev is_opening : Lexeme → Bool
+abbrev pub is_opening : Lexeme → Bool
 is_opening Opening = true
 is_opening Gap = false
 is_opening Closing = false
 is_opening (Atom r) = false
 
-abbrev is_closing : Lexeme → Bool
+abbrev pub is_closing : Lexeme → Bool
 is_closing Closing = true
 is_closing Gap = false
 is_closing Opening = false
@@ -78,7 +78,7 @@ closing-begins (c ∷ cs) = elim (cases_eq c 40) as (λ _. (c == 41) ≡ is_clos
   ]
 ]
 
-abbrev one_if : Bool → ℕ
+abbrev pub one_if : Bool → ℕ
 one_if t = cond t 1 0
 
 -- What has been read of a list: the frames, and the text that is left, say what the whole list says.
@@ -87,7 +87,7 @@ pub record IsListSoFar (list : List ℕ) (frames : List (List Tree)) (rest : Lis
   pub tree_is : first_tree (closed_up frames (levels_of (lexemes rest))) ≡ first_tree (levels_of (lexemes list))
   pub even : openings (pieces rest) + length frames ≤ closings (pieces rest)
 
-pieces-list : (cs : List ℕ) → pieces (40 ∷ cs) ≡ (40 ∷ []) ∷ pieces cs
+pub pieces-list : (cs : List ℕ) → pieces (40 ∷ cs) ≡ (40 ∷ []) ∷ pieces cs
 unfolding pieces
 pieces-list [] = refl
 pieces-list (c ∷ cs) = refl

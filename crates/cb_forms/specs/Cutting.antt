@@ -5,7 +5,9 @@ module _ {X : Type 0} (takes : List X → X → Bool) where
   -- the parts of a list whose first part has begun
   abbrev pub cut_from : List X → List X → List (List X)
   cut_from part [] = part ∷ []
-  cut_from part (x ∷ xs) = if takes part x then cut_from (part ++ x ∷ []) xs else part ∷ cut_from (x ∷ []) xs
+  cut_from part (x ∷ xs) =
+      let next = cut_from (x ∷ []) xs in
+      if takes part x then cut_from (part ++ x ∷ []) xs else part ∷ next
 
   -- the parts of a list
   abbrev pub cut : List X → List (List X)

@@ -5,6 +5,7 @@ pub mod Cutter
 pub mod Cutting
 pub mod Faults
 pub mod Items
+pub mod Laws
 pub mod Lists
 pub mod MemSink
 pub mod MemSource

@@ -1,0 +1,11 @@
+use Rattle.cb_forms.proofs.FittingLaws.{fitting-kept, fitting-items, whole-fitting}
+use Rattle.cb_forms.proofs.laws.what_fits_is_settled.Goals as goal
+
+pub returns-clause-settled : goal.returns-clause-settled
+returns-clause-settled c = fitting-kept
+
+pub returns-clause-all : goal.returns-clause-all
+returns-clause-all c = fitting-items
+
+pub returns-clause-ended : goal.returns-clause-ended
+returns-clause-ended c = λ limit p r fits. let begins = whole-fitting limit p r fits in (begins.more, begins.is)

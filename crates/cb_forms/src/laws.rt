@@ -1,0 +1,58 @@
+//! Laws of texts and their items: each is the contract of a function that does nothing.
+ghost use Rattle.std.specs.Prelude.{◌≡◌, ◌<◌, ◌≤◌, ℕ, true, false, List, ◌++◌, Ok, Err, length, map};
+ghost use Rattle.std.specs.List.{flat_map, All};
+ghost use Rattle.cb_forms.specs.Items.{items, Reads, whole, rest, over, fitting};
+ghost use Rattle.cb_forms.specs.Laws.{BeginsWith, OpensBehind, without_gaps, depth_of};
+ghost use Rattle.cb_forms.specs.Lists.{levels_of, list_reading, put_first, written};
+ghost use Rattle.cb_forms.specs.Pieces.{lexemes};
+ghost use Rattle.cb_forms.specs.Trees.{Tree, Reading};
+ghost use Rattle.cb_forms.specs.declared.fault.Fault.TheVariants.{NestingTooDeep};
+ghost use Rattle.cb_forms.specs.declared.lexeme.Lexeme.{Lexeme};
+
+/// Each text reads as its items, and as nothing else.
+pub fn each_text_reads_once()
+    ensures reads { (s : List ℕ) → Reads s (items s) }
+    ensures once { (s : List ℕ) (rs : List Reading) → Reads s rs → rs ≡ items s }
+{}
+
+/// The items that have ended in a text are the first ones of every text that begins with it, and have ended in it too.
+pub fn what_has_ended_stays()
+    ensures stays { (p r : List ℕ) → BeginsWith (whole p) (items (p ++ r)) }
+    ensures ended { (p r : List ℕ) → BeginsWith (whole p) (whole (p ++ r)) }
+{}
+
+/// A text with an item that is longer than the limit has one however it goes on.
+pub fn too_long_stays()
+    ensures { (limit : ℕ) (p r : List ℕ) → over limit p ≡ true → over limit (p ++ r) ≡ true }
+{}
+
+/// Behind an item that is longer than the limit nothing counts, and where there is none all items fit. What has ended
+/// before there is one is among those that fit.
+pub fn what_fits_is_settled()
+    ensures settled { (limit : ℕ) (p r : List ℕ) → over limit p ≡ true → fitting limit (p ++ r) ≡ fitting limit p }
+    ensures all { (limit : ℕ) (s : List ℕ) → over limit s ≡ false → fitting limit s ≡ items s }
+    ensures ended { (limit : ℕ) (p r : List ℕ) → over limit p ≡ false → BeginsWith (whole p) (fitting limit (p ++ r)) }
+{}
+
+/// What is open of a text stands at its end, behind the items that have ended. Unless an item is too long, it has no
+/// more bytes than the limit.
+pub fn what_is_open_fits()
+    ensures fits { (limit : ℕ) (p : List ℕ) → over limit p ≡ false → length (rest p) ≤ limit }
+    ensures behind { (p : List ℕ) → (before : List ℕ) × OpensBehind p before }
+{}
+
+/// A form is the tree that is written, whatever stands behind it and whichever blanks and comments stand in it, unless
+/// its lists nest more than 200 deep. No two trees are written alike.
+pub fn a_form_is_as_it_is_written()
+    ensures first { (t : Tree) (ls : List Lexeme) → levels_of (written t ++ ls) ≡ put_first t (levels_of ls) }
+    ensures read { (t : Tree) (s : List ℕ) → without_gaps (lexemes s) ≡ written t → depth_of t ≤ 200 → list_reading (lexemes s) ≡ Ok t }
+    ensures deep { (t : Tree) (s : List ℕ) → without_gaps (lexemes s) ≡ written t → 200 < depth_of t → list_reading (lexemes s) ≡ Err NestingTooDeep }
+    ensures unique { (t u : Tree) → written t ≡ written u → t ≡ u }
+{}
+
+/// A text without a fault is its forms as they are written, with blanks and comments between the lexemes: no item is
+/// lost or made up, and their order is kept. And such a text reads as those forms, unless lists nest more than 200 deep.
+pub fn a_text_is_its_forms_as_written()
+    ensures written { (s : List ℕ) (ts : List Tree) → items s ≡ map Ok ts → without_gaps (lexemes s) ≡ flat_map written ts }
+    ensures read { (s : List ℕ) (ts : List Tree) → All (λ t. depth_of t ≤ 200) ts → without_gaps (lexemes s) ≡ flat_map written ts → items s ≡ map Ok ts }
+{}

@@ -1,0 +1,69 @@
+//! Reading a whole script at once, part by part.
+ghost use Rattle.std.specs.Prelude.{◌≡◌, ◌<◌, ◌∷◌, ◌++◌, length, map, IfOk, OnOk};
+ghost use Rattle.cb_forms.specs.Cuts.{item_readings};
+ghost use Rattle.cb_forms.specs.Items.{parts, readings_of, items};
+ghost use Rattle.cb_forms.specs.Places.{IsPlaceIn};
+ghost use Rattle.cb_forms.specs.Trees.{reading_of};
+
+use crate::fault::Fault;
+use crate::form::Item;
+use crate::no_memory::NoMemory;
+use crate::part::read_part;
+use crate::place::Place;
+use std::alloc::Global;
+
+/// The items of a whole script, in order. The script is at hand as a whole, and an item may have any length. Growth is
+/// refused as `NoMemory`.
+pub fn read_items(alloc: Global, text: &[u8]) -> Result<Vec<Item>, NoMemory>
+    ensures { IfOk result (λ read. map reading_of read.items ≡ items text.now) }
+{
+    let mut read = Vec::new(alloc);
+    let mut rest = text;
+    while !rest.is_empty() {
+        let (part, more, place) = split_part(rest);
+        rest = more;
+        keep(&mut read, read_last_part(alloc, part, place)?)?;
+    }
+    Ok(read)
+}
+
+/// The first part of a text, what stands behind it, and the place at the part's end.
+fn split_part(text: &[u8]) -> (&[u8], &[u8], Place)
+    requires { 0 < length text.now }
+    ensures cut { parts text.now ≡ result.0.now ∷ parts result.1.now }
+    ensures place { IsPlaceIn result.0.now result.2.mode result.2.depth }
+    ensures shorter { length result.1.now < length text.now }
+{
+    let mut place = Place::fresh(text[0]);
+    let mut end = 1;
+    while end < text.len() && place.takes(text[end]) {
+        place = place.after(text[end]);
+        end += 1;
+    }
+    let (part, more) = text.split_at(end);
+    (part, more, place)
+}
+
+/// The item that a part is, also a list that isn't closed: none for a blank or a comment.
+fn read_last_part(alloc: Global, part: &[u8], place: Place) -> Result<Option<Item>, NoMemory>
+    requires { IsPlaceIn part.now place.mode place.depth }
+    ensures { IfOk result (λ item. item_readings item ≡ readings_of part.now) }
+{
+    if place.depth > 0 {
+        return Ok(Some(Item::Bad(Fault::FormNotClosed)));
+    }
+    read_part(alloc, part)
+}
+
+/// Puts an item at the end, if there is one.
+fn keep(read: &mut Vec<Item>, item: Option<Item>) -> Result<(), NoMemory>
+    ensures { OnOk result (map reading_of read.new.items ≡ map reading_of read.old.items ++ item_readings item) }
+{
+    if let Some(item) = item {
+        read.push(item)?;
+    }
+    Ok(())
+}
+
+#[cfg(test)]
+mod tests;
