@@ -4,8 +4,8 @@
 #     benches/run.sh
 #
 # It makes a repository in a temporary folder, of the crates that a measurement needs and the measurement itself, proves
-# and builds it there with `rt`, and runs it. The first run takes some minutes, since it proves the crates. No test
-# depends on what it prints.
+# and builds it there with `rt`, and runs it. That takes some minutes, or under one where the crates were checked here
+# before. forms.rt.txt is the measurement; no check but this one reads it. No test depends on what it prints.
 set -eu
 
 top=$(cd "$(dirname "$0")/.." && pwd)
