@@ -1,0 +1,7 @@
+use Rattle.std.proofs.Common.{◌≡◌, drop}
+use Rattle.cb_session.specs.Constants.{members, values_of}
+use Rattle.cb_session.proofs.Results.{behind_those}
+use Rattle.cb_session.proofs.constant.read_values.Given as goal
+
+abbrev pub invariant-loop-form : goal.invariant-loop-form
+invariant-loop-form l = behind_those l.values.items (values_of (members (drop l.form-index l.forms))) ≡ values_of (members l.forms)

@@ -1,0 +1,11 @@
+pub mod Heads
+pub mod Constants
+pub mod FactForms
+pub mod Commands
+pub mod Lines
+pub mod Printing
+pub mod Engine
+pub mod Engines
+pub mod Transcripts
+pub mod Sessions
+pub mod Courses

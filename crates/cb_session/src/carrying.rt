@@ -1,0 +1,71 @@
+//! Carrying out the items of a script, and writing what they write.
+ghost use Rattle.std.specs.Prelude.{◌≡◌, ◌<◌, ◌++◌, Err, IfOk, OnOk, OnErr, false};
+ghost use Rattle.cb_forms.specs.Output.{Passed, PassedSome};
+ghost use Rattle.cb_forms.specs.Trees.{reading_of};
+ghost use Rattle.cb_session.specs.Courses.{cut_run};
+ghost use Rattle.cb_session.specs.Engine.{carried};
+
+use crate::engine::Engine;
+use crate::status::{Ending, Status, Stop};
+use cb_forms::{Cut, Item, Out, Sink};
+
+/// How a script ends at a limit.
+const LIMITED: Status = Status {
+    code: 4,
+    ending: Ending::Limit,
+};
+
+/// Carries out an item, and puts what it writes. The answer is the status, where the script ends with the item.
+pub(crate) fn carry<K: Sink>(
+    engine: &mut Engine,
+    item: &Item,
+    out: &mut Out<K>,
+) -> Result<Option<Status>, Stop>
+    requires { out.old.fault ≡ false }
+    ensures state { OnOk result (engine.new ≡ (carried engine.old (reading_of item.now)).state) }
+    ensures status { IfOk result (λ status. status ≡ (carried engine.old (reading_of item.now)).status) }
+    ensures wrote { OnOk result (Passed (K.has out.old.sink) (K.has out.new.sink) (out.old.pending ++ (carried engine.old (reading_of item.now)).written) out.new.pending) }
+    ensures fine { OnOk result (out.new.fault ≡ false) }
+    ensures counts { OnOk result (K.failures out.new.sink ≡ K.failures out.old.sink) }
+    ensures wrote_some { OnErr result (PassedSome (K.has out.old.sink) (K.has out.new.sink) (out.old.pending ++ (carried engine.old (reading_of item.now)).written)) }
+    ensures sink_failed { result ≡ Err Stop.WriteFault → K.failures out.old.sink < K.failures out.new.sink }
+{
+    let done = match engine.carry_out(item) {
+        Ok(done) => done,
+        Err(_) => return Err(Stop::NoMemory),
+    };
+    match out.put(done.written.as_slice()) {
+        Ok(()) => Ok(done.status),
+        Err(_) => Err(Stop::WriteFault),
+    }
+}
+
+/// Carries out what a byte completed: items, one after another, or the end at an item that is too long.
+pub(crate) fn carry_cut<K: Sink>(
+    engine: &mut Engine,
+    cut: &Cut,
+    out: &mut Out<K>,
+) -> Result<Option<Status>, Stop>
+    requires { out.old.fault ≡ false }
+    ensures state { OnOk result (engine.new ≡ (cut_run engine.old cut.now).state) }
+    ensures status { IfOk result (λ status. status ≡ (cut_run engine.old cut.now).status) }
+    ensures wrote { OnOk result (Passed (K.has out.old.sink) (K.has out.new.sink) (out.old.pending ++ (cut_run engine.old cut.now).written) out.new.pending) }
+    ensures fine { OnOk result (out.new.fault ≡ false) }
+    ensures counts { OnOk result (K.failures out.new.sink ≡ K.failures out.old.sink) }
+    ensures wrote_some { OnErr result (PassedSome (K.has out.old.sink) (K.has out.new.sink) (out.old.pending ++ (cut_run engine.old cut.now).written)) }
+    ensures sink_failed { result ≡ Err Stop.WriteFault → K.failures out.old.sink < K.failures out.new.sink }
+{
+    match cut {
+        Cut::More => Ok(None),
+        Cut::Item(item) => carry(engine, item, out),
+        Cut::TwoItems(first, second) => match carry(engine, first, out) {
+            Ok(None) => carry(engine, second, out),
+            Ok(Some(status)) => Ok(Some(status)),
+            Err(stop) => Err(stop),
+        },
+        Cut::TooLong => match out.put(b"[CB91] form too long\n") {
+            Ok(()) => Ok(Some(LIMITED)),
+            Err(_) => Err(Stop::WriteFault),
+        },
+    }
+}

@@ -1,0 +1,76 @@
+use super::*;
+use crate::testing::items;
+
+// The fault of the first item of a script, if it has one.
+fn fault_in(alloc: Global, script: &str) -> Result<Option<Fault>, NoMemory> {
+    let items = items(alloc, script.as_bytes())?;
+    let Some(item) = items.as_slice().first() else {
+        return Ok(None);
+    };
+    Ok(read_command(alloc, item)?.err())
+}
+
+#[test]
+fn reads_commands(rt: HostRuntime) -> Result<(), NoMemory> {
+    let scripts = [
+        "abc",
+        "\"a b\"",
+        "-5",
+        "(assert (color red) (size 7 \"b\"))",
+        "(assert (a = 1 =) (=))",
+        "(facts)",
+        "(printout t)",
+        "(printout stdout a crlf)",
+        "(printout nil a = b)",
+    ];
+    for script in scripts {
+        assert_eq!(rt; fault_in(rt.alloc(), script)?, None, "{script}");
+    }
+    Ok(())
+}
+
+// The first fault of a form, by `docs/LANGUAGE.md`, "Faults".
+#[test]
+fn tells_the_first_fault(rt: HostRuntime) -> Result<(), NoMemory> {
+    let faults = [
+        ("(assert (a", Fault::FormNotClosed),
+        (")", Fault::UnmatchedParenthesis),
+        ("?x", Fault::UnboundVariable),
+        ("$?x", Fault::UnboundVariable),
+        ("?*g*", Fault::UnknownGlobal),
+        ("?", Fault::MalformedForm),
+        ("&", Fault::MalformedForm),
+        ("()", Fault::MalformedForm),
+        ("(\"facts\")", Fault::MalformedForm),
+        ("(nothing ?x)", Fault::UnknownFunction),
+        ("(test)", Fault::UnknownFunction),
+        ("(defrule r =>)", Fault::NotInProfile),
+        ("(+ 1 2)", Fault::NotInProfile),
+        ("(lowcase a)", Fault::NotInProfile),
+        ("(facts 1)", Fault::WrongArguments),
+        ("(assert)", Fault::WrongArguments),
+        ("(assert a)", Fault::FactDoesNotFit),
+        ("(assert ())", Fault::FactDoesNotFit),
+        ("(assert (1 a))", Fault::FactDoesNotFit),
+        ("(assert (forall a))", Fault::FactDoesNotFit),
+        ("(assert b (a ?x))", Fault::FactDoesNotFit),
+        ("(assert (a ?x) b)", Fault::UnboundVariable),
+        ("(assert (a ?*g* ?x))", Fault::UnknownGlobal),
+        ("(assert (a ?))", Fault::MalformedForm),
+        ("(assert (a ()))", Fault::MalformedForm),
+        ("(assert (a (b)))", Fault::UnknownFunction),
+        ("(assert (a (facts)))", Fault::NotInProfile),
+        ("(assert (a = (b)))", Fault::NotInProfile),
+        ("(assert (a ?x = (b)))", Fault::UnboundVariable),
+        ("(printout)", Fault::NotInProfile),
+        ("(printout \"t\" ?x)", Fault::NotInProfile),
+        ("(printout file ?x)", Fault::NotInProfile),
+        ("(printout t = (b))", Fault::UnknownFunction),
+        ("(printout nil (assert (a)))", Fault::NotInProfile),
+        ("(printout t 1 ?x ?*g*)", Fault::UnboundVariable),
+    ];
+    for (script, fault) in faults {
+        assert_eq!(rt; fault_in(rt.alloc(), script)?, Some(fault), "{script}");
+    }
+    Ok(())
+}

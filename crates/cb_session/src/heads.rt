@@ -1,0 +1,202 @@
+//! The words that a list may begin with.
+ghost use Rattle.std.specs.Prelude.{◌≡◌};
+ghost use Rattle.std.specs.List.{list_any};
+ghost use Rattle.std.specs.Str.{bytes_eq};
+ghost use Rattle.cb_session.specs.Heads.{head_of, is_refused, is_reserved};
+
+/// What the symbol that a list begins with names (`docs/LANGUAGE.md`, "Commands").
+#[derive(Clone, Copy, Debug, PartialEq, Eq)]
+pub(crate) enum Head {
+    /// `assert`
+    Assert,
+    /// `facts`
+    Facts,
+    /// `printout`
+    Printout,
+    /// A construct, command or function that is known and not carried out.
+    Refused,
+    /// No construct, command or function.
+    Unknown,
+}
+
+/// The constructs, commands and functions that are known and not carried out.
+pub(crate) const REFUSED_HEADS: [&str; 128] = [
+    // Constructs.
+    "deftemplate",
+    "deffacts",
+    "defglobal",
+    "defrule",
+    // Commands.
+    "reset",
+    "run",
+    "agenda",
+    "rules",
+    "undefrule",
+    "clear",
+    "watch",
+    "unwatch",
+    "set-strategy",
+    "exit",
+    // Functions with an effect.
+    "retract",
+    "bind",
+    "if",
+    "while",
+    "print",
+    "println",
+    "halt",
+    // Functions without one.
+    "+",
+    "-",
+    "*",
+    "div",
+    "mod",
+    "=",
+    "<>",
+    "<",
+    ">",
+    "<=",
+    ">=",
+    "eq",
+    "neq",
+    "and",
+    "or",
+    "not",
+    "min",
+    "max",
+    "abs",
+    "create$",
+    "nth$",
+    "length$",
+    "member$",
+    "first$",
+    "rest$",
+    "str-cat",
+    "sym-cat",
+    "integerp",
+    "numberp",
+    "symbolp",
+    "stringp",
+    "lexemep",
+    "multifieldp",
+    "evenp",
+    "oddp",
+    // Others that CLIPS knows.
+    "/",
+    "**",
+    "float",
+    "integer",
+    "round",
+    "sqrt",
+    "random",
+    "seed",
+    "gensym",
+    "gensym*",
+    "defmodule",
+    "focus",
+    "deffunction",
+    "defgeneric",
+    "defmethod",
+    "defclass",
+    "definstances",
+    "defmessage-handler",
+    "load",
+    "load*",
+    "batch",
+    "batch*",
+    "bload",
+    "bsave",
+    "save",
+    "open",
+    "close",
+    "read",
+    "readline",
+    "format",
+    "loop-for-count",
+    "foreach",
+    "progn",
+    "progn$",
+    "switch",
+    "break",
+    "return",
+    "duplicate",
+    "modify",
+    "fact-index",
+    "fact-slot-value",
+    "refresh",
+    "matches",
+    "set-break",
+    "remove-break",
+    "show-breaks",
+    "set-fact-duplication",
+    "get-strategy",
+    "undeftemplate",
+    "undeffacts",
+    "undefglobal",
+    "list-defrules",
+    "list-deftemplates",
+    "list-deffacts",
+    "ppdefrule",
+    "ppfact",
+    "eval",
+    "build",
+    "funcall",
+    "expand$",
+    "explode$",
+    "implode$",
+    "subseq$",
+    "delete$",
+    "insert$",
+    "replace$",
+    "str-index",
+    "str-length",
+    "str-compare",
+    "sub-string",
+    "upcase",
+    "lowcase",
+];
+
+/// The words that are never the relation of a fact.
+pub(crate) const RESERVED_WORDS: [&str; 9] = [
+    "test", "and", "or", "not", "declare", "logical", "object", "exists", "forall",
+];
+
+/// What a symbol names as the head of a list.
+pub(crate) fn read_head(name: &[u8]) -> Head
+    ensures { result ≡ head_of name.now }
+{
+    if name == b"assert".as_slice() {
+        return Head::Assert;
+    }
+    if name == b"facts".as_slice() {
+        return Head::Facts;
+    }
+    if name == b"printout".as_slice() {
+        return Head::Printout;
+    }
+    if is_refused(name) {
+        return Head::Refused;
+    }
+    Head::Unknown
+}
+
+/// Whether a word is never the relation of a fact.
+#[tactic(auto, unfolding(crate::specs::Heads::is_reserved))]
+pub(crate) fn is_reserved(word: &[u8]) -> bool
+    ensures { result ≡ is_reserved word.now }
+{
+    is_among(&RESERVED_WORDS, word)
+}
+
+#[tactic(auto, unfolding(crate::specs::Heads::is_refused))]
+fn is_refused(name: &[u8]) -> bool
+    ensures { result ≡ is_refused name.now }
+{
+    is_among(&REFUSED_HEADS, name)
+}
+
+fn is_among(words: &[&str], word: &[u8]) -> bool
+    ensures { result ≡ list_any (λ w. bytes_eq w.now word.now) words.now }
+{
+    words.iter().any(|w| w.as_bytes() == word)
+}

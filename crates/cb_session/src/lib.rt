@@ -1,0 +1,22 @@
+//! Scripts carried out item by item, and their transcripts.
+#![tactic(auto)]
+
+mod carrying;
+mod command;
+mod constant;
+mod course;
+mod done;
+mod engine;
+mod fact_form;
+mod heads;
+mod limits;
+mod line;
+mod print;
+mod session;
+mod status;
+#[cfg(test)]
+mod testing;
+
+pub use limits::Limits;
+pub use session::Session;
+pub use status::{Ending, Flow, Status, Stop};

@@ -1,0 +1,59 @@
+//! How a run goes and ends.
+ghost use Rattle.std.specs.Prelude.{◌≡◌};
+ghost use Rattle.cb_session.specs.declared.status.Stop.TheVariants as stop;
+
+use cb_forms::WriteFault;
+
+/// What ended a script.
+#[derive(Clone, Copy, Debug, PartialEq, Eq)]
+pub enum Ending {
+    /// Its end.
+    Done,
+    /// The command `exit`.
+    Exit,
+    /// A limit.
+    Limit,
+}
+
+/// How a script ended, and the exit status that goes with it.
+#[derive(Clone, Copy, Debug, PartialEq, Eq)]
+pub struct Status {
+    /// 0 where no fault line was written, 1 where one was, 4 at a limit; after `exit` the number that it asked for.
+    pub code: u8,
+    /// What ended the script.
+    pub ending: Ending,
+}
+
+/// What a piece of a script led to.
+#[derive(Clone, Copy, Debug, PartialEq, Eq)]
+pub enum Flow {
+    /// The script goes on.
+    GoOn,
+    /// The script has ended.
+    Ended(Status),
+}
+
+/// Why a script could not be carried out further.
+#[derive(Clone, Copy, Debug, PartialEq, Eq)]
+pub enum Stop {
+    /// A growth was refused.
+    NoMemory,
+    /// A write failed.
+    WriteFault,
+}
+
+impl From<cb_forms::NoMemory> for Stop {
+    ghost from_gives = { λ _ e. e ≡ stop.NoMemory };
+
+    fn from(_e: cb_forms::NoMemory) -> Stop {
+        Stop::NoMemory
+    }
+}
+
+impl From<WriteFault> for Stop {
+    ghost from_gives = { λ _ e. e ≡ stop.WriteFault };
+
+    fn from(_e: WriteFault) -> Stop {
+        Stop::WriteFault
+    }
+}

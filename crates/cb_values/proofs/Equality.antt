@@ -1,0 +1,62 @@
+-- `==` of these types is equality.
+use Rattle.std.proofs.Common.{◌≡◌, List, rules}
+use Rattle.std.specs.Bool.{Decides}
+use Rattle.std.specs.Cmp.Lexicographic.{pointwise, pointwise_decides}
+use Rattle.std.specs.Cmp.Rules.{hashing}
+use Rattle.cb_values.specs.declared.single.Single.{Single}
+use Rattle.cb_values.specs.declared.single.Single.TheVariants as s
+use Rattle.cb_values.specs.declared.value.Value.{Value}
+use Rattle.cb_values.specs.declared.value.Value.TheVariants as v
+use Rattle.cb_values.specs.contracts.single.SinglePartialEq.TheImpl as single
+use Rattle.cb_values.specs.contracts.value.ValuePartialEq.TheImpl as value
+
+pub single-Decides : (a b : Single) → Decides (single.ghosts.eq a b) (a ≡ b)
+single-Decides (s.Symbol a) (s.Symbol b) = search (hashing, rules)
+single-Decides (s.Symbol a) (s.Str b) = search (hashing, rules)
+single-Decides (s.Symbol a) (s.Int b) = search (hashing, rules)
+single-Decides (s.Symbol a) (s.Fact b) = search (hashing, rules)
+single-Decides (s.Str a) (s.Symbol b) = search (hashing, rules)
+single-Decides (s.Str a) (s.Str b) = search (hashing, rules)
+single-Decides (s.Str a) (s.Int b) = search (hashing, rules)
+single-Decides (s.Str a) (s.Fact b) = search (hashing, rules)
+single-Decides (s.Int a) (s.Symbol b) = search (hashing, rules)
+single-Decides (s.Int a) (s.Str b) = search (hashing, rules)
+single-Decides (s.Int a) (s.Int b) = search (hashing, rules)
+single-Decides (s.Int a) (s.Fact b) = search (hashing, rules)
+single-Decides (s.Fact a) (s.Symbol b) = search (hashing, rules)
+single-Decides (s.Fact a) (s.Str b) = search (hashing, rules)
+single-Decides (s.Fact a) (s.Int b) = search (hashing, rules)
+single-Decides (s.Fact a) (s.Fact b) = search (hashing, rules)
+
+pub singles-Decides : (xs ys : List Single) → Decides (pointwise single.ghosts.eq xs ys) (xs ≡ ys)
+singles-Decides xs ys = pointwise_decides single-Decides xs ys
+
+pub value-Decides : (a b : Value) → Decides (value.ghosts.eq a b) (a ≡ b)
+value-Decides (v.Symbol a) (v.Symbol b) = search (hashing, rules)
+value-Decides (v.Symbol a) (v.Str b) = search (hashing, rules)
+value-Decides (v.Symbol a) (v.Int b) = search (hashing, rules)
+value-Decides (v.Symbol a) (v.Fact b) = search (hashing, rules)
+value-Decides (v.Symbol a) (v.Multi b) = search (hashing, rules)
+value-Decides (v.Str a) (v.Symbol b) = search (hashing, rules)
+value-Decides (v.Str a) (v.Str b) = search (hashing, rules)
+value-Decides (v.Str a) (v.Int b) = search (hashing, rules)
+value-Decides (v.Str a) (v.Fact b) = search (hashing, rules)
+value-Decides (v.Str a) (v.Multi b) = search (hashing, rules)
+value-Decides (v.Int a) (v.Symbol b) = search (hashing, rules)
+value-Decides (v.Int a) (v.Str b) = search (hashing, rules)
+value-Decides (v.Int a) (v.Int b) = search (hashing, rules)
+value-Decides (v.Int a) (v.Fact b) = search (hashing, rules)
+value-Decides (v.Int a) (v.Multi b) = search (hashing, rules)
+value-Decides (v.Fact a) (v.Symbol b) = search (hashing, rules)
+value-Decides (v.Fact a) (v.Str b) = search (hashing, rules)
+value-Decides (v.Fact a) (v.Int b) = search (hashing, rules)
+value-Decides (v.Fact a) (v.Fact b) = search (hashing, rules)
+value-Decides (v.Fact a) (v.Multi b) = search (hashing, rules)
+value-Decides (v.Multi a) (v.Symbol b) = search (hashing, rules)
+value-Decides (v.Multi a) (v.Str b) = search (hashing, rules)
+value-Decides (v.Multi a) (v.Int b) = search (hashing, rules)
+value-Decides (v.Multi a) (v.Fact b) = search (hashing, rules)
+value-Decides (v.Multi a) (v.Multi b) = search (hashing, rules, singles-Decides a b)
+
+pub values-Decides : (xs ys : List Value) → Decides (pointwise value.ghosts.eq xs ys) (xs ≡ ys)
+values-Decides xs ys = pointwise_decides value-Decides xs ys

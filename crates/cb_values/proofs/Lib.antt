@@ -1,0 +1,4 @@
+pub mod Equality
+pub mod FactEquality
+pub mod FactListLaws
+pub mod Parts

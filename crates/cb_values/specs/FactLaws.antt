@@ -1,0 +1,36 @@
+-- `==` of facts is an equivalence, and equal facts are fed to a hasher alike.
+use Rattle.std.specs.Prelude.{◌≡◌, true, nat_eq}
+use Rattle.std.proofs.Common.{ap, ap₂}
+use Rattle.std.specs.Cmp.{IsEquivalence, and_equiv, on_equiv, first_so, second_so}
+use Rattle.std.specs.Cmp.Lexicographic.{pointwise, lists_equiv, nat_list_eq_equiv, bytes_decides}
+use Rattle.std.specs.Hash as fed
+use Rattle.std.specs.Hash.{items_Alike}
+use Rattle.cb_values.specs.Facts.{FactContent, fields, FactValue, content_eq, content_writes, fact_eq, hash_from, hash_of}
+use Rattle.cb_values.specs.contracts.value.ValueEq.TheImpl.Laws as value_eq
+use Rattle.cb_values.specs.contracts.value.ValueHash.TheImpl.Laws as value_hash
+
+content_refl : (c : FactContent) → content_eq c c ≡ true
+content_refl (fields vs) = (lists_equiv value_eq.laws-law).refl vs
+
+content_symm : (c d : FactContent) → content_eq c d ≡ content_eq d c
+content_symm (fields vs) (fields ws) = (lists_equiv value_eq.laws-law).symm vs ws
+
+content_congr : (c d e : FactContent) → content_eq c d ≡ true → content_eq c e ≡ content_eq d e
+content_congr (fields us) (fields vs) (fields ws) h = (lists_equiv value_eq.laws-law).congr us vs ws h
+
+content_equiv : IsEquivalence content_eq
+content_equiv = record { refl = content_refl; symm = content_symm; congr = content_congr }
+
+pub fact_equiv : IsEquivalence fact_eq
+fact_equiv = and_equiv (on_equiv (λ (f : FactValue). f.relation) nat_list_eq_equiv) (on_equiv (λ (f : FactValue). f.content) content_equiv)
+
+content_fed : (c d : FactContent) → content_eq c d ≡ true → content_writes c ≡ content_writes d
+content_fed (fields vs) (fields ws) h = (items_Alike (record { fed = value_hash.respects_eq-law })).fed vs ws h
+
+pub hash_of_equal : (f g : FactValue) → fact_eq f g ≡ true → hash_of f ≡ hash_of g
+hash_of_equal f g e =
+    ap₂ hash_from ((bytes_decides f.relation g.relation).0 (first_so (pointwise nat_eq f.relation g.relation) (content_eq f.content g.content) e))
+    (content_fed f.content g.content (second_so (pointwise nat_eq f.relation g.relation) (content_eq f.content g.content) e))
+
+pub fact_fed : (f g : FactValue) → fact_eq f g ≡ true → fed.u64 (hash_of f) ≡ fed.u64 (hash_of g)
+fact_fed f g e = ap fed.u64 (hash_of_equal f g e)

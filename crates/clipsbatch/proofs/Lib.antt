@@ -1,0 +1,5 @@
+pub mod Endings
+pub mod Following
+pub mod Moves
+pub mod Options
+pub mod Scripts

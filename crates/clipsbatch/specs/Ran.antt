@@ -1,0 +1,20 @@
+-- All that is promised of a run, in one record.
+use Rattle.std.specs.Prelude.{◌≡◌, ◌≢◌, ◌<◌, ◌-◌, ◌^◌, ℕ, List, length, Option, IfSome}
+use Rattle.cb_forms.specs.Moved.{Took}
+use Rattle.cb_session.specs.Transcripts.{transcript, status_of}
+use Rattle.clipsbatch.specs.Outcomes.{ended_as, HasEnded, HasStopped, HasFailed}
+use Rattle.clipsbatch.specs.Runs.{IsPrompt, WroteAllRead, WroteBeginning, WroteBeginningHowever}
+use Rattle.clipsbatch.specs.declared.outcome.Cause.TheVariants.{ReadFault}
+use Rattle.clipsbatch.specs.declared.outcome.Outcome.{Outcome}
+
+-- `reads` and `reads'` count the reads that had failed when the run began and behind it.
+pub record Ran (max : ℕ) (result : Outcome) (from from' to to' : Option (List ℕ)) (reads reads' : ℕ) : Type 0 where
+  pub whole_transcript : HasEnded result.cause → IfSome from (λ s. Took to to' (transcript max s))
+  pub script_status : HasEnded result.cause → IfSome from (λ s. result ≡ ended_as (status_of max s))
+  pub prompt : IsPrompt max from from' to to'
+  pub after_read_fault : result.cause ≡ ReadFault → WroteAllRead max from from' to to'
+  pub after_stop : HasStopped result.cause → WroteBeginning max from to to'
+  pub after_stop_however : HasStopped result.cause → WroteBeginningHowever max from from' to to'
+  pub read_failed : result.cause ≡ ReadFault → IfSome from (λ s. length s < 2 ^ 64 - 1 → reads < reads')
+  pub no_read_failed : (result.cause ≢ ReadFault) → reads' ≡ reads
+  pub status_of_fault : HasFailed result.cause → result.status ≡ 3
