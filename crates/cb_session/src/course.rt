@@ -86,6 +86,7 @@ impl Course {
         ensures goes_on { IfOk result (λ status. status ≡ None → IsBehind self.old.cutter.limit (self.old.cutter.stepped ++ piece.now) self.new.cutter self.new.engine) }
         ensures wrote { OnOk result (Wrote (K.has out.old.sink) (K.has out.new.sink) (so_far self.old.cutter.limit self.old.cutter.stepped).written (so_far self.old.cutter.limit (self.old.cutter.stepped ++ piece.now)).written) }
         ensures ready { OnOk result (IsReady out.new) }
+        ensures counts { OnOk result (K.failures out.new.sink ≡ K.failures out.old.sink) }
         ensures wrote_some { OnErr result (WroteSome (K.has out.old.sink) (K.has out.new.sink) (so_far self.old.cutter.limit self.old.cutter.stepped).written (so_far self.old.cutter.limit (self.old.cutter.stepped ++ piece.now)).written) }
         ensures sink_failed { result ≡ Err Stop.WriteFault → K.failures out.old.sink < K.failures out.new.sink }
     {
@@ -125,6 +126,7 @@ impl Course {
         ensures status { IfOk result (λ status. status ≡ status_of self.old.cutter.limit self.old.cutter.stepped) }
         ensures wrote { OnOk result (Wrote (K.has out.old.sink) (K.has out.new.sink) (so_far self.old.cutter.limit self.old.cutter.stepped).written (transcript self.old.cutter.limit self.old.cutter.stepped)) }
         ensures ready { OnOk result (IsReady out.new) }
+        ensures counts { OnOk result (K.failures out.new.sink ≡ K.failures out.old.sink) }
         ensures wrote_some { OnErr result (WroteSome (K.has out.old.sink) (K.has out.new.sink) (so_far self.old.cutter.limit self.old.cutter.stepped).written (transcript self.old.cutter.limit self.old.cutter.stepped)) }
         ensures sink_failed { result ≡ Err Stop.WriteFault → K.failures out.old.sink < K.failures out.new.sink }
     {

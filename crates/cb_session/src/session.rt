@@ -62,6 +62,7 @@ impl Session {
         ensures wrote { OnOk result (self.old.status ≡ None → Wrote (K.has out.old.sink) (K.has out.new.sink) (so_far self.old.max_form self.old.fed).written (so_far self.old.max_form (self.old.fed ++ piece.now)).written) }
         ensures flow { IfOk result (λ flow. self.old.status ≡ None → flow ≡ flow_of (so_far self.old.max_form (self.old.fed ++ piece.now)).status) }
         ensures ready { OnOk result (IsReady out.new) }
+        ensures counts { OnOk result (K.failures out.new.sink ≡ K.failures out.old.sink) }
 
         // It stops.
         ensures stop { IfErr result (λ stop. self.new.stop ≡ Some stop) }
@@ -101,7 +102,8 @@ impl Session {
         ensures told { IfOk result (λ status. self.old.status ≡ None → self.new ≡ told_of self.old.max_form self.old.fed (Some status)) }
         ensures wrote { OnOk result (self.old.status ≡ None → Wrote (K.has out.old.sink) (K.has out.new.sink) (so_far self.old.max_form self.old.fed).written (transcript self.old.max_form self.old.fed)) }
         ensures status { IfOk result (λ status. self.old.status ≡ None → status ≡ status_of self.old.max_form self.old.fed) }
-        ensures ready { OnOk result (IsReady out.old → IsReady out.new) }
+        ensures ready { OnOk result (IsReady out.new) }
+        ensures counts { OnOk result (K.failures out.new.sink ≡ K.failures out.old.sink) }
 
         // It stops.
         ensures stop { IfErr result (λ stop. self.new.stop ≡ Some stop) }

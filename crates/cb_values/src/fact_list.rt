@@ -68,7 +68,6 @@ impl FactList {
     pub fn find(&self, fact: &Fact) -> Option<u64>
         ensures found { IfSome result (λ ix. fact_at self.now ix ≡ Some fact.now) }
         ensures absent { IfNone result (IsAbsent self.now fact.now) }
-        ensures base { IsFactBase self.now }
     {
         self.indices.get(fact).copied()
     }

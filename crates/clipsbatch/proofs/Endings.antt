@@ -16,7 +16,7 @@ use Rattle.cb_session.specs.declared.status.Stop.TheVariants as stop
 use Rattle.clipsbatch.specs.Outcomes.{cause_of, ended_as, stopped_as, failed_as, HasEnded, HasStopped, HasFailed}
 use Rattle.clipsbatch.specs.Ran.{Ran}
 use Rattle.clipsbatch.specs.Runs.{IsPrompt, WroteBeginning, WroteBeginningHowever}
-use Rattle.clipsbatch.specs.declared.outcome.Cause.TheVariants.{ReadFault}
+use Rattle.clipsbatch.specs.declared.outcome.Cause.TheVariants.{ReadFault, WriteFault}
 use Rattle.clipsbatch.proofs.Moves.{gave_then, took_wrote, passed_wrote}
 use Rattle.clipsbatch.proofs.Following.{Following, following_same, flow_some}
 use Rattle.clipsbatch.proofs.Scripts.{IsWhole, whole_so_far, whole_at_end, beginning_so_far, however_so_far, beginning_at_end, however_at_end}
@@ -37,6 +37,15 @@ ended_not_read_fault ending.Done h = cc
 ended_not_read_fault ending.Exit h = cc
 ended_not_read_fault ending.Limit h = cc
 
+ended_not_write_fault : (e : Ending) → cause_of e ≡ WriteFault → ⊥
+ended_not_write_fault ending.Done h = cc
+ended_not_write_fault ending.Exit h = cc
+ended_not_write_fault ending.Limit h = cc
+
+stopped_write_fault : (s : Stop) → (stopped_as s).cause ≡ WriteFault → s ≡ stop.WriteFault
+stopped_write_fault stop.NoMemory h = cc
+stopped_write_fault stop.WriteFault h = refl
+
 stopped_not_ended : (s : Stop) → HasEnded (stopped_as s).cause → ⊥
 stopped_not_ended stop.NoMemory h = h
 stopped_not_ended stop.WriteFault h = h
@@ -50,9 +59,10 @@ stopped_status stop.NoMemory = refl
 stopped_status stop.WriteFault = refl
 
 -- a run that the script's own ending ended
-ran_whole : (max : ℕ) (status : Status) (from from' to to' : Option (List ℕ)) (reads reads' : ℕ) → reads' ≡ reads → IsPrompt max from from' to to' → IsWhole max status from to to'
-    → Ran max (ended_as status) from from' to to' reads reads'
-ran_whole max status None from' to to' reads reads' same prompt whole = record {
+ran_whole : (max : ℕ) (status : Status) (from from' to to' : Option (List ℕ)) (reads reads' writes writes' : ℕ)
+    → reads' ≡ reads → writes' ≡ writes → IsPrompt max from from' to to' → IsWhole max status from to to'
+    → Ran max (ended_as status) from from' to to' reads reads' writes writes'
+ran_whole max status None from' to to' reads reads' writes writes' same kept prompt whole = record {
   whole_transcript = λ _. tt;
   script_status = λ _. tt;
   prompt = prompt;
@@ -61,9 +71,11 @@ ran_whole max status None from' to to' reads reads' same prompt whole = record {
   after_stop_however = λ h. absurd (ended_not_stopped status.ending h);
   read_failed = λ h. absurd (ended_not_read_fault status.ending h);
   no_read_failed = λ _. same;
+  write_failed = λ h. absurd (ended_not_write_fault status.ending h);
+  no_write_failed = λ _. kept;
   status_of_fault = λ h. absurd (ended_not_failed status.ending h);
 }
-ran_whole max status (Some s) from' to to' reads reads' same prompt whole = record {
+ran_whole max status (Some s) from' to to' reads reads' writes writes' same kept prompt whole = record {
   whole_transcript = λ _. whole.0;
   script_status = λ _. ap ended_as whole.1;
   prompt = prompt;
@@ -72,13 +84,16 @@ ran_whole max status (Some s) from' to to' reads reads' same prompt whole = reco
   after_stop_however = λ h. absurd (ended_not_stopped status.ending h);
   read_failed = λ h. absurd (ended_not_read_fault status.ending h);
   no_read_failed = λ _. same;
+  write_failed = λ h. absurd (ended_not_write_fault status.ending h);
+  no_write_failed = λ _. kept;
   status_of_fault = λ h. absurd (ended_not_failed status.ending h);
 }
 
 -- a run that memory or the sink stopped
-ran_part : (max : ℕ) (s : Stop) (from from' to to' : Option (List ℕ)) (reads reads' : ℕ) → reads' ≡ reads → IsPrompt max from from' to to' → WroteBeginning max from to to'
-    → WroteBeginningHowever max from from' to to' → Ran max (stopped_as s) from from' to to' reads reads'
-ran_part max s from from' to to' reads reads' same prompt beginning however = record {
+ran_part : (max : ℕ) (s : Stop) (from from' to to' : Option (List ℕ)) (reads reads' writes writes' : ℕ)
+    → reads' ≡ reads → (s ≡ stop.WriteFault → writes < writes') → IsPrompt max from from' to to' → WroteBeginning max from to to'
+    → WroteBeginningHowever max from from' to to' → Ran max (stopped_as s) from from' to to' reads reads' writes writes'
+ran_part max s from from' to to' reads reads' writes writes' same failed prompt beginning however = record {
   whole_transcript = λ h. absurd (stopped_not_ended s h);
   script_status = λ h. absurd (stopped_not_ended s h);
   prompt = prompt;
@@ -87,6 +102,8 @@ ran_part max s from from' to to' reads reads' same prompt beginning however = re
   after_stop_however = λ _. however;
   read_failed = λ h. absurd (stopped_not_read_fault s h);
   no_read_failed = λ _. same;
+  write_failed = λ h. failed (stopped_write_fault s h);
+  no_write_failed = λ h. absurd (stopped_not_ended s h);
   status_of_fault = λ _. stopped_status s;
 }
 
@@ -116,63 +133,63 @@ prompt_piece max told from a a' to b b' piece before read short next = record {
 }
 
 -- a piece behind which the script has ended
-pub ran_ended : (max : ℕ) (told : Told) (from a a' to b b' : Option (List ℕ)) (piece : List ℕ) (status : Status) (reads reads' : ℕ)
-    → reads' ≡ reads → Following max told from a to b → Gave a a' piece → length piece ≤ 4096
+pub ran_ended : (max : ℕ) (told : Told) (from a a' to b b' : Option (List ℕ)) (piece : List ℕ) (status : Status) (reads reads' writes writes' : ℕ)
+    → reads' ≡ reads → writes' ≡ writes → Following max told from a to b → Gave a a' piece → length piece ≤ 4096
     → (flow : Flow) → flow ≡ Ended status → flow ≡ flow_of (so_far told.max_form (told.fed ++ piece)).status
     → Wrote b b' (so_far told.max_form told.fed).written (so_far told.max_form (told.fed ++ piece)).written
-    → Ran max (ended_as status) from a' to b' reads reads'
-ran_ended max told from a a' to b b' piece status reads reads' same before read short flow ends tells wrote =
+    → Ran max (ended_as status) from a' to b' reads reads' writes writes'
+ran_ended max told from a a' to b b' piece status reads reads' writes writes' same kept before read short flow ends tells wrote =
     let wrote' : Wrote b b' (so_far max told.fed).written (so_far max (told.fed ++ piece)).written = rw before.same_max at wrote in
     let ended : (so_far max (told.fed ++ piece)).status ≡ Some status = flow_some _ status (sym ends ∙ (rw before.same_max at tells)) in
     let all = gave_then from a a' told.fed piece before.read read in
-    ran_whole max status from a' to b' reads reads' same
+    ran_whole max status from a' to b' reads reads' writes writes' same kept
     (prompt_piece max told from a a' to b b' piece before read short (wrote'.0, wrote'.1))
     (whole_so_far max status from a' to b' (told.fed ++ piece) all ended (took_wrote to b b' _ _ before.wrote wrote'))
 
 -- a piece that could not be carried out whole
-pub ran_stopped : (max : ℕ) (told : Told) (from a a' to b b' : Option (List ℕ)) (piece : List ℕ) (s : Stop) (reads reads' : ℕ)
-    → reads' ≡ reads → Following max told from a to b → Gave a a' piece → length piece ≤ 4096
+pub ran_stopped : (max : ℕ) (told : Told) (from a a' to b b' : Option (List ℕ)) (piece : List ℕ) (s : Stop) (reads reads' writes writes' : ℕ)
+    → reads' ≡ reads → (s ≡ stop.WriteFault → writes < writes') → Following max told from a to b → Gave a a' piece → length piece ≤ 4096
     → WroteSome b b' (so_far told.max_form told.fed).written (so_far told.max_form (told.fed ++ piece)).written
-    → Ran max (stopped_as s) from a' to b' reads reads'
-ran_stopped max told from a a' to b b' piece s reads reads' same before read short wrote =
+    → Ran max (stopped_as s) from a' to b' reads reads' writes writes'
+ran_stopped max told from a a' to b b' piece s reads reads' writes writes' same failed before read short wrote =
     let wrote' : WroteSome b b' (so_far max told.fed).written (so_far max (told.fed ++ piece)).written = rw before.same_max at wrote in
     let all = gave_then from a a' told.fed piece before.read read in
     let some = passed_wrote to b b' _ _ before.wrote wrote' in
-    ran_part max s from a' to b' reads reads' same
+    ran_part max s from a' to b' reads reads' writes writes' same failed
     (prompt_piece max told from a a' to b b' piece before read short (wrote'.0, wrote'.2))
     (beginning_so_far max from a' to b' (told.fed ++ piece) all some)
     (however_so_far max from a' to b' (told.fed ++ piece) all some)
 
 -- the end of the script, carried out
-pub ran_finished : (max : ℕ) (told : Told) (from a a' to b b' : Option (List ℕ)) (piece : List ℕ) (status : Status) (reads reads' : ℕ)
-    → reads' ≡ reads → Following max told from a to b → piece ≡ [] → Gave a a' piece → IsAtEnd a' → status ≡ status_of told.max_form told.fed
+pub ran_finished : (max : ℕ) (told : Told) (from a a' to b b' : Option (List ℕ)) (piece : List ℕ) (status : Status) (reads reads' writes writes' : ℕ)
+    → reads' ≡ reads → writes' ≡ writes → Following max told from a to b → piece ≡ [] → Gave a a' piece → IsAtEnd a' → status ≡ status_of told.max_form told.fed
     → Wrote b b' (so_far told.max_form told.fed).written (transcript told.max_form told.fed)
-    → Ran max (ended_as status) from a' to b' reads reads'
-ran_finished max told from a a' to b b' piece status reads reads' same before none read end is wrote =
+    → Ran max (ended_as status) from a' to b' reads reads' writes writes'
+ran_finished max told from a a' to b b' piece status reads reads' writes writes' same kept before none read end is wrote =
     let here = following_same max told from a a' to b piece none before read in
     let wrote' : Wrote b b' (so_far max told.fed).written (transcript max told.fed) = rw before.same_max at wrote in
     let is' : status ≡ status_of max told.fed = rw before.same_max at is in
-    ran_whole max status from a' to b' reads reads' same
+    ran_whole max status from a' to b' reads reads' writes writes' same kept
     (prompt_here max told from a' to b b' [] here (wrote'.0, wrote'.1))
     (subst (λ (it : Status). IsWhole max it from to b') (sym is') (whole_at_end max from a' to b' told.fed here.read end (took_wrote to b b' _ _ before.wrote wrote')))
 
 -- the end of the script, not carried out whole
-pub ran_unfinished : (max : ℕ) (told : Told) (from a a' to b b' : Option (List ℕ)) (piece : List ℕ) (s : Stop) (reads reads' : ℕ)
-    → reads' ≡ reads → Following max told from a to b → piece ≡ [] → Gave a a' piece → IsAtEnd a'
+pub ran_unfinished : (max : ℕ) (told : Told) (from a a' to b b' : Option (List ℕ)) (piece : List ℕ) (s : Stop) (reads reads' writes writes' : ℕ)
+    → reads' ≡ reads → (s ≡ stop.WriteFault → writes < writes') → Following max told from a to b → piece ≡ [] → Gave a a' piece → IsAtEnd a'
     → WroteSome b b' (so_far told.max_form told.fed).written (transcript told.max_form told.fed)
-    → Ran max (stopped_as s) from a' to b' reads reads'
-ran_unfinished max told from a a' to b b' piece s reads reads' same before none read end wrote =
+    → Ran max (stopped_as s) from a' to b' reads reads' writes writes'
+ran_unfinished max told from a a' to b b' piece s reads reads' writes writes' same failed before none read end wrote =
     let here = following_same max told from a a' to b piece none before read in
     let wrote' : WroteSome b b' (so_far max told.fed).written (transcript max told.fed) = rw before.same_max at wrote in
-    ran_part max s from a' to b' reads reads' same
+    ran_part max s from a' to b' reads reads' writes writes' same failed
     (prompt_here max told from a' to b b' [] here (wrote'.0, wrote'.2))
     (beginning_at_end max from a' to b' told.fed here.read end (passed_wrote to b b' _ _ before.wrote wrote'))
     (however_at_end max from a' to b' end)
 
 -- a read that failed, or one too many
-ran_read_fault : (max : ℕ) (told : Told) (from a to b : Option (List ℕ)) (reads reads' : ℕ) → Following max told from a to b
-    → IfSome from (λ s. length s < 2 ^ 64 - 1 → reads < reads') → Ran max (failed_as ReadFault) from a to b reads reads'
-ran_read_fault max told from a to b reads reads' here failed = record {
+ran_read_fault : (max : ℕ) (told : Told) (from a to b : Option (List ℕ)) (reads reads' writes writes' : ℕ) → Following max told from a to b
+    → IfSome from (λ s. length s < 2 ^ 64 - 1 → reads < reads') → Ran max (failed_as ReadFault) from a to b reads reads' writes writes'
+ran_read_fault max told from a to b reads reads' writes writes' here failed = record {
   whole_transcript = λ h. absurd h;
   script_status = λ h. absurd h;
   prompt = prompt_here max told from a to b b [] here ([], took_none b);
@@ -181,6 +198,8 @@ ran_read_fault max told from a to b reads reads' here failed = record {
   after_stop_however = λ h. absurd h;
   read_failed = λ _. failed;
   no_read_failed = λ other. absurd (other refl);
+  write_failed = λ h. cc;
+  no_write_failed = λ h. absurd h;
   status_of_fault = λ _. refl;
 }
 
@@ -188,10 +207,10 @@ failed_read : (from : Option (List ℕ)) (reads reads' : ℕ) → reads < reads'
 failed_read None reads reads' more = tt
 failed_read (Some s) reads reads' more = λ _. more
 
-pub ran_unread : (max : ℕ) (told : Told) (from a a' to b : Option (List ℕ)) (reads reads' : ℕ) → Following max told from a to b → a' ≡ a
-    → reads < reads' → Ran max (failed_as ReadFault) from a' to b reads reads'
-ran_unread max told from a a' to b reads reads' before same more =
-    ran_read_fault max told from a' to b reads reads' (subst (λ (it : Option (List ℕ)). Following max told from it to b) (sym same) before)
+pub ran_unread : (max : ℕ) (told : Told) (from a a' to b : Option (List ℕ)) (reads reads' writes writes' : ℕ) → Following max told from a to b → a' ≡ a
+    → reads < reads' → Ran max (failed_as ReadFault) from a' to b reads reads' writes writes'
+ran_unread max told from a a' to b reads reads' writes writes' before same more =
+    ran_read_fault max told from a' to b reads reads' writes writes' (subst (λ (it : Option (List ℕ)). Following max told from it to b) (sym same) before)
     (failed_read from reads reads' more)
 
 too_many : (from a : Option (List ℕ)) (p : List ℕ) (reads reads' : ℕ) → Gave from a p → 18446744073709551615 ≤ length p
@@ -201,6 +220,6 @@ too_many (Some s) a p reads reads' read many = λ few.
     let lengths : length s ≡ length p + length read.0 = ap length read.1 ∙ length-append p read.0 in
     absurd (omega arith)
 
-pub ran_endless : (max : ℕ) (told : Told) (from a to b : Option (List ℕ)) (reads reads' : ℕ) → Following max told from a to b
-    → 18446744073709551615 ≤ length told.fed → Ran max (failed_as ReadFault) from a to b reads reads'
-ran_endless max told from a to b reads reads' here many = ran_read_fault max told from a to b reads reads' here (too_many from a told.fed reads reads' here.read many)
+pub ran_endless : (max : ℕ) (told : Told) (from a to b : Option (List ℕ)) (reads reads' writes writes' : ℕ) → Following max told from a to b
+    → 18446744073709551615 ≤ length told.fed → Ran max (failed_as ReadFault) from a to b reads reads' writes writes'
+ran_endless max told from a to b reads reads' writes writes' here many = ran_read_fault max told from a to b reads reads' writes writes' here (too_many from a told.fed reads reads' here.read many)

@@ -4,11 +4,11 @@ use Rattle.cb_forms.specs.Moved.{Took}
 use Rattle.cb_session.specs.Transcripts.{transcript, status_of}
 use Rattle.clipsbatch.specs.Outcomes.{ended_as, HasEnded, HasStopped, HasFailed}
 use Rattle.clipsbatch.specs.Runs.{IsPrompt, WroteAllRead, WroteBeginning, WroteBeginningHowever}
-use Rattle.clipsbatch.specs.declared.outcome.Cause.TheVariants.{ReadFault}
+use Rattle.clipsbatch.specs.declared.outcome.Cause.TheVariants.{ReadFault, WriteFault}
 use Rattle.clipsbatch.specs.declared.outcome.Outcome.{Outcome}
 
--- `reads` and `reads'` count the reads that had failed when the run began and behind it.
-pub record Ran (max : ℕ) (result : Outcome) (from from' to to' : Option (List ℕ)) (reads reads' : ℕ) : Type 0 where
+-- `reads` and `reads'` count the reads that had failed when the run began and behind it, `writes` and `writes'` the writes.
+pub record Ran (max : ℕ) (result : Outcome) (from from' to to' : Option (List ℕ)) (reads reads' writes writes' : ℕ) : Type 0 where
   pub whole_transcript : HasEnded result.cause → IfSome from (λ s. Took to to' (transcript max s))
   pub script_status : HasEnded result.cause → IfSome from (λ s. result ≡ ended_as (status_of max s))
   pub prompt : IsPrompt max from from' to to'
@@ -17,4 +17,6 @@ pub record Ran (max : ℕ) (result : Outcome) (from from' to to' : Option (List 
   pub after_stop_however : HasStopped result.cause → WroteBeginningHowever max from from' to to'
   pub read_failed : result.cause ≡ ReadFault → IfSome from (λ s. length s < 2 ^ 64 - 1 → reads < reads')
   pub no_read_failed : (result.cause ≢ ReadFault) → reads' ≡ reads
+  pub write_failed : result.cause ≡ WriteFault → writes < writes'
+  pub no_write_failed : HasEnded result.cause → writes' ≡ writes
   pub status_of_fault : HasFailed result.cause → result.status ≡ 3

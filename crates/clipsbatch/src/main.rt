@@ -3,6 +3,8 @@
 //! `README.md` has the options and the exit statuses.
 #![tactic(auto)]
 
+ghost use Rattle.std.specs.Prelude.{◌≡◌};
+
 mod outcome;
 mod run;
 mod standard;
@@ -58,12 +60,16 @@ fn given_limits<R: AllocGlobal + Env + Print + Eprint>(rt: &R) -> Result<Limits,
 }
 
 // Says that memory was refused; its exit status.
-fn no_memory<R: Eprint>(rt: &R) -> u8 {
+fn no_memory<R: Eprint>(rt: &R) -> u8
+    ensures { result ≡ 3 }
+{
     told(rt, Outcome::failed(Cause::NoMemory))
 }
 
 // Says what is to be said of a run; its exit status.
-fn told<R: Eprint>(rt: &R, outcome: Outcome) -> u8 {
+fn told<R: Eprint>(rt: &R, outcome: Outcome) -> u8
+    ensures { result ≡ outcome.status }
+{
     let line = outcome.line();
     if !line.is_empty() {
         let _ = eprintln!(rt; "{line}");

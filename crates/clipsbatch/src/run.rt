@@ -49,6 +49,10 @@ pub fn run<S: Source, K: Sink>(
         → IfSome (S.left source.old)
         (λ s. length s < 2 ^ 64 - 1 → S.failures source.old < S.failures source.new) }
     ensures no_read_failed { result.cause ≢ Cause.ReadFault → S.failures source.new ≡ S.failures source.old }
+    ensures write_failed { result.cause ≡ Cause.WriteFault
+        → K.failures out.old.sink < K.failures out.new.sink }
+    ensures no_write_failed { HasEnded result.cause
+        → K.failures out.new.sink ≡ K.failures out.old.sink }
     ensures status_of_fault { HasFailed result.cause → result.status ≡ 3 }
 {
     let mut session = Session::new(alloc, limits);
@@ -61,7 +65,8 @@ fn follow<S: Source, K: Sink>(session: &mut Session, source: &mut S, out: &mut O
     requires ready { IsReady out.old }
     ensures { Ran session.old.max_form result
         (S.left source.old) (S.left source.new) (K.has out.old.sink) (K.has out.new.sink)
-        (S.failures source.old) (S.failures source.new) }
+        (S.failures source.old) (S.failures source.new)
+        (K.failures out.old.sink) (K.failures out.new.sink) }
 {
     let mut block = [0u8; 4096];
     for _turn in 0..u64::MAX {

@@ -27,6 +27,7 @@ pub fn read_words<'a>(alloc: Global, words: &'a [&'a str]) -> Result<Limits, Err
         → kind_of e ≡ ErrorKind.OutOfMemory) }
 {
     let command = Command::new(alloc, "clipsbatch")
+        .about(ABOUT)
         .arg(number(alloc, "max-form", FORM_HELP, 1, 16_777_216))?
         .arg(number(alloc, "max-firings", FIRINGS_HELP, 0, 1_000_000_000_000))?
         .arg(number(alloc, "max-turns", TURNS_HELP, 0, 1_000_000_000_000))?;
@@ -43,6 +44,9 @@ pub fn read_words<'a>(alloc: Global, words: &'a [&'a str]) -> Result<Limits, Err
         max_turns,
     })
 }
+
+static ABOUT: &str =
+    "Carries out a CLIPS script from standard input and writes its transcript to standard output";
 
 static FORM_HELP: &str =
     "The most bytes that an item of the script may have, 1 to 16777216 [default: 1048576]";
@@ -80,3 +84,6 @@ fn limit(matches: &ArgMatches<'_>, id: &str, default: u64, min: u64, max: u64) -
     let _ = (min, max);
     matches.get_one(id).unwrap_or(default)
 }
+
+#[cfg(test)]
+mod tests;
