@@ -1,5 +1,6 @@
 #!/bin/sh
-# Measures the time and the peak memory of the program for a script of 1 MB and one of 10 MB, of constants and comments.
+# Measures the time and the peak memory of the program for a script of 10 MB of constants and comments, and how they compare
+# with those for one of 1 MB.
 # Run it from anywhere, with GNU time as /usr/bin/time:
 #
 #     benches/memory.sh
@@ -23,8 +24,12 @@ script() {
 12345' | head -c "$1"
 }
 
-for size in 1000000 10000000; do
-    script "$size" >"$place/script"
-    /usr/bin/time -f "$size bytes: %e s, peak %M kB" \
-        "$top/crates/clipsbatch/out/clipsbatch" <"$place/script" 2>&1 >"$place/transcript" | tail -n 1
-done
+# The seconds and the peak memory in kB of a run on so many bytes.
+measured() {
+    script "$1" >"$place/script"
+    /usr/bin/time -f '%e %M' "$top/crates/clipsbatch/out/clipsbatch" <"$place/script" 2>&1 >"$place/transcript" | tail -n 1
+}
+
+echo "$(measured 1000000) $(measured 10000000)" | awk '{
+    printf "10 MB to 1 MB: peak memory %.2f, time %.1f (%s s to %s s, %s kB to %s kB)\n", $4 / $2, $3 / $1, $3, $1, $4, $2
+}'

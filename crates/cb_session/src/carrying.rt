@@ -6,14 +6,8 @@ ghost use Rattle.cb_session.specs.Courses.{cut_run};
 ghost use Rattle.cb_session.specs.Engine.{carried};
 
 use crate::engine::Engine;
-use crate::status::{Ending, Status, Stop};
+use crate::status::{Status, Stop};
 use cb_forms::{Cut, Item, Out, Sink};
-
-/// How a script ends at a limit.
-const LIMITED: Status = Status {
-    code: 4,
-    ending: Ending::Limit,
-};
 
 /// Carries out an item, and puts what it writes. The answer is the status, where the script ends with the item.
 pub(crate) fn carry<K: Sink>(
@@ -64,7 +58,7 @@ pub(crate) fn carry_cut<K: Sink>(
             Err(stop) => Err(stop),
         },
         Cut::TooLong => match out.put(b"[CB91] form too long\n") {
-            Ok(()) => Ok(Some(LIMITED)),
+            Ok(()) => Ok(Some(Status::LIMITED)),
             Err(_) => Err(Stop::WriteFault),
         },
     }

@@ -2,7 +2,7 @@
 ghost use Rattle.std.specs.Prelude.{◌≡◌, None, Some};
 ghost use Rattle.cb_session.specs.Engine.{limit_status};
 
-use crate::status::{Ending, Status};
+use crate::status::Status;
 
 /// What carrying out an item did.
 #[derive(Debug, Drop)]
@@ -32,10 +32,7 @@ impl Done {
     {
         Done {
             written,
-            status: Some(Status {
-                code: 4,
-                ending: Ending::Limit,
-            }),
+            status: Some(Status::LIMITED),
         }
     }
 }

@@ -9,6 +9,7 @@ mod done;
 mod engine;
 mod fact_form;
 mod heads;
+pub mod laws;
 mod limits;
 mod line;
 mod print;

@@ -24,6 +24,14 @@ pub struct Status {
     pub ending: Ending,
 }
 
+impl Status {
+    /// How a script ends at a limit.
+    pub(crate) const LIMITED: Status = Status {
+        code: 4,
+        ending: Ending::Limit,
+    };
+}
+
 /// What a piece of a script led to.
 #[derive(Clone, Copy, Debug, PartialEq, Eq)]
 pub enum Flow {

@@ -220,3 +220,50 @@ fn stops_at_a_failed_read(rt: HostRuntime) {
         }
     }
 }
+
+// examples/inventory.clp and its transcript, examples/inventory.txt.
+#[test]
+fn carries_out_the_example(rt: HostRuntime) {
+    let script =
+        b"; What stands in the storeroom. A line of a count is a fact, and a count that is told twice is one fact.
+
+(printout t \"Storeroom 4, counted by two people\" crlf)
+
+; The first count.
+(assert (item bolt m6 1200)
+        (item bolt m8 350)
+        (item nut m6 900)
+        (note bolt m8 \"box \\\"B\\\" is torn\"))
+
+; The second count agrees on the nuts.
+(assert (item nut m6 900))
+(assert (item washer m6 -3))
+
+; A slip of the pen: there are no floats.
+(assert (item washer m8 0.5))
+
+(printout t \"All that was counted:\" crlf)
+(facts)
+";
+    let written = b"Storeroom 4, counted by two people
+<Fact-4>
+<Fact-3>
+<Fact-5>
+[CB05] floats are not supported
+All that was counted:
+f-1     (item bolt m6 1200)
+f-2     (item bolt m8 350)
+f-3     (item nut m6 900)
+f-4     (note bolt m8 \"box \\\"B\\\" is torn\")
+f-5     (item washer m6 -3)
+For a total of 5 facts.
+";
+    for chunk in [1, 80, 4096] {
+        let Ok(sink) = MemSink::new(rt.alloc(), 1000, 100, None) else {
+            return;
+        };
+        let row = done(script, written, 1);
+        let mut source = MemSource::new(row.script, chunk, None);
+        goes(&rt, &row, &mut source, sink, row.written, row.outcome);
+    }
+}

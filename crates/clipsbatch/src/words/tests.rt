@@ -58,6 +58,12 @@ fn other_words_are_refused(rt: HostRuntime) {
     assert!(rt; is_refused(rt.alloc(), &["clipsbatch", "--max-turns", "-1"]));
     assert!(rt; is_refused(rt.alloc(), &["clipsbatch", "--max-turns", "many"]));
     assert!(rt; is_refused(rt.alloc(), &["clipsbatch", "--max-turns"]));
+    assert!(rt;
+        is_refused(
+            rt.alloc(),
+            &["clipsbatch", "--max-form", "5", "--max-form", "6"]
+        )
+    );
     assert!(rt; is_refused(rt.alloc(), &["clipsbatch", "script.clp"]));
     assert!(rt; is_refused(rt.alloc(), &["clipsbatch", "--max-items", "9"]));
 }
