@@ -1,30 +1,37 @@
 //! The one place where output goes through.
-ghost use Rattle.std.specs.Prelude.{◌≡◌, ◌<◌, ◌++◌, [], true, false, IsErr, OnOk, OnErr};
+ghost use Rattle.std.specs.Prelude.{◌≡◌, ◌<◌, ◌≤◌, ◌+◌, ◌++◌, [], take, length, true, false, IsErr, OnOk, OnErr};
 ghost use Rattle.cb_forms.specs.Moved.{Took};
 ghost use Rattle.cb_forms.specs.Output.{Passed, PassedSome};
 
 use crate::sink::{Sink, WriteFault};
 use std::marker::Model;
 
+/// How many bytes wait at most.
+const BLOCK: usize = 4096;
+
 /// Passes bytes on to a sink in order, and after a first fault writes no byte more.
 ///
-/// What was put may wait until a later `put` or a `flush` writes it: those bytes are pending. No call
-/// takes memory.
+/// What was put may wait until a later `put` or a `flush` writes it: those bytes are pending, 4096 at
+/// most. No call takes memory.
 #[derive(Drop)]
 pub struct Out<K: Sink> {
     sink: K,
+    block: [u8; BLOCK],
+    used: usize,
     fault: bool,
 }
 
 impl<K: Sink> Model for Out<K> {
-    ghost use Rattle.std.specs.Prelude.{[]};
+    ghost use Rattle.std.specs.Prelude.{◌≤◌, take};
     ghost use Rattle.cb_forms.specs.Output.{OutState, out_state_code};
 
     ghost Value = { OutState K };
 
     ghost coded = { out_state_code K.code };
 
-    ghost view = { λ o. record { sink = o.sink; pending = []; fault = o.fault } };
+    ghost view = { λ o. record { sink = o.sink; pending = take o.used o.block; fault = o.fault } };
+
+    ghost invariant = { λ o. o.used ≤ 4096 };
 }
 
 impl<K: Sink> Out<K> {
@@ -32,7 +39,12 @@ impl<K: Sink> Out<K> {
     pub fn new(sink: K) -> Out<K>
         ensures { result ≡ record { sink = sink; pending = []; fault = false } }
     {
-        Out { sink, fault: false }
+        Out {
+            sink,
+            block: [0; BLOCK],
+            used: 0,
+            fault: false,
+        }
     }
 
     /// The sink as it is now, without the bytes that are pending.
@@ -67,7 +79,14 @@ impl<K: Sink> Out<K> {
         ensures still { self.old.fault ≡ true → self.new ≡ self.old }
     {
         check(self.fault)?;
+        if bytes.len() <= BLOCK - self.used {
+            keep(&mut self.block, self.used, bytes);
+            self.used += bytes.len();
+            return Ok(());
+        }
         self.fault = true;
+        write_all(&mut self.sink, &self.block[..self.used])?;
+        self.used = 0;
         write_all(&mut self.sink, bytes)?;
         self.fault = false;
         Ok(())
@@ -95,8 +114,22 @@ impl<K: Sink> Out<K> {
         ensures stuck { self.old.fault ≡ true → IsErr result }
         ensures still { self.old.fault ≡ true → self.new ≡ self.old }
     {
-        check(self.fault)
+        check(self.fault)?;
+        self.fault = true;
+        let pending = &self.block[..self.used];
+        write_all(&mut self.sink, pending)?;
+        self.used = 0;
+        self.fault = false;
+        Ok(())
     }
+}
+
+/// Puts these bytes behind the first `used` ones of the block.
+fn keep(block: &mut [u8; BLOCK], used: usize, bytes: &[u8])
+    requires { used + length bytes.now ≤ 4096 }
+    ensures { take (used + length bytes.now) block.new ≡ take used block.old ++ bytes.now }
+{
+    block[used..used + bytes.len()].copy_from_slice(bytes);
 }
 
 /// Answers a fault again that was answered before.
