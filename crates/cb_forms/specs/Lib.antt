@@ -7,6 +7,7 @@ pub mod Faults
 pub mod Items
 pub mod Laws
 pub mod Lists
+pub mod Members
 pub mod MemSink
 pub mod MemSource
 pub mod Moved

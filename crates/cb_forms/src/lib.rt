@@ -38,7 +38,7 @@ pub use byte_string::ByteString;
 pub use cut::Cut;
 pub use cutter::Cutter;
 pub use fault::Fault;
-pub use form::{Form, Item};
+pub use form::{Form, Item, split_head};
 pub use mem_sink::MemSink;
 pub use mem_source::MemSource;
 pub use no_memory::NoMemory;

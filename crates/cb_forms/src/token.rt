@@ -1,4 +1,7 @@
 //! The atoms of a script.
+ghost use Rattle.std.specs.Prelude.{◌≡◌, None, Some, MatchOption};
+ghost use Rattle.cb_forms.specs.Members.{token_symbol};
+
 use crate::byte_string::ByteString;
 
 /// An atom: a word by its class, a string, or a connective (`docs/LANGUAGE.md`, "Tokens").
@@ -26,4 +29,16 @@ pub enum Token {
     Or,
     /// `~`
     Not,
+}
+
+impl Token {
+    /// The bytes of a symbol; `None` of any other atom.
+    pub fn symbol(&self) -> Option<&[u8]>
+        ensures { MatchOption result (token_symbol self.now ≡ None) (λ name. token_symbol self.now ≡ Some name.now) }
+    {
+        match self {
+            Token::Symbol(name) => Some(name.as_slice()),
+            _ => None,
+        }
+    }
 }

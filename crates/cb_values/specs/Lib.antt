@@ -1,5 +1,10 @@
 pub mod FactLaws
 pub mod Facts
 pub mod FactLists
+pub mod Reserved
+pub mod Results
+pub mod SlotForms
+pub mod Slots
+pub mod Templates
 pub mod Texts
 pub mod Values

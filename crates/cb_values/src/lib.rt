@@ -4,11 +4,19 @@
 //! layer stands.
 #![tactic(auto)]
 
+mod attribute;
 mod fact;
 mod fact_list;
 mod many;
 mod name;
+mod refused;
+mod relations;
+mod reserved;
 mod single;
+mod slot;
+mod slot_form;
+mod slot_type;
+mod splicing;
 mod text;
 mod value;
 
@@ -16,6 +24,11 @@ pub use fact::{Content, Fact};
 pub use fact_list::FactList;
 pub use many::Many;
 pub use name::Name;
+pub use refused::Refused;
+pub use relations::{Relations, without_comment};
+pub use reserved::is_reserved;
 pub use single::Single;
+pub use slot::Slot;
+pub use splicing::splice;
 pub use text::{fact_text, plain_text, quoted_text};
 pub use value::Value;

@@ -1,0 +1,14 @@
+use Rattle.std.proofs.Common.{◌≡◌, ◌∙◌, map, refl, sym, ap}
+use Rattle.std.specs.List.{list_any}
+use Rattle.std.specs.Str.{bytes_eq}
+use Rattle.cb_values.specs.Reserved.{is_reserved, reserved_words}
+use Rattle.cb_values.specs.declared.reserved.TheConstants.{RESERVED_WORDS}
+use Rattle.cb_values.proofs.Words.{list_any-map}
+use Rattle.cb_values.proofs.reserved.is_reserved.Goals as goal
+
+words_are : map (λ w. w.now) RESERVED_WORDS ≡ reserved_words
+words_are = refl
+
+pub returns : goal.returns
+unfolding is_reserved
+returns c = c.is_among.ensures ∙ list_any-map (λ w. w.now) (λ w. bytes_eq w c.args.word.now) RESERVED_WORDS ∙ ap (list_any (λ w. bytes_eq w c.args.word.now)) words_are
