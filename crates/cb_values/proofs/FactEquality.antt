@@ -1,18 +1,18 @@
 -- `==` of facts is equality.
-use Rattle.std.proofs.Common.{◌≡◌, List, Bool, true, false, ℕ, rules, ap, ap₂, refl, sym, ◌∙◌, ◌&&◌}
+use Rattle.std.proofs.Common.{◌≡◌, List, Bool, true, false, ℕ, rules, ap, ap₂, refl, sym, ◌∙◌}
 use Rattle.std.specs.Bool.{Decides}
 use Rattle.std.specs.Cmp.{first_so, second_so}
 use Rattle.std.specs.Cmp.Lexicographic.{bytes_decides}
-use Rattle.cb_values.specs.Facts.{FactContent, fields, FactValue, content_eq, fact_eq, fact_in, KeepsHash}
+use Rattle.cb_values.specs.Facts.{FactContent, fields, slots, FactValue, content_eq, fact_eq, fact_in, KeepsHash}
 use Rattle.cb_values.specs.FactLaws.{hash_of_equal}
 use Rattle.cb_values.specs.declared.fact.Body.{Body}
-use Rattle.cb_values.proofs.Equality.{values-Decides}
+use Rattle.cb_values.proofs.Equality.{both-true, values-Decides, slots-Decides}
 
 pub content-Decides : (c d : FactContent) → Decides (content_eq c d) (c ≡ d)
 content-Decides (fields vs) (fields ws) = (λ e. ap fields ((values-Decides vs ws).0 e), λ e. (values-Decides vs ws).1 (cc))
-
-both-true : (a b : Bool) → a ≡ true → b ≡ true → (a && b) ≡ true
-both-true a b p q = search rules
+content-Decides (fields vs) (slots ts) = search rules
+content-Decides (slots ss) (fields ws) = search rules
+content-Decides (slots ss) (slots ts) = (λ e. ap slots ((slots-Decides ss ts).0 e), λ e. (slots-Decides ss ts).1 (cc))
 
 pub fact-same : (f g : FactValue) → f.relation ≡ g.relation → f.content ≡ g.content → f ≡ g
 fact-same f g p q = ap₂ (λ (r : List ℕ) (c : FactContent). record { relation = r; content = c }) p q

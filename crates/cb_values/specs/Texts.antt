@@ -2,7 +2,7 @@
 use Rattle.std.specs.Prelude.{◌==◌, ◌||◌, ℕ, List, [], ◌∷◌, ◌++◌, codes, decimal, if◌then◌else◌}
 use Rattle.std.specs.List.{flat_map, join_by}
 use Rattle.std.specs.Fmt.{signed_decimal}
-use Rattle.cb_values.specs.Facts.{FactContent, fields, FactValue}
+use Rattle.cb_values.specs.Facts.{FactContent, fields, slots, FactValue}
 use Rattle.cb_values.specs.declared.single.Single.{Single}
 use Rattle.cb_values.specs.declared.single.Single.TheVariants as single
 use Rattle.cb_values.specs.declared.value.Value.{Value}
@@ -47,9 +47,22 @@ plain_bytes (value.Int n) = signed_decimal n
 plain_bytes (value.Fact ix) = address_bytes ix
 plain_bytes (value.Multi singles) = fields_bytes singles
 
--- each field of an ordered fact behind a blank
+-- each field of a slot behind a blank: of a multifield its fields, of any other value the value
+abbrev pub slot_fields : Value → List ℕ
+slot_fields (value.Symbol bytes) = codes " " ++ quoted_bytes (value.Symbol bytes)
+slot_fields (value.Str bytes) = codes " " ++ quoted_bytes (value.Str bytes)
+slot_fields (value.Int n) = codes " " ++ quoted_bytes (value.Int n)
+slot_fields (value.Fact ix) = codes " " ++ quoted_bytes (value.Fact ix)
+slot_fields (value.Multi singles) = flat_map (λ s. codes " " ++ quoted_single s) singles
+
+-- a slot: its name and its fields, in parentheses behind a blank
+abbrev pub slot_bytes : List ℕ × Value → List ℕ
+slot_bytes s = codes " (" ++ (s.0 ++ (slot_fields s.1 ++ codes ")"))
+
+-- each field of an ordered fact behind a blank, and each slot of a template's fact
 abbrev pub content_bytes : FactContent → List ℕ
 content_bytes (fields vs) = flat_map (λ v. codes " " ++ quoted_bytes v) vs
+content_bytes (slots ss) = flat_map slot_bytes ss
 
 -- a fact: its relation and its content, in parentheses
 abbrev pub fact_bytes : FactValue → List ℕ

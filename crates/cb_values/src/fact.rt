@@ -3,7 +3,7 @@ ghost use Rattle.std.specs.Prelude.{◌≡◌, IfOk, fold};
 ghost use Rattle.std.specs.Hash as fed;
 ghost use Rattle.std.specs.Hash.FoldHasher as folding;
 ghost use Rattle.std.specs.Cmp.{partial_equiv_from_equiv};
-ghost use Rattle.cb_values.specs.Facts.{ordered_fact, content_of, content_writes, fact_eq, hash_of};
+ghost use Rattle.cb_values.specs.Facts.{ordered_fact, template_fact, content_of, content_writes, fact_eq, hash_of};
 ghost use Rattle.cb_values.specs.FactLaws.{fact_equiv, fact_fed};
 
 use crate::name::Name;
@@ -15,11 +15,16 @@ use std::hash::{FoldHasher, Hash, Hasher};
 use std::marker::Model;
 use std::rc::Rc;
 
+#[cfg(test)]
+mod tests;
+
 /// What stands in a fact behind its relation.
 #[derive(Debug, PartialEq, Eq, Drop)]
 pub enum Content {
     /// The fields of an ordered fact, in their order.
     Fields(Vec<Value>),
+    /// The slots of a template's fact, each name with its value, in the template's order.
+    Slots(Vec<(Name, Value)>),
 }
 
 impl Content {
@@ -28,6 +33,7 @@ impl Content {
     {
         match self {
             Content::Fields(values) => values.as_slice().hash(hasher),
+            Content::Slots(slots) => slots.as_slice().hash(hasher),
         }
     }
 }
@@ -67,7 +73,24 @@ impl Fact {
     pub fn ordered(alloc: Global, relation: Name, fields: Vec<Value>) -> Result<Fact, NoMemory>
         ensures { IfOk result (λ fact. fact ≡ ordered_fact relation fields.items) }
     {
-        let content = Content::Fields(fields);
+        Fact::new(alloc, relation, Content::Fields(fields))
+    }
+
+    /// The fact of a template with this name, with these slots, both taken over: all slots of the template, in its
+    /// order, which nothing here checks. Growth is refused as `NoMemory`.
+    pub fn with_slots(
+        alloc: Global,
+        relation: Name,
+        slots: Vec<(Name, Value)>,
+    ) -> Result<Fact, NoMemory>
+        ensures { IfOk result (λ fact. fact ≡ template_fact relation slots.items) }
+    {
+        Fact::new(alloc, relation, Content::Slots(slots))
+    }
+
+    fn new(alloc: Global, relation: Name, content: Content) -> Result<Fact, NoMemory>
+        ensures { IfOk result (λ fact. fact ≡ record { relation = relation; content = content_of content }) }
+    {
         let hash = hash_of(&relation, &content);
         let body = Rc::new(
             alloc,

@@ -1,11 +1,12 @@
 //! The texts of values and facts.
 ghost use Rattle.std.specs.Prelude.{◌≡◌, ◌++◌, IfOk, OnOk, codes};
-ghost use Rattle.std.specs.List.{join_by};
+ghost use Rattle.std.specs.List.{flat_map, join_by};
 ghost use Rattle.std.specs.Fmt.{signed_decimal};
-ghost use Rattle.cb_values.specs.Facts.{fields, content_of};
-ghost use Rattle.cb_values.specs.Texts.{address_bytes, between_quotes, content_bytes, fact_bytes, fields_bytes, plain_bytes, quoted_bytes, quoted_single};
+ghost use Rattle.cb_values.specs.Facts.{fields, slots, content_of};
+ghost use Rattle.cb_values.specs.Texts.{address_bytes, between_quotes, content_bytes, fact_bytes, fields_bytes, plain_bytes, quoted_bytes, quoted_single, slot_bytes, slot_fields};
 
 use crate::fact::{Content, Fact};
+use crate::name::Name;
 use crate::single::Single;
 use crate::value::Value;
 use cb_forms::NoMemory;
@@ -39,8 +40,10 @@ pub fn quoted_text(alloc: Global, value: &Value) -> Result<Vec<u8>, NoMemory>
     Ok(text)
 }
 
-/// The text that a fact is shown with: its relation and its fields, each by its quoted text and behind a blank, in
-/// parentheses. Growth is refused as `NoMemory`.
+/// The text that a fact is shown with: its relation and what stands behind it, in parentheses. Each field of an ordered
+/// fact stands by its quoted text behind a blank. Each slot of a template's fact stands in parentheses behind a blank: its
+/// name and its value by its quoted text behind a blank, or of a multifield each field so, without further parentheses.
+/// Growth is refused as `NoMemory`.
 pub fn fact_text(alloc: Global, fact: &Fact) -> Result<Vec<u8>, NoMemory>
     ensures { IfOk result (λ text. text.items ≡ fact_bytes fact.now) }
 {
@@ -57,6 +60,7 @@ fn add_content(text: &mut Vec<u8>, content: &Content) -> Result<(), NoMemory>
 {
     match content {
         Content::Fields(values) => add_each(text, values.as_slice()),
+        Content::Slots(slots) => add_slots(text, slots.as_slice()),
     }
 }
 
@@ -68,6 +72,38 @@ fn add_each(text: &mut Vec<u8>, values: &[Value]) -> Result<(), NoMemory>
         add_quoted(text, value)?;
     }
     Ok(())
+}
+
+fn add_slots(text: &mut Vec<u8>, pairs: &[(Name, Value)]) -> Result<(), NoMemory>
+    ensures { OnOk result (text.new.items ≡ text.old.items ++ content_bytes (slots pairs.now)) }
+{
+    for slot in pairs {
+        add_slot(text, slot)?;
+    }
+    Ok(())
+}
+
+fn add_slot(text: &mut Vec<u8>, slot: &(Name, Value)) -> Result<(), NoMemory>
+    ensures { OnOk result (text.new.items ≡ text.old.items ++ slot_bytes slot.now) }
+{
+    let (name, value) = slot;
+    text.extend_from_slice(b" (")?;
+    text.extend_from_slice(name.as_slice())?;
+    add_slot_fields(text, value)?;
+    text.push(b')')?;
+    Ok(())
+}
+
+fn add_slot_fields(text: &mut Vec<u8>, value: &Value) -> Result<(), NoMemory>
+    ensures { OnOk result (text.new.items ≡ text.old.items ++ slot_fields value.now) }
+{
+    match value {
+        Value::Multi(fields) => add_singles(text, fields.as_slice()),
+        value => {
+            text.push(b' ')?;
+            add_quoted(text, value)
+        }
+    }
 }
 
 fn add_quoted(text: &mut Vec<u8>, value: &Value) -> Result<(), NoMemory>
@@ -143,9 +179,15 @@ fn add_joined(text: &mut Vec<u8>, fields: &[Single]) -> Result<(), NoMemory>
         return Ok(());
     };
     add_single(text, first)?;
-    for field in others {
+    add_singles(text, others)
+}
+
+fn add_singles(text: &mut Vec<u8>, singles: &[Single]) -> Result<(), NoMemory>
+    ensures { OnOk result (text.new.items ≡ text.old.items ++ flat_map (λ single. codes " " ++ quoted_single single) singles.now) }
+{
+    for single in singles {
         text.push(b' ')?;
-        add_single(text, field)?;
+        add_single(text, single)?;
     }
     Ok(())
 }

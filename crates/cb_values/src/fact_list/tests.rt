@@ -1,5 +1,4 @@
 use super::*;
-use crate::fact::Content;
 use crate::name::Name;
 use crate::value::Value;
 
@@ -35,19 +34,6 @@ fn indices(alloc: Global, list: &FactList) -> Result<Vec<u64>, NoMemory> {
         indices.push(*ix)?;
     }
     Ok(indices)
-}
-
-#[test]
-fn holds_a_fact(rt: HostRuntime) -> Result<(), NoMemory> {
-    let alloc = rt.alloc();
-    let fact = item(alloc, 4)?;
-    assert_eq!(rt; fact.relation(), b"item".as_slice());
-    let Content::Fields(fields) = fact.content();
-    assert_eq!(rt; fields.as_slice(), [Value::Int(4)].as_slice());
-    assert_eq!(rt; fact.clone()?, fact);
-    assert_eq!(rt; item(alloc, 4)?, fact);
-    assert!(rt; item(alloc, 5)? != fact);
-    Ok(())
 }
 
 #[test]

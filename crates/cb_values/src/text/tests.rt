@@ -83,3 +83,33 @@ fn prints_facts(rt: HostRuntime) -> Result<(), NoMemory> {
     assert_eq!(rt; item.as_slice(), b"(item a \"b c\" 12)".as_slice());
     Ok(())
 }
+
+// (task (state open) (title "a b") (parts x "y z") (notes))
+fn task(alloc: Global) -> Result<Fact, NoMemory> {
+    let mut parts = Vec::new(alloc);
+    parts.push(Single::Symbol(Name::new(alloc, b"x")?))?;
+    parts.push(Single::Str(Name::new(alloc, b"y z")?))?;
+    let mut slots = Vec::new(alloc);
+    slots.push((Name::new(alloc, b"state")?, symbol(alloc, b"open")?))?;
+    slots.push((Name::new(alloc, b"title")?, string(alloc, b"a b")?))?;
+    slots.push((
+        Name::new(alloc, b"parts")?,
+        Value::Multi(Many::from_vec(parts)?),
+    ))?;
+    slots.push((
+        Name::new(alloc, b"notes")?,
+        Value::Multi(Many::from_vec(Vec::new(alloc))?),
+    ))?;
+    Fact::with_slots(alloc, Name::new(alloc, b"task")?, slots)
+}
+
+#[test]
+fn prints_facts_of_templates(rt: HostRuntime) -> Result<(), NoMemory> {
+    let alloc = rt.alloc();
+    let empty = Fact::with_slots(alloc, Name::new(alloc, b"start")?, Vec::new(alloc))?;
+    assert_eq!(rt; fact_text(alloc, &empty)?.as_slice(), b"(start)".as_slice());
+    let task = fact_text(alloc, &task(alloc)?)?;
+    let shown = b"(task (state open) (title \"a b\") (parts x \"y z\") (notes))";
+    assert_eq!(rt; task.as_slice(), shown.as_slice());
+    Ok(())
+}
