@@ -2,5 +2,6 @@ pub mod Equality
 pub mod FactEquality
 pub mod FactListLaws
 pub mod Firsts
-pub mod Parts
+pub mod PartLaws
+pub mod Splices
 pub mod Words

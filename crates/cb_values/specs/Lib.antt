@@ -1,3 +1,4 @@
+pub mod Building
 pub mod FactLaws
 pub mod Facts
 pub mod FactLists

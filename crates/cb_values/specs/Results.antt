@@ -1,5 +1,5 @@
 -- Results, each with what was wanted or a fault, where the first fault counts.
-use Rattle.std.specs.Prelude.{List, [], ◌∷◌, Result, Ok, Err, Vec}
+use Rattle.std.specs.Prelude.{List, ◌∷◌, Result, Ok, Err, Vec}
 use Rattle.std.specs.declared.alloc.Global.{Global}
 use Rattle.cb_forms.specs.declared.fault.Fault.{Fault}
 use Rattle.cb_values.specs.declared.refused.Refused.{Refused}

@@ -1,5 +1,5 @@
 -- A slot as it is written in a template, or what is wrong with it.
-use Rattle.std.specs.Prelude.{◌||◌, ◌&&◌, ℕ, Bool, true, false, List, [], ◌∷◌, Option, Some, None, Result, Ok, Err, codes, is_some, pos, if◌then◌else◌}
+use Rattle.std.specs.Prelude.{◌||◌, ℕ, Bool, true, false, List, [], Option, Some, None, Result, Ok, Err, codes, is_some, pos, if◌then◌else◌}
 use Rattle.std.specs.Option.{ok_or, option_flatten}
 use Rattle.std.specs.Str.{bytes_eq}
 use Rattle.cb_forms.specs.Members.{call_of, head_and_rest, symbol_of}

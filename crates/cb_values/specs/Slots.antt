@@ -60,3 +60,7 @@ pub record SlotShape : Type 0 where
 abbrev pub slot_named : List SlotShape → List ℕ → Option SlotShape
 slot_named [] name = None
 slot_named (s ∷ slots) name = if bytes_eq s.name name then Some s else slot_named slots name
+
+-- a slot that a fact is given: its name and its values
+abbrev pub GivenValues : Type 0
+GivenValues = List ℕ × List Value

@@ -4,7 +4,7 @@ use Rattle.std.specs.Map.{lookup}
 use Rattle.std.specs.Str.{bytes_eq}
 use Rattle.indexmap.specs.IndexMap.{insert_entry}
 use Rattle.cb_forms.specs.Members.{call_of, head_and_rest}
-use Rattle.cb_forms.specs.Trees.{Tree, atom, branch, Trees, no_trees, tree}
+use Rattle.cb_forms.specs.Trees.{atom, Trees, no_trees, tree}
 use Rattle.cb_forms.specs.declared.fault.Fault.{Fault}
 use Rattle.cb_forms.specs.declared.fault.Fault.TheVariants.{MalformedForm, TemplateInUse}
 use Rattle.cb_forms.specs.declared.token.Token.TheVariants as token

@@ -5,6 +5,7 @@
 #![tactic(auto)]
 
 mod attribute;
+mod build;
 mod fact;
 mod fact_list;
 mod many;
@@ -20,6 +21,7 @@ mod splicing;
 mod text;
 mod value;
 
+pub use build::{GivenSlot, Parts, build_fact, find_given};
 pub use fact::{Content, Fact};
 pub use fact_list::FactList;
 pub use many::Many;

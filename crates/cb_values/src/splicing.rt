@@ -1,5 +1,6 @@
 //! The fields of values.
-ghost use Rattle.std.specs.Prelude.{◌≡◌, ◌++◌, IfOk, OnOk};
+ghost use Rattle.std.specs.Prelude.{◌≡◌, ◌++◌, IfOk, OnOk, map};
+ghost use Rattle.std.specs.List.{list_any};
 ghost use Rattle.cb_values.specs.Values.{fields_in, is_multifield, spliced, value_of_field};
 
 use crate::single::Single;
@@ -16,6 +17,35 @@ pub fn splice(alloc: Global, values: &[Value]) -> Result<Vec<Single>, NoMemory>
         add_fields(&mut fields, value)?;
     }
     Ok(fields)
+}
+
+/// Values in their order, the fields of a multifield in its place. Growth is refused as `NoMemory`.
+pub(crate) fn splice_values(alloc: Global, values: Vec<Value>) -> Result<Vec<Value>, NoMemory>
+    ensures { IfOk result (λ fields. fields.items ≡ map value_of_field (spliced values.items)) }
+{
+    if !has_multifield(values.as_slice()) {
+        return Ok(values);
+    }
+    let fields = splice(alloc, values.as_slice())?;
+    values_of(alloc, fields.as_slice())
+}
+
+/// Whether a multifield is among values.
+fn has_multifield(values: &[Value]) -> bool
+    ensures { result ≡ list_any is_multifield values.now }
+{
+    values.iter().any(is_multifield)
+}
+
+/// Fields as values.
+fn values_of(alloc: Global, fields: &[Single]) -> Result<Vec<Value>, NoMemory>
+    ensures { IfOk result (λ values. values.items ≡ map value_of_field fields.now) }
+{
+    let mut values = Vec::new(alloc);
+    for field in fields {
+        values.push(value_of(field.clone()?))?;
+    }
+    Ok(values)
 }
 
 /// The fields of a value behind those that are there.
@@ -42,7 +72,7 @@ fn add_each(fields: &mut Vec<Single>, more: &[Single]) -> Result<(), NoMemory>
 }
 
 /// A field as a value.
-pub(crate) fn value_of(field: Single) -> Value
+fn value_of(field: Single) -> Value
     ensures { result ≡ value_of_field field }
 {
     match field {

@@ -1,4 +1,4 @@
-use Rattle.std.proofs.Common.{◌≡◌, ◌∙◌, map, refl, sym, ap}
+use Rattle.std.proofs.Common.{◌≡◌, ◌∙◌, map, refl, ap}
 use Rattle.std.specs.List.{list_any}
 use Rattle.std.specs.Str.{bytes_eq}
 use Rattle.cb_values.specs.Reserved.{is_reserved, reserved_words}

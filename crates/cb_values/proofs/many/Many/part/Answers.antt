@@ -1,7 +1,7 @@
 use Rattle.std.proofs.Common.{◌≡◌, ◌≤◌, ◌+◌, ℕ, List, arith, length, slice_range, sym, ap, ◌∙◌, subst}
 use Rattle.std.specs.Rc.{rc_slice_items}
 use Rattle.cb_values.specs.declared.single.Single.{Single}
-use Rattle.cb_values.proofs.Parts.{part-within, slice_range-slice_range}
+use Rattle.cb_values.proofs.PartLaws.{part-within, slice_range-slice_range}
 use Rattle.cb_values.proofs.many.Many.part.Goals as goal
 
 ends : (fields now : List Single) (start end to : ℕ) → slice_range fields start end ≡ now → start ≤ end → to ≤ length now → start + to ≤ end
