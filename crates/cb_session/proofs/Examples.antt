@@ -1,11 +1,13 @@
 -- Scripts and what they write, worked out by hand from the rules.
 use Prim.Native.String.{String}
-use Rattle.std.proofs.Common.{◌≡◌, ◌-◌, ℕ, ℤ, false, pos, negsuc, List, [], ◌∷◌, map, Some, Ok, codes, refl}
+use Rattle.std.proofs.Common.{◌≡◌, ◌-◌, ℕ, ℤ, pos, negsuc, List, [], ◌∷◌, map, Some, Ok, codes, refl}
 use Rattle.std.specs.Fmt.{digits}
 use Rattle.cb_forms.specs.Trees.{Tree, atom, branch, trees_of}
 use Rattle.cb_forms.specs.declared.token.Token.TheVariants as token
-use Rattle.cb_session.specs.Engine.{State, greatest_index, limit_status, carried}
-use Rattle.cb_session.specs.Heads.{is_refused, is_reserved}
+use Rattle.cb_session.specs.Engine.{State, first_state, limit_status, carried}
+use Rattle.cb_session.specs.Memory.{greatest_index}
+use Rattle.cb_session.specs.Heads.{is_refused}
+use Rattle.cb_values.specs.Reserved.{is_reserved}
 use Rattle.cb_session.specs.Transcripts.{begun, after_all}
 
 -- a symbol, a string, a number and a list, as they stand in a script
@@ -53,7 +55,7 @@ unfolding carried is_refused is_reserved digits
 atoms = refl
 
 -- heads that are carried out elsewhere, or nowhere
-heads : told (call "foo" [] ∷ call "reset" [] ∷ call "lowcase" [] ∷ call "test" [] ∷ [])
+heads : told (call "foo" [] ∷ call "run" [] ∷ call "lowcase" [] ∷ call "test" [] ∷ [])
     ≡ codes "[CB06] unknown function\n[CB14] not in this profile\n[CB14] not in this profile\n[CB06] unknown function\n"
 unfolding carried is_refused is_reserved digits
 heads = refl
@@ -64,6 +66,30 @@ wrong_facts : told (call "assert" [] ∷ call "assert" (call "a" [] ∷ word "b"
 unfolding carried is_refused is_reserved digits
 wrong_facts = refl
 
+-- a reset drops the facts and asserts those of each `deffacts`
+reset_facts : told (call "deffacts" (word "d" ∷ call "a" [] ∷ call "b" (number (pos 2) ∷ []) ∷ []) ∷ call "assert" (call "z" [] ∷ []) ∷ call "reset" [] ∷ call "facts" [] ∷ [])
+    ≡ codes "<Fact-1>\nf-1     (a)\nf-2     (b 2)\nFor a total of 2 facts.\n"
+unfolding carried is_refused is_reserved digits
+reset_facts = refl
+
+-- a relation in use gets no template, until all is cleared
+in_use : told (call "assert" (call "p" (number (pos 1) ∷ []) ∷ []) ∷ call "deftemplate" (word "p" ∷ call "slot" (word "q" ∷ []) ∷ []) ∷ call "clear" [] ∷ call "deftemplate" (word "p" ∷ call "slot" (word "q" ∷ []) ∷ []) ∷ call "assert" (call "p" [] ∷ []) ∷ call "facts" [] ∷ [])
+    ≡ codes "<Fact-1>\n[CB23] template in use\n<Fact-1>\nf-1     (p (q nil))\nFor a total of 1 fact.\n"
+unfolding carried is_refused is_reserved digits
+in_use = refl
+
+-- a slot that must be given, and a default of more than one value
+defaults : told (call "deftemplate" (word "t" ∷ call "slot" (word "k" ∷ call "default" (atom (token.Var (codes "NONE")) ∷ []) ∷ []) ∷ call "multislot" (word "m" ∷ call "default" (number (pos 1) ∷ text "b" ∷ []) ∷ []) ∷ []) ∷ call "assert" (call "t" (call "m" [] ∷ []) ∷ []) ∷ call "assert" (call "t" (call "k" (word "z" ∷ []) ∷ []) ∷ []) ∷ call "facts" [] ∷ [])
+    ≡ codes "[CB09] fact does not fit its template\n<Fact-1>\nf-1     (t (k z) (m 1 \"b\"))\nFor a total of 1 fact.\n"
+unfolding carried is_refused is_reserved digits
+defaults = refl
+
+-- facts retracted by their indices, one of which no fact has, and all of them
+retracted_facts : told (call "assert" (call "a" [] ∷ call "b" [] ∷ call "c" [] ∷ []) ∷ call "retract" (number (pos 2) ∷ []) ∷ call "retract" (number (pos 2) ∷ []) ∷ call "facts" [] ∷ call "retract" (word "*" ∷ []) ∷ call "assert" (call "d" [] ∷ []) ∷ [])
+    ≡ codes "<Fact-3>\n[CB20] no such fact\nf-1     (a)\nf-3     (c)\nFor a total of 2 facts.\n<Fact-4>\n"
+unfolding carried is_refused is_reserved digits
+retracted_facts = refl
+
 -- channels, and the words that stand for bytes
 printing : told (call "printout" (word "stdout" ∷ word "tab" ∷ text "tab" ∷ word "crlf" ∷ []) ∷ call "printout" (word "nil" ∷ word "a" ∷ []) ∷ call "printout" (word "nil" ∷ variable ∷ []) ∷ call "printout" [] ∷ call "printout" (text "t" ∷ variable ∷ []) ∷ call "printout" (word "t" ∷ word "=" ∷ call "div" [] ∷ []) ∷ [])
     ≡ 9 ∷ codes "tab\n[CB11] unbound variable\n[CB14] not in this profile\n[CB14] not in this profile\n[CB14] not in this profile\n"
@@ -72,7 +98,7 @@ printing = refl
 
 -- past the greatest index the script ends, and the facts asserted before stay
 abbrev full : State
-full = record { facts = []; last = greatest_index - 1; is_faulted = false }
+full = record first_state { memory = record { facts = []; last = greatest_index - 1 } }
 
 exhausted : (carried full (Ok (call "assert" (call "a" [] ∷ call "b" [] ∷ call "c" [] ∷ [])))).written ≡ codes "[CB94] numbers exhausted\n"
 unfolding carried is_refused is_reserved digits

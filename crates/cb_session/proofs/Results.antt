@@ -2,7 +2,7 @@
 use Rattle.std.proofs.Common.{◌≡◌, List, [], ◌∷◌, ◌++◌, Result, Ok, Err, refl, ap, append_assoc}
 use Rattle.std.proofs.lemmas.List.{append-nil}
 use Rattle.cb_forms.specs.declared.fault.Fault.{Fault}
-use Rattle.cb_session.specs.Constants.{with_first}
+use Rattle.cb_values.specs.Results.{with_first}
 
 -- results behind those that are there
 abbrev pub behind_those : {X : Type 0} → List X → Result (List X) Fault → Result (List X) Fault

@@ -2,10 +2,11 @@
 use Rattle.std.specs.Prelude.{◌||◌, ℕ, List, Option, Some, None, Result, Ok, Err, codes, if◌then◌else◌}
 use Rattle.std.specs.Option.{option_and_then}
 use Rattle.std.specs.Str.{bytes_eq}
+use Rattle.cb_forms.specs.Members.{head_and_rest, members, symbol_of}
 use Rattle.cb_forms.specs.Trees.{Tree, atom, branch, Trees, no_trees, tree, Reading}
 use Rattle.cb_forms.specs.declared.fault.Fault.{Fault}
 use Rattle.cb_forms.specs.declared.fault.Fault.TheVariants.{UnknownFunction, WrongArguments, MalformedForm, NotInProfile}
-use Rattle.cb_session.specs.Constants.{head_and_rest, symbol_of, token_value, values_of}
+use Rattle.cb_session.specs.Constants.{token_value, values_of}
 use Rattle.cb_session.specs.FactForms.{facts_of}
 use Rattle.cb_session.specs.Heads.{head_of}
 use Rattle.cb_session.specs.declared.command.Channel.{Channel}
@@ -15,30 +16,41 @@ use Rattle.cb_session.specs.declared.command.Command.TheVariants as program
 use Rattle.cb_session.specs.declared.heads.Head.{Head}
 use Rattle.cb_session.specs.declared.heads.Head.TheVariants as head
 use Rattle.cb_values.specs.Facts.{FactValue}
+use Rattle.cb_values.specs.Results.{ok_then}
+use Rattle.cb_values.specs.Templates.{Templates, without_comment}
 use Rattle.cb_values.specs.declared.value.Value.{Value}
 
--- what an item asks for: to show a value, to assert facts, to list those that are there, or to print values on a channel
+-- what an item asks for
 pub data Asked : Type 0 where
+  -- to show a value
   show : Value → Asked
+  -- to define the template that is written behind `deftemplate`
+  define_template : Trees → Asked
+  -- to keep facts under a name for `reset`
+  define_facts : List ℕ → List FactValue → Asked
   assert : List FactValue → Asked
+  retract : List Value → Asked
   list_facts : Asked
+  -- to print values on a channel
   print : Channel → List Value → Asked
+  reset : Asked
+  clear : Asked
 
 -- what a `Command` of the program asks for
 abbrev pub asked_by : Command → Asked
 asked_by (program.Show v) = show v
+asked_by (program.DefineTemplate forms) = define_template (members forms.now)
+asked_by (program.DefineFacts name facts) = define_facts name facts.items
 asked_by (program.Assert facts) = assert facts.items
+asked_by (program.Retract values) = retract values.items
 asked_by program.ListFacts = list_facts
 asked_by (program.Print on values) = print on values.items
+asked_by program.Reset = reset
+asked_by program.Clear = clear
 
 abbrev pub asked : Result Command Fault → Result Asked Fault
 asked (Ok c) = Ok (asked_by c)
 asked (Err f) = Err f
-
--- what follows from a result without a fault
-abbrev pub ok_then : {X Y : Type 0} → (X → Y) → Result X Fault → Result Y Fault
-ok_then next (Ok x) = Ok (next x)
-ok_then next (Err f) = Err f
 
 -- the channel of a name
 abbrev pub named_channel : List ℕ → Option Channel
@@ -46,15 +58,25 @@ named_channel name =
     if bytes_eq name (codes "t") || bytes_eq name (codes "stdout") then Some channel.Output else (
     if bytes_eq name (codes "nil") then Some channel.Nowhere else None)
 
--- `(assert fact ..)`
-abbrev pub assert_command : Trees → Result Asked Fault
-assert_command no_trees = Err WrongArguments
-assert_command (tree fact facts) = ok_then assert (facts_of (tree fact facts))
+-- `(deffacts name "comment" fact ..)`, by its name and what follows
+abbrev pub deffacts_command : Templates → Option (List ℕ × Trees) → Result Asked Fault
+deffacts_command templates None = Err MalformedForm
+deffacts_command templates (Some (name, facts)) = ok_then (define_facts name) (facts_of templates (without_comment facts))
 
--- `(facts)`
-abbrev pub facts_command : Trees → Result Asked Fault
-facts_command no_trees = Ok list_facts
-facts_command (tree t ts) = Err WrongArguments
+-- `(assert fact ..)`
+abbrev pub assert_command : Templates → Trees → Result Asked Fault
+assert_command templates no_trees = Err WrongArguments
+assert_command templates (tree fact facts) = ok_then assert (facts_of templates (tree fact facts))
+
+-- `(retract value ..)`
+abbrev pub retract_command : Trees → Result Asked Fault
+retract_command no_trees = Err WrongArguments
+retract_command (tree t ts) = ok_then retract (values_of (tree t ts))
+
+-- `(facts)`, `(reset)`, `(clear)`
+abbrev pub bare_command : Asked → Trees → Result Asked Fault
+bare_command command no_trees = Ok command
+bare_command command (tree t ts) = Err WrongArguments
 
 -- values on a channel, if it is one
 abbrev pub print_command : Option Channel → Trees → Result Asked Fault
@@ -66,25 +88,30 @@ abbrev pub printout_command : Trees → Result Asked Fault
 printout_command no_trees = Err NotInProfile
 printout_command (tree on values) = print_command (option_and_then named_channel (symbol_of on)) values
 
--- a call, by its head
-abbrev pub call_command : Head → Trees → Result Asked Fault
-call_command head.Assert args = assert_command args
-call_command head.Facts args = facts_command args
-call_command head.Printout args = printout_command args
-call_command head.Refused args = Err NotInProfile
-call_command head.Unknown args = Err UnknownFunction
+-- a construct or a call, by its head
+abbrev pub call_command : Templates → Head → Trees → Result Asked Fault
+call_command templates head.Deftemplate ts = Ok (define_template ts)
+call_command templates head.Deffacts ts = deffacts_command templates (head_and_rest ts)
+call_command templates head.Assert ts = assert_command templates ts
+call_command templates head.Retract ts = retract_command ts
+call_command templates head.Facts ts = bare_command list_facts ts
+call_command templates head.Printout ts = printout_command ts
+call_command templates head.Reset ts = bare_command reset ts
+call_command templates head.Clear ts = bare_command clear ts
+call_command templates head.Refused ts = Err NotInProfile
+call_command templates head.Unknown ts = Err UnknownFunction
 
 -- a list, by the symbol that it begins with
-abbrev pub headed_command : Option (List ℕ × Trees) → Result Asked Fault
-headed_command None = Err MalformedForm
-headed_command (Some (name, args)) = call_command (head_of name) args
+abbrev pub headed_command : Templates → Option (List ℕ × Trees) → Result Asked Fault
+headed_command templates None = Err MalformedForm
+headed_command templates (Some (name, ts)) = call_command templates (head_of name) ts
 
--- a form: a constant to show, or a command
-abbrev pub form_command : Tree → Result Asked Fault
-form_command (atom t) = ok_then show (token_value t)
-form_command (branch ts) = headed_command (head_and_rest ts)
+-- a form: a constant to show, a construct or a call
+abbrev pub form_command : Templates → Tree → Result Asked Fault
+form_command templates (atom t) = ok_then show (token_value t)
+form_command templates (branch ts) = headed_command templates (head_and_rest ts)
 
--- an item
-abbrev pub command_of : Reading → Result Asked Fault
-command_of (Ok t) = form_command t
-command_of (Err f) = Err f
+-- an item, where these relations have a template
+abbrev pub command_of : Templates → Reading → Result Asked Fault
+command_of templates (Ok t) = form_command templates t
+command_of templates (Err f) = Err f

@@ -1,6 +1,7 @@
 -- What the program keeps and answers while items are carried out.
 use Rattle.std.specs.Prelude.{◌≡◌, ◌<◌, ◌≤◌, ℕ, None}
-use Rattle.cb_session.specs.Engine.{State, Outcome, greatest_index}
+use Rattle.cb_session.specs.Engine.{State, Outcome}
+use Rattle.cb_session.specs.Memory.{greatest_index}
 use Rattle.cb_session.specs.declared.done.Done.{Done}
 use Rattle.cb_values.specs.FactLists.{IndexedFacts, fact_at, IsFactBase}
 

@@ -4,6 +4,8 @@ pub mod FactForms
 pub mod Commands
 pub mod Lines
 pub mod Printing
+pub mod Memory
+pub mod Groups
 pub mod Engine
 pub mod Engines
 pub mod Transcripts

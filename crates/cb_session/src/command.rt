@@ -1,15 +1,16 @@
 //! What items ask for.
-ghost use Rattle.std.specs.Prelude.{◌≡◌, IfOk};
+ghost use Rattle.std.specs.Prelude.{◌≡◌, Ok, Err, IfOk, IfErr};
+ghost use Rattle.cb_forms.specs.Members.{head_and_rest, members, symbol_of};
 ghost use Rattle.cb_forms.specs.Trees.{reading_of, tree_of};
-ghost use Rattle.cb_session.specs.Commands.{asked, assert_command, command_of, facts_command, form_command, headed_command, named_channel, printout_command};
+ghost use Rattle.cb_session.specs.Commands.{asked_by, assert_command, bare_command, command_of, deffacts_command, form_command, headed_command, named_channel, printout_command, retract_command};
+ghost use Rattle.cb_values.specs.Results.{Tells};
 ghost use Rattle.std.specs.Option.{option_and_then};
-ghost use Rattle.cb_session.specs.Constants.{head_and_rest, members, symbol_of};
 
-use crate::constant::{read_constant, read_values, split_head, symbol};
+use crate::constant::{read_constant, read_values};
 use crate::fact_form::read_facts;
 use crate::heads::{Head, read_head};
-use cb_forms::{Fault, Form, Item, NoMemory, Token};
-use cb_values::{Fact, Value};
+use cb_forms::{Fault, Form, Item, split_head};
+use cb_values::{Fact, Name, Refused, Relations, Value, without_comment};
 use std::alloc::Global;
 
 #[cfg(test)]
@@ -26,91 +27,157 @@ pub(crate) enum Channel {
 
 /// What an item asks for.
 #[derive(Debug, Drop)]
-pub(crate) enum Command {
+pub(crate) enum Command<'a> {
     /// To show a value.
     Show(Value),
+    /// To define the template that these forms are, which stand behind `deftemplate`.
+    DefineTemplate(&'a [Form]),
+    /// To keep facts under a name for `reset`.
+    DefineFacts(Name, Vec<Fact>),
     /// To assert facts, one after another.
     Assert(Vec<Fact>),
+    /// To retract the facts that values say.
+    Retract(Vec<Value>),
     /// To list the facts.
     ListFacts,
     /// To print values.
     Print(Channel, Vec<Value>),
+    /// To begin anew with the facts that are kept for it.
+    Reset,
+    /// To forget all but that a fault was written.
+    Clear,
 }
 
-/// The command that an item is, or its first fault (`docs/LANGUAGE.md`, "Faults"). Growth is refused as `NoMemory`.
-pub(crate) fn read_command(alloc: Global, item: &Item) -> Result<Result<Command, Fault>, NoMemory>
-    ensures { IfOk result (λ command. asked command ≡ command_of (reading_of item.now)) }
+/// The command that an item is, where these relations have a template, or its first fault (`docs/LANGUAGE.md`, "Faults").
+pub(crate) fn read_command<'a>(
+    alloc: Global,
+    relations: &Relations,
+    item: &'a Item,
+) -> Result<Command<'a>, Refused>
+    ensures ok { IfOk result (λ command. command_of relations.now (reading_of item.now) ≡ Ok (asked_by command)) }
+    ensures fault { IfErr result (λ r. Tells r (λ f. command_of relations.now (reading_of item.now) ≡ Err f)) }
 {
     match item {
-        Item::Form(form) => read_form(alloc, form),
-        Item::Bad(fault) => Ok(Err(*fault)),
+        Item::Form(form) => read_form(alloc, relations, form),
+        Item::Bad(fault) => Err(Refused::Fault(*fault)),
     }
 }
 
-fn read_form(alloc: Global, form: &Form) -> Result<Result<Command, Fault>, NoMemory>
-    ensures { IfOk result (λ command. asked command ≡ form_command (tree_of form.now)) }
+fn read_form<'a>(
+    alloc: Global,
+    relations: &Relations,
+    form: &'a Form,
+) -> Result<Command<'a>, Refused>
+    ensures ok { IfOk result (λ command. form_command relations.now (tree_of form.now) ≡ Ok (asked_by command)) }
+    ensures fault { IfErr result (λ r. Tells r (λ f. form_command relations.now (tree_of form.now) ≡ Err f)) }
 {
     match form {
-        Form::Atom(token) => Ok(read_constant(alloc, token)?.map(Command::Show)),
-        Form::List(forms) => read_list(alloc, forms),
+        Form::Atom(token) => match read_constant(alloc, token)? {
+            Ok(value) => Ok(Command::Show(value)),
+            Err(fault) => Err(Refused::Fault(fault)),
+        },
+        Form::List(forms) => read_list(alloc, relations, forms),
     }
 }
 
-fn read_list(alloc: Global, forms: &[Form]) -> Result<Result<Command, Fault>, NoMemory>
-    ensures { IfOk result (λ command. asked command ≡ headed_command (head_and_rest (members forms.now))) }
+fn read_list<'a>(
+    alloc: Global,
+    relations: &Relations,
+    forms: &'a [Form],
+) -> Result<Command<'a>, Refused>
+    ensures ok { IfOk result (λ command. headed_command relations.now (head_and_rest (members forms.now)) ≡ Ok (asked_by command)) }
+    ensures fault { IfErr result (λ r. Tells r (λ f. headed_command relations.now (head_and_rest (members forms.now)) ≡ Err f)) }
 {
     let Some((name, args)) = split_head(forms) else {
-        return Ok(Err(Fault::MalformedForm));
+        return Err(Refused::Fault(Fault::MalformedForm));
     };
     match read_head(name) {
-        Head::Assert => read_assert(alloc, args),
-        Head::Facts => Ok(read_facts_command(args)),
+        Head::Deftemplate => Ok(Command::DefineTemplate(args)),
+        Head::Deffacts => read_deffacts(alloc, relations, args),
+        Head::Assert => read_assert(alloc, relations, args),
+        Head::Retract => read_retract(alloc, args),
+        Head::Facts => read_bare(Command::ListFacts, args),
         Head::Printout => read_printout(alloc, args),
-        Head::Refused => Ok(Err(Fault::NotInProfile)),
-        Head::Unknown => Ok(Err(Fault::UnknownFunction)),
+        Head::Reset => read_bare(Command::Reset, args),
+        Head::Clear => read_bare(Command::Clear, args),
+        Head::Refused => Err(Refused::Fault(Fault::NotInProfile)),
+        Head::Unknown => Err(Refused::Fault(Fault::UnknownFunction)),
     }
 }
 
-fn read_assert(alloc: Global, args: &[Form]) -> Result<Result<Command, Fault>, NoMemory>
-    ensures { IfOk result (λ command. asked command ≡ assert_command (members args.now)) }
+fn read_deffacts<'a>(
+    alloc: Global,
+    relations: &Relations,
+    args: &'a [Form],
+) -> Result<Command<'a>, Refused>
+    ensures ok { IfOk result (λ command. deffacts_command relations.now (head_and_rest (members args.now)) ≡ Ok (asked_by command)) }
+    ensures fault { IfErr result (λ r. Tells r (λ f. deffacts_command relations.now (head_and_rest (members args.now)) ≡ Err f)) }
+{
+    let Some((name, forms)) = split_head(args) else {
+        return Err(Refused::Fault(Fault::MalformedForm));
+    };
+    let facts = read_facts(alloc, relations, without_comment(forms))?;
+    Ok(Command::DefineFacts(Name::new(alloc, name)?, facts))
+}
+
+fn read_assert<'a>(
+    alloc: Global,
+    relations: &Relations,
+    args: &'a [Form],
+) -> Result<Command<'a>, Refused>
+    ensures ok { IfOk result (λ command. assert_command relations.now (members args.now) ≡ Ok (asked_by command)) }
+    ensures fault { IfErr result (λ r. Tells r (λ f. assert_command relations.now (members args.now) ≡ Err f)) }
 {
     let Some(_) = args.split_first() else {
-        return Ok(Err(Fault::WrongArguments));
+        return Err(Refused::Fault(Fault::WrongArguments));
     };
-    match read_facts(alloc, args)? {
-        Ok(facts) => Ok(Ok(Command::Assert(facts))),
-        Err(fault) => Ok(Err(fault)),
+    Ok(Command::Assert(read_facts(alloc, relations, args)?))
+}
+
+fn read_retract<'a>(alloc: Global, args: &'a [Form]) -> Result<Command<'a>, Refused>
+    ensures ok { IfOk result (λ command. retract_command (members args.now) ≡ Ok (asked_by command)) }
+    ensures fault { IfErr result (λ r. Tells r (λ f. retract_command (members args.now) ≡ Err f)) }
+{
+    let Some(_) = args.split_first() else {
+        return Err(Refused::Fault(Fault::WrongArguments));
+    };
+    match read_values(alloc, args)? {
+        Ok(values) => Ok(Command::Retract(values)),
+        Err(fault) => Err(Refused::Fault(fault)),
     }
 }
 
-fn read_facts_command(args: &[Form]) -> Result<Command, Fault>
-    ensures { asked result ≡ facts_command (members args.now) }
+/// A command that takes no arguments.
+fn read_bare<'a>(command: Command<'a>, args: &'a [Form]) -> Result<Command<'a>, Refused>
+    ensures ok { IfOk result (λ told. bare_command (asked_by command.entry) (members args.now) ≡ Ok (asked_by told)) }
+    ensures fault { IfErr result (λ r. Tells r (λ f. bare_command (asked_by command.entry) (members args.now) ≡ Err f)) }
 {
     match args.split_first() {
-        None => Ok(Command::ListFacts),
-        Some(_) => Err(Fault::WrongArguments),
+        None => Ok(command),
+        Some(_) => Err(Refused::Fault(Fault::WrongArguments)),
     }
 }
 
-fn read_printout(alloc: Global, args: &[Form]) -> Result<Result<Command, Fault>, NoMemory>
-    ensures { IfOk result (λ command. asked command ≡ printout_command (members args.now)) }
+fn read_printout<'a>(alloc: Global, args: &'a [Form]) -> Result<Command<'a>, Refused>
+    ensures ok { IfOk result (λ command. printout_command (members args.now) ≡ Ok (asked_by command)) }
+    ensures fault { IfErr result (λ r. Tells r (λ f. printout_command (members args.now) ≡ Err f)) }
 {
     let Some((first, values)) = args.split_first() else {
-        return Ok(Err(Fault::NotInProfile));
+        return Err(Refused::Fault(Fault::NotInProfile));
     };
     let Some(channel) = read_channel(first) else {
-        return Ok(Err(Fault::NotInProfile));
+        return Err(Refused::Fault(Fault::NotInProfile));
     };
     match read_values(alloc, values)? {
-        Ok(values) => Ok(Ok(Command::Print(channel, values))),
-        Err(fault) => Ok(Err(fault)),
+        Ok(values) => Ok(Command::Print(channel, values)),
+        Err(fault) => Err(Refused::Fault(fault)),
     }
 }
 
 fn read_channel(form: &Form) -> Option<Channel>
     ensures { result ≡ option_and_then named_channel (symbol_of (tree_of form.now)) }
 {
-    named_channel(symbol(form)?)
+    named_channel(form.symbol()?)
 }
 
 fn named_channel(name: &[u8]) -> Option<Channel>

@@ -1,10 +1,12 @@
 //! Constants where a value is wanted.
-ghost use Rattle.std.specs.Prelude.{◌≡◌, None, Some, IfOk, MatchOption};
+ghost use Rattle.std.specs.Prelude.{◌≡◌, IfOk};
+ghost use Rattle.cb_forms.specs.Members.{head_and_rest, members};
 ghost use Rattle.cb_forms.specs.Trees.{tree_of};
-ghost use Rattle.cb_session.specs.Constants.{answered, call_fault, head_and_rest, headed_fault, members, symbol_of, token_fault, token_symbol, token_value, value_of, values_of};
+ghost use Rattle.cb_session.specs.Constants.{call_fault, headed_fault, token_fault, token_value, value_of, values_of};
+ghost use Rattle.cb_values.specs.Results.{answered};
 
 use crate::heads::{Head, read_head};
-use cb_forms::{Fault, Form, NoMemory, Token};
+use cb_forms::{Fault, Form, NoMemory, Token, split_head};
 use cb_values::Value;
 use std::alloc::Global;
 
@@ -69,32 +71,5 @@ fn call_fault(head: Head) -> Fault
     match head {
         Head::Unknown => Fault::UnknownFunction,
         _ => Fault::NotInProfile,
-    }
-}
-
-/// The symbol that a list begins with, and what follows it.
-pub(crate) fn split_head(forms: &[Form]) -> Option<(&[u8], &[Form])>
-    ensures { MatchOption result (head_and_rest (members forms.now) ≡ None) (λ split. head_and_rest (members forms.now) ≡ Some (split.0.now, members split.1.now)) }
-{
-    let (first, rest) = forms.split_first()?;
-    Some((symbol(first)?, rest))
-}
-
-/// The symbol that a form is.
-pub(crate) fn symbol(form: &Form) -> Option<&[u8]>
-    ensures { MatchOption result (symbol_of (tree_of form.now) ≡ None) (λ name. symbol_of (tree_of form.now) ≡ Some name.now) }
-{
-    match form {
-        Form::Atom(token) => token_symbol(token),
-        Form::List(_) => None,
-    }
-}
-
-fn token_symbol(token: &Token) -> Option<&[u8]>
-    ensures { MatchOption result (token_symbol token.now ≡ None) (λ name. token_symbol token.now ≡ Some name.now) }
-{
-    match token {
-        Token::Symbol(name) => Some(name.as_slice()),
-        _ => None,
     }
 }

@@ -1,45 +1,47 @@
 //! Carrying out items.
-ghost use Rattle.std.specs.Prelude.{◌≡◌, None, Some, IfOk};
+ghost use Rattle.std.specs.Prelude.{◌≡◌, [], None, IfOk};
+ghost use Rattle.cb_forms.specs.Members.{members};
 ghost use Rattle.cb_forms.specs.Trees.{reading_of};
 ghost use Rattle.cb_session.specs.Commands.{asked_by};
-ghost use Rattle.cb_session.specs.Engine.{asserted, asserted_one, carried, faulted, first_state, last_address, obeyed};
+ghost use Rattle.cb_session.specs.Engine.{after_assert, after_reset, carried, faulted, first_state, is_in_use, is_name_in_use, last_address, obeyed, retracted, with_templates, wrote};
 ghost use Rattle.cb_session.specs.Engines.{outcome};
+ghost use Rattle.cb_session.specs.Groups.{facts_in, with_group};
+ghost use Rattle.cb_session.specs.Memory.{asserted_all, empty_memory};
+ghost use Rattle.cb_values.specs.Templates.{defined};
 
 use crate::command::{Command, read_command};
 use crate::done::Done;
+use crate::groups::FactGroups;
 use crate::line::{address_line, exhausted_line, fact_lines, fault_line, value_line};
+use crate::memory::{Asserted, WorkingMemory, are_retractable};
 use crate::print::print;
-use cb_forms::{Fault, Item, NoMemory};
-use cb_values::{Fact, FactList};
+use cb_forms::{Fault, Form, Item, NoMemory, split_head};
+use cb_values::{Fact, Name, Refused, Relations, Value};
 use std::alloc::Global;
 use std::marker::Model;
 
 #[cfg(test)]
 mod tests;
 
-/// The greatest index that a fact may have.
-const GREATEST_INDEX: u64 = 9_223_372_036_854_775_807;
-
-/// What is kept from item to item: the facts, the index that was given last, and whether a fault line was written.
+/// What is kept from item to item: the facts, the templates, the facts of each `deffacts`, and whether a fault line was
+/// written.
 ///
 /// After `NoMemory` it may be any.
 #[derive(Drop)]
 pub(crate) struct Engine {
     alloc: Global,
-    facts: FactList,
-    last: u64,
+    memory: WorkingMemory,
+    relations: Relations,
+    groups: FactGroups,
     is_faulted: bool,
 }
 
 impl Model for Engine {
     ghost use Rattle.cb_session.specs.Engine.{State};
-    ghost use Rattle.cb_session.specs.Engines.{IsLastOf};
 
     ghost Value = { State };
 
-    ghost view = { λ e. record { facts = e.facts; last = e.last; is_faulted = e.is_faulted } };
-
-    ghost invariant = { λ e. IsLastOf e.facts e.last };
+    ghost view = { λ e. record { memory = e.memory; templates = e.relations; groups = e.groups; is_faulted = e.is_faulted } };
 }
 
 impl Engine {
@@ -49,8 +51,9 @@ impl Engine {
     {
         Engine {
             alloc,
-            facts: FactList::new(alloc),
-            last: 0,
+            memory: WorkingMemory::new(alloc),
+            relations: Relations::new(alloc),
+            groups: FactGroups::new(alloc),
             is_faulted: false,
         }
     }
@@ -66,9 +69,10 @@ impl Engine {
     pub(crate) fn carry_out(&mut self, item: &Item) -> Result<Done, NoMemory>
         ensures { IfOk result (λ done. carried self.old (reading_of item.now) ≡ outcome self.new done) }
     {
-        match read_command(self.alloc, item)? {
-            Ok(command) => self.obey(&command),
-            Err(fault) => self.tell(fault),
+        match read_command(self.alloc, &self.relations, item) {
+            Ok(command) => self.obey(command),
+            Err(Refused::Fault(fault)) => self.tell(fault),
+            Err(Refused::NoMemory) => Err(NoMemory),
         }
     }
 
@@ -80,49 +84,105 @@ impl Engine {
         Ok(Done::going_on(fault_line(self.alloc, fault)?))
     }
 
-    fn obey(&mut self, command: &Command) -> Result<Done, NoMemory>
-        ensures { IfOk result (λ done. obeyed self.old (asked_by command.now) ≡ outcome self.new done) }
+    fn obey(&mut self, command: Command<'_>) -> Result<Done, NoMemory>
+        ensures { IfOk result (λ done. obeyed self.old (asked_by command.entry) ≡ outcome self.new done) }
     {
         match command {
-            Command::Show(value) => Ok(Done::going_on(value_line(self.alloc, value)?)),
+            Command::Show(value) => Ok(Done::going_on(value_line(self.alloc, &value)?)),
+            Command::DefineTemplate(forms) => self.define_template(forms),
+            Command::DefineFacts(name, facts) => self.define_facts(name, facts),
             Command::Assert(facts) => self.assert(facts.as_slice()),
-            Command::ListFacts => Ok(Done::going_on(fact_lines(self.alloc, &self.facts)?)),
+            Command::Retract(values) => self.retract(values.as_slice()),
+            Command::ListFacts => Ok(Done::going_on(fact_lines(self.alloc, self.memory.facts())?)),
             Command::Print(channel, values) => Ok(Done::going_on(print(
                 self.alloc,
-                *channel,
+                channel,
                 values.as_slice(),
             )?)),
+            Command::Reset => self.reset(),
+            Command::Clear => Ok(self.clear()),
         }
+    }
+
+    /// Defines the template that forms are.
+    fn define_template(&mut self, forms: &[Form]) -> Result<Done, NoMemory>
+        ensures { IfOk result (λ done. with_templates self.old (defined self.old.templates (is_name_in_use self.old (members forms.now)) (members forms.now)) ≡ outcome self.new done) }
+    {
+        let in_use = self.is_name_in_use(forms);
+        match self.relations.define_template(forms, in_use) {
+            Ok(()) => Ok(Done::going_on(Vec::new(self.alloc))),
+            Err(Refused::Fault(fault)) => self.tell(fault),
+            Err(Refused::NoMemory) => Err(NoMemory),
+        }
+    }
+
+    /// Whether the relation that a template is written for is in use.
+    fn is_name_in_use(&self, forms: &[Form]) -> bool
+        ensures { result ≡ is_name_in_use self.now (members forms.now) }
+    {
+        match split_head(forms) {
+            Some((relation, _)) => self.is_in_use(relation),
+            None => false,
+        }
+    }
+
+    fn is_in_use(&self, relation: &[u8]) -> bool
+        ensures { result ≡ is_in_use self.now relation.now }
+    {
+        self.memory.names(relation) || self.groups.name(relation)
+    }
+
+    /// Keeps facts under a name for `reset`.
+    fn define_facts(&mut self, name: Name, facts: Vec<Fact>) -> Result<Done, NoMemory>
+        ensures { IfOk result (λ done. wrote (record self.old { groups = with_group self.old.groups name facts.items }) [] ≡ outcome self.new done) }
+    {
+        self.groups.define(name, facts)?;
+        Ok(Done::going_on(Vec::new(self.alloc)))
     }
 
     /// Asserts facts, each before the next.
     fn assert(&mut self, facts: &[Fact]) -> Result<Done, NoMemory>
-        ensures { IfOk result (λ done. asserted self.old None facts.now ≡ outcome self.new done) }
+        ensures { IfOk result (λ done. after_assert self.old (asserted_all self.old.memory None facts.now) ≡ outcome self.new done) }
     {
-        let mut last = None;
-        for fact in facts {
-            match self.assert_fact(fact)? {
-                Some(ix) => last = Some(ix),
-                None => return Ok(Done::limited(exhausted_line(self.alloc)?)),
-            }
+        match self.memory.assert_all(None, facts)? {
+            Asserted::All(last) => Ok(Done::going_on(last_address(self.alloc, last)?)),
+            Asserted::Exhausted => Ok(Done::limited(exhausted_line(self.alloc)?)),
         }
-        Ok(Done::going_on(last_address(self.alloc, last)?))
     }
 
-    /// Asserts a fact. Its index is the answer, or `None` where no index is left: then nothing has changed.
-    fn assert_fact(&mut self, fact: &Fact) -> Result<Option<u64>, NoMemory>
-        ensures { IfOk result (λ ix. asserted_one self.old fact.now ≡ (self.new, ix)) }
+    /// Retracts the facts that values say.
+    fn retract(&mut self, values: &[Value]) -> Result<Done, NoMemory>
+        ensures { IfOk result (λ done. retracted self.old values.now ≡ outcome self.new done) }
     {
-        if let Some(ix) = self.facts.find(fact) {
-            return Ok(Some(ix));
+        if !are_retractable(values) {
+            return self.tell(Fault::WrongType);
         }
-        if self.last >= GREATEST_INDEX {
-            return Ok(None);
+        if self.memory.retract_all(values) {
+            Ok(Done::going_on(Vec::new(self.alloc)))
+        } else {
+            self.tell(Fault::NoSuchFact)
         }
-        let ix = self.last + 1;
-        self.facts.add(ix, fact.clone()?)?;
-        self.last = ix;
-        Ok(Some(ix))
+    }
+
+    /// Drops all facts, and asserts those of each `deffacts`, under indices from 1.
+    fn reset(&mut self) -> Result<Done, NoMemory>
+        ensures { IfOk result (λ done. after_reset self.old (asserted_all empty_memory None (facts_in self.old.groups)) ≡ outcome self.new done) }
+    {
+        self.memory = WorkingMemory::new(self.alloc);
+        match self.groups.assert_into(&mut self.memory)? {
+            Asserted::All(_) => Ok(Done::going_on(Vec::new(self.alloc))),
+            Asserted::Exhausted => Ok(Done::limited(exhausted_line(self.alloc)?)),
+        }
+    }
+
+    /// Forgets the facts, the templates and each `deffacts`.
+    fn clear(&mut self) -> Done
+        ensures { wrote (record first_state { is_faulted = self.old.is_faulted }) [] ≡ outcome self.new result }
+    {
+        self.memory = WorkingMemory::new(self.alloc);
+        self.relations = Relations::new(self.alloc);
+        self.groups = FactGroups::new(self.alloc);
+        Done::going_on(Vec::new(self.alloc))
     }
 }
 

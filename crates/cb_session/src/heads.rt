@@ -2,17 +2,27 @@
 ghost use Rattle.std.specs.Prelude.{◌≡◌};
 ghost use Rattle.std.specs.List.{list_any};
 ghost use Rattle.std.specs.Str.{bytes_eq};
-ghost use Rattle.cb_session.specs.Heads.{head_of, is_refused, is_reserved};
+ghost use Rattle.cb_session.specs.Heads.{head_of, is_refused};
 
 /// What the symbol that a list begins with names (`docs/LANGUAGE.md`, "Commands").
 #[derive(Clone, Copy, Debug, PartialEq, Eq)]
 pub(crate) enum Head {
+    /// `deftemplate`
+    Deftemplate,
+    /// `deffacts`
+    Deffacts,
     /// `assert`
     Assert,
+    /// `retract`
+    Retract,
     /// `facts`
     Facts,
     /// `printout`
     Printout,
+    /// `reset`
+    Reset,
+    /// `clear`
+    Clear,
     /// A construct, command or function that is known and not carried out.
     Refused,
     /// No construct, command or function.
@@ -20,25 +30,20 @@ pub(crate) enum Head {
 }
 
 /// The constructs, commands and functions that are known and not carried out.
-pub(crate) const REFUSED_HEADS: [&str; 128] = [
+pub(crate) const REFUSED_HEADS: [&str; 123] = [
     // Constructs.
-    "deftemplate",
-    "deffacts",
     "defglobal",
     "defrule",
     // Commands.
-    "reset",
     "run",
     "agenda",
     "rules",
     "undefrule",
-    "clear",
     "watch",
     "unwatch",
     "set-strategy",
     "exit",
     // Functions with an effect.
-    "retract",
     "bind",
     "if",
     "while",
@@ -156,17 +161,21 @@ pub(crate) const REFUSED_HEADS: [&str; 128] = [
     "lowcase",
 ];
 
-/// The words that are never the relation of a fact.
-pub(crate) const RESERVED_WORDS: [&str; 9] = [
-    "test", "and", "or", "not", "declare", "logical", "object", "exists", "forall",
-];
-
 /// What a symbol names as the head of a list.
 pub(crate) fn read_head(name: &[u8]) -> Head
     ensures { result ≡ head_of name.now }
 {
+    if name == b"deftemplate".as_slice() {
+        return Head::Deftemplate;
+    }
+    if name == b"deffacts".as_slice() {
+        return Head::Deffacts;
+    }
     if name == b"assert".as_slice() {
         return Head::Assert;
+    }
+    if name == b"retract".as_slice() {
+        return Head::Retract;
     }
     if name == b"facts".as_slice() {
         return Head::Facts;
@@ -174,21 +183,18 @@ pub(crate) fn read_head(name: &[u8]) -> Head
     if name == b"printout".as_slice() {
         return Head::Printout;
     }
+    if name == b"reset".as_slice() {
+        return Head::Reset;
+    }
+    if name == b"clear".as_slice() {
+        return Head::Clear;
+    }
     if is_refused(name) {
         return Head::Refused;
     }
     Head::Unknown
 }
 
-/// Whether a word is never the relation of a fact.
-#[tactic(auto, unfolding(crate::specs::Heads::is_reserved))]
-pub(crate) fn is_reserved(word: &[u8]) -> bool
-    ensures { result ≡ is_reserved word.now }
-{
-    is_among(&RESERVED_WORDS, word)
-}
-
-#[tactic(auto, unfolding(crate::specs::Heads::is_refused))]
 fn is_refused(name: &[u8]) -> bool
     ensures { result ≡ is_refused name.now }
 {

@@ -30,7 +30,7 @@ pub use refused::Refused;
 pub use relations::{Relations, without_comment};
 pub use reserved::is_reserved;
 pub use single::Single;
-pub use slot::Slot;
+pub use slot::{Slot, find_slot};
 pub use splicing::splice;
 pub use text::{fact_text, plain_text, quoted_text};
 pub use value::Value;

@@ -173,7 +173,7 @@ impl Slot {
 }
 
 /// The slot with a name, if there is one.
-pub(crate) fn find_slot<'a>(slots: &'a [Slot], name: &[u8]) -> Option<&'a Slot>
+pub fn find_slot<'a>(slots: &'a [Slot], name: &[u8]) -> Option<&'a Slot>
     ensures { MatchOption result (slot_named slots.now name.now ≡ None) (λ s. slot_named slots.now name.now ≡ Some s.now) }
 {
     for slot in slots {

@@ -1,5 +1,6 @@
 use super::*;
 use crate::testing::items;
+use cb_forms::NoMemory;
 
 // The fault of the first item of a script, if it has one.
 fn fault_in(alloc: Global, script: &str) -> Result<Option<Fault>, NoMemory> {
@@ -7,7 +8,11 @@ fn fault_in(alloc: Global, script: &str) -> Result<Option<Fault>, NoMemory> {
     let Some(item) = items.as_slice().first() else {
         return Ok(None);
     };
-    Ok(read_command(alloc, item)?.err())
+    match read_command(alloc, &Relations::new(alloc), item) {
+        Ok(_) => Ok(None),
+        Err(Refused::Fault(fault)) => Ok(Some(fault)),
+        Err(Refused::NoMemory) => Err(NoMemory),
+    }
 }
 
 #[test]

@@ -45,7 +45,7 @@ fn carries_out_scripts(rt: HostRuntime) -> Result<(), NoMemory> {
 #[test]
 fn ends_at_the_last_index(rt: HostRuntime) -> Result<(), NoMemory> {
     let mut engine = Engine {
-        last: GREATEST_INDEX - 1,
+        memory: WorkingMemory::behind(rt.alloc(), 9_223_372_036_854_775_806),
         ..Engine::new(rt.alloc())
     };
     let items = items(rt.alloc(), b"(assert (a) (b) (c)) (facts)")?;

@@ -1,5 +1,5 @@
 use Rattle.std.proofs.Common.{◌≡◌, length}
-use Rattle.cb_session.specs.Constants.{members}
+use Rattle.cb_forms.specs.Members.{members}
 use Rattle.cb_session.specs.FactForms.{fields_of}
 use Rattle.cb_session.proofs.Results.{behind_those}
 use Rattle.cb_session.proofs.fact_form.read_fields.Given as goal

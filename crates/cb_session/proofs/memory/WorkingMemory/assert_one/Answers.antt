@@ -1,6 +1,6 @@
 use Rattle.std.proofs.Common.{◌≡◌, rules}
-use Rattle.cb_session.proofs.EngineLaws.{one-there, one-refused, one-added_clone}
-use Rattle.cb_session.proofs.engine.Engine.assert_fact.Goals as goal
+use Rattle.cb_session.proofs.MemoryLaws.{one-there, one-refused, one-added_clone}
+use Rattle.cb_session.proofs.memory.WorkingMemory.assert_one.Goals as goal
 
 pub returns-in-Some : goal.returns-in-Some
 returns-in-Some c = rw (← c.self.view_is) (one-there _ _ _ c.self.invariant.base c.in-Some.ensures.found)
