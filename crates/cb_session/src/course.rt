@@ -41,6 +41,11 @@ impl Course {
         ensures wrote_some { OnErr result (PutSome (K.has out.old.sink) (K.has out.new.sink) out.old.pending (so_far self.old.cutter.limit self.old.cutter.stepped).written (so_far self.old.cutter.limit (self.old.cutter.stepped ++ byte ∷ [])).written) }
         ensures sink_failed { result ≡ Err Stop.WriteFault → K.failures out.old.sink < K.failures out.new.sink }
     {
+        match self.cutter.step_within(byte) {
+            Ok(true) => return Ok(None),
+            Ok(false) => {}
+            Err(_) => return Err(Stop::NoMemory),
+        }
         let cut = match self.cutter.step(byte) {
             Ok(cut) => cut,
             Err(_) => return Err(Stop::NoMemory),
