@@ -1,13 +1,17 @@
 -- What an item leads to, by what it asks for, and the assertion of one fact.
-use Rattle.std.proofs.Common.{◌≡◌, ◌≤◌, ◌<◌, ◌+◌, ℕ, true, false, Some, None, Ok, Err, sym, ap, ◌∙◌, nat_lt, rules, if◌then◌else◌}
-use Rattle.cb_forms.specs.Trees.{Reading}
+use Rattle.std.proofs.Common.{◌≡◌, ◌≤◌, ◌<◌, ◌+◌, ℕ, true, false, List, Some, None, Ok, Err, sym, ap, ◌∙◌, nat_lt, rules, if◌then◌else◌}
+use Rattle.cb_forms.specs.Trees.{Tree, atom, branch, Reading}
 use Rattle.cb_forms.specs.declared.fault.Fault.{Fault}
+use Rattle.cb_forms.specs.declared.token.Token.TheVariants as token
 use Rattle.cb_session.specs.Commands.{asked, asked_by, command_of}
-use Rattle.cb_session.specs.Engine.{State, greatest_index, grown, asserted_beside, asserted_one, carried, carried_as, obeyed, faulted}
+use Rattle.cb_session.specs.Constants.{symbol_of}
+use Rattle.cb_session.specs.Engine.{State, greatest_index, grown, asserted_beside, asserted_one, carried, carried_as, obeyed, faulted, wrote}
+use Rattle.cb_session.specs.Lines.{value_line}
 use Rattle.cb_session.specs.declared.command.Command.{Command}
 use Rattle.cb_session.proofs.IndexLaws.{index_of-there, index_of-absent}
 use Rattle.cb_values.specs.FactLists.{IndexedFacts, fact_at, with_fact, IsAbsent, IsFactBase}
 use Rattle.cb_values.specs.Facts.{FactValue}
+use Rattle.cb_values.specs.declared.value.Value.TheVariants as value
 
 -- a fact that is there keeps its index
 pub one-there : (s : State) (fact : FactValue) (ix : ℕ) → IsFactBase s.facts → fact_at s.facts ix ≡ Some fact → asserted_one s fact ≡ (s, Some ix)
@@ -39,3 +43,23 @@ carried-command s r command is = ap (carried_as s) (sym is)
 pub carried-fault : (s : State) (r : Reading) (fault : Fault) → asked (Err fault) ≡ command_of r → carried s r ≡ faulted s fault
 unfolding carried
 carried-fault s r fault is = ap (carried_as s) (sym is)
+
+-- a symbol shows itself
+pub carried-symbol : (s : State) (r : Reading) (name : List ℕ) → r ≡ Ok (atom (token.Symbol name)) → carried s r ≡ wrote s (value_line (value.Symbol name))
+unfolding carried
+carried-symbol s r name is = ap (carried s) is
+
+-- a form that is a symbol
+pub symbol-atom : (t : Tree) (name : List ℕ) → symbol_of t ≡ Some name → t ≡ atom (token.Symbol name)
+symbol-atom (branch ts) name h = cc
+symbol-atom (atom (token.Symbol n)) name h = cc
+symbol-atom (atom (token.Str n)) name h = cc
+symbol-atom (atom (token.Int n)) name h = cc
+symbol-atom (atom (token.Var n)) name h = cc
+symbol-atom (atom (token.MultiVar n)) name h = cc
+symbol-atom (atom token.Any) name h = cc
+symbol-atom (atom token.MultiAny) name h = cc
+symbol-atom (atom (token.Global n)) name h = cc
+symbol-atom (atom token.And) name h = cc
+symbol-atom (atom token.Or) name h = cc
+symbol-atom (atom token.Not) name h = cc
