@@ -11,7 +11,7 @@ use Rattle.cb_forms.specs.declared.cut.Cut.TheVariants as cut
 use Rattle.cb_forms.specs.declared.mode.Mode.{Mode}
 use Rattle.cb_forms.specs.declared.mode.Mode.TheVariants.{Ended}
 use Rattle.cb_forms.specs.declared.open_part.OpenPart.{OpenPart}
-use Rattle.cb_forms.proofs.OpenPartLaws.{kept-open, open_bytes-open, open_bytes-ended, open-no_gap-push, place-goes, reaches-item, reaches-comment, reaches-gap, no_gap-fresh, depth-fresh}
+use Rattle.cb_forms.proofs.OpenPartLaws.{kept-open, open_bytes-open, open_bytes-ended, open-no_gap-push, place-goes, reaches-item, reaches-comment, reaches-gap, depth-fresh}
 use Rattle.cb_forms.proofs.PlaceLaws.{place-takes, place-open, place-push, place-fresh}
 
 -- the byte goes on with the part

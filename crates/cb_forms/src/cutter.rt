@@ -96,9 +96,9 @@ impl Cutter {
         Ok(cut)
     }
 
-    /// Takes the next byte if it completes nothing, and says whether it took it. Where it took none, nothing has
-    /// changed: then `step` takes the byte, and it may give nothing too. Most bytes of a script are taken so, and for
-    /// less than by `step`.
+    /// Takes the next byte if it plainly completes nothing, and says whether it took it. Where it didn't, nothing has
+    /// changed: then `step` takes the byte, and may give nothing too. Most bytes of a script are taken so, and for less
+    /// than by `step`.
     ///
     /// Growth is refused as `NoMemory`, and then so is every later call.
     pub fn step_within(&mut self, byte: u8) -> Result<bool, NoMemory>

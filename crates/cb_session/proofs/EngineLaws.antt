@@ -1,10 +1,9 @@
 -- What an item leads to, by what it asks for, and the assertion of one fact.
 use Rattle.std.proofs.Common.{◌≡◌, ◌≤◌, ◌<◌, ◌+◌, ℕ, true, false, List, Some, None, Ok, Err, sym, ap, ◌∙◌, nat_lt, rules, if◌then◌else◌}
-use Rattle.cb_forms.specs.Trees.{Tree, atom, branch, Reading}
+use Rattle.cb_forms.specs.Trees.{atom, Reading}
 use Rattle.cb_forms.specs.declared.fault.Fault.{Fault}
 use Rattle.cb_forms.specs.declared.token.Token.TheVariants as token
 use Rattle.cb_session.specs.Commands.{asked, asked_by, command_of}
-use Rattle.cb_session.specs.Constants.{symbol_of}
 use Rattle.cb_session.specs.Engine.{State, greatest_index, grown, asserted_beside, asserted_one, carried, carried_as, obeyed, faulted, wrote}
 use Rattle.cb_session.specs.Lines.{value_line}
 use Rattle.cb_session.specs.declared.command.Command.{Command}
@@ -48,18 +47,3 @@ carried-fault s r fault is = ap (carried_as s) (sym is)
 pub carried-symbol : (s : State) (r : Reading) (name : List ℕ) → r ≡ Ok (atom (token.Symbol name)) → carried s r ≡ wrote s (value_line (value.Symbol name))
 unfolding carried
 carried-symbol s r name is = ap (carried s) is
-
--- a form that is a symbol
-pub symbol-atom : (t : Tree) (name : List ℕ) → symbol_of t ≡ Some name → t ≡ atom (token.Symbol name)
-symbol-atom (branch ts) name h = cc
-symbol-atom (atom (token.Symbol n)) name h = cc
-symbol-atom (atom (token.Str n)) name h = cc
-symbol-atom (atom (token.Int n)) name h = cc
-symbol-atom (atom (token.Var n)) name h = cc
-symbol-atom (atom (token.MultiVar n)) name h = cc
-symbol-atom (atom token.Any) name h = cc
-symbol-atom (atom token.MultiAny) name h = cc
-symbol-atom (atom (token.Global n)) name h = cc
-symbol-atom (atom token.And) name h = cc
-symbol-atom (atom token.Or) name h = cc
-symbol-atom (atom token.Not) name h = cc

@@ -1,4 +1,4 @@
-use Rattle.std.proofs.Common.{refl, sym, ◌∙◌}
+use Rattle.std.proofs.Common.{sym, ◌∙◌}
 use Rattle.std.proofs.lemmas.List.{append-nil}
 use Rattle.cb_forms.specs.Cutter.{readings_in}
 use Rattle.cb_forms.specs.declared.cut.Cut.TheVariants as cut
