@@ -23,3 +23,4 @@ mod Vectors
 mod Walks
 mod WordLemmas
 pub mod WritingLaws
+mod WithinLaws

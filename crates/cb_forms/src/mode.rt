@@ -1,5 +1,5 @@
 //! What a piece of a script is waiting for.
-ghost use Rattle.std.specs.Prelude.{◌≡◌};
+ghost use Rattle.std.specs.Prelude.{◌≡◌, true};
 ghost use Rattle.cb_forms.specs.Places.{mode_takes, fresh_mode, continued_mode, next_mode, mode_is_open};
 
 use crate::byte_kinds::{is_delimiter, is_line_end, is_single};
@@ -63,6 +63,18 @@ impl Mode {
             (Mode::Quoted, b'\\') => Mode::Escaped,
             (Mode::Escaped, _) => Mode::Quoted,
             _ => self,
+        }
+    }
+
+    /// Whether the piece goes on with the byte, and waits for the same as before.
+    pub(crate) fn stays(self, byte: u8) -> bool
+        ensures { result ≡ true → (mode_takes self byte ≡ true) × (continued_mode self byte ≡ self) }
+    {
+        match self {
+            Mode::Word => !is_delimiter(byte),
+            Mode::Comment => !is_line_end(byte),
+            Mode::Quoted => byte != b'"' && byte != b'\\',
+            Mode::Ended | Mode::Escaped => false,
         }
     }
 

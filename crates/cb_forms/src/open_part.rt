@@ -3,12 +3,13 @@ ghost use Rattle.std.specs.Prelude.{◌≡◌, ◌||◌, ◌≤◌, nat_lt, List
 ghost use Rattle.cb_forms.specs.Cuts.{item_readings, opened_readings, open_bytes, part_with, readings_before};
 ghost use Rattle.cb_forms.specs.Items.{part_takes, readings_of, ended_readings};
 ghost use Rattle.cb_forms.specs.OpenParts.{IsKept, Reaches};
-ghost use Rattle.cb_forms.specs.Places.{mode_is_open, IsPlaceIn};
+ghost use Rattle.cb_forms.specs.Places.{continued_mode, mode_is_open, mode_takes, IsPlaceIn};
 
 use crate::byte_kinds::is_blank;
 use crate::cut::Cut;
 use crate::fault::Fault;
 use crate::form::Item;
+use crate::mode::Mode;
 use crate::no_memory::NoMemory;
 use crate::part::read_part;
 use crate::place::Place;
@@ -48,6 +49,65 @@ impl OpenPart {
         } else {
             self.begin(alloc, limit, byte)
         }
+    }
+
+    /// Takes the next byte where that completes nothing, and says whether it did. Where it didn't, nothing has changed.
+    pub(crate) fn step_within(&mut self, limit: usize, byte: u8) -> Result<bool, NoMemory>
+        requires { IsKept self.old }
+        ensures taken { IfOk result (λ is_taken. is_taken ≡ true → Reaches limit (part_with self.old.spelled.items byte) (readings_before self.old.spelled.items byte) Cut.More self.new) }
+        ensures untouched { IfOk result (λ is_taken. is_taken ≡ false → self.new ≡ self.old) }
+    {
+        if self.place.mode.stays(byte) {
+            self.stay(limit, byte)
+        } else if self.place.depth == 0 && self.place.mode == Mode::Ended {
+            self.begin_open(limit, byte)
+        } else {
+            Ok(false)
+        }
+    }
+
+    /// Goes on with a byte that leaves the place as it is.
+    fn stay(&mut self, limit: usize, byte: u8) -> Result<bool, NoMemory>
+        requires kept { IsKept self.old }
+        requires takes { mode_takes self.old.place.mode byte ≡ true }
+        requires stays { continued_mode self.old.place.mode byte ≡ self.old.place.mode }
+        ensures taken { IfOk result (λ is_taken. is_taken ≡ true → Reaches limit (part_with self.old.spelled.items byte) (readings_before self.old.spelled.items byte) Cut.More self.new) }
+        ensures untouched { IfOk result (λ is_taken. is_taken ≡ false → self.new ≡ self.old) }
+    {
+        if self.bytes.is_empty() {
+            // a comment
+            self.spelled = self.spelled.and(&byte);
+            return Ok(true);
+        }
+        if limit <= self.bytes.len() {
+            return Ok(false);
+        }
+        self.bytes.push(byte)?;
+        self.spelled = self.spelled.and(&byte);
+        Ok(true)
+    }
+
+    /// Begins a part behind one that has ended, where the byte alone is no item.
+    fn begin_open(&mut self, limit: usize, byte: u8) -> Result<bool, NoMemory>
+        requires kept { IsKept self.old }
+        requires ended { self.old.place.mode ≡ Mode.Ended }
+        requires closed { self.old.place.depth ≡ 0 }
+        ensures taken { IfOk result (λ is_taken. is_taken ≡ true → Reaches limit (part_with self.old.spelled.items byte) (readings_before self.old.spelled.items byte) Cut.More self.new) }
+        ensures untouched { IfOk result (λ is_taken. is_taken ≡ false → self.new ≡ self.old) }
+    {
+        let place = Place::fresh(byte);
+        if is_blank(byte) || byte == b';' {
+            self.place = place;
+            self.spelled = Trace::new().and(&byte);
+            return Ok(true);
+        }
+        if limit == 0 || !place.is_open() {
+            return Ok(false);
+        }
+        self.bytes.push(byte)?;
+        self.place = place;
+        self.spelled = Trace::new().and(&byte);
+        Ok(true)
     }
 
     fn go_on(&mut self, alloc: Global, limit: usize, byte: u8) -> Result<Cut, NoMemory>

@@ -210,3 +210,15 @@ wrote_some_put a b p x y none put =
 pub wrote_some_flush : (a b c : Option (List ℕ)) (p q x y : List ℕ) → p ≡ [] → PutOn a b p q x y → PassedSome b c q → WroteSome a c x y
 wrote_some_flush a b c p q x y none put flush =
     let P : List ℕ → Type 0 = λ it. Passed a b (it ++ put.0) q in some_of a c x y put.0 put.1 (flushed_some_then a b c put.0 q (subst P none put.2) flush)
+
+-- one more byte, which completes nothing
+pub within-push : (cutter cutter' : Progress) (state : State) (b : ℕ) → IsUnderWay cutter state → cutter'.limit ≡ cutter.limit → cutter'.stepped ≡ cutter.stepped ++ b ∷ [] → cutter'.given ≡ cutter.given → readings_in cutter'.given ≡ whole cutter'.stepped → over cutter'.limit cutter'.stepped ≡ false
+    → so_far cutter.limit (cutter.stepped ++ b ∷ []) ≡ joined (so_far cutter.limit cutter.stepped) (from state)
+within-push cutter cutter' state b way limit stepped given whole_is fits = so_far-push cutter cutter' state b cut.More way limit stepped (given ∙ sym (append-nil cutter.given)) (λ _. whole_is) (sym fits)
+
+pub within-behind : (cutter cutter' : Progress) (state : State) (b : ℕ) → IsUnderWay cutter state → cutter'.limit ≡ cutter.limit → cutter'.stepped ≡ cutter.stepped ++ b ∷ [] → cutter'.given ≡ cutter.given → readings_in cutter'.given ≡ whole cutter'.stepped → over cutter'.limit cutter'.stepped ≡ false → cutter'.failed ≡ false
+    → IsBehind cutter.limit (cutter.stepped ++ b ∷ []) cutter' state
+within-behind cutter cutter' state b way limit stepped given whole_is fits fine = behind-push cutter cutter' state state b cut.More way limit stepped (given ∙ sym (append-nil cutter.given)) (λ _. whole_is) (sym fits) fine refl (ap (λ it. it.status) (within-push cutter cutter' state b way limit stepped given whole_is fits))
+
+pub within-put : (has : Option (List ℕ)) (pending : List ℕ) (run run' : Run) (state : State) → run' ≡ joined run (from state) → PutOn has has pending pending run.written run'.written
+within-put has pending run run' state is = put_on has has pending pending run run' (from state) is ([], took_none has, sym (append-nil pending))

@@ -1,16 +1,70 @@
 //! Carrying out the items of a script, and writing what they write.
-ghost use Rattle.std.specs.Prelude.{◌≡◌, ◌<◌, ◌++◌, Err, IfOk, OnOk, OnErr, false};
+ghost use Rattle.std.specs.Prelude.{◌≡◌, ◌<◌, ◌++◌, Ok, Err, IfOk, IfSome, OnOk, OnErr, None, false};
 ghost use Rattle.cb_forms.specs.Output.{Passed, PassedSome};
-ghost use Rattle.cb_forms.specs.Trees.{reading_of};
+ghost use Rattle.cb_forms.specs.Trees.{atom, reading_of};
 ghost use Rattle.cb_session.specs.Courses.{cut_run};
 ghost use Rattle.cb_session.specs.Engine.{carried};
+ghost use Rattle.cb_session.specs.Lines.{value_line};
 
 use crate::engine::Engine;
 use crate::status::{Status, Stop};
-use cb_forms::{Cut, Item, Out, Sink};
+use cb_forms::{Cut, Item, Out, Sink, Token};
+use cb_values::Value;
 
 /// Carries out an item, and puts what it writes. The answer is the status, where the script ends with the item.
 pub(crate) fn carry<K: Sink>(
+    engine: &mut Engine,
+    item: &Item,
+    out: &mut Out<K>,
+) -> Result<Option<Status>, Stop>
+    requires { out.old.fault ≡ false }
+    ensures state { OnOk result (engine.new ≡ (carried engine.old (reading_of item.now)).state) }
+    ensures status { IfOk result (λ status. status ≡ (carried engine.old (reading_of item.now)).status) }
+    ensures wrote { OnOk result (Passed (K.has out.old.sink) (K.has out.new.sink) (out.old.pending ++ (carried engine.old (reading_of item.now)).written) out.new.pending) }
+    ensures fine { OnOk result (out.new.fault ≡ false) }
+    ensures counts { OnOk result (K.failures out.new.sink ≡ K.failures out.old.sink) }
+    ensures wrote_some { OnErr result (PassedSome (K.has out.old.sink) (K.has out.new.sink) (out.old.pending ++ (carried engine.old (reading_of item.now)).written)) }
+    ensures sink_failed { result ≡ Err Stop.WriteFault → K.failures out.old.sink < K.failures out.new.sink }
+{
+    match item_symbol(item) {
+        Some(name) => put_line(name, out),
+        None => carry_out(engine, item, out),
+    }
+}
+
+/// The symbol that an item is.
+fn item_symbol(item: &Item) -> Option<&[u8]>
+    ensures { IfSome result (λ name. reading_of item.now ≡ Ok (atom (Token.Symbol name.now))) }
+{
+    let Item::Form(form) = item else {
+        return None;
+    };
+    let name = form.symbol()?;
+    Some(name)
+}
+
+/// Puts the line of a symbol that is shown, which is the symbol itself: it takes no memory.
+fn put_line<K: Sink>(name: &[u8], out: &mut Out<K>) -> Result<Option<Status>, Stop>
+    requires { out.old.fault ≡ false }
+    ensures status { IfOk result (λ status. status ≡ None) }
+    ensures wrote { OnOk result (Passed (K.has out.old.sink) (K.has out.new.sink) (out.old.pending ++ value_line (Value.Symbol name.now)) out.new.pending) }
+    ensures fine { OnOk result (out.new.fault ≡ false) }
+    ensures counts { OnOk result (K.failures out.new.sink ≡ K.failures out.old.sink) }
+    ensures wrote_some { OnErr result (PassedSome (K.has out.old.sink) (K.has out.new.sink) (out.old.pending ++ value_line (Value.Symbol name.now))) }
+    ensures sink_failed { result ≡ Err Stop.WriteFault → K.failures out.old.sink < K.failures out.new.sink }
+{
+    match out.put(name) {
+        Ok(()) => {}
+        Err(_) => return Err(Stop::WriteFault),
+    }
+    match out.put(b"\n") {
+        Ok(()) => Ok(None),
+        Err(_) => Err(Stop::WriteFault),
+    }
+}
+
+/// Carries out an item, by the engine.
+fn carry_out<K: Sink>(
     engine: &mut Engine,
     item: &Item,
     out: &mut Out<K>,

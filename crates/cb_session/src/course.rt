@@ -41,6 +41,25 @@ impl Course {
         ensures wrote_some { OnErr result (PutSome (K.has out.old.sink) (K.has out.new.sink) out.old.pending (so_far self.old.cutter.limit self.old.cutter.stepped).written (so_far self.old.cutter.limit (self.old.cutter.stepped ++ byte ∷ [])).written) }
         ensures sink_failed { result ≡ Err Stop.WriteFault → K.failures out.old.sink < K.failures out.new.sink }
     {
+        match self.cutter.step_within(byte) {
+            Ok(true) => Ok(None),
+            Ok(false) => self.step(byte, out),
+            Err(_) => Err(Stop::NoMemory),
+        }
+    }
+
+    /// Takes the next byte, as `take_byte` does, and carries out what it completes.
+    fn step<K: Sink>(&mut self, byte: u8, out: &mut Out<K>) -> Result<Option<Status>, Stop>
+        requires under_way { IsUnderWay self.old.cutter self.old.engine }
+        requires fine { out.old.fault ≡ false }
+        ensures status { IfOk result (λ status. status ≡ (so_far self.old.cutter.limit (self.old.cutter.stepped ++ byte ∷ [])).status) }
+        ensures goes_on { IfOk result (λ status. status ≡ None → IsBehind self.old.cutter.limit (self.old.cutter.stepped ++ byte ∷ []) self.new.cutter self.new.engine) }
+        ensures wrote { OnOk result (PutOn (K.has out.old.sink) (K.has out.new.sink) out.old.pending out.new.pending (so_far self.old.cutter.limit self.old.cutter.stepped).written (so_far self.old.cutter.limit (self.old.cutter.stepped ++ byte ∷ [])).written) }
+        ensures fine { OnOk result (out.new.fault ≡ false) }
+        ensures counts { OnOk result (K.failures out.new.sink ≡ K.failures out.old.sink) }
+        ensures wrote_some { OnErr result (PutSome (K.has out.old.sink) (K.has out.new.sink) out.old.pending (so_far self.old.cutter.limit self.old.cutter.stepped).written (so_far self.old.cutter.limit (self.old.cutter.stepped ++ byte ∷ [])).written) }
+        ensures sink_failed { result ≡ Err Stop.WriteFault → K.failures out.old.sink < K.failures out.new.sink }
+    {
         let cut = match self.cutter.step(byte) {
             Ok(cut) => cut,
             Err(_) => return Err(Stop::NoMemory),

@@ -8,6 +8,7 @@ use written::{FLOAT, NOT_CLOSED, STRAY, TOO_LARGE, Want, read, same};
 
 mod bytes;
 mod steps;
+mod within;
 mod written;
 
 // One cutter reads all texts, one after another.

@@ -1,15 +1,27 @@
-use Rattle.std.proofs.Common.{List, ℕ, ◌≡◌, ◌++◌, sym, ap, ◌∙◌, subst}
-use Rattle.cb_forms.specs.Output.{PassedSome}
-use Rattle.cb_forms.specs.Trees.{reading_of}
-use Rattle.cb_session.specs.Engine.{carried}
-use Rattle.cb_session.proofs.CourseLaws.{passed_nothing}
+use Rattle.std.proofs.Common.{List, ℕ, ◌++◌, sym, ap, ◌∙◌, subst}
+use Rattle.cb_forms.specs.Output.{Passed, PassedSome}
+use Rattle.cb_session.proofs.CourseLaws.{on_ok, on_err, if_ok}
+use Rattle.cb_session.proofs.EngineLaws.{carried-symbol}
 use Rattle.cb_session.proofs.carrying.carry.Goals as goal
 
-pub returns-in-Err-clause-wrote_some : goal.returns-in-Err-clause-wrote_some
-returns-in-Err-clause-wrote_some g c = passed_nothing _ _
+pub returns-in-Some-clause-state : goal.returns-in-Some-clause-state
+returns-in-Some-clause-state g c =
+    let shown = carried-symbol c.args.engine.now _ c.in-Some.name.now c.in-Some.ensures in
+    on_ok _ _ c.put_line.result (λ _. sym (ap (λ it. it.state) shown)) c.put_line.ensures.counts
 
-pub returns-clause-wrote_some : goal.returns-clause-wrote_some
-returns-clause-wrote_some g c =
-    let P : List ℕ → Type 0 = λ w. PassedSome (g.K.Sink.has c.args.out.now.sink) (g.K.Sink.has c.put.new.self.sink) (c.args.out.now.pending ++ w) in
-    let written : c.as_slice.result.now ≡ (carried c.args.engine.now (reading_of c.args.item.now)).written = c.as_slice.ensures.value ∙ sym (ap (λ o. o.written) c.in-Ok.ensures) in
-    subst P written (c.in-Err-put.ensures.err c.requires)
+pub returns-in-Some-clause-status : goal.returns-in-Some-clause-status
+returns-in-Some-clause-status g c =
+    let shown = carried-symbol c.args.engine.now _ c.in-Some.name.now c.in-Some.ensures in
+    if_ok _ _ c.put_line.result (λ status h. h ∙ sym (ap (λ it. it.status) shown)) c.put_line.ensures.status
+
+pub returns-in-Some-clause-wrote : goal.returns-in-Some-clause-wrote
+returns-in-Some-clause-wrote g c =
+    let shown = carried-symbol c.args.engine.now _ c.in-Some.name.now c.in-Some.ensures in
+    let P : List ℕ → Type 0 = λ w. Passed (g.K.Sink.has c.args.out.now.sink) (g.K.Sink.has c.put_line.new.out.sink) (c.args.out.now.pending ++ w) c.put_line.new.out.pending in
+    on_ok _ _ c.put_line.result (λ h. subst P (sym (ap (λ it. it.written) shown)) h) c.put_line.ensures.wrote
+
+pub returns-in-Some-clause-wrote_some : goal.returns-in-Some-clause-wrote_some
+returns-in-Some-clause-wrote_some g c =
+    let shown = carried-symbol c.args.engine.now _ c.in-Some.name.now c.in-Some.ensures in
+    let P : List ℕ → Type 0 = λ w. PassedSome (g.K.Sink.has c.args.out.now.sink) (g.K.Sink.has c.put_line.new.out.sink) (c.args.out.now.pending ++ w) in
+    on_err _ _ c.put_line.result (λ h. subst P (sym (ap (λ it. it.written) shown)) h) c.put_line.ensures.wrote_some
