@@ -1,5 +1,3 @@
-ghost use Rattle.std.specs.Prelude.{None};
-
 use super::*;
 use crate::outcome::Cause;
 use cb_forms::{MemSink, MemSource};

@@ -47,7 +47,7 @@ fn limited(steps: &'static [Step], rest: &'static [u8], max_form: usize) -> Row 
     }
 }
 
-/// The worked scripts.
+/// The worked scripts. A word ends with the delimiter behind it, so a word's step has that delimiter too.
 fn rows() -> [Row; 20] {
     [
         done(&[], b"", b"", 0),
