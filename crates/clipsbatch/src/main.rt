@@ -4,14 +4,17 @@
 #![tactic(auto)]
 
 ghost use Rattle.std.specs.Prelude.{◌≡◌};
+ghost use Rattle.clap.specs.Words.{kind_of};
+ghost use Rattle.cb_session.specs.Sessions.{IsReady};
 
 mod outcome;
+mod program;
 mod run;
 mod standard;
 mod words;
 
-use cb_forms::Out;
-use cb_session::Limits;
+use cb_forms::{Out, Sink, Source};
+use clap::Error;
 use clap::error::ErrorKind;
 use outcome::{Cause, Outcome};
 use standard::{StandardInput, StandardOutput};
@@ -20,18 +23,17 @@ use std::io::{self, Eprint, Print};
 use std::process::ExitCode;
 
 fn main(rt: HostRuntime) -> ExitCode {
-    let limits = match given_limits(&rt) {
-        Ok(limits) => limits,
-        Err(status) => return ExitCode::from(status),
-    };
     let mut source = StandardInput::new(rt.stdin());
     let mut out = Out::new(StandardOutput::new(rt.stdout()));
-    let outcome = run::run(rt.alloc(), &mut source, &mut out, limits);
-    ExitCode::from(told(&rt, outcome))
+    let status = match given_words(&rt) {
+        Ok(given) => carry_out(&rt, given.as_slice(), &mut source, &mut out),
+        Err(status) => status,
+    };
+    ExitCode::from(status)
 }
 
-// The limits that the program's words give. Where they give none, what is to be said is said, and this is the exit status.
-fn given_limits<R: AllocGlobal + Env + Print + Eprint>(rt: &R) -> Result<Limits, u8> {
+// The program's words, its name first. Where they can't be had, what is to be said is said, and this is the exit status.
+fn given_words<R: AllocGlobal + Env + Eprint>(rt: &R) -> Result<Vec<String>, u8> {
     let args = match env::args(rt) {
         Ok(args) => args,
         Err(error) if error.kind() == io::ErrorKind::OutOfMemory => return Err(no_memory(rt)),
@@ -40,23 +42,42 @@ fn given_limits<R: AllocGlobal + Env + Print + Eprint>(rt: &R) -> Result<Limits,
             return Err(2);
         }
     };
-    let Ok(given) = args.collect::<Vec<String>>(rt.alloc()) else {
-        return Err(no_memory(rt));
-    };
+    match args.collect::<Vec<String>>(rt.alloc()) {
+        Ok(given) => Ok(given),
+        Err(_) => Err(no_memory(rt)),
+    }
+}
+
+// Carries the script out as the words ask, and says what is to be said; its exit status.
+fn carry_out<R: AllocGlobal + Print + Eprint, S: Source, K: Sink>(
+    rt: &R,
+    given: &[String],
+    source: &mut S,
+    out: &mut Out<K>,
+) -> u8
+    requires { IsReady out.old }
+{
     let mut words = Vec::new(rt.alloc());
-    for word in &given {
+    for word in given {
         if words.push(word.as_str()).is_err() {
-            return Err(no_memory(rt));
+            return no_memory(rt);
         }
     }
-    match words::read_words(rt.alloc(), words.as_slice()) {
-        Ok(limits) => Ok(limits),
-        Err(error) if error.kind() == ErrorKind::OutOfMemory => Err(no_memory(rt)),
-        Err(error) => {
-            let _ = error.print(rt);
-            Err(if error.use_stderr() { 2 } else { 0 })
-        }
+    match program::carry_out(rt.alloc(), words.as_slice(), source, out) {
+        Ok(outcome) => told(rt, outcome),
+        Err(error) => refused(rt, error),
     }
+}
+
+// Says why the words are refused, or the help that they ask for; its exit status.
+fn refused<R: Print + Eprint>(rt: &R, error: Error) -> u8
+    ensures { kind_of error ≡ ErrorKind.OutOfMemory → result ≡ 3 }
+{
+    if error.kind() == ErrorKind::OutOfMemory {
+        return no_memory(rt);
+    }
+    let _ = error.print(rt);
+    if error.use_stderr() { 2 } else { 0 }
 }
 
 // Says that memory was refused; its exit status.

@@ -1,5 +1,5 @@
 //! Standard input and standard output, which tell no contract their bytes.
-ghost use Rattle.std.specs.Prelude.{None, length};
+ghost use Rattle.std.specs.Prelude.{◌≡◌, None, length};
 
 use cb_forms::{ReadFault, Sink, Source, Trace, WriteFault};
 use std::io::{Read, Stdin, Stdout, Write};
@@ -13,11 +13,12 @@ pub struct StandardInput {
 
 impl StandardInput {
     /// Reads from this handle; no read has failed.
-    pub fn new(stdin: Stdin) -> StandardInput {
-        StandardInput {
-            stdin,
-            failed: Trace::new(),
-        }
+    pub fn new(stdin: Stdin) -> StandardInput
+        ensures left { ⟦<StandardInput as Source>⟧.left result ≡ None }
+        ensures failures { ⟦<StandardInput as Source>⟧.failures result ≡ 0 }
+    {
+        let failed = Trace::new();
+        StandardInput { stdin, failed }
     }
 }
 
@@ -46,11 +47,12 @@ pub struct StandardOutput {
 
 impl StandardOutput {
     /// Writes to this handle; no write has failed.
-    pub fn new(stdout: Stdout) -> StandardOutput {
-        StandardOutput {
-            stdout,
-            failed: Trace::new(),
-        }
+    pub fn new(stdout: Stdout) -> StandardOutput
+        ensures has { ⟦<StandardOutput as Sink>⟧.has result ≡ None }
+        ensures failures { ⟦<StandardOutput as Sink>⟧.failures result ≡ 0 }
+    {
+        let failed = Trace::new();
+        StandardOutput { stdout, failed }
     }
 }
 
