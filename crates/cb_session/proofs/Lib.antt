@@ -9,4 +9,5 @@ pub mod RunLaws
 pub mod WroteLaws
 pub mod CourseLaws
 pub mod PieceSteps
+pub mod HaltLaws
 mod Examples

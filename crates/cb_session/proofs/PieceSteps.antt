@@ -29,7 +29,7 @@ module _ (n : ℕ) (p piece : List ℕ) (i : ℕ) (cutter : Progress) (state : S
   pub all-status : length piece ≤ i → None ≡ (so_far n (p ++ piece)).status
   all-status le = sym (way-status cutter state behind.0) ∙ (ap (λ it. it.status) far-here ∙ ap (λ it. (so_far n (p ++ it)).status) (take_all i piece le))
 
-split_far : (n : ℕ) (p piece : List ℕ) (k : ℕ) → so_far n (p ++ piece) ≡ so_far n ((p ++ take k piece) ++ drop k piece)
+pub split_far : (n : ℕ) (p piece : List ℕ) (k : ℕ) → so_far n (p ++ piece) ≡ so_far n ((p ++ take k piece) ++ drop k piece)
 split_far n p piece k = ap (λ it. so_far n (p ++ it)) (sym (take-append-drop k piece)) ∙ ap (so_far n) (sym (append_assoc p (take k piece) (drop k piece)))
 
 -- a script that ends in the piece ends so with the whole piece

@@ -25,6 +25,11 @@ PutOn had has pending pending' before whole = (more : List ℕ) × (whole ≡ be
 abbrev pub PutSome : Option (List ℕ) → Option (List ℕ) → List ℕ → List ℕ → List ℕ → Type 0
 PutSome had has pending before whole = (more : List ℕ) × (whole ≡ before ++ more) × PassedSome had has (pending ++ more)
 
+-- Of what is written beyond `before` up to `whole` a beginning was put behind what was pending; of that the sink gained a
+-- beginning, and the rest is pending now.
+abbrev pub PutBegun : Option (List ℕ) → Option (List ℕ) → List ℕ → List ℕ → List ℕ → List ℕ → Type 0
+PutBegun had has pending pending' before whole = (more unput : List ℕ) × (whole ≡ before ++ (more ++ unput)) × Passed had has (pending ++ more) pending'
+
 -- A script is under way: its bytes are those stepped, no item is too long and none has ended it.
 pub record IsUnderWay (cutter : Progress) (state : State) : Type 0 where
   pub some : 1 ≤ cutter.limit

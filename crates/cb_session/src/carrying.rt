@@ -1,8 +1,8 @@
 //! Carrying out the items of a script, and writing what they write.
-ghost use Rattle.std.specs.Prelude.{◌≡◌, ◌<◌, ◌++◌, Ok, Err, IfOk, IfSome, OnOk, OnErr, None, false};
+ghost use Rattle.std.specs.Prelude.{◌≡◌, ◌<◌, ◌++◌, [], Ok, Err, IfOk, IfSome, OnOk, OnErr, None, false};
 ghost use Rattle.cb_forms.specs.Output.{Passed, PassedSome};
 ghost use Rattle.cb_forms.specs.Trees.{atom, reading_of};
-ghost use Rattle.cb_session.specs.Courses.{cut_run};
+ghost use Rattle.cb_session.specs.Courses.{cut_run, PutBegun};
 ghost use Rattle.cb_session.specs.Engine.{carried};
 ghost use Rattle.cb_session.specs.Lines.{value_line};
 
@@ -25,6 +25,7 @@ pub(crate) fn carry<K: Sink>(
     ensures counts { OnOk result (K.failures out.new.sink ≡ K.failures out.old.sink) }
     ensures wrote_some { OnErr result (PassedSome (K.has out.old.sink) (K.has out.new.sink) (out.old.pending ++ (carried engine.old (reading_of item.now)).written)) }
     ensures sink_failed { result ≡ Err Stop.WriteFault → K.failures out.old.sink < K.failures out.new.sink }
+    ensures unchanged { result ≡ Err Stop.NoMemory → out.new ≡ out.old }
 {
     match item_symbol(item) {
         Some(name) => put_line(name, out),
@@ -52,6 +53,7 @@ fn put_line<K: Sink>(name: &[u8], out: &mut Out<K>) -> Result<Option<Status>, St
     ensures counts { OnOk result (K.failures out.new.sink ≡ K.failures out.old.sink) }
     ensures wrote_some { OnErr result (PassedSome (K.has out.old.sink) (K.has out.new.sink) (out.old.pending ++ value_line (Value.Symbol name.now))) }
     ensures sink_failed { result ≡ Err Stop.WriteFault → K.failures out.old.sink < K.failures out.new.sink }
+    ensures unchanged { result ≡ Err Stop.NoMemory → out.new ≡ out.old }
 {
     match out.put(name) {
         Ok(()) => {}
@@ -77,6 +79,7 @@ fn carry_out<K: Sink>(
     ensures counts { OnOk result (K.failures out.new.sink ≡ K.failures out.old.sink) }
     ensures wrote_some { OnErr result (PassedSome (K.has out.old.sink) (K.has out.new.sink) (out.old.pending ++ (carried engine.old (reading_of item.now)).written)) }
     ensures sink_failed { result ≡ Err Stop.WriteFault → K.failures out.old.sink < K.failures out.new.sink }
+    ensures unchanged { result ≡ Err Stop.NoMemory → out.new ≡ out.old }
 {
     let done = match engine.carry_out(item) {
         Ok(done) => done,
@@ -102,6 +105,9 @@ pub(crate) fn carry_cut<K: Sink>(
     ensures counts { OnOk result (K.failures out.new.sink ≡ K.failures out.old.sink) }
     ensures wrote_some { OnErr result (PassedSome (K.has out.old.sink) (K.has out.new.sink) (out.old.pending ++ (cut_run engine.old cut.now).written)) }
     ensures sink_failed { result ≡ Err Stop.WriteFault → K.failures out.old.sink < K.failures out.new.sink }
+    ensures begun { result ≡ Err Stop.NoMemory → PutBegun (K.has out.old.sink) (K.has out.new.sink) out.old.pending out.new.pending [] (cut_run engine.old cut.now).written }
+    ensures begun_fine { result ≡ Err Stop.NoMemory → out.new.fault ≡ false }
+    ensures begun_counts { result ≡ Err Stop.NoMemory → K.failures out.new.sink ≡ K.failures out.old.sink }
 {
     match cut {
         Cut::More => Ok(None),

@@ -1,6 +1,7 @@
 //! A script that is under way.
 ghost use Rattle.std.specs.Prelude.{◌≡◌, ◌≤◌, ◌<◌, ◌++◌, ◌∷◌, [], Err, None, IfOk, OnOk, OnErr, false};
-ghost use Rattle.cb_session.specs.Courses.{PutOn, PutSome, IsUnderWay, IsBehind};
+ghost use Rattle.cb_forms.specs.Output.{PassedSome};
+ghost use Rattle.cb_session.specs.Courses.{PutOn, PutSome, PutBegun, IsUnderWay, IsBehind};
 ghost use Rattle.cb_session.specs.Sessions.{IsReady, Wrote, WroteSome};
 ghost use Rattle.cb_session.specs.Transcripts.{so_far, complete, transcript, status_at_end, status_of};
 
@@ -40,6 +41,9 @@ impl Course {
         ensures counts { OnOk result (K.failures out.new.sink ≡ K.failures out.old.sink) }
         ensures wrote_some { OnErr result (PutSome (K.has out.old.sink) (K.has out.new.sink) out.old.pending (so_far self.old.cutter.limit self.old.cutter.stepped).written (so_far self.old.cutter.limit (self.old.cutter.stepped ++ byte ∷ [])).written) }
         ensures sink_failed { result ≡ Err Stop.WriteFault → K.failures out.old.sink < K.failures out.new.sink }
+        ensures begun { result ≡ Err Stop.NoMemory → PutBegun (K.has out.old.sink) (K.has out.new.sink) out.old.pending out.new.pending (so_far self.old.cutter.limit self.old.cutter.stepped).written (so_far self.old.cutter.limit (self.old.cutter.stepped ++ byte ∷ [])).written }
+        ensures begun_fine { result ≡ Err Stop.NoMemory → out.new.fault ≡ false }
+        ensures begun_counts { result ≡ Err Stop.NoMemory → K.failures out.new.sink ≡ K.failures out.old.sink }
     {
         match self.cutter.step_within(byte) {
             Ok(true) => Ok(None),
@@ -59,6 +63,9 @@ impl Course {
         ensures counts { OnOk result (K.failures out.new.sink ≡ K.failures out.old.sink) }
         ensures wrote_some { OnErr result (PutSome (K.has out.old.sink) (K.has out.new.sink) out.old.pending (so_far self.old.cutter.limit self.old.cutter.stepped).written (so_far self.old.cutter.limit (self.old.cutter.stepped ++ byte ∷ [])).written) }
         ensures sink_failed { result ≡ Err Stop.WriteFault → K.failures out.old.sink < K.failures out.new.sink }
+        ensures begun { result ≡ Err Stop.NoMemory → PutBegun (K.has out.old.sink) (K.has out.new.sink) out.old.pending out.new.pending (so_far self.old.cutter.limit self.old.cutter.stepped).written (so_far self.old.cutter.limit (self.old.cutter.stepped ++ byte ∷ [])).written }
+        ensures begun_fine { result ≡ Err Stop.NoMemory → out.new.fault ≡ false }
+        ensures begun_counts { result ≡ Err Stop.NoMemory → K.failures out.new.sink ≡ K.failures out.old.sink }
     {
         let cut = match self.cutter.step(byte) {
             Ok(cut) => cut,
@@ -82,6 +89,9 @@ impl Course {
         ensures counts { OnOk result (K.failures out.new.sink ≡ K.failures out.old.sink) }
         ensures wrote_some { OnErr result (PutSome (K.has out.old.sink) (K.has out.new.sink) out.old.pending (so_far self.old.cutter.limit self.old.cutter.stepped).written (so_far self.old.cutter.limit (self.old.cutter.stepped ++ piece.now)).written) }
         ensures sink_failed { result ≡ Err Stop.WriteFault → K.failures out.old.sink < K.failures out.new.sink }
+        ensures begun { result ≡ Err Stop.NoMemory → PutBegun (K.has out.old.sink) (K.has out.new.sink) out.old.pending out.new.pending (so_far self.old.cutter.limit self.old.cutter.stepped).written (so_far self.old.cutter.limit (self.old.cutter.stepped ++ piece.now)).written }
+        ensures begun_fine { result ≡ Err Stop.NoMemory → out.new.fault ≡ false }
+        ensures begun_counts { result ≡ Err Stop.NoMemory → K.failures out.new.sink ≡ K.failures out.old.sink }
     {
         for byte in piece {
             match self.take_byte(*byte, out) {
@@ -108,10 +118,13 @@ impl Course {
         ensures counts { OnOk result (K.failures out.new.sink ≡ K.failures out.old.sink) }
         ensures wrote_some { OnErr result (WroteSome (K.has out.old.sink) (K.has out.new.sink) (so_far self.old.cutter.limit self.old.cutter.stepped).written (so_far self.old.cutter.limit (self.old.cutter.stepped ++ piece.now)).written) }
         ensures sink_failed { result ≡ Err Stop.WriteFault → K.failures out.old.sink < K.failures out.new.sink }
+        ensures halted { result ≡ Err Stop.NoMemory → IsReady out.new }
+        ensures halted_counts { result ≡ Err Stop.NoMemory → K.failures out.new.sink ≡ K.failures out.old.sink }
     {
         let status = match self.take_bytes(piece, out) {
             Ok(status) => status,
-            Err(stop) => return Err(stop),
+            Err(Stop::WriteFault) => return Err(Stop::WriteFault),
+            Err(Stop::NoMemory) => return Err(halted(out)),
         };
         match out.flush() {
             Ok(()) => Ok(status),
@@ -130,6 +143,9 @@ impl Course {
         ensures counts { OnOk result (K.failures out.new.sink ≡ K.failures out.old.sink) }
         ensures wrote_some { OnErr result (PutSome (K.has out.old.sink) (K.has out.new.sink) out.old.pending (so_far self.old.cutter.limit self.old.cutter.stepped).written (transcript self.old.cutter.limit self.old.cutter.stepped)) }
         ensures sink_failed { result ≡ Err Stop.WriteFault → K.failures out.old.sink < K.failures out.new.sink }
+        ensures begun { result ≡ Err Stop.NoMemory → PutBegun (K.has out.old.sink) (K.has out.new.sink) out.old.pending out.new.pending (so_far self.old.cutter.limit self.old.cutter.stepped).written (transcript self.old.cutter.limit self.old.cutter.stepped) }
+        ensures begun_fine { result ≡ Err Stop.NoMemory → out.new.fault ≡ false }
+        ensures begun_counts { result ≡ Err Stop.NoMemory → K.failures out.new.sink ≡ K.failures out.old.sink }
     {
         match self.cutter.end() {
             Ok(Some(item)) => carry(&mut self.engine, &item, out),
@@ -148,15 +164,32 @@ impl Course {
         ensures counts { OnOk result (K.failures out.new.sink ≡ K.failures out.old.sink) }
         ensures wrote_some { OnErr result (WroteSome (K.has out.old.sink) (K.has out.new.sink) (so_far self.old.cutter.limit self.old.cutter.stepped).written (transcript self.old.cutter.limit self.old.cutter.stepped)) }
         ensures sink_failed { result ≡ Err Stop.WriteFault → K.failures out.old.sink < K.failures out.new.sink }
+        ensures halted { result ≡ Err Stop.NoMemory → IsReady out.new }
+        ensures halted_counts { result ≡ Err Stop.NoMemory → K.failures out.new.sink ≡ K.failures out.old.sink }
     {
         let status = match self.take_end(out) {
             Ok(status) => status,
-            Err(stop) => return Err(stop),
+            Err(Stop::WriteFault) => return Err(Stop::WriteFault),
+            Err(Stop::NoMemory) => return Err(halted(out)),
         };
         match out.flush() {
             Ok(()) => Ok(ended(status, self.engine.is_faulted())),
             Err(_) => Err(Stop::WriteFault),
         }
+    }
+}
+
+/// The stop where memory is wanted, after what was put before is written; a write fault where that fails.
+fn halted<K: Sink>(out: &mut Out<K>) -> Stop
+    requires { out.old.fault ≡ false }
+    ensures wrote { PassedSome (K.has out.old.sink) (K.has out.new.sink) out.old.pending }
+    ensures ready { result ≡ Stop.NoMemory → IsReady out.new }
+    ensures counts { result ≡ Stop.NoMemory → K.failures out.new.sink ≡ K.failures out.old.sink }
+    ensures sink_failed { result ≡ Stop.WriteFault → K.failures out.old.sink < K.failures out.new.sink }
+{
+    match out.flush() {
+        Ok(()) => Stop::NoMemory,
+        Err(_) => Stop::WriteFault,
     }
 }
 

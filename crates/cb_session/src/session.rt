@@ -68,6 +68,8 @@ impl Session {
         ensures stop { IfErr result (λ stop. self.new.stop ≡ Some stop) }
         ensures wrote_some { OnErr result (self.old.stop ≡ None → WroteSome (K.has out.old.sink) (K.has out.new.sink) (so_far self.old.max_form self.old.fed).written (so_far self.old.max_form (self.old.fed ++ piece.now)).written) }
         ensures sink_failed { result ≡ Err Stop.WriteFault → self.old.stop ≡ None → K.failures out.old.sink < K.failures out.new.sink }
+        ensures halted { result ≡ Err Stop.NoMemory → self.old.stop ≡ None → IsReady out.new }
+        ensures halted_counts { result ≡ Err Stop.NoMemory → K.failures out.new.sink ≡ K.failures out.old.sink }
 
         // It has ended, or has stopped.
         ensures ended { self.old.stop ≡ None → IfSome self.old.status (λ status. (result ≡ Ok (Flow.Ended status)) × (self.new ≡ self.old) × (out.new ≡ out.old)) }
@@ -109,6 +111,8 @@ impl Session {
         ensures stop { IfErr result (λ stop. self.new.stop ≡ Some stop) }
         ensures wrote_some { OnErr result (self.old.stop ≡ None → WroteSome (K.has out.old.sink) (K.has out.new.sink) (so_far self.old.max_form self.old.fed).written (transcript self.old.max_form self.old.fed)) }
         ensures sink_failed { result ≡ Err Stop.WriteFault → self.old.stop ≡ None → K.failures out.old.sink < K.failures out.new.sink }
+        ensures halted { result ≡ Err Stop.NoMemory → self.old.stop ≡ None → IsReady out.new }
+        ensures halted_counts { result ≡ Err Stop.NoMemory → K.failures out.new.sink ≡ K.failures out.old.sink }
 
         // It had ended, or had stopped.
         ensures ended { self.old.stop ≡ None → IfSome self.old.status (λ status. (result ≡ Ok status) × (self.new ≡ self.old) × (out.new ≡ out.old)) }

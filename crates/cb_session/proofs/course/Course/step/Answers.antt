@@ -3,6 +3,7 @@ use Rattle.cb_session.specs.Courses.{cut_run}
 use Rattle.cb_session.specs.Transcripts.{so_far}
 use Rattle.cb_session.proofs.CourseLaws.{on_ok, on_err, if_ok, ok_and, so_far-push, behind-push, put_on, put_some, put_nothing}
 use Rattle.cb_session.proofs.RunLaws.{so_far-grows_far}
+use Rattle.cb_session.proofs.HaltLaws.{begun_none, begun_on}
 use Rattle.cb_session.proofs.course.Course.step.Goals as goal
 
 pub returns-in-Err-clause-wrote_some : goal.returns-in-Err-clause-wrote_some
@@ -35,3 +36,13 @@ returns-clause-wrote_some g c =
     let told = c.in-Ok.ensures in
     let push = so_far-push old.cutter c.step.new.self old.engine c.args.byte c.in-Ok.cut c.requires.under_way told.limit told.stepped told.given told.items told.too_long in
     on_err _ _ c.carry_cut.result (λ h. put_some _ _ _ (so_far old.cutter.limit old.cutter.stepped) (so_far old.cutter.limit (old.cutter.stepped ++ c.args.byte ∷ [])) (cut_run old.engine c.in-Ok.cut) push h) c.carry_cut.ensures.wrote_some
+
+pub returns-in-Err-clause-begun : goal.returns-in-Err-clause-begun
+returns-in-Err-clause-begun g c = λ _. begun_none _ _ _ _ (so_far-grows_far c.args.self.now.cutter.limit c.args.self.now.cutter.stepped (c.args.byte ∷ []))
+
+pub returns-clause-begun : goal.returns-clause-begun
+returns-clause-begun g c =
+    let old = c.args.self.now in
+    let told = c.in-Ok.ensures in
+    let push = so_far-push old.cutter c.step.new.self old.engine c.args.byte c.in-Ok.cut c.requires.under_way told.limit told.stepped told.given told.items told.too_long in
+    λ e. begun_on _ _ _ _ (so_far old.cutter.limit old.cutter.stepped) (so_far old.cutter.limit (old.cutter.stepped ++ c.args.byte ∷ [])) (cut_run old.engine c.in-Ok.cut) push (c.carry_cut.ensures.begun e)

@@ -1,8 +1,9 @@
 use Rattle.std.proofs.Common.{◌≡◌, ◌+◌, ◌++◌, Some, take, sym, ap, ◌∙◌}
-use Rattle.cb_session.specs.Courses.{PutOn, PutSome}
+use Rattle.cb_session.specs.Courses.{PutOn, PutSome, PutBegun}
 use Rattle.cb_session.specs.Transcripts.{so_far}
 use Rattle.cb_session.proofs.CourseLaws.{put_on_then, put_some_then}
 use Rattle.cb_session.proofs.PieceSteps.{far-here, far-next, behind-next, all-status, ended-all, put_some_all}
+use Rattle.cb_session.proofs.HaltLaws.{begun_then, begun_all}
 use Rattle.cb_session.proofs.course.Course.take_bytes.Goals as goal
 
 pub returns-in-Ok-Some-clause-status : goal.returns-in-Ok-Some-clause-status
@@ -61,3 +62,16 @@ loop-byte-preserved g c =
 pub returns-clause-status : goal.returns-clause-status
 returns-clause-status g c =
     all-status c.args.self.now.cutter.limit c.args.self.now.cutter.stepped c.args.piece.now c.loop-byte.byte-index c.loop-byte.self.cutter c.loop-byte.self.engine c.loop-byte.invariant.behind c.loop-byte-test.false
+
+pub returns-in-Err-clause-begun : goal.returns-in-Err-clause-begun
+returns-in-Err-clause-begun g c =
+    let n = c.args.self.now.cutter.limit in
+    let p = c.args.self.now.cutter.stepped in
+    let piece = c.args.piece.now in
+    let i = c.loop-byte.byte-index in
+    let here = c.loop-byte.self in
+    let at = far-here n p piece i here.cutter here.engine c.loop-byte.invariant.behind in
+    let next = far-next n p piece i here.cutter here.engine c.loop-byte.invariant.behind c.loop-byte-test.true in
+    λ e.
+    let now : PutBegun (g.K.Sink.has c.loop-byte.out.sink) (g.K.Sink.has c.take_byte.new.out.sink) c.loop-byte.out.pending c.take_byte.new.out.pending (so_far n (p ++ take i piece)).written (so_far n (p ++ take (i + 1) piece)).written = rw (← at, ← next) (c.in-Err.ensures.begun e) in
+    begun_all _ _ _ _ _ n p piece (i + 1) (begun_then _ _ _ _ _ _ _ _ _ c.loop-byte.invariant.wrote now)

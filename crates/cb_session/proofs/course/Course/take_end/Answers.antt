@@ -5,6 +5,7 @@ use Rattle.cb_session.specs.Courses.{from, PutOn}
 use Rattle.cb_session.specs.Transcripts.{so_far, complete, after_all}
 use Rattle.cb_session.proofs.CourseLaws.{joined, on_ok, on_err, if_ok, complete-end, put_on, put_some, put_none, put_nothing}
 use Rattle.cb_session.proofs.RunLaws.{Grows, so_far-grows}
+use Rattle.cb_session.proofs.HaltLaws.{begun_none, begun_still}
 use Rattle.cb_session.proofs.course.Course.take_end.Goals as goal
 
 pub returns-in-Ok-Some-clause-state : goal.returns-in-Ok-Some-clause-state
@@ -58,3 +59,17 @@ returns-in-Err-clause-wrote_some g c =
     let p = c.args.self.now.cutter.stepped in
     let P : List ℕ → Type 0 = λ s. Grows (so_far n p).written (complete n s).written in
     put_nothing _ _ _ _ (subst P (append-nil p) (so_far-grows n p []))
+
+pub returns-in-Ok-Some-clause-begun : goal.returns-in-Ok-Some-clause-begun
+returns-in-Ok-Some-clause-begun g c =
+    let n = c.args.self.now.cutter.limit in
+    let p = c.args.self.now.cutter.stepped in
+    let P : List ℕ → Type 0 = λ s. Grows (so_far n p).written (complete n s).written in
+    λ e. begun_still g.K.Sink.has c.args.out.now c.carry.new.out _ _ (c.carry.ensures.unchanged e) (subst P (append-nil p) (so_far-grows n p []))
+
+pub returns-in-Err-clause-begun : goal.returns-in-Err-clause-begun
+returns-in-Err-clause-begun g c =
+    let n = c.args.self.now.cutter.limit in
+    let p = c.args.self.now.cutter.stepped in
+    let P : List ℕ → Type 0 = λ s. Grows (so_far n p).written (complete n s).written in
+    λ _. begun_none _ _ _ _ (subst P (append-nil p) (so_far-grows n p []))
