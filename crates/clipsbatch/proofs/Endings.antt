@@ -46,6 +46,10 @@ stopped_write_fault : (s : Stop) → (stopped_as s).cause ≡ WriteFault → s �
 stopped_write_fault stop.NoMemory h = cc
 stopped_write_fault stop.WriteFault h = refl
 
+stopped_no_memory : (s : Stop) → ((stopped_as s).cause ≡ WriteFault → ⊥) → s ≡ stop.NoMemory
+stopped_no_memory stop.NoMemory h = refl
+stopped_no_memory stop.WriteFault h = absurd (h refl)
+
 stopped_not_ended : (s : Stop) → HasEnded (stopped_as s).cause → ⊥
 stopped_not_ended stop.NoMemory h = h
 stopped_not_ended stop.WriteFault h = h
@@ -91,9 +95,9 @@ ran_whole max status (Some s) from' to to' reads reads' writes writes' same kept
 
 -- a run that memory or the sink stopped
 ran_part : (max : ℕ) (s : Stop) (from from' to to' : Option (List ℕ)) (reads reads' writes writes' : ℕ)
-    → reads' ≡ reads → (s ≡ stop.WriteFault → writes < writes') → IsPrompt max from from' to to' → WroteBeginning max from to to'
+    → reads' ≡ reads → (s ≡ stop.WriteFault → writes < writes') → (s ≡ stop.NoMemory → writes' ≡ writes) → IsPrompt max from from' to to' → WroteBeginning max from to to'
     → WroteBeginningHowever max from from' to to' → Ran max (stopped_as s) from from' to to' reads reads' writes writes'
-ran_part max s from from' to to' reads reads' writes writes' same failed prompt beginning however = record {
+ran_part max s from from' to to' reads reads' writes writes' same failed kept prompt beginning however = record {
   whole_transcript = λ h. absurd (stopped_not_ended s h);
   script_status = λ h. absurd (stopped_not_ended s h);
   prompt = prompt;
@@ -103,7 +107,7 @@ ran_part max s from from' to to' reads reads' writes writes' same failed prompt 
   read_failed = λ h. absurd (stopped_not_read_fault s h);
   no_read_failed = λ _. same;
   write_failed = λ h. failed (stopped_write_fault s h);
-  no_write_failed = λ h. absurd (stopped_not_ended s h);
+  no_write_failed = λ h. kept (stopped_no_memory s h);
   status_of_fault = λ _. stopped_status s;
 }
 
@@ -148,14 +152,14 @@ ran_ended max told from a a' to b b' piece status reads reads' writes writes' sa
 
 -- a piece that could not be carried out whole
 pub ran_stopped : (max : ℕ) (told : Told) (from a a' to b b' : Option (List ℕ)) (piece : List ℕ) (s : Stop) (reads reads' writes writes' : ℕ)
-    → reads' ≡ reads → (s ≡ stop.WriteFault → writes < writes') → Following max told from a to b → Gave a a' piece → length piece ≤ 4096
+    → reads' ≡ reads → (s ≡ stop.WriteFault → writes < writes') → (s ≡ stop.NoMemory → writes' ≡ writes) → Following max told from a to b → Gave a a' piece → length piece ≤ 4096
     → WroteSome b b' (so_far told.max_form told.fed).written (so_far told.max_form (told.fed ++ piece)).written
     → Ran max (stopped_as s) from a' to b' reads reads' writes writes'
-ran_stopped max told from a a' to b b' piece s reads reads' writes writes' same failed before read short wrote =
+ran_stopped max told from a a' to b b' piece s reads reads' writes writes' same failed kept before read short wrote =
     let wrote' : WroteSome b b' (so_far max told.fed).written (so_far max (told.fed ++ piece)).written = rw before.same_max at wrote in
     let all = gave_then from a a' told.fed piece before.read read in
     let some = passed_wrote to b b' _ _ before.wrote wrote' in
-    ran_part max s from a' to b' reads reads' writes writes' same failed
+    ran_part max s from a' to b' reads reads' writes writes' same failed kept
     (prompt_piece max told from a a' to b b' piece before read short (wrote'.0, wrote'.2))
     (beginning_so_far max from a' to b' (told.fed ++ piece) all some)
     (however_so_far max from a' to b' (told.fed ++ piece) all some)
@@ -175,21 +179,21 @@ ran_finished max told from a a' to b b' piece status reads reads' writes writes'
 
 -- the end of the script, not carried out whole
 pub ran_unfinished : (max : ℕ) (told : Told) (from a a' to b b' : Option (List ℕ)) (piece : List ℕ) (s : Stop) (reads reads' writes writes' : ℕ)
-    → reads' ≡ reads → (s ≡ stop.WriteFault → writes < writes') → Following max told from a to b → piece ≡ [] → Gave a a' piece → IsAtEnd a'
+    → reads' ≡ reads → (s ≡ stop.WriteFault → writes < writes') → (s ≡ stop.NoMemory → writes' ≡ writes) → Following max told from a to b → piece ≡ [] → Gave a a' piece → IsAtEnd a'
     → WroteSome b b' (so_far told.max_form told.fed).written (transcript told.max_form told.fed)
     → Ran max (stopped_as s) from a' to b' reads reads' writes writes'
-ran_unfinished max told from a a' to b b' piece s reads reads' writes writes' same failed before none read end wrote =
+ran_unfinished max told from a a' to b b' piece s reads reads' writes writes' same failed kept before none read end wrote =
     let here = following_same max told from a a' to b piece none before read in
     let wrote' : WroteSome b b' (so_far max told.fed).written (transcript max told.fed) = rw before.same_max at wrote in
-    ran_part max s from a' to b' reads reads' writes writes' same failed
+    ran_part max s from a' to b' reads reads' writes writes' same failed kept
     (prompt_here max told from a' to b b' [] here (wrote'.0, wrote'.2))
     (beginning_at_end max from a' to b' told.fed here.read end (passed_wrote to b b' _ _ before.wrote wrote'))
     (however_at_end max from a' to b' end)
 
 -- a read that failed, or one too many
-ran_read_fault : (max : ℕ) (told : Told) (from a to b : Option (List ℕ)) (reads reads' writes writes' : ℕ) → Following max told from a to b
+ran_read_fault : (max : ℕ) (told : Told) (from a to b : Option (List ℕ)) (reads reads' writes writes' : ℕ) → Following max told from a to b → writes' ≡ writes
     → IfSome from (λ s. length s < 2 ^ 64 - 1 → reads < reads') → Ran max (failed_as ReadFault) from a to b reads reads' writes writes'
-ran_read_fault max told from a to b reads reads' writes writes' here failed = record {
+ran_read_fault max told from a to b reads reads' writes writes' here kept failed = record {
   whole_transcript = λ h. absurd h;
   script_status = λ h. absurd h;
   prompt = prompt_here max told from a to b b [] here ([], took_none b);
@@ -199,7 +203,7 @@ ran_read_fault max told from a to b reads reads' writes writes' here failed = re
   read_failed = λ _. failed;
   no_read_failed = λ other. absurd (other refl);
   write_failed = λ h. cc;
-  no_write_failed = λ h. absurd h;
+  no_write_failed = λ _. kept;
   status_of_fault = λ _. refl;
 }
 
@@ -208,9 +212,9 @@ failed_read None reads reads' more = tt
 failed_read (Some s) reads reads' more = λ _. more
 
 pub ran_unread : (max : ℕ) (told : Told) (from a a' to b : Option (List ℕ)) (reads reads' writes writes' : ℕ) → Following max told from a to b → a' ≡ a
-    → reads < reads' → Ran max (failed_as ReadFault) from a' to b reads reads' writes writes'
-ran_unread max told from a a' to b reads reads' writes writes' before same more =
-    ran_read_fault max told from a' to b reads reads' writes writes' (subst (λ (it : Option (List ℕ)). Following max told from it to b) (sym same) before)
+    → reads < reads' → writes' ≡ writes → Ran max (failed_as ReadFault) from a' to b reads reads' writes writes'
+ran_unread max told from a a' to b reads reads' writes writes' before same more kept =
+    ran_read_fault max told from a' to b reads reads' writes writes' (subst (λ (it : Option (List ℕ)). Following max told from it to b) (sym same) before) kept
     (failed_read from reads reads' more)
 
 too_many : (from a : Option (List ℕ)) (p : List ℕ) (reads reads' : ℕ) → Gave from a p → 18446744073709551615 ≤ length p
@@ -221,5 +225,5 @@ too_many (Some s) a p reads reads' read many = λ few.
     absurd (omega arith)
 
 pub ran_endless : (max : ℕ) (told : Told) (from a to b : Option (List ℕ)) (reads reads' writes writes' : ℕ) → Following max told from a to b
-    → 18446744073709551615 ≤ length told.fed → Ran max (failed_as ReadFault) from a to b reads reads' writes writes'
-ran_endless max told from a to b reads reads' writes writes' here many = ran_read_fault max told from a to b reads reads' writes writes' here (too_many from a told.fed reads reads' here.read many)
+    → 18446744073709551615 ≤ length told.fed → writes' ≡ writes → Ran max (failed_as ReadFault) from a to b reads reads' writes writes'
+ran_endless max told from a to b reads reads' writes writes' here many kept = ran_read_fault max told from a to b reads reads' writes writes' here kept (too_many from a told.fed reads reads' here.read many)

@@ -18,5 +18,5 @@ pub record Ran (max : ℕ) (result : Outcome) (from from' to to' : Option (List 
   pub read_failed : result.cause ≡ ReadFault → IfSome from (λ s. length s < 2 ^ 64 - 1 → reads < reads')
   pub no_read_failed : (result.cause ≢ ReadFault) → reads' ≡ reads
   pub write_failed : result.cause ≡ WriteFault → writes < writes'
-  pub no_write_failed : HasEnded result.cause → writes' ≡ writes
+  pub no_write_failed : (result.cause ≢ WriteFault) → writes' ≡ writes
   pub status_of_fault : HasFailed result.cause → result.status ≡ 3

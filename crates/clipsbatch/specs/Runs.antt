@@ -8,7 +8,7 @@ use Rattle.cb_forms.specs.Moved.{Gave, Took}
 use Rattle.cb_forms.specs.Output.{PassedSome}
 use Rattle.cb_session.specs.Transcripts.{so_far, transcript}
 
--- The run waited for no byte with what it could have carried out: before the last `piece` that it read, of at most 4096 bytes,
+-- The run is at most 4096 bytes ahead of what it wrote: before the last `piece` of the bytes that it read, which is no longer,
 -- the script had not ended, and all that is written so far behind the bytes before that piece was written.
 pub record IsPrompt (max : ℕ) (from from' to to' : Option (List ℕ)) : Type 0 where
   pub before : List ℕ

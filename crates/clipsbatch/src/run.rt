@@ -15,8 +15,9 @@ use std::alloc::Global;
 /// Carries out the script that the source gives, and writes its transcript.
 ///
 /// It reads at most 4096 bytes at a time, and carries out and writes what they hold before it reads on. Behind the
-/// script's end nothing is read. Behind a read that failed nothing more is carried out or written. A source that gives
-/// no end in 18,446,744,073,709,551,615 reads counts as one that failed.
+/// script's end at most the rest of those 4096 bytes has been read. Behind a read that failed nothing more is carried out
+/// or written. A source that gives no end in 18,446,744,073,709,551,615 reads counts as one that failed. Where memory is
+/// refused, what was carried out before is written.
 pub fn run<S: Source, K: Sink>(
     alloc: Global,
     source: &mut S,
@@ -51,7 +52,7 @@ pub fn run<S: Source, K: Sink>(
     ensures no_read_failed { result.cause ≢ Cause.ReadFault → S.failures source.new ≡ S.failures source.old }
     ensures write_failed { result.cause ≡ Cause.WriteFault
         → K.failures out.old.sink < K.failures out.new.sink }
-    ensures no_write_failed { HasEnded result.cause
+    ensures no_write_failed { result.cause ≢ Cause.WriteFault
         → K.failures out.new.sink ≡ K.failures out.old.sink }
     ensures status_of_fault { HasFailed result.cause → result.status ≡ 3 }
 {

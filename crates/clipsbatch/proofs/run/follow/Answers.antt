@@ -35,7 +35,7 @@ returns-in-Err g c =
     let before = c.loop-turn.invariant.following in
     let more = c.in-Err.ensures.counts_err in
     let reads = c.loop-turn.invariant.reads in
-    rw c.failed.ensures (ran_unread _ _ _ _ _ _ _ _ _ _ _ before c.in-Err.ensures.err (omega arith))
+    rw c.failed.ensures (ran_unread _ _ _ _ _ _ _ _ _ _ _ before c.in-Err.ensures.err (omega arith) c.loop-turn.invariant.writes)
 
 pub returns-in-Ok-finish : goal.returns-in-Ok-finish
 returns-in-Ok-finish g c =
@@ -52,7 +52,7 @@ returns-in-Err-finish g c =
     let wrote = c.in-Err-finish.ensures.wrote_some before.no_stop in
     let none : take c.in-Ok.n c.read.new.buf ≡ [] = rw c.if-n-eq0.true refl in
     let end = c.in-Ok.ensures.end c.if-n-eq0.true (omega (arith, c.loop-turn.invariant.block)) in
-    rw c.stopped.ensures (ran_unfinished _ _ _ _ _ _ _ _ _ _ _ _ _ _ (c.in-Ok.ensures.counts_ok ∙ c.loop-turn.invariant.reads) (λ h. rw (← c.loop-turn.invariant.writes) (c.in-Err-finish.ensures.sink_failed (ap Err h) before.no_stop)) before none c.in-Ok.ensures.gave end wrote)
+    rw c.stopped.ensures (ran_unfinished _ _ _ _ _ _ _ _ _ _ _ _ _ _ (c.in-Ok.ensures.counts_ok ∙ c.loop-turn.invariant.reads) (λ h. rw (← c.loop-turn.invariant.writes) (c.in-Err-finish.ensures.sink_failed (ap Err h) before.no_stop)) (λ h. c.in-Err-finish.ensures.halted_counts (ap Err h) ∙ c.loop-turn.invariant.writes) before none c.in-Ok.ensures.gave end wrote)
 
 pub returns-in-Ok-Ended : goal.returns-in-Ok-Ended
 returns-in-Ok-Ended g c =
@@ -67,9 +67,9 @@ returns-in-Err-feed g c =
     let before = c.loop-turn.invariant.following in
     let wrote = c.in-Err-feed.ensures.wrote_some before.no_stop in
     let short : length (take c.in-Ok.n c.read.new.buf) ≤ 4096 = omega (arith, length-take c.in-Ok.n c.read.new.buf, c.in-Ok.ensures.within, c.loop-turn.invariant.block) in
-    rw c.stopped-in-Err-feed.ensures (ran_stopped _ _ _ _ _ _ _ _ _ _ _ _ _ _ (c.in-Ok.ensures.counts_ok ∙ c.loop-turn.invariant.reads) (λ h. rw (← c.loop-turn.invariant.writes) (c.in-Err-feed.ensures.sink_failed (ap Err h) before.no_stop)) before c.in-Ok.ensures.gave short wrote)
+    rw c.stopped-in-Err-feed.ensures (ran_stopped _ _ _ _ _ _ _ _ _ _ _ _ _ _ (c.in-Ok.ensures.counts_ok ∙ c.loop-turn.invariant.reads) (λ h. rw (← c.loop-turn.invariant.writes) (c.in-Err-feed.ensures.sink_failed (ap Err h) before.no_stop)) (λ h. c.in-Err-feed.ensures.halted_counts (ap Err h) ∙ c.loop-turn.invariant.writes) before c.in-Ok.ensures.gave short wrote)
 
 pub returns : goal.returns
 returns g c =
     let here = c.loop-turn.invariant.following in
-    rw c.failed-2.ensures (ran_endless _ _ _ _ _ _ _ _ _ _ here (omega (arith, c.loop-turn.invariant.turns)))
+    rw c.failed-2.ensures (ran_endless _ _ _ _ _ _ _ _ _ _ here (omega (arith, c.loop-turn.invariant.turns)) c.loop-turn.invariant.writes)
