@@ -12,10 +12,7 @@ fn value(alloc: Global, form: &Form) -> Result<Value, Refused> {
     for field in fields {
         values.push(constant(alloc, field)?)?;
     }
-    Ok(Value::Multi(Many::from_vec(splice(
-        alloc,
-        values.as_slice(),
-    )?)?))
+    Ok(Value::Multi(Many::from_vec(splice(alloc, values.as_slice())?)?))
 }
 
 fn constant(alloc: Global, form: &Form) -> Result<Value, Refused> {
@@ -43,10 +40,7 @@ fn given(alloc: Global, slots: &str) -> Result<Vec<GivenSlot>, Refused> {
         let Some((name, forms)) = form.call() else {
             return Err(Refused::NoMemory);
         };
-        given.push(GivenSlot::new(
-            Name::new(alloc, name)?,
-            values(alloc, forms)?,
-        ))?;
+        given.push(GivenSlot::new(Name::new(alloc, name)?, values(alloc, forms)?))?;
     }
     Ok(given)
 }
@@ -82,7 +76,8 @@ fn builds_ordered_facts(rt: HostRuntime) -> Result<(), Refused> {
     Ok(())
 }
 
-const TEMPLATE: &str = "(deftemplate t (slot a (default 1)) (multislot m (default x 2)) (slot r (default ?NONE)) (multislot n))";
+const TEMPLATE: &str =
+    "(deftemplate t (slot a (default 1)) (multislot m (default x 2)) (slot r (default ?NONE)) (multislot n))";
 
 #[test]
 fn builds_facts_of_templates(rt: HostRuntime) -> Result<(), Refused> {
@@ -90,18 +85,9 @@ fn builds_facts_of_templates(rt: HostRuntime) -> Result<(), Refused> {
     let relations = defined(alloc, TEMPLATE)?;
     let rows: [(&str, &str); 5] = [
         ("(r b)", "(t (a 1) (m x 2) (r b) (n))"),
-        (
-            "(a 4) (m 5 6) (r b) (n 7)",
-            "(t (a 4) (m 5 6) (r b) (n 7))",
-        ),
-        (
-            "(n \"7\") (r b) (m) (a 4)",
-            "(t (a 4) (m) (r b) (n \"7\"))",
-        ),
-        (
-            "(m 1 (2 3) () 4) (r b)",
-            "(t (a 1) (m 1 2 3 4) (r b) (n))",
-        ),
+        ("(a 4) (m 5 6) (r b) (n 7)", "(t (a 4) (m 5 6) (r b) (n 7))"),
+        ("(n \"7\") (r b) (m) (a 4)", "(t (a 4) (m) (r b) (n \"7\"))"),
+        ("(m 1 (2 3) () 4) (r b)", "(t (a 1) (m 1 2 3 4) (r b) (n))"),
         ("(r b) (n (1 2))", "(t (a 1) (m x 2) (r b) (n 1 2))"),
     ];
     for (slots, text) in rows {
@@ -154,19 +140,9 @@ fn builds_by_the_later_template(rt: HostRuntime) -> Result<(), Refused> {
     let alloc = rt.alloc();
     let mut relations = defined(alloc, "(deftemplate t (slot a))")?;
     define(alloc, &mut relations, "(deftemplate t (slot b))", false)?;
-    let fact = built(
-        alloc,
-        &relations,
-        "t",
-        Parts::Slots(given(alloc, "(b 2)")?),
-    )?;
+    let fact = built(alloc, &relations, "t", Parts::Slots(given(alloc, "(b 2)")?))?;
     assert_eq!(rt; fact.as_slice(), b"(t (b 2))".as_slice());
-    let answer = built(
-        alloc,
-        &relations,
-        "t",
-        Parts::Slots(given(alloc, "(a 2)")?),
-    );
+    let answer = built(alloc, &relations, "t", Parts::Slots(given(alloc, "(a 2)")?));
     assert_eq!(rt; answer, Err(Refused::Fault(Fault::FactDoesNotFit)));
     Ok(())
 }
@@ -174,9 +150,11 @@ fn builds_by_the_later_template(rt: HostRuntime) -> Result<(), Refused> {
 #[test]
 fn finds_what_is_given(rt: HostRuntime) -> Result<(), Refused> {
     let given = given(rt.alloc(), "(a 1) (b 2 3) (c)")?;
-    let b = [Value::Int(2), Value::Int(3)];
-    assert_eq!(rt; find_given(given.as_slice(), b"b"), Some(b.as_slice()));
-    assert_eq!(rt; find_given(given.as_slice(), b"d"), None);
+    let Some(b) = find_given(given.as_slice(), b"b") else {
+        return Err(Refused::NoMemory);
+    };
+    assert_eq!(rt; b, [Value::Int(2), Value::Int(3)].as_slice());
+    assert!(rt; find_given(given.as_slice(), b"d").is_none());
     let Some(c) = find_given(given.as_slice(), b"c") else {
         return Err(Refused::NoMemory);
     };
