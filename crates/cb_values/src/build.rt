@@ -19,6 +19,9 @@ use cb_forms::{Fault, NoMemory};
 use std::alloc::Global;
 use std::marker::Model;
 
+#[cfg(test)]
+mod tests;
+
 /// A slot that a fact is given, by its name, and the values that it is given.
 ///
 /// Contracts see the pair of its name and its values.

@@ -18,6 +18,8 @@ mod slot;
 mod slot_form;
 mod slot_type;
 mod splicing;
+#[cfg(test)]
+mod testing;
 mod text;
 mod value;
 

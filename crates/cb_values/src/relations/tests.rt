@@ -1,0 +1,266 @@
+use super::*;
+use crate::many::Many;
+use crate::single::Single;
+use crate::testing::{define, defined, slot_names};
+use crate::text::quoted_text;
+use crate::value::Value;
+
+// A script's template is refused with this fault, and the relations stay as they were.
+fn refuses(alloc: Global, script: &str, in_use: bool, fault: Fault) -> Result<bool, Refused> {
+    let mut relations = defined(alloc, "(deftemplate t (slot z))")?;
+    let answer = define(alloc, &mut relations, script, in_use);
+    let is_kept = slot_names(alloc, &relations, "t")?.as_slice() == b" z".as_slice();
+    let is_alone = slot_names(alloc, &relations, "q")?.is_empty();
+    Ok(answer == Err(Refused::Fault(fault)) && is_kept && is_alone)
+}
+
+#[test]
+fn refuses_types(rt: HostRuntime) -> Result<(), Refused> {
+    let alloc = rt.alloc();
+    let rows: [(&str, Fault); 9] = [
+        ("(type FLOAT)", Fault::NotInProfile),
+        ("(type 3)", Fault::MalformedForm),
+        ("(type ?FOO)", Fault::MalformedForm),
+        ("(type $?VARIABLE)", Fault::MalformedForm),
+        ("(type ?VARIABLE INTEGER)", Fault::MalformedForm),
+        ("(type)", Fault::MalformedForm),
+        ("(type (f))", Fault::MalformedForm),
+        ("(type 3 FLOAT)", Fault::MalformedForm),
+        ("(type FLOAT 3)", Fault::NotInProfile),
+    ];
+    for (attribute, fault) in rows {
+        let script = format!(in alloc; "(deftemplate t (slot a {attribute}))")?;
+        assert!(rt; refuses(alloc, &script, false, fault)?, "{attribute}");
+        let script = format!(in alloc; "(deftemplate t (multislot a {attribute}))")?;
+        assert!(rt; refuses(alloc, &script, false, fault)?, "{attribute}");
+    }
+    Ok(())
+}
+
+#[test]
+fn refuses_defaults(rt: HostRuntime) -> Result<(), Refused> {
+    let alloc = rt.alloc();
+    let rows: [(&str, Fault); 14] = [
+        ("(slot a (default ?x))", Fault::MalformedForm),
+        ("(slot a (default ()))", Fault::MalformedForm),
+        ("(slot a (default (1)))", Fault::MalformedForm),
+        ("(slot a (default (bogus)))", Fault::NotInProfile),
+        ("(slot a (default ?*g*))", Fault::NotInProfile),
+        ("(slot a (default $?NONE))", Fault::MalformedForm),
+        ("(slot a (default (+ 1 2) 3))", Fault::MalformedForm),
+        ("(slot a (default 3 (+ 1 2)))", Fault::MalformedForm),
+        ("(slot a (default))", Fault::MalformedForm),
+        ("(multislot a (default ?NONE 1))", Fault::MalformedForm),
+        ("(multislot a (default 1 ?NONE))", Fault::MalformedForm),
+        (
+            "(slot a (type INTEGER) (default x))",
+            Fault::ValueNotAllowed,
+        ),
+        (
+            "(multislot a (type INTEGER) (default 1 x))",
+            Fault::ValueNotAllowed,
+        ),
+        (
+            "(slot a (default x) (type INTEGER)) (slot b (foo))",
+            Fault::ValueNotAllowed,
+        ),
+    ];
+    for (slots, fault) in rows {
+        let script = format!(in alloc; "(deftemplate t {slots})")?;
+        assert!(rt; refuses(alloc, &script, false, fault)?, "{slots}");
+    }
+    Ok(())
+}
+
+#[test]
+fn refuses_slots(rt: HostRuntime) -> Result<(), Refused> {
+    let alloc = rt.alloc();
+    let rows: [(&str, Fault); 14] = [
+        ("(field a)", Fault::MalformedForm),
+        ("a", Fault::MalformedForm),
+        ("()", Fault::MalformedForm),
+        ("(slot)", Fault::MalformedForm),
+        ("(slot \"a\")", Fault::MalformedForm),
+        ("(slot a) (slot a (foo))", Fault::MalformedForm),
+        ("(slot a (type INTEGER) (type FLOAT))", Fault::MalformedForm),
+        ("(slot a (default 1) (default (f)))", Fault::MalformedForm),
+        ("(slot a (range 1 10))", Fault::NotInProfile),
+        ("(slot a (foo))", Fault::NotInProfile),
+        ("(slot a foo)", Fault::MalformedForm),
+        ("(slot a ())", Fault::MalformedForm),
+        ("(slot a (3))", Fault::MalformedForm),
+        ("(slot a) \"c\"", Fault::MalformedForm),
+    ];
+    for (slots, fault) in rows {
+        let script = format!(in alloc; "(deftemplate q {slots})")?;
+        assert!(rt; refuses(alloc, &script, false, fault)?, "{slots}");
+    }
+    Ok(())
+}
+
+#[test]
+fn refuses_names(rt: HostRuntime) -> Result<(), Refused> {
+    let alloc = rt.alloc();
+    let rows: [(&str, bool, Fault); 7] = [
+        ("(deftemplate test (foo))", false, Fault::MalformedForm),
+        ("(deftemplate)", false, Fault::MalformedForm),
+        ("(deftemplate \"c\")", false, Fault::MalformedForm),
+        ("(deftemplate q \"c\" \"d\")", false, Fault::MalformedForm),
+        ("(deftemplate p (foo))", true, Fault::TemplateInUse),
+        ("(deftemplate t (slot a))", true, Fault::TemplateInUse),
+        ("(deftemplate and)", true, Fault::MalformedForm),
+    ];
+    for (script, in_use, fault) in rows {
+        assert!(rt; refuses(alloc, script, in_use, fault)?, "{script}");
+    }
+    Ok(())
+}
+
+// The text of the default of a template's first slot, or `none` where each fact must give it.
+fn default_text(alloc: Global, slot: &str) -> Result<Vec<u8>, Refused> {
+    let relations = defined(alloc, &format!(in alloc; "(deftemplate t {slot})")?)?;
+    let Some([slot, ..]) = relations.shape(&Name::new(alloc, b"t")?) else {
+        return Err(Refused::NoMemory);
+    };
+    match slot.default() {
+        Some(value) if !slot.is_required() => Ok(quoted_text(alloc, value)?),
+        _ => Ok(Vec::from_slice(alloc, b"none")?),
+    }
+}
+
+#[test]
+fn gives_defaults(rt: HostRuntime) -> Result<(), Refused> {
+    let alloc = rt.alloc();
+    let rows: [(&str, &str); 18] = [
+        ("(slot a)", "nil"),
+        ("(slot a (type ?VARIABLE))", "nil"),
+        ("(slot a (type SYMBOL))", "nil"),
+        ("(slot a (type STRING))", "\"\""),
+        ("(slot a (type STRING STRING))", "\"\""),
+        ("(slot a (type LEXEME))", "nil"),
+        ("(slot a (type STRING SYMBOL))", "nil"),
+        ("(slot a (type INTEGER))", "0"),
+        ("(slot a (type INTEGER INTEGER))", "0"),
+        ("(slot a (type NUMBER))", "0"),
+        ("(slot a (type INTEGER NUMBER))", "nil"),
+        ("(slot a (type STRING) (default ?DERIVE))", "\"\""),
+        ("(slot a (default ?NONE))", "none"),
+        ("(slot a (default \"x y\") (type STRING))", "\"x y\""),
+        ("(multislot a)", "()"),
+        ("(multislot a (type INTEGER) (default ?DERIVE))", "()"),
+        ("(multislot a (default ?NONE))", "none"),
+        ("(multislot a (default))", "()"),
+    ];
+    for (slot, text) in rows {
+        assert_eq!(rt;
+            default_text(alloc, slot)?.as_slice(),
+            text.as_bytes(),
+            "{slot}"
+        );
+    }
+    Ok(())
+}
+
+const TWO_SLOTS: &str =
+    "(deftemplate t \"c\" (slot a (type INTEGER)) (multislot m (default 1 \"b\")))";
+
+#[test]
+fn shows_slots(rt: HostRuntime) -> Result<(), Refused> {
+    let alloc = rt.alloc();
+    let relations = defined(alloc, TWO_SLOTS)?;
+    let Some([a, m]) = relations.shape(&Name::new(alloc, b"t")?) else {
+        return Err(Refused::NoMemory);
+    };
+    assert_eq!(rt; a.name().as_slice(), b"a".as_slice());
+    assert_eq!(rt; m.name().as_slice(), b"m".as_slice());
+    assert!(rt; !a.is_multi());
+    assert!(rt; m.is_multi());
+    assert!(rt; !a.is_required());
+    let Some(zero) = a.default() else {
+        return Err(Refused::NoMemory);
+    };
+    assert_eq!(rt; quoted_text(alloc, zero)?.as_slice(), b"0".as_slice());
+    let Some(default) = m.default() else {
+        return Err(Refused::NoMemory);
+    };
+    assert_eq!(rt;
+        quoted_text(alloc, default)?.as_slice(),
+        b"(1 \"b\")".as_slice()
+    );
+    assert!(rt; relations.shape(&Name::new(alloc, b"m")?).is_none());
+    Ok(())
+}
+
+#[test]
+fn allows_fields(rt: HostRuntime) -> Result<(), Refused> {
+    let alloc = rt.alloc();
+    let relations = defined(alloc, TWO_SLOTS)?;
+    let Some([a, m]) = relations.shape(&Name::new(alloc, b"t")?) else {
+        return Err(Refused::NoMemory);
+    };
+    let word = Single::Symbol(Name::new(alloc, b"x")?);
+    assert!(rt; a.allows(&Single::Int(1)));
+    assert!(rt; !a.allows(&word));
+    assert!(rt; !a.allows(&Single::Fact(1)));
+    assert!(rt; m.allows(&word));
+    let mut fields = Vec::new(alloc);
+    fields.push(Single::Int(1))?;
+    fields.push(word)?;
+    let mixed = Value::Multi(Many::from_vec(fields)?);
+    assert!(rt; !a.allows_all(&mixed)?);
+    assert!(rt; m.allows_all(&mixed)?);
+    assert!(rt; a.allows_all(&Value::Int(1))?);
+    assert!(rt; a.allows_all(&Value::Multi(Many::from_vec(Vec::new(alloc))?))?);
+    Ok(())
+}
+
+// (type ..) and whether an integer, a symbol, a string and an address are allowed.
+#[test]
+fn knows_types(rt: HostRuntime) -> Result<(), Refused> {
+    let alloc = rt.alloc();
+    let fields: [Single; 4] = [
+        Single::Int(1),
+        Single::Symbol(Name::new(alloc, b"x")?),
+        Single::Str(Name::new(alloc, b"x")?),
+        Single::Fact(1),
+    ];
+    let rows: [(&str, [bool; 4]); 7] = [
+        ("INTEGER", [true, false, false, false]),
+        ("SYMBOL", [false, true, false, false]),
+        ("STRING", [false, false, true, false]),
+        ("NUMBER", [true, false, false, false]),
+        ("LEXEME", [false, true, true, false]),
+        ("STRING INTEGER", [true, false, true, false]),
+        ("?VARIABLE", [true, true, true, true]),
+    ];
+    for (types, wanted) in rows {
+        let script = format!(in alloc; "(deftemplate t (slot a (type {types})))")?;
+        let relations = defined(alloc, &script)?;
+        let Some([slot]) = relations.shape(&Name::new(alloc, b"t")?) else {
+            return Err(Refused::NoMemory);
+        };
+        for (field, want) in fields.iter().zip(wanted) {
+            assert_eq!(rt; slot.allows(field), want, "{types}");
+        }
+    }
+    Ok(())
+}
+
+#[test]
+fn redefines(rt: HostRuntime) -> Result<(), Refused> {
+    let alloc = rt.alloc();
+    let mut relations = defined(alloc, "(deftemplate p (slot a) (slot b))")?;
+    define(alloc, &mut relations, "(deftemplate q \"c\")", false)?;
+    assert_eq!(rt;
+        slot_names(alloc, &relations, "p")?.as_slice(),
+        b" a b".as_slice()
+    );
+    assert!(rt; relations.shape(&Name::new(alloc, b"q")?).is_some());
+    define(alloc, &mut relations, "(deftemplate p (slot c))", false)?;
+    assert_eq!(rt;
+        slot_names(alloc, &relations, "p")?.as_slice(),
+        b" c".as_slice()
+    );
+    assert!(rt; slot_names(alloc, &relations, "q")?.is_empty());
+    Ok(())
+}
