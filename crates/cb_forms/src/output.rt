@@ -77,6 +77,9 @@ impl<K: Sink> Out<K> {
         // After a fault.
         ensures stuck { self.old.fault ≡ true → IsErr result }
         ensures still { self.old.fault ≡ true → self.new ≡ self.old }
+
+        // However it went.
+        ensures within { length self.new.pending ≤ 4096 }
     {
         check(self.fault)?;
         if bytes.len() <= BLOCK - self.used {
@@ -113,6 +116,9 @@ impl<K: Sink> Out<K> {
         // After a fault.
         ensures stuck { self.old.fault ≡ true → IsErr result }
         ensures still { self.old.fault ≡ true → self.new ≡ self.old }
+
+        // However it went.
+        ensures within { length self.new.pending ≤ 4096 }
     {
         check(self.fault)?;
         self.fault = true;
