@@ -2,13 +2,18 @@
 use Prim.Native.String.{String}
 use Rattle.std.proofs.Common.{◌≡◌, ◌-◌, ℕ, ℤ, pos, negsuc, List, [], ◌∷◌, map, Some, Ok, codes, refl}
 use Rattle.std.specs.Fmt.{digits}
+use Rattle.cb_forms.specs.Items.{whole, over, fitting, parts, is_open_list}
+use Rattle.cb_forms.specs.Pieces.{pieces}
 use Rattle.cb_forms.specs.Trees.{Tree, atom, branch, trees_of}
+use Rattle.cb_forms.specs.Words.{token_of}
 use Rattle.cb_forms.specs.declared.token.Token.TheVariants as token
 use Rattle.cb_session.specs.Engine.{State, first_state, limit_status, carried}
 use Rattle.cb_session.specs.Memory.{greatest_index}
 use Rattle.cb_session.specs.Heads.{is_refused}
 use Rattle.cb_values.specs.Reserved.{is_reserved}
-use Rattle.cb_session.specs.Transcripts.{begun, after_all}
+use Rattle.cb_session.specs.Transcripts.{begun, after_all, so_far, complete, transcript, status_of}
+use Rattle.cb_session.specs.declared.status.Ending.TheVariants.{Done}
+use Rattle.cb_session.specs.declared.status.Status.{Status}
 
 -- a symbol, a string, a number and a list, as they stand in a script
 abbrev word : String → Tree
@@ -107,3 +112,52 @@ exhausted = refl
 exhausted_status : (carried full (Ok (call "assert" (call "a" [] ∷ call "b" [] ∷ [])))).status ≡ Some limit_status
 unfolding carried is_refused is_reserved digits
 exhausted_status = refl
+
+-- whole texts: a word that may go on is carried out at the end
+word_so_far : (so_far 9 (codes "1 ab")).written ≡ codes "1\n"
+unfolding so_far complete whole over fitting parts pieces is_open_list token_of carried is_refused is_reserved digits
+word_so_far = refl
+
+word_at_the_end : transcript 9 (codes "1 ab") ≡ codes "1\nab\n"
+unfolding so_far complete whole over fitting parts pieces is_open_list token_of carried is_refused is_reserved digits
+word_at_the_end = refl
+
+done : status_of 9 (codes "1 ab") ≡ record { code = 0; ending = Done }
+unfolding so_far complete whole over fitting parts pieces is_open_list token_of carried is_refused is_reserved digits
+done = refl
+
+-- a fault that was written is told by the status
+stray : transcript 9 (codes ") a") ≡ codes "[CB02] unmatched closing parenthesis\na\n"
+unfolding so_far complete whole over fitting parts pieces is_open_list token_of carried is_refused is_reserved digits
+stray = refl
+
+done_with_fault : status_of 9 (codes ") a") ≡ record { code = 1; ending = Done }
+unfolding so_far complete whole over fitting parts pieces is_open_list token_of carried is_refused is_reserved digits
+done_with_fault = refl
+
+-- an item of more bytes than the limit ends the script, and one of as many doesn't
+limit_so_far : (so_far 3 (codes "abc 1234")).written ≡ codes "abc\n[CB91] form too long\n"
+unfolding so_far complete whole over fitting parts pieces is_open_list token_of carried is_refused is_reserved digits
+limit_so_far = refl
+
+limit : transcript 3 (codes "abc 1234 x") ≡ codes "abc\n[CB91] form too long\n"
+unfolding so_far complete whole over fitting parts pieces is_open_list token_of carried is_refused is_reserved digits
+limit = refl
+
+limit_told : status_of 3 (codes "abc 1234 x") ≡ limit_status
+unfolding so_far complete whole over fitting parts pieces is_open_list token_of carried is_refused is_reserved digits
+limit_told = refl
+
+-- a list that is open at the end
+open_so_far : (so_far 9 (codes "1 (a")).written ≡ codes "1\n"
+unfolding so_far complete whole over fitting parts pieces is_open_list token_of carried is_refused is_reserved digits
+open_so_far = refl
+
+open_at_the_end : transcript 9 (codes "1 (a") ≡ codes "1\n[CB01] form not closed\n"
+unfolding so_far complete whole over fitting parts pieces is_open_list token_of carried is_refused is_reserved digits
+open_at_the_end = refl
+
+-- a command, and a comment behind it
+command : transcript 12 (codes "(assert (a));c") ≡ codes "<Fact-1>\n"
+unfolding so_far complete whole over fitting parts pieces is_open_list token_of carried is_refused is_reserved digits
+command = refl

@@ -27,6 +27,15 @@ fn reads_commands(rt: HostRuntime) -> Result<(), NoMemory> {
         "(printout t)",
         "(printout stdout a crlf)",
         "(printout nil a = b)",
+        "(retract 1)",
+        "(retract -1 * \"a\" 1)",
+        "(reset)",
+        "(clear)",
+        "(deftemplate)",
+        "(deffacts d)",
+        "(deffacts d \"a comment\")",
+        "(deffacts d \"a comment\" (a) (b 1))",
+        "(deffacts assert (a))",
     ];
     for script in scripts {
         assert_eq!(rt; fault_in(rt.alloc(), script)?, None, "{script}");
@@ -73,6 +82,25 @@ fn tells_the_first_fault(rt: HostRuntime) -> Result<(), NoMemory> {
         ("(printout t = (b))", Fault::UnknownFunction),
         ("(printout nil (assert (a)))", Fault::NotInProfile),
         ("(printout t 1 ?x ?*g*)", Fault::UnboundVariable),
+        ("(retract)", Fault::WrongArguments),
+        ("(retract 1 ?x)", Fault::UnboundVariable),
+        ("(retract ?*g* ?x)", Fault::UnknownGlobal),
+        ("(retract ?)", Fault::MalformedForm),
+        ("(retract ())", Fault::MalformedForm),
+        ("(retract (a))", Fault::UnknownFunction),
+        ("(retract (facts))", Fault::NotInProfile),
+        ("(reset 1)", Fault::WrongArguments),
+        ("(clear x)", Fault::WrongArguments),
+        ("(clear (reset))", Fault::WrongArguments),
+        ("(deffacts)", Fault::MalformedForm),
+        ("(deffacts \"c\" (a))", Fault::MalformedForm),
+        ("(deffacts (a))", Fault::MalformedForm),
+        ("(deffacts d a)", Fault::FactDoesNotFit),
+        ("(deffacts d \"c\" \"c\")", Fault::FactDoesNotFit),
+        ("(deffacts d \"c\" (test))", Fault::FactDoesNotFit),
+        ("(deffacts d (a) \"c\")", Fault::FactDoesNotFit),
+        ("(deffacts d (a ?x))", Fault::UnboundVariable),
+        ("(deffacts d (a = (b)))", Fault::NotInProfile),
     ];
     for (script, fault) in faults {
         assert_eq!(rt; fault_in(rt.alloc(), script)?, Some(fault), "{script}");
