@@ -1,0 +1,88 @@
+#!/bin/sh
+# Measures how the processor time of the program grows with the number of facts and of deffacts: asserted and listed, retracted from
+# the front, from the back and all at once, and asserted by reset.
+# Run it from anywhere, with GNU time as /usr/bin/time:
+#
+#     benches/life.sh
+#
+# It proves and builds the program first. No test depends on what it prints.
+set -eu
+
+top=$(cd "$(dirname "$0")/.." && pwd)
+place=$(mktemp -d)
+trap 'rm -rf "$place"' EXIT
+
+(cd "$top/crates/clipsbatch" && rt run </dev/null >/dev/null 2>"$place/checked") || {
+    cat "$place/checked"
+    exit 1
+}
+
+# For each i from 1 to $2, and for a $3 of -1 from $2 down to 1, the line $1 with i in the place of each &.
+lines() {
+    if [ "${3:-1}" -lt 0 ]; then
+        seq "$2" -1 1
+    else
+        seq "$2"
+    fi | sed "s/.*/$1/"
+}
+
+template='(deftemplate part (slot id (type INTEGER)) (slot kind (default bolt)) (multislot at))'
+
+# The script of this kind with n = $2.
+script() {
+    echo "$template"
+    case $1 in
+    asserted | listed | front | back | all) lines '(assert (part (id &) (at shelf &)))' "$2" ;;
+    ordered) lines '(assert (part-& bolt & shelf))' "$2" ;;
+    esac
+    case $1 in
+    listed) echo '(facts)' ;;
+    front) lines '(retract &)' "$2" ;;
+    back) lines '(retract &)' "$2" -1 ;;
+    all) echo '(retract *)' ;;
+    deffacts) lines '(deffacts part-& (part (id &) (at shelf &)))' "$2" ;;
+    reset)
+        lines '(deffacts part-& (part (id &) (at shelf &)))' "$2"
+        echo '(reset)'
+        ;;
+    again)
+        lines '(deffacts part-& (part (id &) (at shelf &)))' "$2"
+        lines '(deffacts part-& (part (id &) (at cellar &)))' "$2"
+        ;;
+    one)
+        echo '(deffacts parts'
+        lines '(part (id &) (at shelf &))' "$2"
+        echo ')(reset)'
+        ;;
+    templates) lines '(deftemplate part-& (slot id (default &)))' "$2" ;;
+    esac
+}
+
+# The processor seconds of a run on that script, the least of five.
+measured() {
+    script "$1" "$2" >"$place/script"
+    for _ in 1 2 3 4 5; do
+        /usr/bin/time -f '%U %S' "$top/crates/clipsbatch/out/clipsbatch" --max-form 16777216 \
+            <"$place/script" 2>&1 >"$place/transcript" | tail -n 1
+    done | awk '{ took = $1 + $2; if (NR == 1 || took < least) least = took } END { print least }'
+}
+
+# The ratios for the script of this kind, which does what $2 says.
+ratios() {
+    echo "$(measured "$1" 25000) $(measured "$1" 50000) $(measured "$1" 100000)" | awk -v what="$2" '{
+        printf "%-55s 50,000 to 25,000: %.2f, 100,000 to 50,000: %.2f (%.2f s, %.2f s, %.2f s)\n",
+            what ":", $2 / $1, $3 / $2, $1, $2, $3
+    }'
+}
+
+ratios asserted 'n facts of a template asserted'
+ratios ordered 'n ordered facts asserted, each of its own relation'
+ratios listed 'n facts asserted and listed'
+ratios front 'n facts asserted, and retracted from the front'
+ratios back 'n facts asserted, and retracted from the back'
+ratios all 'n facts asserted, and retracted by *'
+ratios deffacts 'n deffacts defined'
+ratios reset 'n deffacts defined, and a reset'
+ratios again 'n deffacts defined, and each defined anew'
+ratios one 'a deffacts of n facts defined, and a reset'
+ratios templates 'n templates defined'

@@ -1,0 +1,145 @@
+#!/bin/sh
+# Refuses each growth of memory in turn in the built program: the first alone, the second alone, and so on; and then each with
+# all behind it. A refused run must end with status 3, say that it is out of memory, and have written a beginning of the
+# transcript that it writes with ample memory. Where one growth alone is refused, it may also be asked for again and be had,
+# as the room for the program's words: then the run must be the same as with ample memory.
+# Run it from anywhere, with a C compiler and the GNU C library:
+#
+#     benches/refusals.sh
+#
+# It proves and builds the program first, prints how many growths were refused, and ends with status 1 at a run that is wrong.
+set -eu
+
+top=$(cd "$(dirname "$0")/.." && pwd)
+place=$(mktemp -d)
+trap 'rm -rf "$place"' EXIT
+program=$top/crates/clipsbatch/out/clipsbatch
+
+(cd "$top/crates/clipsbatch" && rt run </dev/null >/dev/null 2>"$place/checked") || {
+    cat "$place/checked"
+    exit 1
+}
+
+# Counts the calls of malloc, calloc and realloc, and refuses that of the number REFUSE, and with REFUSE_ALL each behind it. It
+# makes the file REFUSED when it refuses one.
+cat >"$place/refusing.c" <<'END'
+#include <errno.h>
+#include <fcntl.h>
+#include <stdlib.h>
+#include <unistd.h>
+
+extern void *__libc_malloc(size_t);
+extern void *__libc_calloc(size_t, size_t);
+extern void *__libc_realloc(void *, size_t);
+
+static long refuse, calls;
+static int refuse_all;
+
+__attribute__((constructor)) static void begin(void) {
+    const char *number = getenv("REFUSE");
+    refuse = number ? atol(number) : 0;
+    refuse_all = getenv("REFUSE_ALL") != 0;
+    calls = 0;
+}
+
+static int is_refused(void) {
+    calls++;
+    if (refuse == 0 || calls < refuse || (calls > refuse && !refuse_all))
+        return 0;
+    if (calls == refuse) {
+        int file = open(getenv("REFUSED"), O_CREAT | O_WRONLY, 0600);
+        if (file >= 0)
+            close(file);
+    }
+    errno = ENOMEM;
+    return 1;
+}
+
+void *malloc(size_t size) { return is_refused() ? 0 : __libc_malloc(size); }
+void *calloc(size_t n, size_t size) { return is_refused() ? 0 : __libc_calloc(n, size); }
+void *realloc(void *old, size_t size) { return is_refused() ? 0 : __libc_realloc(old, size); }
+END
+cc -O1 -fPIC -shared -o "$place/refusing.so" "$place/refusing.c"
+
+# A script a line.
+scripts() {
+    cat <<'END'
+red "a \"b\" c\\" -007 ?x ?*g* & () (bogus)
+(assert (color red) (size "X L" 40))(assert (color red))(facts)
+(printout t "a" tab b crlf 12 "two words" crlf)(printout nil x)(printout stdout y)(printout other z)
+(deftemplate p (slot n) (multislot h))(assert (p (h x "y z")))(facts)
+(deftemplate t "a text" (slot k (type INTEGER)))(assert (t (k x)))(assert (t))(assert (t (k 7)))(facts)
+(deftemplate t (slot k (default ?NONE)) (multislot m (default 1 "b")))(assert (t (m)))(assert (t (k z)))(assert (t (k z) (m 1 "b")))(facts)
+(deffacts d (a) (b 2))(assert (z))(reset)(facts)(deffacts d "anew" (a) (c "x"))(reset)(facts)
+(deftemplate p (slot n (default 3)))(deffacts d (p) (p (n 4)) (q "r" s))(deffacts e (p (n 5)))(reset)(facts)(reset)(facts)
+(deffacts d (p (n 1)))(deffacts d (?x))(deffacts 3 (a))(deffacts d 3)(reset)(facts)
+(assert (p 1))(deftemplate p (slot q))(clear)(deftemplate p (slot q))(assert (p))(facts)
+(deffacts d (a))(deftemplate p (slot q))(assert (p) (c))(clear)(reset)(facts)(assert (p q))(facts)
+(assert (a) (b) (c))(retract 2)(retract 2)(facts)(retract *)(assert (d))(retract 4 x)(retract 4 5)
+(deftemplate t (slot a (type FLOAT)))(deftemplate t (slot a) (slot a))(deftemplate t (slot a (default x) (type INTEGER)))(deftemplate t (slot a (default (f))))(deftemplate test)
+(assert (a ?) (b))(assert (a 1.5))(assert (a 99999999999999999999))(assert 3)(assert (and))(reset 1)(clear 1)(retract)(retract a)(run)
+(assert (1 (2 (3 (4 "5" (6))))))(assert (a (b)))((((((((((x))))))))))) (printout t (+ 1 2) crlf)(not closed
+END
+    # Enough facts for the tables to grow.
+    awk 'BEGIN { for (i = 1; i <= 40; i++) printf "(assert (part %d bolt) (shelf \"number %d\"))", i, i; print "(facts)(retract *)" }'
+    # More than one block.
+    awk 'BEGIN { printf "(assert (long"; for (i = 1; i <= 1200; i++) printf " %d", i; print "))(facts)(printout t \"end\" crlf)" }'
+}
+
+# Says why the run is wrong, and ends.
+wrong() {
+    echo "wrong: $1, where the growth $n is refused${REFUSE_ALL:+ with all behind it}, in"
+    cat "$place/script"
+    exit 1
+}
+
+# Whether the run was the same as with ample memory.
+is_whole() {
+    [ "$status" -eq "$whole_status" ] && [ ! -s "$place/said" ] && cmp -s "$place/written" "$place/whole"
+}
+
+# Refuses each growth in turn in the run of a script, and counts them in n, and in had those that were had after all.
+refused() {
+    n=0
+    had=0
+    while true; do
+        n=$((n + 1))
+        rm -f "$place/refused"
+        status=0
+        LD_PRELOAD=$place/refusing.so REFUSE=$n REFUSED=$place/refused "$program" \
+            <"$place/script" >"$place/written" 2>"$place/said" || status=$?
+        if [ ! -e "$place/refused" ]; then
+            is_whole || wrong 'another run, though nothing was refused'
+            n=$((n - 1))
+            return
+        fi
+        if [ -z "${REFUSE_ALL:-}" ] && is_whole; then
+            had=$((had + 1))
+            continue
+        fi
+        [ "$status" -eq 3 ] || wrong "status $status"
+        [ "$(cat "$place/said")" = 'clipsbatch: out of memory' ] || wrong "it says $(cat "$place/said")"
+        cmp -s -n "$(wc -c <"$place/written")" "$place/written" "$place/whole" || wrong 'no beginning of the transcript'
+    done
+}
+
+scripts >"$place/scripts"
+count=0
+total=0
+asked_again=0
+while IFS= read -r script; do
+    printf '%s\n' "$script" >"$place/script"
+    whole_status=0
+    "$program" <"$place/script" >"$place/whole" || whole_status=$?
+    unset REFUSE_ALL
+    refused
+    alone=$n
+    again=$had
+    export REFUSE_ALL=1
+    refused
+    count=$((count + 1))
+    total=$((total + alone - again + n))
+    asked_again=$((asked_again + again))
+    echo "script $count: $alone growths refused alone, of which $again were had after all, and $n with all behind"
+done <"$place/scripts"
+echo "$count scripts: $total runs ended with status 3 and a beginning of the transcript, and $asked_again went on"

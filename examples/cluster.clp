@@ -1,0 +1,40 @@
+; The configuration of a small cluster, checked before it is rolled out. Services and settings are templates: a port that
+; is no number and a service without a name are told here, and not by the machines.
+
+(deftemplate service "a program that runs on a machine"
+  (slot name (type SYMBOL) (default ?NONE))
+  (slot port (type INTEGER) (default 8080))
+  (slot host (type STRING))
+  (multislot needs (type SYMBOL)))
+
+(deftemplate setting
+  (slot of (type SYMBOL) (default ?NONE))
+  (slot key (type LEXEME) (default ?NONE))
+  (slot value (default on)))
+
+; What each cluster has.
+(deffacts standard
+  (service (name db) (port 5432) (host "db-1.local"))
+  (setting (of db) (key backup)))
+(deffacts roles
+  (must-run db)
+  (must-run web))
+
+(reset)
+(printout t "Each cluster:" crlf)
+(facts)
+
+; What this cluster adds.
+(printout t crlf "This cluster:" crlf)
+(assert (service (name web) (needs db cache))
+        (service (needs db) (name mail) (port 25)))
+(assert (setting (of web) (key "max clients") (value 200)))
+(assert (service (name cache) (port "6379")))     ; a port is a number
+(assert (service (port 6379)))                    ; the name is missing
+(assert (service (name cache) (prot 6379)))       ; a slip of the pen
+(assert (service (name cache) (port 6379)))
+
+; The mail moves to another house, and its service goes.
+(retract 6)
+(deftemplate setting (slot name))                 ; there are settings already
+(facts)
