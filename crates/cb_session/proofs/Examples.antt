@@ -13,7 +13,6 @@ use Rattle.cb_session.specs.Heads.{is_refused}
 use Rattle.cb_values.specs.Reserved.{is_reserved}
 use Rattle.cb_session.specs.Transcripts.{begun, after_all, so_far, complete, transcript, status_of}
 use Rattle.cb_session.specs.declared.status.Ending.TheVariants.{Done}
-use Rattle.cb_session.specs.declared.status.Status.{Status}
 
 -- a symbol, a string, a number and a list, as they stand in a script
 abbrev word : String → Tree
