@@ -1,6 +1,6 @@
 #!/bin/sh
-# Measures how the processor time of the program grows with the number of facts and of deffacts: asserted and listed, retracted from
-# the front, from the back and all at once, and asserted by reset.
+# Measures how the processor time of the program grows with the number of facts, deffacts and templates: facts asserted and
+# listed, retracted from the front, from the back and all at once, and asserted by reset.
 # Run it from anywhere, with GNU time as /usr/bin/time:
 #
 #     benches/life.sh
@@ -67,11 +67,12 @@ measured() {
     done | awk '{ took = $1 + $2; if (NR == 1 || took < least) least = took } END { print least }'
 }
 
-# The ratios for the script of this kind, which does what $2 says.
+# The ratios for the script of this kind, which does what $2 says: of n = $3, or 25,000, of twice and of four times as many.
 ratios() {
-    echo "$(measured "$1" 25000) $(measured "$1" 50000) $(measured "$1" 100000)" | awk -v what="$2" '{
-        printf "%-55s 50,000 to 25,000: %.2f, 100,000 to 50,000: %.2f (%.2f s, %.2f s, %.2f s)\n",
-            what ":", $2 / $1, $3 / $2, $1, $2, $3
+    n=${3:-25000}
+    echo "$(measured "$1" "$n") $(measured "$1" $((2 * n))) $(measured "$1" $((4 * n)))" | awk -v what="$2" -v n="$n" '{
+        printf "%-52s n = %d to %d: %.2f, %d to %d: %.2f (%.2f s, %.2f s, %.2f s)\n",
+            what ":", n, 2 * n, $2 / $1, 2 * n, 4 * n, $3 / $2, $1, $2, $3
     }'
 }
 
@@ -83,6 +84,7 @@ ratios back 'n facts asserted, and retracted from the back'
 ratios all 'n facts asserted, and retracted by *'
 ratios deffacts 'n deffacts defined'
 ratios reset 'n deffacts defined, and a reset'
-ratios again 'n deffacts defined, and each defined anew'
+# A deffacts that is defined anew takes the last place, and the others move up.
+ratios again 'n deffacts defined, and each defined anew' 5000
 ratios one 'a deffacts of n facts defined, and a reset'
 ratios templates 'n templates defined'
