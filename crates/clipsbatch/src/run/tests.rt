@@ -8,6 +8,7 @@ use std::test::Fail;
 mod examples;
 mod fault_rows;
 mod first_rows;
+mod language;
 mod memory;
 mod reads;
 mod sessions;
