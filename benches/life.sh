@@ -8,14 +8,7 @@
 # It proves and builds the program first. No test depends on what it prints.
 set -eu
 
-top=$(cd "$(dirname "$0")/.." && pwd)
-place=$(mktemp -d)
-trap 'rm -rf "$place"' EXIT
-
-(cd "$top/crates/clipsbatch" && rt run </dev/null >/dev/null 2>"$place/checked") || {
-    cat "$place/checked"
-    exit 1
-}
+. "$(dirname "$0")/built.sh"
 
 # For each i from 1 to $2, and for a $3 of -1 from $2 down to 1, the line $1 with i in the place of each &.
 lines() {
@@ -62,7 +55,7 @@ script() {
 measured() {
     script "$1" "$2" >"$place/script"
     for _ in 1 2 3 4 5; do
-        /usr/bin/time -f '%U %S' "$top/crates/clipsbatch/out/clipsbatch" --max-form 16777216 \
+        /usr/bin/time -f '%U %S' "$program" --max-form 16777216 \
             <"$place/script" 2>&1 >"$place/transcript" | tail -n 1
     done | awk '{ took = $1 + $2; if (NR == 1 || took < least) least = took } END { print least }'
 }

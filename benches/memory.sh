@@ -8,14 +8,7 @@
 # It proves and builds the program first. No test depends on what it prints.
 set -eu
 
-top=$(cd "$(dirname "$0")/.." && pwd)
-place=$(mktemp -d)
-trap 'rm -rf "$place"' EXIT
-
-(cd "$top/crates/clipsbatch" && rt run </dev/null >/dev/null 2>"$place/checked") || {
-    cat "$place/checked"
-    exit 1
-}
+. "$(dirname "$0")/built.sh"
 
 # Lines of a constant and a comment, so many bytes in all.
 script() {
@@ -27,7 +20,7 @@ script() {
 # The seconds and the peak memory in kB of a run on so many bytes.
 measured() {
     script "$1" >"$place/script"
-    /usr/bin/time -f '%e %M' "$top/crates/clipsbatch/out/clipsbatch" <"$place/script" 2>&1 >"$place/transcript" | tail -n 1
+    /usr/bin/time -f '%e %M' "$program" <"$place/script" 2>&1 >"$place/transcript" | tail -n 1
 }
 
 echo "$(measured 1000000) $(measured 10000000)" | awk '{

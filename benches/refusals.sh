@@ -10,15 +10,7 @@
 # It proves and builds the program first, prints how many growths were refused, and ends with status 1 at a run that is wrong.
 set -eu
 
-top=$(cd "$(dirname "$0")/.." && pwd)
-place=$(mktemp -d)
-trap 'rm -rf "$place"' EXIT
-program=$top/crates/clipsbatch/out/clipsbatch
-
-(cd "$top/crates/clipsbatch" && rt run </dev/null >/dev/null 2>"$place/checked") || {
-    cat "$place/checked"
-    exit 1
-}
+. "$(dirname "$0")/built.sh"
 
 # Counts the calls of malloc, calloc and realloc, and refuses that of the number REFUSE, and with REFUSE_ALL each behind it. It
 # makes the file REFUSED when it refuses one.
