@@ -149,7 +149,7 @@ fn read_known_slot(
     if find_given(given, slot.name().as_slice()).is_some() {
         return Err(Refused::Fault(Fault::FactDoesNotFit));
     }
-    if !slot.is_multi() && !is_lone(forms) {
+    if !slot.multi() && !is_lone(forms) {
         return Err(Refused::Fault(Fault::FactDoesNotFit));
     }
     let values = read_slot_fields(alloc, slot, forms)?;

@@ -156,7 +156,7 @@ fn takes(slot: &Slot, given: &[GivenSlot]) -> bool
 {
     match find_given(given, slot.name().as_slice()) {
         None => slot.default().is_some(),
-        Some(values) => slot.is_multi() || is_one(values),
+        Some(values) => slot.multi() || is_one(values),
     }
 }
 
@@ -206,7 +206,7 @@ fn slot_value(alloc: Global, slot: &Slot, given: &[GivenSlot]) -> Result<Value, 
     match find_given(given, slot.name().as_slice()) {
         None => default_value(slot),
         Some(values) => {
-            if slot.is_multi() {
+            if slot.multi() {
                 let fields = splice(alloc, values)?;
                 return Ok(Value::Multi(Many::from_vec(fields)?));
             }

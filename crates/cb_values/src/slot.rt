@@ -136,14 +136,14 @@ impl Slot {
     }
 
     /// Whether it holds a multifield, as a multislot does, and not one value.
-    pub fn is_multi(&self) -> bool
+    pub fn multi(&self) -> bool
         ensures { result ≡ self.now.is_multi }
     {
         self.is_multi
     }
 
     /// Whether each fact must give it, as it has no default.
-    pub fn is_required(&self) -> bool
+    pub fn required(&self) -> bool
         ensures { IsTrue result ↔ (self.now.default ≡ None) }
     {
         self.default.is_none()

@@ -174,7 +174,7 @@ fn shows(alloc: Global, slot: &str, is_multi: bool, is_required: bool) -> Result
         return Ok(false);
     };
     let is_named = slot.name().as_slice() == b"a".as_slice();
-    Ok(is_named && slot.is_multi() == is_multi && slot.is_required() == is_required)
+    Ok(is_named && slot.multi() == is_multi && slot.required() == is_required)
 }
 
 #[test]
