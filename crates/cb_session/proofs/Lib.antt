@@ -1,10 +1,9 @@
-pub mod Results
 pub mod LineLaws
 pub mod IndexLaws
 pub mod EngineLaws
 pub mod GroupLaws
 pub mod MemoryLaws
-pub mod Words
+mod KeepLaws
 pub mod RunLaws
 pub mod WroteLaws
 pub mod CourseLaws

@@ -11,7 +11,7 @@ use cb_values::Value;
 use std::alloc::Global;
 
 /// The values of forms, or the first fault. Growth is refused as `NoMemory`.
-#[tactic(auto, using(crate::proofs::Results::behind_none, crate::proofs::Results::behind_all, crate::proofs::Results::behind_one))]
+#[tactic(auto, using(cb_values::proofs::Firsts::behind_none, cb_values::proofs::Firsts::behind_all, cb_values::proofs::Firsts::behind_one))]
 pub(crate) fn read_values(
     alloc: Global,
     forms: &[Form],

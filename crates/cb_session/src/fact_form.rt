@@ -17,7 +17,7 @@ use cb_values::{
 use std::alloc::Global;
 
 /// The facts that forms are, by the templates of their relations, or the first fault.
-#[tactic(auto, using(crate::proofs::Results::behind_none, crate::proofs::Results::behind_all, crate::proofs::Results::behind_one))]
+#[tactic(auto, using(cb_values::proofs::Firsts::behind_none, cb_values::proofs::Firsts::behind_all, cb_values::proofs::Firsts::behind_one))]
 pub(crate) fn read_facts(
     alloc: Global,
     relations: &Relations,
@@ -66,7 +66,7 @@ fn read_parts(
 }
 
 /// The fields of an ordered fact, or the first fault.
-#[tactic(auto, using(crate::proofs::Results::behind_none, crate::proofs::Results::behind_all, crate::proofs::Results::behind_one))]
+#[tactic(auto, using(cb_values::proofs::Firsts::behind_none, cb_values::proofs::Firsts::behind_all, cb_values::proofs::Firsts::behind_one))]
 fn read_fields(alloc: Global, forms: &[Form]) -> Result<Vec<Value>, Refused>
     ensures ok { IfOk result (λ fields. fields_of (members forms.now) ≡ Ok fields.items) }
     ensures fault { IfErr result (λ r. Tells r (λ f. fields_of (members forms.now) ≡ Err f)) }
@@ -169,7 +169,7 @@ fn is_lone(forms: &[Form]) -> bool
 }
 
 /// The values of a slot, each of its types, or the first fault.
-#[tactic(auto, using(crate::proofs::Results::behind_none, crate::proofs::Results::behind_all, crate::proofs::Results::behind_one))]
+#[tactic(auto, using(cb_values::proofs::Firsts::behind_none, cb_values::proofs::Firsts::behind_all, cb_values::proofs::Firsts::behind_one))]
 fn read_slot_fields(alloc: Global, slot: &Slot, forms: &[Form]) -> Result<Vec<Value>, Refused>
     ensures ok { IfOk result (λ values. slot_fields_of slot.now.types (members forms.now) ≡ Ok values.items) }
     ensures fault { IfErr result (λ r. Tells r (λ f. slot_fields_of slot.now.types (members forms.now) ≡ Err f)) }

@@ -1,8 +1,8 @@
 //! The words that a list may begin with.
 ghost use Rattle.std.specs.Prelude.{◌≡◌};
-ghost use Rattle.std.specs.List.{list_any};
-ghost use Rattle.std.specs.Str.{bytes_eq};
 ghost use Rattle.cb_session.specs.Heads.{head_of, is_refused};
+
+use cb_values::is_among;
 
 /// What the symbol that a list begins with names (`docs/LANGUAGE.md`, "Commands").
 #[derive(Clone, Copy, Debug, PartialEq, Eq)]
@@ -199,10 +199,4 @@ fn is_refused(name: &[u8]) -> bool
     ensures { result ≡ is_refused name.now }
 {
     is_among(&REFUSED_HEADS, name)
-}
-
-fn is_among(words: &[&str], word: &[u8]) -> bool
-    ensures { result ≡ list_any (λ w. bytes_eq w.now word.now) words.now }
-{
-    words.iter().any(|w| w.as_bytes() == word)
 }

@@ -3,5 +3,6 @@ pub mod FactEquality
 pub mod FactListLaws
 pub mod Firsts
 pub mod PartLaws
+pub mod SlotLaws
 pub mod Splices
-pub mod Words
+pub mod ListLaws

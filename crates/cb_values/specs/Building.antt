@@ -10,8 +10,8 @@ use Rattle.cb_values.specs.Results.{ok_then, with_first}
 use Rattle.cb_values.specs.Slots.{GivenValues, SlotShape, slot_named}
 use Rattle.cb_values.specs.Templates.{Templates, slots_of}
 use Rattle.cb_values.specs.Values.{spliced, value_of_field, is_multifield}
-use Rattle.cb_values.specs.declared.build.Parts.{Parts}
-use Rattle.cb_values.specs.declared.build.Parts.TheVariants as program
+use Rattle.cb_values.specs.declared.parts.Parts.{Parts}
+use Rattle.cb_values.specs.declared.parts.Parts.TheVariants as program
 use Rattle.cb_values.specs.declared.value.Value.{Value}
 use Rattle.cb_values.specs.declared.value.Value.TheVariants as value
 

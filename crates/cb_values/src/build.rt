@@ -1,5 +1,5 @@
 //! Facts from the values that they are given.
-ghost use Rattle.std.specs.Prelude.{◌≡◌, None, Some, Ok, Err, MatchOption, IfOk, IfErr, is_some, map, option_map};
+ghost use Rattle.std.specs.Prelude.{◌≡◌, None, Ok, Err, IfOk, IfErr, is_some, map, option_map};
 ghost use Rattle.std.specs.List.{list_all};
 ghost use Rattle.cb_values.specs.Building.{are_distinct, built, filled, fits, given_for, is_one, one_value, part_values, slot_value, slots_built, takes};
 ghost use Rattle.cb_values.specs.Facts.{ordered_fact};
@@ -10,6 +10,7 @@ ghost use Rattle.cb_values.specs.Values.{spliced, value_of_field};
 use crate::fact::Fact;
 use crate::many::Many;
 use crate::name::Name;
+use crate::parts::{GivenSlot, Parts, find_given};
 use crate::refused::Refused;
 use crate::relations::Relations;
 use crate::slot::{Slot, find_slot};
@@ -17,45 +18,9 @@ use crate::splicing::{is_multifield, splice, splice_values};
 use crate::value::Value;
 use cb_forms::{Fault, NoMemory};
 use std::alloc::Global;
-use std::marker::Model;
 
 #[cfg(test)]
 mod tests;
-
-/// A slot that a fact is given, by its name, and the values that it is given.
-///
-/// Contracts see the pair of its name and its values.
-#[derive(Debug, Drop)]
-pub struct GivenSlot {
-    name: Name,
-    values: Vec<Value>,
-}
-
-impl Model for GivenSlot {
-    ghost use Rattle.cb_values.specs.Slots.{GivenValues};
-
-    ghost Value = { GivenValues };
-
-    ghost view = { λ g. (g.name, g.values.items) };
-}
-
-impl GivenSlot {
-    /// A slot with these values.
-    pub fn new(name: Name, values: Vec<Value>) -> GivenSlot
-        ensures { result ≡ (name, values.items) }
-    {
-        GivenSlot { name, values }
-    }
-}
-
-/// What a fact is given.
-#[derive(Debug, Drop)]
-pub enum Parts {
-    /// The values of its fields, for an ordered fact.
-    Fields(Vec<Value>),
-    /// Slots, for a fact of a template.
-    Slots(Vec<GivenSlot>),
-}
 
 /// The fact of a relation with these parts.
 ///
@@ -121,7 +86,7 @@ fn fits(slots: &[Slot], given: &[GivenSlot]) -> bool
 fn are_known(slots: &[Slot], given: &[GivenSlot]) -> bool
     ensures { result ≡ list_all (λ g. is_some (slot_named slots.now g.0)) given.now }
 {
-    given.iter().all(|g| is_known(slots, g.name.as_slice()))
+    given.iter().all(|g| is_known(slots, g.name().as_slice()))
 }
 
 fn is_known(slots: &[Slot], name: &[u8]) -> bool
@@ -136,7 +101,7 @@ fn are_distinct(given: &[GivenSlot]) -> bool
 {
     let mut rest = given;
     while let Some((first, following)) = rest.split_first() {
-        if find_given(following, first.name.as_slice()).is_some() {
+        if find_given(following, first.name().as_slice()).is_some() {
             return false;
         }
         rest = following;
@@ -170,18 +135,6 @@ fn is_one(values: &[Value]) -> bool
         None => true,
         Some(_) => false,
     }
-}
-
-/// The values that are given for the slot with a name.
-pub fn find_given<'a>(given: &'a [GivenSlot], name: &[u8]) -> Option<&'a [Value]>
-    ensures { MatchOption result (given_for given.now name.now ≡ None) (λ values. given_for given.now name.now ≡ Some values.now) }
-{
-    for slot in given {
-        if slot.name.as_slice() == name {
-            return Some(slot.values.as_slice());
-        }
-    }
-    None
 }
 
 /// The slots of a template, each with its value.

@@ -6,10 +6,12 @@
 
 mod attribute;
 mod build;
+mod comment;
 mod fact;
 mod fact_list;
 mod many;
 mod name;
+mod parts;
 mod refused;
 mod relations;
 mod reserved;
@@ -22,17 +24,21 @@ mod splicing;
 mod testing;
 mod text;
 mod value;
+mod words;
 
-pub use build::{GivenSlot, Parts, build_fact, find_given};
+pub use build::build_fact;
+pub use comment::without_comment;
 pub use fact::{Content, Fact};
 pub use fact_list::FactList;
 pub use many::Many;
 pub use name::Name;
+pub use parts::{GivenSlot, Parts, find_given};
 pub use refused::Refused;
-pub use relations::{Relations, without_comment};
+pub use relations::Relations;
 pub use reserved::is_reserved;
 pub use single::Single;
 pub use slot::{Slot, find_slot};
 pub use splicing::splice;
 pub use text::{fact_text, plain_text, quoted_text};
 pub use value::Value;
+pub use words::is_among;

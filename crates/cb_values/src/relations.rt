@@ -2,14 +2,15 @@
 ghost use Rattle.std.specs.Prelude.{◌≡◌, [], None, Some, Ok, Err, MatchOption, IfErr, IfOk, OnOk, OnErr};
 ghost use Rattle.cb_forms.specs.Members.{head_and_rest, members};
 ghost use Rattle.cb_values.specs.Results.{Tells};
-ghost use Rattle.cb_values.specs.Templates.{defined, named_template, slots_behind, slots_of, template_of, without_comment};
+ghost use Rattle.cb_values.specs.Templates.{defined, named_template, slots_behind, slots_of, template_of};
 
+use crate::comment::without_comment;
 use crate::name::Name;
 use crate::refused::Refused;
 use crate::reserved::is_reserved;
 use crate::slot::Slot;
 use crate::slot_form::read_slot;
-use cb_forms::{Fault, Form, Token, split_head};
+use cb_forms::{Fault, Form, split_head};
 use indexmap::IndexMap;
 use std::alloc::Global;
 use std::marker::Model;
@@ -112,14 +113,4 @@ fn read_slots(alloc: Global, forms: &[Form]) -> Result<Vec<Slot>, Refused>
         slots.push(slot)?;
     }
     Ok(slots)
-}
-
-/// The forms behind the comment that may stand behind the name of a construct.
-pub fn without_comment(forms: &[Form]) -> &[Form]
-    ensures { members result.now ≡ without_comment (members forms.now) }
-{
-    match forms {
-        [Form::Atom(Token::Str(_)), rest @ ..] => rest,
-        _ => forms,
-    }
 }

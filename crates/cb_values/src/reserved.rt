@@ -1,8 +1,8 @@
 //! The words that are never the relation of a fact.
 ghost use Rattle.std.specs.Prelude.{◌≡◌};
-ghost use Rattle.std.specs.List.{list_any};
-ghost use Rattle.std.specs.Str.{bytes_eq};
 ghost use Rattle.cb_values.specs.Reserved.{is_reserved};
+
+use crate::words::is_among;
 
 /// They name condition elements of rules.
 pub(crate) const RESERVED_WORDS: [&str; 9] = [
@@ -14,10 +14,4 @@ pub fn is_reserved(word: &[u8]) -> bool
     ensures { result ≡ is_reserved word.now }
 {
     is_among(&RESERVED_WORDS, word)
-}
-
-fn is_among(words: &[&str], word: &[u8]) -> bool
-    ensures { result ≡ list_any (λ w. bytes_eq w.now word.now) words.now }
-{
-    words.iter().any(|w| w.as_bytes() == word)
 }

@@ -3,7 +3,6 @@ use Rattle.std.specs.List.{list_any}
 use Rattle.std.specs.Str.{bytes_eq}
 use Rattle.cb_session.specs.Heads.{is_refused, refused_words}
 use Rattle.cb_session.specs.declared.heads.TheConstants.{REFUSED_HEADS}
-use Rattle.cb_session.proofs.Words.{list_any-map}
 use Rattle.cb_session.proofs.heads.is_refused.Goals as goal
 
 words_are : map (λ w. w.now) REFUSED_HEADS ≡ refused_words
@@ -11,4 +10,4 @@ words_are = refl
 
 pub returns : goal.returns
 unfolding is_refused
-returns c = c.is_among.ensures ∙ list_any-map (λ w. w.now) (λ w. bytes_eq w c.args.name.now) REFUSED_HEADS ∙ ap (list_any (λ w. bytes_eq w c.args.name.now)) words_are
+returns c = c.is_among.ensures ∙ ap (list_any (λ w. bytes_eq w c.args.name.now)) words_are

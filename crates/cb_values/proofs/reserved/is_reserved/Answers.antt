@@ -3,7 +3,6 @@ use Rattle.std.specs.List.{list_any}
 use Rattle.std.specs.Str.{bytes_eq}
 use Rattle.cb_values.specs.Reserved.{is_reserved, reserved_words}
 use Rattle.cb_values.specs.declared.reserved.TheConstants.{RESERVED_WORDS}
-use Rattle.cb_values.proofs.Words.{list_any-map}
 use Rattle.cb_values.proofs.reserved.is_reserved.Goals as goal
 
 words_are : map (λ w. w.now) RESERVED_WORDS ≡ reserved_words
@@ -11,4 +10,4 @@ words_are = refl
 
 pub returns : goal.returns
 unfolding is_reserved
-returns c = c.is_among.ensures ∙ list_any-map (λ w. w.now) (λ w. bytes_eq w c.args.word.now) RESERVED_WORDS ∙ ap (list_any (λ w. bytes_eq w c.args.word.now)) words_are
+returns c = c.is_among.ensures ∙ ap (list_any (λ w. bytes_eq w c.args.word.now)) words_are
