@@ -1,7 +1,8 @@
 -- What is asserted takes nothing away: the facts that are there keep their indices, and a new fact has an index that none had.
-use Rattle.std.proofs.Common.{◌≡◌, ◌≢◌, ◌<◌, ◌≤◌, ◌+◌, ◌∙◌, ℕ, Bool, true, false, List, [], ◌∷◌, Option, Some, None, Ordering, Less, Equal, Greater, refl, sym, ap, arith, nat_lt, cond, if◌then◌else◌}
+use Rattle.std.proofs.Common.{◌≡◌, ◌≢◌, ◌≤◌, ◌+◌, ◌∙◌, ℕ, Bool, true, false, List, [], ◌∷◌, Option, Some, None, Ordering, Less, Equal, Greater, refl, sym, ap, arith, nat_lt, cond, if◌then◌else◌}
 use Rattle.std.specs.BTreeMap.{is_at}
 use Rattle.std.specs.Ordering.{is_eq, nat_cmp, match_ordering}
+use Rattle.cb_session.specs.Laws.{NoneBehind, Keeps}
 use Rattle.cb_session.specs.Memory.{Memory, greatest_index, grown, asserted_beside, asserted_one, after_one, asserted_all, index_of}
 use Rattle.cb_values.proofs.FactListLaws.{is_at-Decides, false-from_not}
 use Rattle.cb_values.specs.FactLists.{IndexedFacts, fact_at, with_fact}
@@ -23,17 +24,6 @@ elsewhere_by facts ix i q fact there Greater e apart more = ap (cond (is_at (nat
 elsewhere : (facts : IndexedFacts) (ix q : ℕ) (fact : FactValue) → q ≢ ix → fact_at (with_fact facts ix fact) q ≡ fact_at facts q
 elsewhere [] ix q fact apart = ap (λ t. cond t (Some fact) None) (not_at q ix apart)
 elsewhere ((i, there) ∷ facts) ix q fact apart = elsewhere_by facts ix i q fact there (nat_cmp ix i) refl apart (elsewhere facts ix q fact apart)
-
--- no fact has an index behind the last one
-abbrev pub NoneBehind : Memory → Type 0
-NoneBehind m = (ix : ℕ) → m.last < ix → fact_at m.facts ix ≡ None
-
--- Up to the last index nothing has changed, so the facts keep their indices and no index is given twice. The last index doesn't
--- fall, and behind it there is no fact.
-pub record Keeps (m n : Memory) : Type 0 where
-  pub rises : m.last ≤ n.last
-  pub same : (ix : ℕ) → ix ≤ m.last → fact_at n.facts ix ≡ fact_at m.facts ix
-  pub none_behind : NoneBehind n
 
 itself : (m : Memory) → NoneBehind m → Keeps m m
 itself m none = record { rises = omega arith; same = λ ix upto. refl; none_behind = none }

@@ -5,6 +5,7 @@ pub mod Commands
 pub mod Lines
 pub mod Printing
 pub mod Memory
+pub mod Laws
 pub mod Groups
 pub mod Engine
 pub mod Engines

@@ -187,10 +187,10 @@ fn halted<K: Sink>(out: &mut Out<K>) -> Stop
     ensures counts { result ≡ Stop.NoMemory → K.failures out.new.sink ≡ K.failures out.old.sink }
     ensures sink_failed { result ≡ Stop.WriteFault → K.failures out.old.sink < K.failures out.new.sink }
 {
-    match out.flush() {
-        Ok(()) => Stop::NoMemory,
-        Err(_) => Stop::WriteFault,
+    if out.flush().is_err() {
+        return Stop::WriteFault;
     }
+    Stop::NoMemory
 }
 
 /// How a script ends at its end, unless it has ended before.

@@ -10,26 +10,17 @@ use Rattle.cb_forms.specs.Members.{call_of, head_and_rest}
 use Rattle.cb_forms.specs.Trees.{Trees, no_trees, tree}
 use Rattle.cb_forms.specs.declared.fault.Fault.{Fault}
 use Rattle.cb_forms.specs.declared.fault.Fault.TheVariants.{MalformedForm}
-use Rattle.cb_values.specs.Building.{Given, filled, fits, given_for, slot_value, slots_built}
-use Rattle.cb_values.specs.Facts as content
-use Rattle.cb_values.specs.Facts.{FactContent, FactValue, template_fact}
+use Rattle.cb_values.specs.Building.{Given, PartValues, field_values, slot_values, filled, fits, given_for, slot_value, slots_built, built_by, built}
+use Rattle.cb_values.specs.Facts.{FactValue, template_fact}
 use Rattle.cb_values.specs.Results.{and_then, ok_then, with_first}
 use Rattle.cb_values.specs.SlotForms.{attributes_behind, finished, named_slot, no_attributes, slot_by, slot_with}
 use Rattle.cb_values.specs.Slots.{SlotShape, Types, allows_all, slot_named}
-use Rattle.cb_values.specs.Templates.{slots_behind}
+use Rattle.cb_values.specs.Laws.{content_names, names}
+use Rattle.cb_values.specs.Templates.{Templates, slots_behind, slots_of}
 use Rattle.cb_values.specs.declared.attribute.Attributes.{Attributes}
 use Rattle.cb_values.specs.declared.attribute.SlotDefault.{SlotDefault}
 use Rattle.cb_values.specs.declared.attribute.SlotDefault.TheVariants.{Required, Derived, Fixed}
 use Rattle.cb_values.specs.declared.value.Value.{Value}
-
--- the names of slots, in order
-abbrev pub names : List SlotShape → List (List ℕ)
-names slots = map (λ s. s.name) slots
-
--- the names of the slots of a fact, in order
-abbrev pub content_names : FactContent → List (List ℕ)
-content_names (content.fields vs) = []
-content_names (content.slots pairs) = map (λ p. p.0) pairs
 
 -- what was answered where a test refuses
 unless : {X : Type 0} (t : Bool) (f : Fault) (r : Result X Fault) (x : X) → (if t then Err f else r) ≡ Ok x → r ≡ Ok x
@@ -140,7 +131,15 @@ of_template relation (Ok pairs) fact slots h more =
     let same : template_fact relation pairs ≡ fact = cc in
     ap (λ (it : FactValue). content_names it.content) (sym same) ∙ more pairs refl
 
--- A fact of a template has the template's slots, each once and in the template's order, whatever it is given.
-pub fact_has_slots : (relation : List ℕ) (slots : List SlotShape) (given : Given) (fact : FactValue) → slots_built relation slots given ≡ Ok fact → content_names fact.content ≡ names slots
-fact_has_slots relation slots given fact h =
+by_slots : (relation : List ℕ) (slots : List SlotShape) (given : Given) (fact : FactValue) → slots_built relation slots given ≡ Ok fact → content_names fact.content ≡ names slots
+by_slots relation slots given fact h =
     of_template relation (filled slots given) fact slots (only_if (fits slots given) _ (ok_then (template_fact relation) (filled slots given)) fact h) (filled_names slots given)
+
+by_template : (relation : List ℕ) (slots : List SlotShape) (parts : PartValues) (fact : FactValue) → built_by relation (Some slots) parts ≡ Ok fact → content_names fact.content ≡ names slots
+by_template relation slots (field_values vs) fact h = absurd (cc)
+by_template relation slots (slot_values given) fact h = by_slots relation slots given fact h
+
+-- A fact of a template has the template's slots, in the template's order, whatever it is given.
+pub fact_has_slots : (templates : Templates) (relation : List ℕ) (parts : PartValues) (slots : List SlotShape) (fact : FactValue) → slots_of templates relation ≡ Some slots → built templates relation parts ≡ Ok fact
+    → content_names fact.content ≡ names slots
+fact_has_slots templates relation parts slots fact has h = by_template relation slots parts fact (sym (ap (λ o. built_by relation o parts) has) ∙ h)

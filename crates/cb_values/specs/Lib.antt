@@ -2,6 +2,7 @@ pub mod Building
 pub mod FactLaws
 pub mod Facts
 pub mod FactLists
+pub mod Laws
 pub mod Reserved
 pub mod Results
 pub mod SlotForms

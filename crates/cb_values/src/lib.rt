@@ -9,6 +9,7 @@ mod build;
 mod comment;
 mod fact;
 mod fact_list;
+pub mod laws;
 mod many;
 mod name;
 mod parts;

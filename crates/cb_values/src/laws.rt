@@ -1,0 +1,20 @@
+//! Laws of templates and their facts: each is the contract of a function that does nothing.
+ghost use Rattle.std.specs.Prelude.{◌≡◌, ℕ, List, [], Some, Ok};
+ghost use Rattle.std.specs.List.{IsDistinct};
+ghost use Rattle.std.specs.Str.{bytes_eq};
+ghost use Rattle.cb_forms.specs.Trees.{Trees};
+ghost use Rattle.cb_values.specs.Building.{PartValues, built};
+ghost use Rattle.cb_values.specs.Facts.{FactValue};
+ghost use Rattle.cb_values.specs.Laws.{content_names, names};
+ghost use Rattle.cb_values.specs.Slots.{SlotShape};
+ghost use Rattle.cb_values.specs.Templates.{Templates, slots_behind, slots_of};
+
+/// No two slots of a template have one name.
+pub fn the_slots_of_a_template_differ()
+    ensures { (forms : Trees) (slots : List SlotShape) → slots_behind [] forms ≡ Ok slots → IsDistinct bytes_eq (names slots) }
+{}
+
+/// A fact of a template has the slots of the template and no others, in the template's order, whatever it is given.
+pub fn a_fact_has_the_slots_of_its_template()
+    ensures { (templates : Templates) (relation : List ℕ) (parts : PartValues) (slots : List SlotShape) (fact : FactValue) → slots_of templates relation ≡ Some slots → built templates relation parts ≡ Ok fact → content_names fact.content ≡ names slots }
+{}
