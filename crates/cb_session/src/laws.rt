@@ -30,7 +30,7 @@ pub fn what_is_asserted_keeps_the_others()
     ensures { (m : Memory) (last : Option ℕ) (facts : List FactValue) → NoneBehind m → Keeps m (asserted_all m last facts).0 }
 {}
 
-/// An item that is refused when it is read, as no command or one at fault, changes nothing but the mark for status 1.
+/// An item that is refused when it is read changes nothing but the mark for status 1.
 pub fn a_refused_item_changes_nothing_else()
     ensures { (s : State) (r : Reading) (fault : Fault) → command_of s.templates r ≡ Err fault → (carried s r).state ≡ record s { is_faulted = true } }
 {}

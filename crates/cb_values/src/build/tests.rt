@@ -57,71 +57,90 @@ fn built(
     Ok(fact_text(alloc, &fact)?)
 }
 
+// The text of an ordered fact, by its fields.
+fn ordered(alloc: Global, fields: &str) -> Result<Vec<u8>, Refused> {
+    let forms = forms(alloc, fields)?;
+    let values = values(alloc, forms.as_slice())?;
+    built(alloc, &Relations::new(alloc), "p", Parts::Fields(values))
+}
+
 #[test]
 fn builds_ordered_facts(rt: HostRuntime) -> Result<(), Refused> {
     let alloc = rt.alloc();
-    let relations = defined(alloc, "(deftemplate t (slot a))")?;
-    let rows: [(&str, &str); 4] = [
-        ("", "(p)"),
-        ("1 x \"y\"", "(p 1 x \"y\")"),
-        ("1 (2 x) () \"y\" (3)", "(p 1 2 x \"y\" 3)"),
-        ("()", "(p)"),
-    ];
-    for (fields, text) in rows {
-        let forms = forms(alloc, fields)?;
-        let parts = Parts::Fields(values(alloc, forms.as_slice())?);
-        let fact = built(alloc, &relations, "p", parts)?;
-        assert_eq!(rt; fact.as_slice(), text.as_bytes());
-    }
+    assert_eq!(rt; ordered(alloc, "")?.as_slice(), b"(p)".as_slice());
+    assert_eq!(rt;
+        ordered(alloc, "1 x \"y\"")?.as_slice(),
+        b"(p 1 x \"y\")".as_slice()
+    );
+    assert_eq!(rt;
+        ordered(alloc, "1 (2 x) () \"y\" (3)")?.as_slice(),
+        b"(p 1 2 x \"y\" 3)".as_slice()
+    );
+    assert_eq!(rt; ordered(alloc, "()")?.as_slice(), b"(p)".as_slice());
     Ok(())
 }
 
 const TEMPLATE: &str =
     "(deftemplate t (slot a (default 1)) (multislot m (default x 2)) (slot r (default ?NONE)) (multislot n))";
 
+// The text of the fact of a relation with these slots, where `t` has the template above.
+fn of_slots(alloc: Global, relation: &str, slots: &str) -> Result<Vec<u8>, Refused> {
+    let relations = defined(alloc, TEMPLATE)?;
+    let given = given(alloc, slots)?;
+    built(alloc, &relations, relation, Parts::Slots(given))
+}
+
+// Whether these slots make the fact with this text.
+fn makes(alloc: Global, slots: &str, text: &str) -> Result<bool, Refused> {
+    Ok(of_slots(alloc, "t", slots)?.as_slice() == text.as_bytes())
+}
+
 #[test]
 fn builds_facts_of_templates(rt: HostRuntime) -> Result<(), Refused> {
     let alloc = rt.alloc();
-    let relations = defined(alloc, TEMPLATE)?;
-    let rows: [(&str, &str); 5] = [
+    for (slots, text) in [
         ("(r b)", "(t (a 1) (m x 2) (r b) (n))"),
         ("(a 4) (m 5 6) (r b) (n 7)", "(t (a 4) (m 5 6) (r b) (n 7))"),
         ("(n \"7\") (r b) (m) (a 4)", "(t (a 4) (m) (r b) (n \"7\"))"),
         ("(m 1 (2 3) () 4) (r b)", "(t (a 1) (m 1 2 3 4) (r b) (n))"),
         ("(r b) (n (1 2))", "(t (a 1) (m x 2) (r b) (n 1 2))"),
-    ];
-    for (slots, text) in rows {
-        let parts = Parts::Slots(given(alloc, slots)?);
-        let fact = built(alloc, &relations, "t", parts)?;
-        assert_eq!(rt; fact.as_slice(), text.as_bytes());
+    ] {
+        assert!(rt; makes(alloc, slots, text)?, "{slots}");
     }
     Ok(())
 }
 
+// Whether a fact of a relation with these slots is refused with this fault.
+fn is_refused(alloc: Global, relation: &str, slots: &str, fault: Fault) -> bool {
+    of_slots(alloc, relation, slots) == Err(Refused::Fault(fault))
+}
+
 #[test]
-fn refuses_what_does_not_fit(rt: HostRuntime) -> Result<(), Refused> {
+fn refuses_what_does_not_fit(rt: HostRuntime) {
     let alloc = rt.alloc();
-    let relations = defined(alloc, TEMPLATE)?;
-    let rows: [(&str, &str, Fault); 12] = [
-        ("p", "(r b)", Fault::FactDoesNotFit),
-        ("p", "", Fault::FactDoesNotFit),
-        ("t", "", Fault::FactDoesNotFit),
-        ("t", "(a 1)", Fault::FactDoesNotFit),
-        ("t", "(r b) (s 1)", Fault::FactDoesNotFit),
-        ("t", "(r b) (a 1) (r b)", Fault::FactDoesNotFit),
-        ("t", "(r b c)", Fault::FactDoesNotFit),
-        ("t", "(r)", Fault::FactDoesNotFit),
-        ("t", "(r (b))", Fault::OneValueWanted),
-        ("t", "(r ()) (a 1)", Fault::OneValueWanted),
-        ("t", "(r (b)) (s 1)", Fault::FactDoesNotFit),
-        ("t", "(a (b)) (r)", Fault::FactDoesNotFit),
-    ];
-    for (relation, slots, fault) in rows {
-        let parts = Parts::Slots(given(alloc, slots)?);
-        let answer = built(alloc, &relations, relation, parts);
-        assert_eq!(rt; answer, Err(Refused::Fault(fault)), "{slots}");
+    for (relation, slots) in [
+        ("p", "(r b)"),
+        ("p", ""),
+        ("t", ""),
+        ("t", "(a 1)"),
+        ("t", "(r b) (s 1)"),
+        ("t", "(r b) (a 1) (r b)"),
+        ("t", "(r b c)"),
+        ("t", "(r)"),
+        ("t", "(r (b)) (s 1)"),
+        ("t", "(a (b)) (r)"),
+    ] {
+        assert!(rt;
+            is_refused(alloc, relation, slots, Fault::FactDoesNotFit),
+            "{slots}"
+        );
     }
-    Ok(())
+    for slots in ["(r (b))", "(r ()) (a 1)"] {
+        assert!(rt;
+            is_refused(alloc, "t", slots, Fault::OneValueWanted),
+            "{slots}"
+        );
+    }
 }
 
 #[test]

@@ -4,6 +4,7 @@ use crate::single::Single;
 use crate::testing::{define, defined, slot_names};
 use crate::text::quoted_text;
 use crate::value::Value;
+use cb_forms::NoMemory;
 
 // A script's template is refused with this fault, and the relations stay as they were.
 fn refuses(alloc: Global, script: &str, in_use: bool, fault: Fault) -> Result<bool, Refused> {
@@ -116,18 +117,29 @@ fn refuses_names(rt: HostRuntime) -> Result<(), Refused> {
     Ok(())
 }
 
-// The text of the default of a template's first slot, or `none` where each fact must give it.
+// The first slot of the template of `t`.
+fn first_slot(alloc: Global, relations: &Relations) -> Result<Option<&Slot>, NoMemory> {
+    let name = Name::new(alloc, b"t")?;
+    let Some(slots) = relations.shape(&name) else {
+        return Ok(None);
+    };
+    Ok(slots.first())
+}
+
+// The text of its default, or `none` where each fact must give it.
+fn shown_default(alloc: Global, slot: &Slot) -> Result<Vec<u8>, NoMemory> {
+    match slot.default() {
+        Some(value) => quoted_text(alloc, value),
+        None => Ok(Vec::from_slice(alloc, b"none")?),
+    }
+}
+
+// The same of the slot that is written so.
 fn default_text(alloc: Global, slot: &str) -> Result<Vec<u8>, Refused> {
     let relations = defined(alloc, &format!(in alloc; "(deftemplate t {slot})")?)?;
-    let Some(slots) = relations.shape(&Name::new(alloc, b"t")?) else {
-        return Err(Refused::NoMemory);
-    };
-    let Some((slot, _)) = slots.split_first() else {
-        return Err(Refused::NoMemory);
-    };
-    match slot.default() {
-        Some(value) => Ok(quoted_text(alloc, value)?),
-        None => Ok(Vec::from_slice(alloc, b"none")?),
+    match first_slot(alloc, &relations)? {
+        Some(slot) => Ok(shown_default(alloc, slot)?),
+        None => Err(Refused::NoMemory),
     }
 }
 
@@ -164,17 +176,19 @@ fn gives_defaults(rt: HostRuntime) -> Result<(), Refused> {
     Ok(())
 }
 
-// The first slot of a template, given to a test.
+// Whether a slot that is written so shows this.
 fn shows(alloc: Global, slot: &str, is_multi: bool, is_required: bool) -> Result<bool, Refused> {
     let relations = defined(alloc, &format!(in alloc; "(deftemplate t {slot})")?)?;
-    let Some(slots) = relations.shape(&Name::new(alloc, b"t")?) else {
-        return Ok(false);
-    };
-    let Some((slot, _)) = slots.split_first() else {
-        return Ok(false);
-    };
-    let is_named = slot.name().as_slice() == b"a".as_slice();
-    Ok(is_named && slot.multi() == is_multi && slot.required() == is_required)
+    match first_slot(alloc, &relations)? {
+        Some(slot) => Ok(is_so(slot, is_multi, is_required)),
+        None => Ok(false),
+    }
+}
+
+fn is_so(slot: &Slot, is_multi: bool, is_required: bool) -> bool {
+    slot.name().as_slice() == b"a".as_slice()
+        && slot.multi() == is_multi
+        && slot.required() == is_required
 }
 
 #[test]
@@ -198,12 +212,13 @@ fn shows_slots(rt: HostRuntime) -> Result<(), Refused> {
 fn allows(alloc: Global, types: &str, field: Single) -> Result<bool, Refused> {
     let script = format!(in alloc; "(deftemplate t (multislot a (type {types})))")?;
     let relations = defined(alloc, &script)?;
-    let Some(slots) = relations.shape(&Name::new(alloc, b"t")?) else {
-        return Ok(false);
-    };
-    let Some((slot, _)) = slots.split_first() else {
-        return Ok(false);
-    };
+    match first_slot(alloc, &relations)? {
+        Some(slot) => Ok(takes(alloc, slot, field)?),
+        None => Ok(false),
+    }
+}
+
+fn takes(alloc: Global, slot: &Slot, field: Single) -> Result<bool, NoMemory> {
     let by_itself = slot.allows(&field);
     let mut fields = Vec::new(alloc);
     fields.push(field)?;
