@@ -143,25 +143,35 @@ fn refuses_what_does_not_fit(rt: HostRuntime) {
     }
 }
 
+// The text of the fact with these slots, where `t` has a template without slots.
+fn of_empty(alloc: Global, parts: Parts) -> Result<Vec<u8>, Refused> {
+    let relations = defined(alloc, "(deftemplate t)")?;
+    built(alloc, &relations, "t", parts)
+}
+
 #[test]
 fn refuses_fields_for_a_template(rt: HostRuntime) -> Result<(), Refused> {
     let alloc = rt.alloc();
-    let relations = defined(alloc, "(deftemplate t)")?;
-    let answer = built(alloc, &relations, "t", Parts::Fields(Vec::new(alloc)));
+    let answer = of_empty(alloc, Parts::Fields(Vec::new(alloc)));
     assert_eq!(rt; answer, Err(Refused::Fault(Fault::FactDoesNotFit)));
-    let fact = built(alloc, &relations, "t", Parts::Slots(Vec::new(alloc)))?;
-    assert_eq!(rt; fact.as_slice(), b"(t)".as_slice());
+    let text = of_empty(alloc, Parts::Slots(Vec::new(alloc)))?;
+    assert_eq!(rt; text.as_slice(), b"(t)".as_slice());
     Ok(())
+}
+
+// The text of the fact with these slots, where `t` was defined anew.
+fn of_redefined(alloc: Global, slots: &str) -> Result<Vec<u8>, Refused> {
+    let mut relations = defined(alloc, "(deftemplate t (slot a))")?;
+    define(alloc, &mut relations, "(deftemplate t (slot b))", false)?;
+    let given = given(alloc, slots)?;
+    built(alloc, &relations, "t", Parts::Slots(given))
 }
 
 #[test]
 fn builds_by_the_later_template(rt: HostRuntime) -> Result<(), Refused> {
-    let alloc = rt.alloc();
-    let mut relations = defined(alloc, "(deftemplate t (slot a))")?;
-    define(alloc, &mut relations, "(deftemplate t (slot b))", false)?;
-    let fact = built(alloc, &relations, "t", Parts::Slots(given(alloc, "(b 2)")?))?;
-    assert_eq!(rt; fact.as_slice(), b"(t (b 2))".as_slice());
-    let answer = built(alloc, &relations, "t", Parts::Slots(given(alloc, "(a 2)")?));
+    let text = of_redefined(rt.alloc(), "(b 2)")?;
+    assert_eq!(rt; text.as_slice(), b"(t (b 2))".as_slice());
+    let answer = of_redefined(rt.alloc(), "(a 2)");
     assert_eq!(rt; answer, Err(Refused::Fault(Fault::FactDoesNotFit)));
     Ok(())
 }

@@ -38,15 +38,22 @@ fn indices(alloc: Global, list: &FactList) -> Result<Vec<u64>, NoMemory> {
 
 #[test]
 fn lists_facts(rt: HostRuntime) -> Result<(), NoMemory> {
-    let alloc = rt.alloc();
-    let mut list = four(alloc)?;
+    let list = four(rt.alloc())?;
     assert_eq!(rt; list.len(), 4);
-    assert_eq!(rt; indices(alloc, &list)?.as_slice(), [2, 4, 7, 9].as_slice());
-    assert!(rt; !put(alloc, &mut list, 1, 3)?);
+    let indices = indices(rt.alloc(), &list)?;
+    assert_eq!(rt; indices.as_slice(), [2, 4, 7, 9].as_slice());
+    Ok(())
+}
+
+#[test]
+fn removes_facts(rt: HostRuntime) -> Result<(), NoMemory> {
+    let mut list = four(rt.alloc())?;
     list.remove(2);
     list.remove(5);
-    assert!(rt; put(alloc, &mut list, 3, 2)?);
-    assert_eq!(rt; indices(alloc, &list)?.as_slice(), [3, 4, 7, 9].as_slice());
+    let is_put = put(rt.alloc(), &mut list, 3, 2)?;
+    assert!(rt; is_put);
+    let indices = indices(rt.alloc(), &list)?;
+    assert_eq!(rt; indices.as_slice(), [3, 4, 7, 9].as_slice());
     Ok(())
 }
 

@@ -1,5 +1,44 @@
+ghost use Rattle.std.specs.Prelude.{◌≡◌, None, OnOk};
+ghost use Rattle.cb_session.specs.Sessions.{IsReady};
+
 use super::*;
 use cb_session::{Ending, Status, Stop};
+
+/// A piece is fed, and the script goes on, or has ended, so.
+fn feeds(
+    rt: &impl Abort,
+    session: &mut Session,
+    out: &mut Out<MemSink>,
+    piece: &[u8],
+    flow: Flow,
+) -> Result<(), Stop>
+    requires { session.old.stop ≡ None → IsReady out.old }
+    ensures { OnOk result (IsReady out.new) }
+{
+    assert_eq!(rt; session.feed(piece, out)?, flow);
+    Ok(())
+}
+
+/// The script ends so, and this is written then.
+fn finishes(
+    rt: &impl Abort,
+    session: &mut Session,
+    out: &mut Out<MemSink>,
+    at_end: &[u8],
+    status: Status,
+) -> Result<(), Stop>
+    requires { session.old.stop ≡ None → IsReady out.old }
+    ensures { OnOk result (IsReady out.new) }
+{
+    let before = out.sink().bytes().len();
+    assert_eq!(rt; session.finish(out)?, status);
+    assert_eq!(rt;
+        out.sink().bytes().len(),
+        before.saturating_add(at_end.len())
+    );
+    assert!(rt; out.sink().bytes().ends_with(at_end));
+    Ok(())
+}
 
 /// A script is fed in two pieces, and the item that is open behind them is shown. At the script's end that item gives this.
 fn shows_what_is_open(
@@ -11,23 +50,14 @@ fn shows_what_is_open(
 ) -> Result<(), Fail> {
     let mut session = Session::new(rt.alloc(), limits(1000));
     let mut out = Out::new(MemSink::new(rt.alloc(), 1000, 1000, None)?);
-    let nothing: &[u8] = b"";
-    assert_eq!(rt; session.held(), nothing);
-    assert_eq!(rt; session.feed(pieces.0, &mut out)?, Flow::GoOn);
-    assert_eq!(rt; session.feed(pieces.1, &mut out)?, Flow::GoOn);
-    let written: &[u8] = b"<Fact-1>\n";
-    assert_eq!(rt; out.sink().bytes(), written);
+    assert!(rt; session.held().is_empty());
+    feeds(rt, &mut session, &mut out, pieces.0, Flow::GoOn)?;
+    feeds(rt, &mut session, &mut out, pieces.1, Flow::GoOn)?;
+    assert!(rt; out.sink().bytes() == b"<Fact-1>\n".as_slice());
     assert_eq!(rt; session.held(), open);
-
-    assert_eq!(rt; session.finish(&mut out)?, status);
-    assert_eq!(rt;
-        out.sink().bytes().len(),
-        written.len().saturating_add(at_end.len())
-    );
-    assert!(rt; out.sink().bytes().ends_with(at_end));
-    assert_eq!(rt; session.held(), nothing);
-    assert!(rt; !session.failed());
-    assert_eq!(rt; session.feed(b" x ", &mut out)?, Flow::Ended(status));
+    finishes(rt, &mut session, &mut out, at_end, status)?;
+    assert!(rt; session.held().is_empty() && !session.failed());
+    feeds(rt, &mut session, &mut out, b" x ", Flow::Ended(status))?;
     Ok(())
 }
 
@@ -56,13 +86,10 @@ fn a_session_stays_failed(rt: HostRuntime) -> Result<(), Fail> {
     let mut session = Session::new(rt.alloc(), limits(1000));
     let mut out = Out::new(MemSink::new(rt.alloc(), 1000, 1000, Some(1))?);
     assert!(rt; !session.failed());
-    assert_eq!(rt;
-        session.feed(b"(assert (a))", &mut out),
-        Err(Stop::WriteFault)
-    );
+    assert!(rt; session.feed(b"(assert (a))", &mut out) == Err(Stop::WriteFault));
     assert!(rt; session.failed());
-    assert_eq!(rt; session.feed(b" x ", &mut out), Err(Stop::WriteFault));
-    assert_eq!(rt; session.finish(&mut out), Err(Stop::WriteFault));
+    assert!(rt; session.feed(b" x ", &mut out) == Err(Stop::WriteFault));
+    assert!(rt; session.finish(&mut out) == Err(Stop::WriteFault));
     assert!(rt; out.sink().bytes().is_empty());
     Ok(())
 }
