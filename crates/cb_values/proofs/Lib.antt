@@ -4,5 +4,6 @@ pub mod FactListLaws
 pub mod Firsts
 pub mod PartLaws
 pub mod SlotLaws
+pub mod AttributeLaws
 pub mod Splices
 pub mod ListLaws

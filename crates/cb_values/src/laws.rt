@@ -1,17 +1,24 @@
 //! Laws of templates and their facts: each is the contract of a function that does nothing.
-ghost use Rattle.std.specs.Prelude.{◌≡◌, ℕ, List, [], Some, Ok};
+ghost use Rattle.std.specs.Prelude.{◌≡◌, ℕ, Bool, List, [], Some, Ok};
 ghost use Rattle.std.specs.List.{IsDistinct};
 ghost use Rattle.std.specs.Str.{bytes_eq};
-ghost use Rattle.cb_forms.specs.Trees.{Trees};
+ghost use Rattle.cb_forms.specs.Trees.{Tree, Trees, tree};
 ghost use Rattle.cb_values.specs.Building.{PartValues, built};
 ghost use Rattle.cb_values.specs.Facts.{FactValue};
 ghost use Rattle.cb_values.specs.Laws.{content_names, names};
+ghost use Rattle.cb_values.specs.SlotForms.{attributes_behind};
 ghost use Rattle.cb_values.specs.Slots.{SlotShape};
 ghost use Rattle.cb_values.specs.Templates.{Templates, slots_behind, slots_of};
+ghost use Rattle.cb_values.specs.declared.attribute.Attributes.{Attributes};
 
 /// No two slots of a template have one name.
 pub fn the_slots_of_a_template_differ()
     ensures { (forms : Trees) (slots : List SlotShape) → slots_behind [] forms ≡ Ok slots → IsDistinct bytes_eq (names slots) }
+{}
+
+/// The attributes of a slot may stand in any order: two that stand one behind the other say the same the other way round.
+pub fn the_attributes_of_a_slot_have_no_order()
+    ensures { (is_multi : Bool) (before all : Attributes) (t u : Tree) (forms : Trees) → attributes_behind is_multi before (tree t (tree u forms)) ≡ Ok all → attributes_behind is_multi before (tree u (tree t forms)) ≡ Ok all }
 {}
 
 /// A fact of a template has the slots of the template and no others, in the template's order, whatever it is given.
