@@ -67,7 +67,6 @@ swapped o p false true ts ds false true ts' ds' y h = absurd (two_defaults o p d
 swapped o p false true ts ds false false ts' ds' y h = absurd (never (by_kind (given o p) false true ts ds) NotInProfile y h)
 swapped o p false false ts ds t' d' ts' ds' y h = absurd (cc)
 
-
 swap : (m : Bool) (a : Attributes) (first second : Option (List ℕ × Trees)) (y : Attributes) → and_then (attribute_by m a first) (λ x. attribute_by m x second) ≡ Ok y
     → and_then (attribute_by m a second) (λ x. attribute_by m x first) ≡ Ok y
 swap m a None second y h = absurd (cc)
@@ -91,4 +90,4 @@ in_any_order m a b t u forms h =
     let more : Attributes → Result Attributes Fault = λ x. attributes_behind m x forms in
     follows (attribute_by m a d) (λ x. attribute_by m x c) more
     ∙ still (and_then (attribute_by m a c) (λ x. attribute_by m x d)) (and_then (attribute_by m a d) (λ x. attribute_by m x c)) more b (swap m a c d)
-      (sym (follows (attribute_by m a c) (λ x. attribute_by m x d) more) ∙ h)
+    (sym (follows (attribute_by m a c) (λ x. attribute_by m x d) more) ∙ h)
