@@ -25,7 +25,8 @@ pub fn what_has_ended_counts_alone()
     ensures whole { (max_form : ℕ) (p r : List ℕ) (status : Status) → (so_far max_form p).status ≡ Some status → complete max_form (p ++ r) ≡ so_far max_form p }
 {}
 
-/// Facts that are asserted take no fact away and change no index, and their own indices are new ones.
+/// Where no fact has an index behind the one given last, facts that are asserted take no fact away and change no index, and a
+/// fact that is added has an index that was not given before. (A fact that is equal to one that is there is not added.)
 pub fn what_is_asserted_keeps_the_others()
     ensures { (m : Memory) (last : Option ℕ) (facts : List FactValue) → NoneBehind m → Keeps m (asserted_all m last facts).0 }
 {}

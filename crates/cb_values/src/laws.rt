@@ -16,7 +16,8 @@ pub fn the_slots_of_a_template_differ()
     ensures { (forms : Trees) (slots : List SlotShape) → slots_behind [] forms ≡ Ok slots → IsDistinct bytes_eq (names slots) }
 {}
 
-/// The attributes of a slot may stand in any order: two that stand one behind the other say the same the other way round.
+/// The attributes of a slot may stand in any order: where none is at fault, two that stand one behind the other say the same
+/// the other way round. Which fault comes first may depend on their order.
 pub fn the_attributes_of_a_slot_have_no_order()
     ensures { (is_multi : Bool) (before all : Attributes) (t u : Tree) (forms : Trees) → attributes_behind is_multi before (tree t (tree u forms)) ≡ Ok all → attributes_behind is_multi before (tree u (tree t forms)) ≡ Ok all }
 {}
