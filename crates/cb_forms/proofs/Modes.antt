@@ -3,7 +3,7 @@ use Rattle.std.proofs.Common.{◌≡◌, ◌==◌, ℕ, true, false, not, List, 
 use Rattle.std.proofs.lemmas.Bool.{false≢true}
 use Rattle.cb_forms.specs.Bytes.{is_line_end, is_single, is_delimiter}
 use Rattle.cb_forms.specs.Pieces.{piece_takes}
-use Rattle.cb_forms.specs.Places.{quoted_mode, escaped_mode, mode_of, mode_takes, fresh_mode, continued_mode, mode_is_open}
+use Rattle.cb_forms.specs.Places.{quoted_mode, escaped_mode, mode_of, mode_takes, continued_mode, mode_is_open}
 use Rattle.cb_forms.specs.Strings.{is_unclosed, is_unclosed_escaped}
 use Rattle.cb_forms.specs.declared.mode.Mode.TheVariants.{Ended, Comment, Word}
 
@@ -82,6 +82,3 @@ mode-push (c ∷ cs) b =
         ]
       ]
     ]
-
-pub mode-fresh : (b : ℕ) → mode_of (b ∷ []) ≡ fresh_mode b
-mode-fresh b = refl

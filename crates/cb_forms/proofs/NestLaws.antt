@@ -3,19 +3,15 @@ use Rattle.std.proofs.Common.{Vec, Global, ◌≡◌, ◌<◌, List, [], ◌∷�
 use Rattle.std.proofs.lemmas.List.{append-nil, map_push, length_push}
 use Rattle.cb_forms.specs.Lists.{put_first, listed, first_tree}
 use Rattle.cb_forms.specs.Nests.{closed_up}
-use Rattle.cb_forms.specs.Trees.{Tree, atom, branch, trees_of, tree_step, tree_of, trees_in}
+use Rattle.cb_forms.specs.Trees.{Tree, branch, trees_of, tree_step, tree_of, trees_in}
 use Rattle.cb_forms.specs.declared.form.Form.{Form}
 use Rattle.cb_forms.specs.declared.form.Form.TheFolds.{fold-roll-Form}
 use Rattle.cb_forms.specs.declared.form.Form.TheOpen as form
-use Rattle.cb_forms.specs.declared.form.Form.TheVariants.{Atom, rolls-Atom, rolls-List}
+use Rattle.cb_forms.specs.declared.form.Form.TheVariants.{rolls-List}
 use Rattle.cb_forms.specs.declared.form.Form.TheViews as TheViews
-use Rattle.cb_forms.specs.declared.token.Token.{Token}
 
 pub tree_of-List : (v : Vec Form Global) → tree_of (TheViews.List v) ≡ branch (trees_of (trees_in v.items))
 tree_of-List v = ap tree_of (sym (rolls-List v)) ∙ fold-roll-Form Tree tree_step (form.List v)
-
-pub tree_of-Atom : (t : Token) → tree_of (Atom t) ≡ atom t
-tree_of-Atom t = ap tree_of (sym (rolls-Atom t)) ∙ fold-roll-Form Tree tree_step (form.Atom t)
 
 pub closed_up-append : (fs gs levels : List (List Tree)) → closed_up (fs ++ gs) levels ≡ closed_up fs (closed_up gs levels)
 closed_up-append [] gs levels = refl
@@ -55,11 +51,6 @@ closed_up-close outer outer' around inner new levels is is_new =
     ap (λ fs. closed_up fs (put_first (tree_of (TheViews.List inner)) levels)) (sym (map_push (λ (v : Vec Form Global). trees_in v.items) outer' around)) ∙ (
     ap (closed_up (frames_in (outer' ++ around ∷ []))) (sym (listed-closed inner levels)) ∙ (
     sym (closed_up-append (frames_in (outer' ++ around ∷ [])) (trees_in inner.items ∷ []) ([] ∷ levels)) ∙ ap (λ vs. closed_up (frames_in vs ++ trees_in inner.items ∷ []) ([] ∷ levels)) (sym is))))
-
--- the outermost list is closed
-pub first_tree-close : (outer : List (Vec Form Global)) (inner : Vec Form Global) (levels : List (List Tree)) → outer ≡ [] → first_tree (closed_up (frames_in outer ++ trees_in inner.items ∷ []) ([] ∷ levels)) ≡ tree_of (TheViews.List inner)
-first_tree-close outer inner levels is =
-    ap (λ vs. first_tree (closed_up (frames_in vs ++ trees_in inner.items ∷ []) ([] ∷ levels))) is ∙ (ap first_tree (listed-closed inner levels) ∙ first_tree-put_first (tree_of (TheViews.List inner)) levels)
 
 -- a list is open
 pub frames-some : (fs : List (List Tree)) (ts : List Tree) → 0 < length (fs ++ ts ∷ [])

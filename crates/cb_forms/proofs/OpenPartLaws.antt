@@ -148,16 +148,6 @@ reaches-comment limit (c ∷ cs) b old new was kept takes none bytes mode depth 
       };
     }
 
--- a byte too many in an item
-pub reaches-too_long : (limit : ℕ) (w : List ℕ) (before : List Reading) (part : OpenPart) → is_gap w ≡ false → limit < length w → part.bytes.items ≡ [] → Reaches limit w before cut.TooLong part
-reaches-too_long limit w before part no_gap long none = record {
-  too_long = sym (ap (λ t. not t && nat_lt limit (length w)) no_gap ∙ lt-ltb limit (length w) long);
-  cleared = λ _. none;
-  items = λ h. absurd (true≢false h);
-  spelled = λ h. absurd (true≢false h);
-  kept = λ h. absurd (true≢false h);
-}
-
 pub no_gap-push : (w : List ℕ) (b : ℕ) → is_gap w ≡ false → is_gap (w ++ b ∷ []) ≡ false
 no_gap-push [] b h = absurd (true≢false h)
 no_gap-push (c ∷ cs) b h = h

@@ -5,17 +5,16 @@ use Rattle.std.proofs.lemmas.List.{append-nil, append_assoc, map-append}
 use Rattle.cb_forms.specs.Cuts.{item_readings, cut_items, cut_readings, is_too_long}
 use Rattle.cb_forms.specs.Cutter.{Progress, fresh_progress, readings_in}
 use Rattle.cb_forms.specs.Items.{items, parts, whole, over, fitting}
-use Rattle.cb_forms.specs.Moved.{Took}
 use Rattle.cb_forms.specs.Output.{Passed, PassedSome}
 use Rattle.cb_forms.specs.Trees.{Reading, reading_of}
 use Rattle.cb_forms.specs.declared.cut.Cut.{Cut}
 use Rattle.cb_forms.specs.declared.cut.Cut.TheVariants as cut
 use Rattle.cb_forms.specs.declared.form.Item.{Item}
 use Rattle.cb_forms.proofs.FittingLaws.{fitting-whole}
-use Rattle.cb_forms.proofs.Passing.{took_none, passed_some_more, passed_then, passed_some_then, flushed_then, flushed_some_then}
+use Rattle.cb_forms.proofs.Passing.{took_none, passed_some_more, passed_then, passed_some_then, flushed_some_then}
 use Rattle.cb_session.specs.Courses.{from, cut_run, PutOn, PutSome, IsUnderWay, IsBehind}
 use Rattle.cb_session.specs.Engine.{State, first_state, carried}
-use Rattle.cb_session.specs.Sessions.{Wrote, WroteSome}
+use Rattle.cb_session.specs.Sessions.{WroteSome}
 use Rattle.cb_session.specs.Lines.{too_long_line}
 use Rattle.cb_session.specs.Transcripts.{Run, begun, behind, after_status, after, after_all, too_long_status, too_long, so_far, complete}
 use Rattle.cb_session.specs.declared.status.Status.{Status}
@@ -192,19 +191,8 @@ complete-end cutter state item way ends =
     complete-fits n p way.fits ∙ (ap (after_all begun) all ∙ (after_all-append begun (whole p) (item_readings item)
     ∙ (ap (λ it. after_all it (item_readings item)) (sym start) ∙ (sym (joined-all here (from state) (item_readings item)) ∙ sym far))))
 
--- all that was put is written
-pub wrote_all : (a b c : Option (List ℕ)) (p q x y : List ℕ) → p ≡ [] → PutOn a b p q x y → Took b c q → Wrote a c x y
-wrote_all a b c p q x y none put flush =
-    let P : List ℕ → Type 0 = λ it. Passed a b (it ++ put.0) q in
-    (put.0, flushed_then a b c put.0 q (subst P none put.2) flush, put.1)
-
 some_of : (a b : Option (List ℕ)) (x y more : List ℕ) → y ≡ x ++ more → PassedSome a b more → WroteSome a b x y
 some_of a b x y more is passed = (passed.1.0, passed.0, passed.1.1, is ∙ ap (λ it. x ++ it) (sym passed.1.2))
-
--- a beginning of what was put is written
-pub wrote_some_put : (a b : Option (List ℕ)) (p x y : List ℕ) → p ≡ [] → PutSome a b p x y → WroteSome a b x y
-wrote_some_put a b p x y none put =
-    let P : List ℕ → Type 0 = λ it. PassedSome a b (it ++ put.0) in some_of a b x y put.0 put.1 (subst P none put.2)
 
 -- a flush failed
 pub wrote_some_flush : (a b c : Option (List ℕ)) (p q x y : List ℕ) → p ≡ [] → PutOn a b p q x y → PassedSome b c q → WroteSome a c x y
@@ -215,10 +203,6 @@ wrote_some_flush a b c p q x y none put flush =
 pub within-push : (cutter cutter' : Progress) (state : State) (b : ℕ) → IsUnderWay cutter state → cutter'.limit ≡ cutter.limit → cutter'.stepped ≡ cutter.stepped ++ b ∷ [] → cutter'.given ≡ cutter.given → readings_in cutter'.given ≡ whole cutter'.stepped → over cutter'.limit cutter'.stepped ≡ false
     → so_far cutter.limit (cutter.stepped ++ b ∷ []) ≡ joined (so_far cutter.limit cutter.stepped) (from state)
 within-push cutter cutter' state b way limit stepped given whole_is fits = so_far-push cutter cutter' state b cut.More way limit stepped (given ∙ sym (append-nil cutter.given)) (λ _. whole_is) (sym fits)
-
-pub within-behind : (cutter cutter' : Progress) (state : State) (b : ℕ) → IsUnderWay cutter state → cutter'.limit ≡ cutter.limit → cutter'.stepped ≡ cutter.stepped ++ b ∷ [] → cutter'.given ≡ cutter.given → readings_in cutter'.given ≡ whole cutter'.stepped → over cutter'.limit cutter'.stepped ≡ false → cutter'.failed ≡ false
-    → IsBehind cutter.limit (cutter.stepped ++ b ∷ []) cutter' state
-within-behind cutter cutter' state b way limit stepped given whole_is fits fine = behind-push cutter cutter' state state b cut.More way limit stepped (given ∙ sym (append-nil cutter.given)) (λ _. whole_is) (sym fits) fine refl (ap (λ it. it.status) (within-push cutter cutter' state b way limit stepped given whole_is fits))
 
 pub within-put : (has : Option (List ℕ)) (pending : List ℕ) (run run' : Run) (state : State) → run' ≡ joined run (from state) → PutOn has has pending pending run.written run'.written
 within-put has pending run run' state is = put_on has has pending pending run run' (from state) is ([], took_none has, sym (append-nil pending))

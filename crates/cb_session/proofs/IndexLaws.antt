@@ -15,7 +15,7 @@ use Rattle.cb_values.specs.Facts.{FactValue, fact_eq}
 contains_here : {X : Type 0} (x : X) (xs : List X) → Contains (x ∷ xs) x
 contains_here x xs = (0, omega arith, refl)
 
-contains_there : {X : Type 0} (x y : X) (xs : List X) → Contains xs y → Contains (x ∷ xs) y
+pub contains_there : {X : Type 0} (x y : X) (xs : List X) → Contains xs y → Contains (x ∷ xs) y
 contains_there x y xs (k, below, is) = (suc k, omega arith, is)
 
 -- what the search finds is there

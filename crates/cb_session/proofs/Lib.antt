@@ -4,6 +4,8 @@ pub mod EngineLaws
 pub mod GroupLaws
 pub mod MemoryLaws
 mod KeepLaws
+mod FaultLaws
+mod GivenLaws
 pub mod RunLaws
 pub mod WroteLaws
 pub mod CourseLaws

@@ -48,10 +48,6 @@ asked_by (program.Print on values) = print on values.items
 asked_by program.Reset = reset
 asked_by program.Clear = clear
 
-abbrev pub asked : Result Command Fault → Result Asked Fault
-asked (Ok c) = Ok (asked_by c)
-asked (Err f) = Err f
-
 -- the channel of a name
 abbrev pub named_channel : List ℕ → Option Channel
 named_channel name =

@@ -1,7 +1,11 @@
--- What the laws of the working memory speak of.
-use Rattle.std.specs.Prelude.{◌≡◌, ◌<◌, ◌≤◌, ℕ, None}
+-- What the laws of facts, of the working memory and of faults speak of.
+use Rattle.std.specs.Prelude.{◌≡◌, ◌<◌, ◌≤◌, ℕ, None, false, true}
+use Rattle.std.specs.List.{Contains}
+use Rattle.cb_forms.specs.Trees.{Reading, Trees, no_trees, tree}
+use Rattle.cb_session.specs.Engine.{State, carried}
 use Rattle.cb_session.specs.Memory.{Memory}
 use Rattle.cb_values.specs.FactLists.{fact_at}
+use Rattle.cb_values.specs.Facts.{FactValue}
 
 -- no fact has an index behind the last one
 abbrev pub NoneBehind : Memory → Type 0
@@ -13,3 +17,20 @@ pub record Keeps (m n : Memory) : Type 0 where
   pub rises : m.last ≤ n.last
   pub same : (ix : ℕ) → ix ≤ m.last → fact_at n.facts ix ≡ fact_at m.facts ix
   pub none_behind : NoneBehind n
+
+-- an item is the first of a script to tell a fault
+abbrev pub TellsFirstFault : State → Reading → Type 0
+TellsFirstFault s r = (s.is_faulted ≡ false) × ((carried s r).state.is_faulted ≡ true)
+
+-- Facts may have gone, and nothing came: each fact has the index that it had. The templates and each `deffacts` are the same, and
+-- so is the index given last.
+pub record TakesFactsAlone (s t : State) : Type 0 where
+  pub facts : (ix : ℕ) (fact : FactValue) → Contains t.memory.facts (ix, fact) → Contains s.memory.facts (ix, fact)
+  pub last : t.memory.last ≡ s.memory.last
+  pub templates : t.templates ≡ s.templates
+  pub groups : t.groups ≡ s.groups
+
+-- these forms and behind them those
+abbrev pub followed_by : Trees → Trees → Trees
+followed_by no_trees us = us
+followed_by (tree t ts) us = tree t (followed_by ts us)

@@ -72,10 +72,7 @@ fn read_form<'a>(
     ensures fault { IfErr result (λ r. Tells r (λ f. form_command relations.now (tree_of form.now) ≡ Err f)) }
 {
     match form {
-        Form::Atom(token) => match read_constant(alloc, token)? {
-            Ok(value) => Ok(Command::Show(value)),
-            Err(fault) => Err(Refused::Fault(fault)),
-        },
+        Form::Atom(token) => Ok(Command::Show(read_constant(alloc, token)?)),
         Form::List(forms) => read_list(alloc, relations, forms),
     }
 }
@@ -141,10 +138,7 @@ fn read_retract<'a>(alloc: Global, args: &'a [Form]) -> Result<Command<'a>, Refu
     let Some(_) = args.split_first() else {
         return Err(Refused::Fault(Fault::WrongArguments));
     };
-    match read_values(alloc, args)? {
-        Ok(values) => Ok(Command::Retract(values)),
-        Err(fault) => Err(Refused::Fault(fault)),
-    }
+    Ok(Command::Retract(read_values(alloc, args)?))
 }
 
 /// A command that takes no arguments.
@@ -168,10 +162,7 @@ fn read_printout<'a>(alloc: Global, args: &'a [Form]) -> Result<Command<'a>, Ref
     let Some(channel) = read_channel(first) else {
         return Err(Refused::Fault(Fault::NotInProfile));
     };
-    match read_values(alloc, values)? {
-        Ok(values) => Ok(Command::Print(channel, values)),
-        Err(fault) => Err(Refused::Fault(fault)),
-    }
+    Ok(Command::Print(channel, read_values(alloc, values)?))
 }
 
 fn read_channel(form: &Form) -> Option<Channel>

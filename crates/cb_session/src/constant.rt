@@ -1,48 +1,45 @@
 //! Constants where a value is wanted.
-ghost use Rattle.std.specs.Prelude.{◌≡◌, IfOk};
+ghost use Rattle.std.specs.Prelude.{◌≡◌, Ok, Err, IfOk, IfErr};
 ghost use Rattle.cb_forms.specs.Members.{head_and_rest, members};
 ghost use Rattle.cb_forms.specs.Trees.{tree_of};
 ghost use Rattle.cb_session.specs.Constants.{call_fault, headed_fault, token_fault, token_value, value_of, values_of};
-ghost use Rattle.cb_values.specs.Results.{answered};
+ghost use Rattle.cb_values.specs.Results.{Tells};
 
 use crate::heads::{Head, read_head};
-use cb_forms::{Fault, Form, NoMemory, Token, split_head};
-use cb_values::Value;
+use cb_forms::{Fault, Form, Token, split_head};
+use cb_values::{Refused, Value};
 use std::alloc::Global;
 
-/// The values of forms, or the first fault. Growth is refused as `NoMemory`.
+/// The values of forms, or the first fault.
 #[tactic(auto, using(cb_values::proofs::Firsts::behind_none, cb_values::proofs::Firsts::behind_all, cb_values::proofs::Firsts::behind_one))]
-pub(crate) fn read_values(
-    alloc: Global,
-    forms: &[Form],
-) -> Result<Result<Vec<Value>, Fault>, NoMemory>
-    ensures { IfOk result (λ values. answered values ≡ values_of (members forms.now)) }
+pub(crate) fn read_values(alloc: Global, forms: &[Form]) -> Result<Vec<Value>, Refused>
+    ensures ok { IfOk result (λ values. values_of (members forms.now) ≡ Ok values.items) }
+    ensures fault { IfErr result (λ r. Tells r (λ f. values_of (members forms.now) ≡ Err f)) }
 {
     let mut values = Vec::new(alloc);
     for form in forms {
-        match read_value(alloc, form)? {
-            Ok(value) => values.push(value)?,
-            Err(fault) => return Ok(Err(fault)),
-        }
+        values.push(read_value(alloc, form)?)?;
     }
-    Ok(Ok(values))
+    Ok(values)
 }
 
-/// The value of a form, or its fault. Growth is refused as `NoMemory`.
-pub(crate) fn read_value(alloc: Global, form: &Form) -> Result<Result<Value, Fault>, NoMemory>
-    ensures { IfOk result (λ value. value ≡ value_of (tree_of form.now)) }
+/// The value of a form, or its fault.
+pub(crate) fn read_value(alloc: Global, form: &Form) -> Result<Value, Refused>
+    ensures ok { IfOk result (λ value. value_of (tree_of form.now) ≡ Ok value) }
+    ensures fault { IfErr result (λ r. Tells r (λ f. value_of (tree_of form.now) ≡ Err f)) }
 {
     match form {
         Form::Atom(token) => read_constant(alloc, token),
-        Form::List(forms) => Ok(Err(list_fault(forms))),
+        Form::List(forms) => Err(Refused::Fault(list_fault(forms))),
     }
 }
 
-/// The value of a token, or its fault. Growth is refused as `NoMemory`.
-pub(crate) fn read_constant(alloc: Global, token: &Token) -> Result<Result<Value, Fault>, NoMemory>
-    ensures { IfOk result (λ value. value ≡ token_value token.now) }
+/// The value of a token, or its fault.
+pub(crate) fn read_constant(alloc: Global, token: &Token) -> Result<Value, Refused>
+    ensures ok { IfOk result (λ value. token_value token.now ≡ Ok value) }
+    ensures fault { IfErr result (λ r. Tells r (λ f. token_value token.now ≡ Err f)) }
 {
-    Ok(Value::constant(alloc, token)?.ok_or(token_fault(token)))
+    Value::constant(alloc, token)?.ok_or(Refused::Fault(token_fault(token)))
 }
 
 fn token_fault(token: &Token) -> Fault

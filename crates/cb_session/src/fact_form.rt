@@ -88,10 +88,7 @@ fn read_field(alloc: Global, form: &Form, following: &[Form]) -> Result<Value, R
     if is_equals(form) && begins_with_list(following) {
         return Err(Refused::Fault(Fault::NotInProfile));
     }
-    match read_value(alloc, form)? {
-        Ok(value) => Ok(value),
-        Err(fault) => Err(Refused::Fault(fault)),
-    }
+    read_value(alloc, form)
 }
 
 /// The slots that a fact gives, of these of its template, or the first fault.

@@ -1,6 +1,5 @@
 -- Results, each with what was wanted or a fault, where the first fault counts.
-use Rattle.std.specs.Prelude.{List, ◌∷◌, Result, Ok, Err, Vec}
-use Rattle.std.specs.declared.alloc.Global.{Global}
+use Rattle.std.specs.Prelude.{List, ◌∷◌, Result, Ok, Err}
 use Rattle.cb_forms.specs.declared.fault.Fault.{Fault}
 use Rattle.cb_values.specs.declared.refused.Refused.{Refused}
 use Rattle.cb_values.specs.declared.refused.Refused.TheVariants as refused
@@ -20,11 +19,6 @@ abbrev pub with_first : {X : Type 0} → Result X Fault → Result (List X) Faul
 with_first (Err f) others = Err f
 with_first (Ok x) (Err f) = Err f
 with_first (Ok x) (Ok xs) = Ok (x ∷ xs)
-
--- what a call of the program answers, without the capacity that a `Vec` has
-abbrev pub answered : {X : Type 0} → Result (Vec X Global) Fault → Result (List X) Fault
-answered (Ok v) = Ok v.items
-answered (Err f) = Err f
 
 -- a refusal that is a fault, and not want of memory, is one such as this
 abbrev pub Tells : Refused → (Fault → Type 0) → Type 0
