@@ -11,7 +11,7 @@ use Rattle.cb_session.specs.Commands as asked
 use Rattle.cb_session.specs.Commands.{Asked, command_of}
 use Rattle.cb_session.specs.Engine.{State, Outcome, carried, carried_as, faulted, obeyed, with_templates, after_assert, after_reset, after_retract, is_name_in_use}
 use Rattle.cb_session.specs.Groups.{facts_in}
-use Rattle.cb_session.specs.Laws.{TakesFactsAlone, TellsFirstFault}
+use Rattle.cb_session.specs.Laws.{TakesFactsAlone, TellsFault}
 use Rattle.cb_session.specs.Memory.{Memory, empty_memory, asserted_all, is_retractable, retracted_all, retracted_one, after_retracted, without}
 use Rattle.cb_session.specs.declared.memory.Asserted.{Asserted}
 use Rattle.cb_session.specs.declared.memory.Asserted.TheVariants.{All, Exhausted}
@@ -22,43 +22,46 @@ use Rattle.cb_values.specs.Templates.{Templates, defined}
 use Rattle.cb_values.specs.declared.value.Value.{Value}
 use Rattle.cb_values.specs.declared.value.Value.TheVariants as value
 
--- an unmarked state that an outcome marks
-abbrev Marks : State → Outcome → Type 0
-Marks s o = (s.is_faulted ≡ false) × (o.state.is_faulted ≡ true)
+-- a state without the mark for status 1
+abbrev unmarked : State → State
+unmarked s = record s { is_faulted = false }
 
--- nothing else changed
+abbrev Marks : Outcome → Type 0
+Marks o = o.state.is_faulted ≡ true
+
+-- nothing but the mark changed
 abbrev NothingElse : State → Outcome → Type 0
 NothingElse s o = o.state ≡ record s { is_faulted = true }
 
-templates_fault : (s : State) (told : Result Templates Fault) → Marks s (with_templates s told) → NothingElse s (with_templates s told)
-templates_fault s (Ok templates) (un, marked) = absurd (cc)
+templates_fault : (s : State) (told : Result Templates Fault) → Marks (with_templates (unmarked s) told) → NothingElse s (with_templates s told)
+templates_fault s (Ok templates) marks = absurd (cc)
 templates_fault s (Err f) marks = refl
 
-assert_fault : (s : State) (o : Memory × Asserted) → Marks s (after_assert s o) → NothingElse s (after_assert s o)
-assert_fault s (m, All last) (un, marked) = absurd (cc)
-assert_fault s (m, Exhausted) (un, marked) = absurd (cc)
+assert_fault : (s : State) (o : Memory × Asserted) → Marks (after_assert (unmarked s) o) → NothingElse s (after_assert s o)
+assert_fault s (m, All last) marks = absurd (cc)
+assert_fault s (m, Exhausted) marks = absurd (cc)
 
-reset_fault : (s : State) (o : Memory × Asserted) → Marks s (after_reset s o) → NothingElse s (after_reset s o)
-reset_fault s (m, All last) (un, marked) = absurd (cc)
-reset_fault s (m, Exhausted) (un, marked) = absurd (cc)
+reset_fault : (s : State) (o : Memory × Asserted) → Marks (after_reset (unmarked s) o) → NothingElse s (after_reset s o)
+reset_fault s (m, All last) marks = absurd (cc)
+reset_fault s (m, Exhausted) marks = absurd (cc)
 
 -- a command that is no `retract`
-obeyed_fault : (s : State) (command : Asked) → Marks s (obeyed s command) → ((values : List Value) → command ≢ asked.retract values) → NothingElse s (obeyed s command)
-obeyed_fault s (asked.show v) (un, marked) other = absurd (cc)
+obeyed_fault : (s : State) (command : Asked) → Marks (obeyed (unmarked s) command) → ((values : List Value) → command ≢ asked.retract values) → NothingElse s (obeyed s command)
+obeyed_fault s (asked.show v) marks other = absurd (cc)
 obeyed_fault s (asked.define_template ts) marks other = templates_fault s (defined s.templates (is_name_in_use s ts) ts) marks
-obeyed_fault s (asked.define_facts name facts) (un, marked) other = absurd (cc)
+obeyed_fault s (asked.define_facts name facts) marks other = absurd (cc)
 obeyed_fault s (asked.assert facts) marks other = assert_fault s (asserted_all s.memory None facts) marks
 obeyed_fault s (asked.retract values) marks other = absurd (other values refl)
-obeyed_fault s asked.list_facts (un, marked) other = absurd (cc)
-obeyed_fault s (asked.print on values) (un, marked) other = absurd (cc)
+obeyed_fault s asked.list_facts marks other = absurd (cc)
+obeyed_fault s (asked.print on values) marks other = absurd (cc)
 obeyed_fault s asked.reset marks other = reset_fault s (asserted_all empty_memory None (facts_in s.groups)) marks
-obeyed_fault s asked.clear (un, marked) other = absurd (cc)
+obeyed_fault s asked.clear marks other = absurd (cc)
 
-carried_fault : (s : State) (told : Result Asked Fault) → Marks s (carried_as s told) → ((values : List Value) → told ≢ Ok (asked.retract values)) → NothingElse s (carried_as s told)
+carried_fault : (s : State) (told : Result Asked Fault) → Marks (carried_as (unmarked s) told) → ((values : List Value) → told ≢ Ok (asked.retract values)) → NothingElse s (carried_as s told)
 carried_fault s (Ok command) marks other = obeyed_fault s command marks (λ values e. other values (ap Ok e))
 carried_fault s (Err fault) marks other = refl
 
-pub fault_alone : (s : State) (r : Reading) → TellsFirstFault s r → ((values : List Value) → command_of s.templates r ≢ Ok (asked.retract values)) → (carried s r).state ≡ record s { is_faulted = true }
+pub fault_alone : (s : State) (r : Reading) → TellsFault s r → ((values : List Value) → command_of s.templates r ≢ Ok (asked.retract values)) → (carried s r).state ≡ record s { is_faulted = true }
 unfolding carried
 fault_alone s r marks other = carried_fault s (command_of s.templates r) marks other
 
@@ -121,11 +124,11 @@ none_taken s t is = record {
   groups = ap (λ (u : State). u.groups) is;
 }
 
-retract_behind : (s : State) (o : Memory × Bool) → Within s.memory o.0 → Marks s (after_retract s o) → TakesFactsAlone s (after_retract s o).state
-retract_behind s (m, true) within (un, marked) = absurd (cc)
+retract_behind : (s : State) (o : Memory × Bool) → Within s.memory o.0 → Marks (after_retract (unmarked s) o) → TakesFactsAlone s (after_retract s o).state
+retract_behind s (m, true) within marks = absurd (cc)
 retract_behind s (m, false) (facts, last) marks = record { facts = facts; last = last; templates = refl; groups = refl }
 
-retract_if : (s : State) (values : List Value) (t : Bool) → Marks s (if t then after_retract s (retracted_all s.memory values) else faulted s WrongType)
+retract_if : (s : State) (values : List Value) (t : Bool) → Marks (if t then after_retract (unmarked s) (retracted_all s.memory values) else faulted (unmarked s) WrongType)
     → TakesFactsAlone s (if t then after_retract s (retracted_all s.memory values) else faulted s WrongType).state
 retract_if s values true marks = retract_behind s (retracted_all s.memory values) (values_taken values s.memory) marks
 retract_if s values false marks = none_taken s (record s { is_faulted = true }) refl
@@ -143,15 +146,15 @@ is_retract asked.reset = inr (λ values e. absurd (cc))
 is_retract asked.clear = inr (λ values e. absurd (cc))
 
 obeyed_taking : (s : State) (command : Asked) → ((values : List Value) × (command ≡ asked.retract values)) ⊎ ((values : List Value) → command ≢ asked.retract values)
-    → Marks s (obeyed s command) → TakesFactsAlone s (obeyed s command).state
+    → Marks (obeyed (unmarked s) command) → TakesFactsAlone s (obeyed s command).state
 obeyed_taking s command (inl (values, is)) marks =
-    subst (λ (c : Asked). Marks s (obeyed s c) → TakesFactsAlone s (obeyed s c).state) (sym is) (retract_if s values (list_all is_retractable values)) marks
+    subst (λ (c : Asked). Marks (obeyed (unmarked s) c) → TakesFactsAlone s (obeyed s c).state) (sym is) (retract_if s values (list_all is_retractable values)) marks
 obeyed_taking s command (inr other) marks = none_taken s (obeyed s command).state (obeyed_fault s command marks other)
 
-carried_taking : (s : State) (told : Result Asked Fault) → Marks s (carried_as s told) → TakesFactsAlone s (carried_as s told).state
+carried_taking : (s : State) (told : Result Asked Fault) → Marks (carried_as (unmarked s) told) → TakesFactsAlone s (carried_as s told).state
 carried_taking s (Ok command) marks = obeyed_taking s command (is_retract command) marks
 carried_taking s (Err fault) marks = none_taken s (record s { is_faulted = true }) refl
 
-pub fault_taking : (s : State) (r : Reading) → TellsFirstFault s r → TakesFactsAlone s (carried s r).state
+pub fault_taking : (s : State) (r : Reading) → TellsFault s r → TakesFactsAlone s (carried s r).state
 unfolding carried
 fault_taking s r marks = carried_taking s (command_of s.templates r) marks

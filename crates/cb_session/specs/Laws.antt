@@ -11,16 +11,16 @@ use Rattle.cb_values.specs.Facts.{FactValue}
 abbrev pub NoneBehind : Memory → Type 0
 NoneBehind m = (ix : ℕ) → m.last < ix → fact_at m.facts ix ≡ None
 
--- Up to the last index nothing has changed, so the facts keep their indices and no index is given twice. The last index doesn't
--- fall, and behind it there is no fact.
+-- Up to the last index nothing has changed, so the facts keep their indices, and what was added has indices behind it. The last
+-- index doesn't fall, and behind it there is no fact.
 pub record Keeps (m n : Memory) : Type 0 where
   pub rises : m.last ≤ n.last
   pub same : (ix : ℕ) → ix ≤ m.last → fact_at n.facts ix ≡ fact_at m.facts ix
   pub none_behind : NoneBehind n
 
--- an item is the first of a script to tell a fault
-abbrev pub TellsFirstFault : State → Reading → Type 0
-TellsFirstFault s r = (s.is_faulted ≡ false) × ((carried s r).state.is_faulted ≡ true)
+-- an item tells a fault: where the mark for it isn't set yet, it is set behind the item
+abbrev pub TellsFault : State → Reading → Type 0
+TellsFault s r = (carried (record s { is_faulted = false }) r).state.is_faulted ≡ true
 
 -- Facts may have gone, and nothing came: each fact has the index that it had. The templates and each `deffacts` are the same, and
 -- so is the index given last.
