@@ -11,6 +11,7 @@ use Rattle.cb_forms.specs.declared.fault.Fault.TheVariants.{FactDoesNotFit}
 use Rattle.cb_session.specs.FactForms.{are_filled, headed_fact, parts_of, is_lone, known_slot, named_slot, slot_fields_of, slots_given}
 use Rattle.cb_session.specs.Laws.{followed_by}
 use Rattle.cb_values.proofs.FactListLaws.{false-from_not}
+use Rattle.cb_values.proofs.Firsts.{follows}
 use Rattle.cb_values.specs.Building.{Given, are_distinct, built, built_by, filled, fits, given_for, slot_value, slot_values, slots_built, takes}
 use Rattle.cb_values.specs.Facts.{FactValue, template_fact}
 use Rattle.cb_values.specs.Reserved.{is_reserved}
@@ -127,11 +128,6 @@ fact_alike templates relation slots front g h back (tree t ts) apart =
     ∙ (fact_alike templates relation slots front g h (back ++ k ∷ []) ts apart
     ∙ sym (ap (λ a. fact_behind templates relation (slots_given slots a ts)) (append_assoc front (h ∷ g ∷ back) (k ∷ [])))))
 
--- what follows two results
-follows : {X Y Z : Type 0} (r : Result X Fault) (f : X → Result Y Fault) (g : Y → Result Z Fault) → and_then (and_then r f) g ≡ and_then r (λ x. and_then (f x) g)
-follows (Ok x) f g = refl
-follows (Err e) f g = refl
-
 -- what a slot is given by itself: its name and its values, or `None` where the template hasn't the slot
 abbrev AloneGiven : Type 0
 AloneGiven = Option (List ℕ × Result (List Value) Fault)
@@ -229,7 +225,7 @@ swap_given templates relation slots before (Some (n, r)) None ts fact h =
     absurd (no_fact (placed before (Some (n, r))) (λ g. and_then (Err FactDoesNotFit) (λ h. slots_given slots ((before ++ g ∷ []) ++ h ∷ []) ts)) (λ given. built templates relation (slot_values given)) fact (λ g y e. cc) h)
 swap_given templates relation slots before (Some (n, Err e)) (Some (k, s)) ts fact h =
     absurd (none_behind (placed before (Some (n, Err e))) (λ g. fact_behind templates relation (and_then (placed (before ++ g ∷ []) (Some (k, s))) (λ h. slots_given slots ((before ++ g ∷ []) ++ h ∷ []) ts))) fact
-    (λ y e'. either_fault (is_some (given_for before n)) e y e') (sym (follows (placed before (Some (n, Err e))) (λ g. and_then (placed (before ++ g ∷ []) (Some (k, s))) (λ h. slots_given slots ((before ++ g ∷ []) ++ h ∷ []) ts)) (λ given. built templates relation (slot_values given))) ∙ h))
+    (λ y e'. either_fault (is_some (given_for before n)) e y e') (follows (placed before (Some (n, Err e))) (λ g. and_then (placed (before ++ g ∷ []) (Some (k, s))) (λ h. slots_given slots ((before ++ g ∷ []) ++ h ∷ []) ts)) (λ given. built templates relation (slot_values given)) ∙ h))
 swap_given templates relation slots before (Some (n, Ok vs)) (Some (k, Err e)) ts fact h =
     absurd (no_fact (placed before (Some (n, Ok vs))) (λ g. and_then (placed (before ++ g ∷ []) (Some (k, Err e))) (λ h. slots_given slots ((before ++ g ∷ []) ++ h ∷ []) ts)) (λ given. built templates relation (slot_values given)) fact
     (λ g y e'. none_behind (placed (before ++ g ∷ []) (Some (k, Err e))) (λ h. slots_given slots ((before ++ g ∷ []) ++ h ∷ []) ts) y (λ x e''. either_fault (is_some (given_for (before ++ g ∷ []) k)) e x e'') e') h)

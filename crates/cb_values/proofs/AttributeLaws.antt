@@ -5,6 +5,7 @@ use Rattle.cb_forms.specs.Members.{call_of}
 use Rattle.cb_forms.specs.Trees.{Tree, Trees, tree}
 use Rattle.cb_forms.specs.declared.fault.Fault.{Fault}
 use Rattle.cb_forms.specs.declared.fault.Fault.TheVariants.{MalformedForm, NotInProfile}
+use Rattle.cb_values.proofs.Firsts.{follows}
 use Rattle.cb_values.specs.Results.{and_then, ok_then}
 use Rattle.cb_values.specs.SlotForms.{attribute_by, attributes_behind, default_of, types_of, with_default, with_types}
 use Rattle.cb_values.specs.Slots.{Types}
@@ -73,11 +74,6 @@ swap m a None second y h = absurd (cc)
 swap m a (Some c) None y h = absurd (never (attribute_by m a (Some c)) MalformedForm y h)
 swap m a (Some (n, ts)) (Some (k, us)) y h =
     swapped a.types a.default (bytes_eq n (codes "type")) (bytes_eq n (codes "default")) (types_of ts) (default_of m ts) (bytes_eq k (codes "type")) (bytes_eq k (codes "default")) (types_of us) (default_of m us) y h
-
--- what follows two results
-follows : {X Y Z : Type 0} (r : Result X Fault) (f : X → Result Y Fault) (g : Y → Result Z Fault) → and_then r (λ x. and_then (f x) g) ≡ and_then (and_then r f) g
-follows (Ok x) f g = refl
-follows (Err e) f g = refl
 
 still : {Y Z : Type 0} (r s : Result Y Fault) (g : Y → Result Z Fault) (z : Z) → ((y : Y) → r ≡ Ok y → s ≡ Ok y) → and_then r g ≡ Ok z → and_then s g ≡ Ok z
 still (Ok y) s g z same h = ap (λ t. and_then t g) (same y refl) ∙ h
