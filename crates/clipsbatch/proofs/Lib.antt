@@ -3,3 +3,4 @@ pub mod Following
 pub mod Moves
 pub mod Options
 pub mod Scripts
+mod WordExamples

@@ -7,6 +7,7 @@ use Rattle.std.specs.Str.{bytes_eq}
 use Rattle.std.proofs.lemmas.List.Elements.{All-get_or, All-nil}
 use Rattle.std.proofs.lemmas.Slice.Eq.{bytes_eq-Decides}
 use Rattle.clap.specs.Facts.{args_of, groups_of, Entry, EntryPasses, HasReading, PassesArg, parser_of, parser_of_value}
+use Rattle.clap.specs.Kinds.{HasKind}
 use Rattle.clap.specs.Built.{AddsArg, IsParsedFrom, IsPlain, IsPlainArg, SameRules}
 use Rattle.clap.specs.Matches.{found_of, matched_of, one_text}
 use Rattle.clap.specs.Values.{Accepts, IsUnsignedIn, read_as, reading_of}
@@ -17,10 +18,11 @@ use Rattle.clap.specs.declared.builder.value_parser.Reading.{Reading}
 use Rattle.clap.specs.declared.builder.value_parser.Reading.TheVariants as reading
 use Rattle.clap.specs.declared.builder.value_parser.ValueParser.{ValueParser}
 use Rattle.clap.specs.declared.builder.value_parser.ValueParser.TheVariants as vp
+use Rattle.clap.specs.declared.error.Error.{Error}
 use Rattle.clap.specs.declared.parser.matches.ArgMatches.{ArgMatches}
 use Rattle.clap.specs.declared.parser.matches.MatchedArg.{MatchedArg}
 use Rattle.clap.proofs.CallerLemmas.{added_plain, entry_by_id, same_rules_by_id}
-use Rattle.clap.specs.Words.{App, HasMatchesOf, Text, app_of, is_simple, matches_of, new_app, one_of, rows_of, rule_of, with_rule}
+use Rattle.clap.specs.Words.{App, fault_of, is_simple_and_free, HasMatchesOf, Text, app_of, is_simple, matches_of, new_app, one_of, rows_of, rule_of, with_rule}
 use Rattle.clap.proofs.OnLiterals.{clap_on_literals}
 use Rattle.clap.proofs.WalkLemmas.{one_text-rows}
 use Rattle.clipsbatch.specs.Commands.{IsNumberOption, limit_of, limits_app, number_of, number_rule, option_or}
@@ -234,6 +236,19 @@ turns_option cmd first second third three a b c min max parser =
 simple : is_simple limits_app ≡ true
 unfolding clap_on_literals
 simple = refl
+
+-- no option has a rule on another
+free : is_simple_and_free limits_app ≡ true
+unfolding clap_on_literals
+free = refl
+
+-- a parse that succeeds: the words have no fault
+pub no_fault : (app : App) (words : List Text) → app ≡ limits_app → (is_simple_and_free app ≡ true → fault_of app words ≡ []) → fault_of limits_app words ≡ []
+no_fault app words is none = ap (λ a. fault_of a words) (sym is) ∙ none (ap is_simple_and_free is ∙ free)
+
+-- a parse that fails: the error has the kind of the words' fault
+pub has_kind : (app : App) (words : List Text) (e : Error) → app ≡ limits_app → (is_simple_and_free app ≡ true → HasKind (fault_of app words) e) → HasKind (fault_of limits_app words) e
+has_kind app words e is kind = subst (λ a. HasKind (fault_of a words) e) is (kind (ap is_simple_and_free is ∙ free))
 
 -- what the matches have is what the words give
 pub from_words : (app : App) (m : ArgMatches) (words : List Text) (id : Text) (default : ℕ) → app ≡ limits_app → HasMatchesOf app words m

@@ -3,7 +3,7 @@
 //! `README.md` has the options and the exit statuses.
 #![tactic(auto)]
 
-ghost use Rattle.std.specs.Prelude.{◌≡◌};
+ghost use Rattle.std.specs.Prelude.{◌≡◌, ◌≢◌};
 ghost use Rattle.clap.specs.Words.{kind_of};
 ghost use Rattle.cb_session.specs.Sessions.{IsReady};
 
@@ -71,7 +71,10 @@ fn carry_out<R: AllocGlobal + Print + Eprint, S: Source, K: Sink>(
 
 // Says why the words are refused, or the help that they ask for; its exit status.
 fn refused<R: Print + Eprint>(rt: &R, error: Error) -> u8
-    ensures { kind_of error ≡ ErrorKind.OutOfMemory → result ≡ 3 }
+    ensures memory { kind_of error ≡ ErrorKind.OutOfMemory → result ≡ 3 }
+    ensures help { kind_of error ≡ ErrorKind.DisplayHelp → result ≡ 0 }
+    ensures wrong { kind_of error ≢ ErrorKind.OutOfMemory → kind_of error ≢ ErrorKind.DisplayHelp
+        → kind_of error ≢ ErrorKind.DisplayVersion → result ≡ 2 }
 {
     if error.kind() == ErrorKind::OutOfMemory {
         return no_memory(rt);

@@ -1,6 +1,6 @@
 //! The whole program, but for where its words and its bytes come from and go to.
 ghost use Rattle.std.specs.Prelude.{◌≡◌, IfOk, IfErr, OnErr, map, true, codes};
-ghost use Rattle.clap.specs.Words.{kind_of, takes};
+ghost use Rattle.clap.specs.Words.{FailsBy, fault_of, kind_of, takes};
 ghost use Rattle.cb_session.specs.Sessions.{IsReady};
 ghost use Rattle.clipsbatch.specs.Commands.{limit_of, limits_app};
 ghost use Rattle.clipsbatch.specs.Ran.{Ran};
@@ -33,6 +33,7 @@ pub fn carry_out<'a, S: Source, K: Sink>(
     // The words are refused, or ask for help.
     ensures refused { IfErr result (λ e. takes limits_app (map (λ w. w.now) words.entry.now) ≡ true
         → kind_of e ≡ ErrorKind.OutOfMemory) }
+    ensures kinds { FailsBy (fault_of limits_app (map (λ w. w.now) words.entry.now)) result }
     ensures unread { OnErr result (source.new ≡ source.old) }
     ensures unwritten { OnErr result (out.new ≡ out.old) }
 {

@@ -1,6 +1,6 @@
 //! The limits, read from the program's words.
 ghost use Rattle.std.specs.Prelude.{◌≡◌, ◌≤◌, Some, IfOk, IfErr, map, true, false, codes};
-ghost use Rattle.clap.specs.Words.{IsPlainArg, found_of, kind_of, rule_of, takes};
+ghost use Rattle.clap.specs.Words.{FailsBy, IsPlainArg, fault_of, found_of, kind_of, rule_of, takes};
 ghost use Rattle.clipsbatch.specs.Commands.{IsNumberOption, limit_of, limits_app, number_rule, option_or};
 
 use cb_session::Limits;
@@ -25,6 +25,9 @@ pub fn read_words<'a>(alloc: Global, words: &'a [&'a str]) -> Result<Limits, Err
     // Words that the command takes are refused for want of memory alone.
     ensures refused { IfErr result (λ e. takes limits_app (map (λ w. w.now) words.entry.now) ≡ true
         → kind_of e ≡ ErrorKind.OutOfMemory) }
+
+    // Words with a fault are refused, and the error's kind is that of the fault.
+    ensures kinds { FailsBy (fault_of limits_app (map (λ w. w.now) words.entry.now)) result }
 {
     let command = Command::new(alloc, "clipsbatch")
         .about(ABOUT)

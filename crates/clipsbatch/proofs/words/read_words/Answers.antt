@@ -1,6 +1,6 @@
 use Rattle.std.proofs.Common.{rules, ap, ap₂, refl, codes, ◌∙◌}
 use Rattle.clap.specs.Words.{takes}
-use Rattle.clipsbatch.proofs.Options.{made, made_app, number_option, form_option, firings_option, turns_option, from_words}
+use Rattle.clipsbatch.proofs.Options.{made, made_app, number_option, form_option, firings_option, turns_option, from_words, no_fault, has_kind}
 use Rattle.clipsbatch.proofs.words.read_words.Goals as goal
 
 pub returns-in-Err-clause-refused : goal.returns-in-Err-clause-refused
@@ -47,3 +47,15 @@ returns-clause-max_turns c =
     let app_is = made_app _ _ _ _ _ _ _ c.in_ok-arg.ensures c.in_ok-arg-2.ensures c.in_ok-command.ensures (search rules)
     c.number.ensures.local c.number-2.ensures.local c.number-3.ensures.local c.number.ensures.rule c.number-2.ensures.rule c.number-3.ensures.rule in
     c.limit-max_turns.ensures.value ∙ from_words _ _ _ (codes "max-turns") 10000000 app_is c.in-Ok.ensures.matches
+
+pub returns-in-Err-clause-kinds : goal.returns-in-Err-clause-kinds
+returns-in-Err-clause-kinds c =
+    let app_is = made_app _ _ _ _ _ _ _ c.in_ok-arg.ensures c.in_ok-arg-2.ensures c.in_ok-command.ensures (search rules)
+    c.number.ensures.local c.number-2.ensures.local c.number-3.ensures.local c.number.ensures.rule c.number-2.ensures.rule c.number-3.ensures.rule in
+    has_kind _ _ c.in-Err.error app_is c.in-Err.ensures.kinds
+
+pub returns-clause-kinds : goal.returns-clause-kinds
+returns-clause-kinds c =
+    let app_is = made_app _ _ _ _ _ _ _ c.in_ok-arg.ensures c.in_ok-arg-2.ensures c.in_ok-command.ensures (search rules)
+    c.number.ensures.local c.number-2.ensures.local c.number-3.ensures.local c.number.ensures.rule c.number-2.ensures.rule c.number-3.ensures.rule in
+    no_fault _ _ app_is c.in-Ok.ensures.kinds
