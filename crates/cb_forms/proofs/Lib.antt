@@ -11,7 +11,6 @@ pub mod NestLaws
 mod NumberLemmas
 pub mod OpenPartLaws
 pub mod PartLaws
-pub mod Passing
 pub mod PieceLaws
 pub mod PlaceLaws
 pub mod ReaderLaws
@@ -20,7 +19,6 @@ pub mod SpellingLaws
 pub mod Splits
 pub mod TextLaws
 mod Vectors
-mod Walks
 mod WordLemmas
 pub mod WritingLaws
 mod WithinLaws

@@ -1,5 +1,4 @@
 pub mod Bytes
-pub mod Countdown
 pub mod Cuts
 pub mod Cutter
 pub mod Cutting
@@ -8,12 +7,8 @@ pub mod Items
 pub mod Laws
 pub mod Lists
 pub mod Members
-pub mod MemSink
-pub mod MemSource
-pub mod Moved
 pub mod Nests
 pub mod OpenParts
-pub mod Output
 pub mod Pieces
 pub mod Places
 pub mod Strings

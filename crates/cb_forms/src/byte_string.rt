@@ -4,7 +4,7 @@ ghost use Rattle.std.specs.Cmp.Lexicographic.{pointwise};
 ghost use Rattle.std.specs.Cmp.Rules.{comparing};
 ghost use Rattle.std.proofs.Common.{rules};
 
-use crate::no_memory::NoMemory;
+use cb_io::NoMemory;
 use std::alloc::Global;
 use std::marker::Model;
 

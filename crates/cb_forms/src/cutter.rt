@@ -6,9 +6,8 @@ ghost use Rattle.cb_forms.specs.Items.{items, whole, rest, over};
 
 use crate::cut::Cut;
 use crate::form::Item;
-use crate::no_memory::NoMemory;
 use crate::open_part::OpenPart;
-use crate::trace::Trace;
+use cb_io::{NoMemory, Trace};
 use std::alloc::Global;
 use std::marker::Model;
 

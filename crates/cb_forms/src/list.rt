@@ -10,8 +10,8 @@ use crate::fault::Fault;
 use crate::form::{Form, Item};
 use crate::lexeme::Lexeme;
 use crate::nest::Nest;
-use crate::no_memory::NoMemory;
 use crate::piece::{read_piece, split_piece};
+use cb_io::NoMemory;
 use std::alloc::Global;
 
 /// How deep lists nest.

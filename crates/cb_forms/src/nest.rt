@@ -5,7 +5,7 @@ ghost use Rattle.cb_forms.specs.Nests.{frames_of, closed_up};
 ghost use Rattle.cb_forms.specs.Trees.{Tree, tree_of};
 
 use crate::form::Form;
-use crate::no_memory::NoMemory;
+use cb_io::NoMemory;
 use std::alloc::Global;
 use std::mem;
 

@@ -10,10 +10,9 @@ use crate::cut::Cut;
 use crate::fault::Fault;
 use crate::form::Item;
 use crate::mode::Mode;
-use crate::no_memory::NoMemory;
 use crate::part::read_part;
 use crate::place::Place;
-use crate::trace::Trace;
+use cb_io::{NoMemory, Trace};
 use std::alloc::Global;
 
 /// A part that may go on: its bytes where it is an item, and the place behind its last byte.

@@ -8,8 +8,8 @@ use crate::fault::Fault;
 use crate::form::{Form, Item};
 use crate::lexeme::Lexeme;
 use crate::list::read_list;
-use crate::no_memory::NoMemory;
 use crate::piece::read_piece;
+use cb_io::NoMemory;
 use std::alloc::Global;
 
 /// The item that a part is: none for a blank or a comment. A list is closed. Growth is refused as `NoMemory`.

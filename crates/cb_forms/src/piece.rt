@@ -7,10 +7,10 @@ use crate::byte_kinds::is_blank;
 use crate::fault::Fault;
 use crate::lexeme::Lexeme;
 use crate::mode::Mode;
-use crate::no_memory::NoMemory;
 use crate::string::read_content;
 use crate::token::Token;
 use crate::word::read_word;
+use cb_io::NoMemory;
 use std::alloc::Global;
 
 /// The first piece of a text, and what stands behind it.

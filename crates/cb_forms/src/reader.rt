@@ -7,9 +7,9 @@ ghost use Rattle.cb_forms.specs.Trees.{reading_of};
 
 use crate::fault::Fault;
 use crate::form::Item;
-use crate::no_memory::NoMemory;
 use crate::part::read_part;
 use crate::place::Place;
+use cb_io::NoMemory;
 use std::alloc::Global;
 
 /// The items of a whole script, in order. The script is at hand as a whole, and an item may have any length. Growth is

@@ -3,7 +3,7 @@ ghost use Rattle.std.specs.Prelude.{◌≡◌, IfOk};
 ghost use Rattle.cb_forms.specs.Strings.{content_of};
 
 use crate::byte_string::ByteString;
-use crate::no_memory::NoMemory;
+use cb_io::NoMemory;
 use std::alloc::Global;
 
 #[cfg(test)]

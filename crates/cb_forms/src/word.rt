@@ -4,9 +4,9 @@ ghost use Rattle.cb_forms.specs.Words as spec;
 
 use crate::byte_string::ByteString;
 use crate::fault::Fault;
-use crate::no_memory::NoMemory;
 use crate::number::{integer, is_float, is_integer};
 use crate::token::Token;
+use cb_io::NoMemory;
 use std::alloc::Global;
 
 #[cfg(test)]

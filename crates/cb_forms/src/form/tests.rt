@@ -1,7 +1,7 @@
 use super::*;
 use crate::byte_string::ByteString;
-use crate::no_memory::NoMemory;
 use crate::reader::read_items;
+use cb_io::NoMemory;
 use std::alloc::Global;
 
 // What a form is: `s` and its symbol, or `c`, its head and a point for each member behind it, or nothing of these.

@@ -3,8 +3,8 @@ use super::written::read;
 use crate::cutter::Cutter;
 use crate::fault::Fault;
 use crate::form::{Form, Item};
-use crate::no_memory::NoMemory;
 use crate::token::Token;
+use cb_io::NoMemory;
 use std::alloc::Global;
 
 /// What a byte makes of the texts `b`, `aba` and `(b)`: a letter for each item, and for each form of a list between

@@ -3,7 +3,7 @@ use super::written::Want::{And, Close, Int, Open, Str, Symbol, Var};
 use super::written::{items, read};
 use crate::cut::Cut;
 use crate::cutter::Cutter;
-use crate::no_memory::NoMemory;
+use cb_io::NoMemory;
 
 /// Whether the bytes in front of a place are an item's first ones, and more than the limit.
 fn is_over(place: usize, start: usize, length: usize, limit: usize) -> bool {

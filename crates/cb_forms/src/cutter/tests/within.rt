@@ -1,7 +1,7 @@
 //! Bytes that complete nothing.
 use crate::cut::Cut;
 use crate::cutter::Cutter;
-use crate::no_memory::NoMemory;
+use cb_io::NoMemory;
 
 // Whether each byte of a text is taken: a `t` for one that is, a blank for one that is left to `step`.
 #[test]

@@ -4,11 +4,11 @@ use crate::cut::Cut;
 use crate::cutter::Cutter;
 use crate::fault::Fault;
 use crate::form::{Form, Item};
-use crate::no_memory::NoMemory;
 use crate::token::Token;
 use Want::{
     And, Any, Bad, Close, Global as Star, Int, MultiAny, MultiVar, Not, Open, Or, Str, Symbol, Var,
 };
+use cb_io::NoMemory;
 use std::alloc::Global;
 use std::process::Abort;
 

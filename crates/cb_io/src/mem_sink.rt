@@ -1,7 +1,7 @@
 //! A sink over memory.
 ghost use Rattle.std.specs.Prelude.{◌≡◌, ◌↔◌, ◌<◌, [], Some, length, min, IsErr, IsOk, IfOk, OnErr};
-ghost use Rattle.cb_forms.specs.Countdown.{IsDue};
-ghost use Rattle.cb_forms.specs.MemSink.{store_after_write, store_after_fault};
+ghost use Rattle.cb_io.specs.Countdown.{IsDue};
+ghost use Rattle.cb_io.specs.MemSink.{store_after_write, store_after_fault};
 
 use crate::countdown::Countdown;
 use crate::no_memory::NoMemory;
@@ -23,7 +23,7 @@ pub struct MemSink {
 
 impl Model for MemSink {
     ghost use Rattle.std.specs.Prelude.{◌≤◌, ◌+◌, length, vec_capacity};
-    ghost use Rattle.cb_forms.specs.MemSink.{Store};
+    ghost use Rattle.cb_io.specs.MemSink.{Store};
 
     ghost Value = { Store };
 

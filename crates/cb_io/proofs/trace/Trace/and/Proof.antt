@@ -30,12 +30,12 @@ use denote.Triple.Spec.{Meets, triple_of}
 use denote.Triple.Table.{entered}
 use denote.Triple.Walked.{says, Stays, stay_dropped, walk_of, ends_at, walk_Meets, Goes-dropped}
 use Rattle.std.specs.contracts.marker.PhantomData as Marker
-use Rattle.cb_forms.proofs.Walks.{empty, wrapped, wrap}
-use Rattle.cb_forms.specs.contracts.trace.Trace as Trace
-use Rattle.cb_forms.specs.contracts.trace.Trace.and as clauses
-use Rattle.cb_forms.specs.contracts.trace.Trace.and.Key.{name as #key}
-use Rattle.cb_forms.proofs.trace.Trace.and.Statement as stated
-use Rattle.cb_forms.proofs.trace.Trace.and.Code as code
+use Rattle.cb_io.proofs.Walks.{empty, wrapped, wrap}
+use Rattle.cb_io.specs.contracts.trace.Trace as Trace
+use Rattle.cb_io.specs.contracts.trace.Trace.and as clauses
+use Rattle.cb_io.specs.contracts.trace.Trace.and.Key.{name as #key}
+use Rattle.cb_io.proofs.trace.Trace.and.Statement as stated
+use Rattle.cb_io.proofs.trace.Trace.and.Code as code
 
 module _ (T : RattleType) where
   abbrev chosen : Args

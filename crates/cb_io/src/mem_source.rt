@@ -1,8 +1,8 @@
 //! A source over memory.
 ghost use Rattle.std.specs.Prelude.{◌≡◌, ◌↔◌, ◌≤◌, ◌<◌, ◌+◌, ◌++◌, Some, length, min, take, drop, IsErr, IfOk, OnOk, OnErr};
-ghost use Rattle.cb_forms.specs.Moved.{Gave, IsAtEnd};
-ghost use Rattle.cb_forms.specs.Countdown.{IsDue};
-ghost use Rattle.cb_forms.specs.MemSource.{supply_after_read, supply_after_fault};
+ghost use Rattle.cb_io.specs.Moved.{Gave, IsAtEnd};
+ghost use Rattle.cb_io.specs.Countdown.{IsDue};
+ghost use Rattle.cb_io.specs.MemSource.{supply_after_read, supply_after_fault};
 
 use crate::countdown::Countdown;
 use crate::source::{ReadFault, Source};
@@ -21,7 +21,7 @@ pub struct MemSource<'a> {
 
 impl<'a> Model for MemSource<'a> {
     ghost use Rattle.std.specs.Prelude.{◌<◌, length};
-    ghost use Rattle.cb_forms.specs.MemSource.{Supply};
+    ghost use Rattle.cb_io.specs.MemSource.{Supply};
 
     ghost Value = { Supply };
 

@@ -1,6 +1,6 @@
 -- What a caller knows of a sink over memory.
 use Rattle.std.specs.Prelude.{ℕ, ◌+◌, ◌-◌, List, ◌++◌, take, Option}
-use Rattle.cb_forms.specs.Countdown.{calls_left}
+use Rattle.cb_io.specs.Countdown.{calls_left}
 
 -- the bytes that it took, how many more fit, the most that a write takes, which write fails, and how many have failed
 pub record Store : Type 0 where

@@ -1,6 +1,6 @@
 //! Which call is to fail.
 ghost use Rattle.std.specs.Prelude.{◌≡◌, ◌↔◌, IsTrue};
-ghost use Rattle.cb_forms.specs.Countdown.{calls_left, IsDue};
+ghost use Rattle.cb_io.specs.Countdown.{calls_left, IsDue};
 
 use std::marker::Model;
 

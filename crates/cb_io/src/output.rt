@@ -1,7 +1,7 @@
 //! The one place where output goes through.
 ghost use Rattle.std.specs.Prelude.{◌≡◌, ◌<◌, ◌≤◌, ◌+◌, ◌++◌, [], take, length, true, false, IsErr, OnOk, OnErr};
-ghost use Rattle.cb_forms.specs.Moved.{Took};
-ghost use Rattle.cb_forms.specs.Output.{Passed, PassedSome};
+ghost use Rattle.cb_io.specs.Moved.{Took};
+ghost use Rattle.cb_io.specs.Output.{Passed, PassedSome};
 
 use crate::sink::{Sink, WriteFault};
 use std::marker::Model;
@@ -23,7 +23,7 @@ pub struct Out<K: Sink> {
 
 impl<K: Sink> Model for Out<K> {
     ghost use Rattle.std.specs.Prelude.{◌≤◌, take};
-    ghost use Rattle.cb_forms.specs.Output.{OutState, out_state_code};
+    ghost use Rattle.cb_io.specs.Output.{OutState, out_state_code};
 
     ghost Value = { OutState K };
 

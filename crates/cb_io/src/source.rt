@@ -1,6 +1,6 @@
 //! Where bytes come from.
 ghost use Rattle.std.specs.Prelude.{◌≡◌, ◌≤◌, ◌<◌, ◌+◌, List, ℕ, Option, length, take, IfOk, OnOk, OnErr};
-ghost use Rattle.cb_forms.specs.Moved.{Gave, IsAtEnd};
+ghost use Rattle.cb_io.specs.Moved.{Gave, IsAtEnd};
 
 use thiserror::Error;
 

@@ -1,6 +1,6 @@
 -- What a caller knows of a source over memory.
 use Rattle.std.specs.Prelude.{ℕ, ◌+◌, List, drop, Option}
-use Rattle.cb_forms.specs.Countdown.{calls_left}
+use Rattle.cb_io.specs.Countdown.{calls_left}
 
 -- the bytes that it hasn't given yet, the most that a read gives, which read fails, and how many have failed
 pub record Supply : Type 0 where

@@ -1,6 +1,6 @@
 //! Where bytes go.
 ghost use Rattle.std.specs.Prelude.{◌≡◌, ◌≤◌, ◌<◌, ◌+◌, List, ℕ, Option, length, take, IfOk, OnErr};
-ghost use Rattle.cb_forms.specs.Moved.{Took};
+ghost use Rattle.cb_io.specs.Moved.{Took};
 
 use thiserror::Error;
 

@@ -1,0 +1,2 @@
+pub mod Passing
+mod Walks

@@ -1,0 +1,5 @@
+pub mod Countdown
+pub mod MemSink
+pub mod MemSource
+pub mod Moved
+pub mod Output

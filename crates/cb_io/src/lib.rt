@@ -1,0 +1,22 @@
+//! Where the bytes of clipsbatch come from and where they go.
+//!
+//! Bytes come from a [`Source`] and go to a [`Sink`], through [`Out`]. `docs/ARCHITECTURE.md` says where the layer
+//! stands.
+#![tactic(auto)]
+
+mod countdown;
+mod mem_sink;
+mod mem_source;
+mod no_memory;
+mod output;
+mod sink;
+mod source;
+mod trace;
+
+pub use mem_sink::MemSink;
+pub use mem_source::MemSource;
+pub use no_memory::NoMemory;
+pub use output::Out;
+pub use sink::{Sink, WriteFault};
+pub use source::{ReadFault, Source};
+pub use trace::Trace;
