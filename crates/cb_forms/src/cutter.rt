@@ -184,6 +184,3 @@ fn noted(given: &Trace<Item>, cut: &Cut) -> Trace<Item>
         Cut::TwoItems(first, second) => given.and(first).and(second),
     }
 }
-
-#[cfg(test)]
-mod tests;

@@ -6,9 +6,6 @@ ghost use Rattle.cb_forms.specs.Trees.{tree_of};
 use crate::fault::Fault;
 use crate::token::Token;
 
-#[cfg(test)]
-mod tests;
-
 /// An atom, or a list of forms.
 #[derive(Debug, Drop, PartialEq, Eq)]
 pub enum Form {

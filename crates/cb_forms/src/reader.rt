@@ -64,6 +64,3 @@ fn keep(read: &mut Vec<Item>, item: Option<Item>) -> Result<(), NoMemory>
     }
     Ok(())
 }
-
-#[cfg(test)]
-mod tests;

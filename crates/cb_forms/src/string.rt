@@ -6,9 +6,6 @@ use crate::byte_string::ByteString;
 use cb_io::NoMemory;
 use std::alloc::Global;
 
-#[cfg(test)]
-mod tests;
-
 /// What the bytes behind an opening quote say up to the closing one, which need not be there: a backslash gives the
 /// byte behind it.
 pub(crate) fn read_content(alloc: Global, body: &[u8]) -> Result<ByteString, NoMemory>

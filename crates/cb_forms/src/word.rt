@@ -9,9 +9,6 @@ use crate::token::Token;
 use cb_io::NoMemory;
 use std::alloc::Global;
 
-#[cfg(test)]
-mod tests;
-
 /// The token that a word is, or the fault of one that spells a float or an integer out of range.
 pub(crate) fn read_word(alloc: Global, word: &[u8]) -> Result<Result<Token, Fault>, NoMemory>
     ensures { IfOk result (λ r. r ≡ spec.token_of word.now) }

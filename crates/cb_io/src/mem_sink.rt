@@ -110,6 +110,3 @@ impl Sink for MemSink {
         }
     }
 }
-
-#[cfg(test)]
-mod tests;

@@ -85,6 +85,3 @@ impl Source for MemSource<'_> {
         Ok(n)
     }
 }
-
-#[cfg(test)]
-mod tests;

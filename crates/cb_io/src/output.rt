@@ -166,6 +166,3 @@ fn write_all<K: Sink>(sink: &mut K, bytes: &[u8]) -> Result<(), WriteFault>
     }
     Ok(())
 }
-
-#[cfg(test)]
-mod tests;

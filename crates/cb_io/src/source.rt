@@ -32,18 +32,3 @@ pub trait Source {
         ensures counts_err { OnErr result (failures self.new ≡ failures self.old + 1) }
         ensures err { OnErr result (left self.new ≡ left self.old) };
 }
-
-#[cfg(test)]
-mod tests {
-    use super::*;
-    use std::test::Fail;
-
-    #[test]
-    fn fault_reads(rt: HostRuntime) -> Result<(), Fail> {
-        assert_eq!(rt;
-            format!(in rt.alloc(); "{ReadFault}")?.as_str(),
-            "read failed"
-        );
-        Ok(())
-    }
-}

@@ -46,14 +46,3 @@ impl<T> Trace<T> {
         Trace { of: PhantomData }
     }
 }
-
-#[cfg(test)]
-mod tests {
-    use super::*;
-
-    #[test]
-    fn takes_no_bytes(rt: HostRuntime) {
-        let told = Trace::new().and(&7u64).again();
-        assert_eq!(rt; std::mem::size_of_val(&told), 0);
-    }
-}

@@ -1,0 +1,11 @@
+mod bytes;
+mod errors;
+mod forms;
+mod held;
+mod limits;
+mod memory;
+mod output;
+mod reading;
+mod refusals;
+mod shown;
+mod steps;

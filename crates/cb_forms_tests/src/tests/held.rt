@@ -1,0 +1,41 @@
+//! The bytes of the item that is open.
+use cb_forms::{Cutter, NoMemory};
+use std::alloc::Global;
+
+/// A text, and what is held behind each of its bytes, with a point behind each.
+const ROWS: [(&[u8], &[u8]); 6] = [
+    (b"ab ", b"a.ab.."),
+    (b"(c;)\n)", b"(.(c.(c;.(c;).(c;)\n.."),
+    (b"\"d\\\"\"", b"\".\"d.\"d\\.\"d\\\".."),
+    (b" ;e\n", b"...."),
+    (b"?x<y&", b"?.?x.<.<y.."),
+    (b")~z(", b"..z.(."),
+];
+
+/// What is held behind each byte.
+fn held(alloc: Global, cutter: &mut Cutter, text: &[u8]) -> Result<Vec<u8>, NoMemory> {
+    let mut held = Vec::new(alloc);
+    for byte in text {
+        cutter.step(*byte)?;
+        held.extend_from_slice(cutter.held())?;
+        held.push(b'.')?;
+    }
+    Ok(held)
+}
+
+/// The first row that isn't so. The texts are one script.
+fn first_wrong(alloc: Global) -> Result<Option<usize>, NoMemory> {
+    let mut cutter = Cutter::new(alloc, 100);
+    for (place, (text, want)) in ROWS.iter().enumerate() {
+        if held(alloc, &mut cutter, text)?.as_slice() != *want {
+            return Ok(Some(place));
+        }
+    }
+    Ok(None)
+}
+
+#[test]
+fn holds_the_open_item(rt: HostRuntime) -> Result<(), NoMemory> {
+    assert_eq!(rt; first_wrong(rt.alloc())?, None);
+    Ok(())
+}

@@ -1,0 +1,68 @@
+//! Growth that is refused. `rt try --test --fail-alloc N` refuses the Nth growth of each test; these pass however great N
+//! is.
+use super::shown::Shown;
+use cb_forms::{Cut, Cutter, NoMemory, read_items};
+use std::alloc::Global;
+
+const TEXT: &[u8] = b"(ab \"c\" (1)) ?x&d";
+
+const ITEMS: &[u8] = b" ( s:ab t:c ( i:1 ) ) v:x & s:d";
+
+/// One more byte: whether the cutter then says that it failed exactly if it answered so, which it does each time once it
+/// has.
+fn step_is_told(cutter: &mut Cutter, shown: &mut Shown, byte: u8) -> Result<bool, NoMemory> {
+    let had_failed = cutter.failed();
+    let cut = cutter.step(byte);
+    let is_told = cutter.failed() == cut.is_err() && (cut.is_err() || !had_failed);
+    shown.add_cut(&cut.unwrap_or(Cut::More))?;
+    Ok(is_told)
+}
+
+/// The same of the end.
+fn end_is_told(cutter: &mut Cutter, shown: &mut Shown) -> Result<bool, NoMemory> {
+    let had_failed = cutter.failed();
+    let end = cutter.end();
+    let is_told = cutter.failed() == end.is_err() && (end.is_err() || !had_failed);
+    if let Some(item) = end.unwrap_or(None) {
+        shown.add_item(&item)?;
+    }
+    Ok(is_told)
+}
+
+/// Whether each byte and the end are told so.
+fn all_are_told(cutter: &mut Cutter, shown: &mut Shown) -> Result<bool, NoMemory> {
+    for byte in TEXT {
+        if !step_is_told(cutter, shown, *byte)? {
+            return Ok(false);
+        }
+    }
+    end_is_told(cutter, shown)
+}
+
+/// Whether a refusal is told from then on, and the items before it are as ever: all of them where none was refused.
+fn is_as_ever(alloc: Global) -> Result<bool, NoMemory> {
+    let mut cutter = Cutter::new(alloc, 100);
+    let mut shown = Shown::new(alloc);
+    let are_told = all_are_told(&mut cutter, &mut shown)?;
+    let is_whole = cutter.failed() || shown.bytes() == ITEMS;
+    Ok(are_told && is_whole && ITEMS.starts_with(shown.bytes()))
+}
+
+#[test]
+fn tells_a_refusal_by_steps(rt: HostRuntime) {
+    assert!(rt; is_as_ever(rt.alloc()).unwrap_or(true));
+}
+
+/// Whether a text that is read at once has all items.
+fn reads_all(alloc: Global) -> Result<bool, NoMemory> {
+    let mut shown = Shown::new(alloc);
+    for item in &read_items(alloc, TEXT)? {
+        shown.add_item(item)?;
+    }
+    Ok(shown.bytes() == ITEMS)
+}
+
+#[test]
+fn tells_a_refusal_at_once(rt: HostRuntime) {
+    assert!(rt; reads_all(rt.alloc()).unwrap_or(true));
+}
