@@ -15,9 +15,6 @@ use std::hash::{FoldHasher, Hash, Hasher};
 use std::marker::Model;
 use std::rc::Rc;
 
-#[cfg(test)]
-mod tests;
-
 /// What stands in a fact behind its relation.
 #[derive(Debug, PartialEq, Eq, Drop)]
 pub enum Content {

@@ -12,9 +12,6 @@ use std::collections::BTreeMap;
 use std::collections::btree_map::Iter;
 use std::marker::Model;
 
-#[cfg(test)]
-mod tests;
-
 /// Facts by their indices, no two of them equal.
 ///
 /// An equal fact is found in constant expected time, and a fact is added and removed in logarithmic time.

@@ -13,9 +13,6 @@ use cb_forms::NoMemory;
 use itoa::Buffer;
 use std::alloc::Global;
 
-#[cfg(test)]
-mod tests;
-
 /// The text that a value is printed with: the bytes of a symbol and of a string, an integer's decimal digits behind a `-`
 /// where it is negative, `<Fact-N>` for the address of the fact with index N, and a multifield's fields, each by its
 /// quoted text, with a blank between each two, in parentheses. Growth is refused as `NoMemory`.

@@ -7,9 +7,6 @@ use crate::name::Name;
 use cb_forms::{NoMemory, Token};
 use std::alloc::Global;
 
-#[cfg(test)]
-mod tests;
-
 /// A value of a script. Of two variants the first here is the lesser.
 ///
 /// A clone shares the bytes and the fields. It takes no memory, and is refused only where the count of sharers is full.

@@ -15,9 +15,6 @@ use cb_facts::{Fact, Many, Name, Value, is_multifield, splice, splice_values};
 use cb_forms::{Fault, NoMemory};
 use std::alloc::Global;
 
-#[cfg(test)]
-mod tests;
-
 /// The fact of a relation with these parts.
 ///
 /// An ordered fact has the values as its fields, multifields spliced. A template's fact has all slots of the template in its

@@ -14,8 +14,6 @@ mod reserved;
 mod slot;
 mod slot_form;
 mod slot_type;
-#[cfg(test)]
-mod testing;
 
 pub use build::build_fact;
 pub use comment::without_comment;

@@ -15,9 +15,6 @@ use indexmap::IndexMap;
 use std::alloc::Global;
 use std::marker::Model;
 
-#[cfg(test)]
-mod tests;
-
 /// The slots of a template, in their order.
 #[derive(Debug, Drop)]
 struct Template {
