@@ -1,45 +1,14 @@
-//! What scripts are about: names, values, their texts, facts and the fact list.
+//! What scripts are about: names, values, their texts, facts, the fact list and templates.
 //!
-//! A name, a value and a fact share their contents, so that a clone copies none. `docs/ARCHITECTURE.md` says where the
-//! layer stands.
+//! All of it stands in `cb_facts` and `cb_templates`. `docs/ARCHITECTURE.md` says where the layers stand.
 #![tactic(auto)]
 
-mod attribute;
-mod build;
-mod comment;
-mod fact;
-mod fact_list;
-pub mod laws;
-mod many;
-mod name;
-mod parts;
-mod refused;
-mod relations;
-mod reserved;
-mod single;
-mod slot;
-mod slot_form;
-mod slot_type;
-mod splicing;
-#[cfg(test)]
-mod testing;
-mod text;
-mod value;
-mod words;
-
-pub use build::build_fact;
-pub use comment::without_comment;
-pub use fact::{Content, Fact};
-pub use fact_list::FactList;
-pub use many::Many;
-pub use name::Name;
-pub use parts::{GivenSlot, Parts, find_given};
-pub use refused::Refused;
-pub use relations::Relations;
-pub use reserved::is_reserved;
-pub use single::Single;
-pub use slot::{Slot, find_slot};
-pub use splicing::splice;
-pub use text::{fact_text, plain_text, quoted_text};
-pub use value::Value;
-pub use words::is_among;
+pub use cb_facts::{
+    Content, Fact, FactList, Many, Name, Single, Value, fact_text, is_among, plain_text,
+    quoted_text, splice,
+};
+pub use cb_templates::laws;
+pub use cb_templates::{
+    GivenSlot, Parts, Refused, Relations, Slot, build_fact, find_given, find_slot, is_reserved,
+    without_comment,
+};

@@ -1,0 +1,168 @@
+//! Facts.
+ghost use Rattle.std.specs.Prelude.{◌≡◌, IfOk, fold};
+ghost use Rattle.std.specs.Hash as fed;
+ghost use Rattle.std.specs.Hash.FoldHasher as folding;
+ghost use Rattle.std.specs.Cmp.{partial_equiv_from_equiv};
+ghost use Rattle.cb_facts.specs.Facts.{ordered_fact, template_fact, content_of, content_writes, fact_eq, hash_of};
+ghost use Rattle.cb_facts.specs.FactLaws.{fact_equiv, fact_fed};
+
+use crate::name::Name;
+use crate::value::Value;
+use cb_forms::NoMemory;
+use std::alloc::{AllocError, Global};
+use std::fmt;
+use std::hash::{FoldHasher, Hash, Hasher};
+use std::marker::Model;
+use std::rc::Rc;
+
+/// What stands in a fact behind its relation.
+#[derive(Debug, PartialEq, Eq, Drop)]
+pub enum Content {
+    /// The fields of an ordered fact, in their order.
+    Fields(Vec<Value>),
+    /// The slots of a template's fact, each name with its value, in the template's order.
+    Slots(Vec<(Name, Value)>),
+}
+
+impl Content {
+    fn hash_into(&self, hasher: &mut FoldHasher)
+        ensures { hasher.new ≡ fold folding.write hasher.old (content_writes (content_of self.now)) }
+    {
+        match self {
+            Content::Fields(values) => values.as_slice().hash(hasher),
+            Content::Slots(slots) => slots.as_slice().hash(hasher),
+        }
+    }
+}
+
+#[derive(Debug, Drop)]
+struct Body {
+    relation: Name,
+    content: Content,
+    hash: u64,
+}
+
+/// A fact: its relation and its content, which never change.
+///
+/// A clone shares both. It takes no memory, and is refused only where the count of its sharers is full. Two facts are
+/// equal where their relations and their contents are. Hashing a fact takes constant time.
+///
+/// Contracts see its relation's bytes and its content.
+#[derive(Drop)]
+pub struct Fact {
+    body: Rc<Body>,
+}
+
+impl Model for Fact {
+    ghost use Rattle.std.specs.Prelude.{◌≡◌};
+    ghost use Rattle.std.specs.Rc.{rc_value};
+    ghost use Rattle.cb_facts.specs.Facts.{FactValue, fact_in, KeepsHash};
+
+    ghost Value = { FactValue };
+
+    ghost view = { λ f. fact_in (rc_value f.body) };
+
+    ghost invariant = { λ f. KeepsHash (rc_value f.body) };
+}
+
+impl Fact {
+    /// The ordered fact of a relation with these fields, both taken over. Growth is refused as `NoMemory`.
+    pub fn ordered(alloc: Global, relation: Name, fields: Vec<Value>) -> Result<Fact, NoMemory>
+        ensures { IfOk result (λ fact. fact ≡ ordered_fact relation fields.items) }
+    {
+        Fact::new(alloc, relation, Content::Fields(fields))
+    }
+
+    /// The fact of a template with this name, with these slots, both taken over: all slots of the template, in its
+    /// order, which nothing here checks. Growth is refused as `NoMemory`.
+    pub fn with_slots(
+        alloc: Global,
+        relation: Name,
+        slots: Vec<(Name, Value)>,
+    ) -> Result<Fact, NoMemory>
+        ensures { IfOk result (λ fact. fact ≡ template_fact relation slots.items) }
+    {
+        Fact::new(alloc, relation, Content::Slots(slots))
+    }
+
+    fn new(alloc: Global, relation: Name, content: Content) -> Result<Fact, NoMemory>
+        ensures { IfOk result (λ fact. fact ≡ record { relation = relation; content = content_of content }) }
+    {
+        let hash = hash_of(&relation, &content);
+        let body = Rc::new(
+            alloc,
+            Body {
+                relation,
+                content,
+                hash,
+            },
+        )?;
+        Ok(Fact { body })
+    }
+
+    /// The relation's name.
+    pub fn relation(&self) -> &[u8]
+        ensures { result.now ≡ self.now.relation }
+    {
+        self.body.relation.as_slice()
+    }
+
+    /// What stands behind the relation.
+    pub fn content(&self) -> &Content
+        ensures { content_of result.now ≡ self.now.content }
+    {
+        &self.body.content
+    }
+}
+
+#[tactic(auto, unfolding(crate::specs::Facts::hash_from))]
+fn hash_of(relation: &Name, content: &Content) -> u64
+    ensures { result ≡ hash_of (record { relation = relation.now; content = content_of content.now }) }
+{
+    let mut hasher = FoldHasher::default();
+    hasher.write(relation.as_slice());
+    content.hash_into(&mut hasher);
+    hasher.finish()
+}
+
+impl Clone for Fact {
+    ghost is_clone = { λ f copy. copy ≡ f };
+
+    fn clone(&self) -> Result<Fact, AllocError> {
+        let body = self.body.clone()?;
+        Ok(Fact { body })
+    }
+}
+
+impl PartialEq for Fact {
+    ghost eq = { fact_eq };
+
+    ghost laws = { partial_equiv_from_equiv fact_equiv };
+
+    fn eq(&self, other: &Fact) -> bool {
+        if self.body.hash != other.body.hash {
+            return false;
+        }
+        self.body.relation == other.body.relation && self.body.content == other.body.content
+    }
+}
+
+impl Eq for Fact {
+    ghost laws = { fact_equiv };
+}
+
+impl Hash for Fact {
+    ghost hash_input = { λ f. fed.u64 (hash_of f) };
+
+    ghost respects_eq = { fact_fed };
+
+    fn hash<H: Hasher>(&self, state: &mut H) {
+        state.write_u64(self.body.hash);
+    }
+}
+
+impl fmt::Debug for Fact {
+    fn fmt<W: fmt::Write>(&self, f: &mut fmt::Formatter<W>) -> fmt::Result {
+        self.body.fmt(f)
+    }
+}

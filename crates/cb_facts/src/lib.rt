@@ -1,0 +1,25 @@
+//! What facts are: names, values, their texts, facts and the fact list.
+//!
+//! A name, a value and a fact share their contents, so that a clone copies none. `docs/ARCHITECTURE.md` says where the
+//! layer stands.
+#![tactic(auto)]
+
+mod fact;
+mod fact_list;
+mod many;
+mod name;
+mod single;
+mod splicing;
+mod text;
+mod value;
+mod words;
+
+pub use fact::{Content, Fact};
+pub use fact_list::FactList;
+pub use many::Many;
+pub use name::Name;
+pub use single::Single;
+pub use splicing::{is_multifield, splice, splice_values};
+pub use text::{fact_text, plain_text, quoted_text};
+pub use value::Value;
+pub use words::is_among;

@@ -1,0 +1,91 @@
+//! The fields of values.
+ghost use Rattle.std.specs.Prelude.{◌≡◌, ◌++◌, IfOk, OnOk, map};
+ghost use Rattle.std.specs.List.{list_any};
+ghost use Rattle.cb_facts.specs.Values.{fields_in, is_multifield, spliced, value_of_field};
+
+use crate::single::Single;
+use crate::value::Value;
+use cb_forms::NoMemory;
+use std::alloc::Global;
+
+/// The fields of values in their order, those of a multifield in its place. Growth is refused as `NoMemory`.
+pub fn splice(alloc: Global, values: &[Value]) -> Result<Vec<Single>, NoMemory>
+    ensures { IfOk result (λ fields. fields.items ≡ spliced values.now) }
+{
+    let mut fields = Vec::new(alloc);
+    for value in values {
+        add_fields(&mut fields, value)?;
+    }
+    Ok(fields)
+}
+
+/// Values in their order, the fields of a multifield in its place. Growth is refused as `NoMemory`.
+pub fn splice_values(alloc: Global, values: Vec<Value>) -> Result<Vec<Value>, NoMemory>
+    ensures { IfOk result (λ fields. fields.items ≡ map value_of_field (spliced values.items)) }
+{
+    if !has_multifield(values.as_slice()) {
+        return Ok(values);
+    }
+    let fields = splice(alloc, values.as_slice())?;
+    values_of(alloc, fields.as_slice())
+}
+
+/// Whether a multifield is among values.
+fn has_multifield(values: &[Value]) -> bool
+    ensures { result ≡ list_any is_multifield values.now }
+{
+    values.iter().any(is_multifield)
+}
+
+/// Fields as values.
+fn values_of(alloc: Global, fields: &[Single]) -> Result<Vec<Value>, NoMemory>
+    ensures { IfOk result (λ values. values.items ≡ map value_of_field fields.now) }
+{
+    let mut values = Vec::new(alloc);
+    for field in fields {
+        values.push(value_of(field.clone()?))?;
+    }
+    Ok(values)
+}
+
+/// The fields of a value behind those that are there.
+fn add_fields(fields: &mut Vec<Single>, value: &Value) -> Result<(), NoMemory>
+    ensures { OnOk result (fields.new.items ≡ fields.old.items ++ fields_in value.now) }
+{
+    match value {
+        Value::Symbol(bytes) => fields.push(Single::Symbol(bytes.clone()?))?,
+        Value::Str(bytes) => fields.push(Single::Str(bytes.clone()?))?,
+        Value::Int(number) => fields.push(Single::Int(*number))?,
+        Value::Fact(ix) => fields.push(Single::Fact(*ix))?,
+        Value::Multi(many) => add_each(fields, many.as_slice())?,
+    }
+    Ok(())
+}
+
+fn add_each(fields: &mut Vec<Single>, more: &[Single]) -> Result<(), NoMemory>
+    ensures { OnOk result (fields.new.items ≡ fields.old.items ++ more.now) }
+{
+    for field in more {
+        fields.push(field.clone()?)?;
+    }
+    Ok(())
+}
+
+/// A field as a value.
+fn value_of(field: Single) -> Value
+    ensures { result ≡ value_of_field field }
+{
+    match field {
+        Single::Symbol(bytes) => Value::Symbol(bytes),
+        Single::Str(bytes) => Value::Str(bytes),
+        Single::Int(number) => Value::Int(number),
+        Single::Fact(ix) => Value::Fact(ix),
+    }
+}
+
+/// Whether a value is a multifield.
+pub fn is_multifield(value: &Value) -> bool
+    ensures { result ≡ is_multifield value.now }
+{
+    matches!(value, Value::Multi(_))
+}

@@ -1,0 +1,83 @@
+-- Facts from the values that they are given.
+use Rattle.std.specs.Prelude.{◌&&◌, ◌||◌, ℕ, Bool, true, false, not, List, [], ◌∷◌, Option, Some, None, Result, Ok, Err, map, is_some, if◌then◌else◌}
+use Rattle.std.specs.List.{list_all}
+use Rattle.std.specs.Option.{ok_or}
+use Rattle.std.specs.Str.{bytes_eq}
+use Rattle.cb_forms.specs.declared.fault.Fault.{Fault}
+use Rattle.cb_forms.specs.declared.fault.Fault.TheVariants.{FactDoesNotFit, OneValueWanted}
+use Rattle.cb_facts.specs.Facts.{FactValue, ordered_fact, template_fact}
+use Rattle.cb_facts.specs.Values.{spliced, value_of_field, is_multifield}
+use Rattle.cb_facts.specs.declared.value.Value.{Value}
+use Rattle.cb_facts.specs.declared.value.Value.TheVariants as value
+use Rattle.cb_templates.specs.Results.{ok_then, with_first}
+use Rattle.cb_templates.specs.Slots.{GivenValues, SlotShape, slot_named}
+use Rattle.cb_templates.specs.Templates.{Templates, slots_of}
+use Rattle.cb_templates.specs.declared.parts.Parts.{Parts}
+use Rattle.cb_templates.specs.declared.parts.Parts.TheVariants as program
+
+-- the slots that a fact is given, each with its values
+abbrev pub Given : Type 0
+Given = List GivenValues
+
+-- what a fact is given: the values of its fields, or of its slots
+pub data PartValues : Type 0 where
+  field_values : List Value → PartValues
+  slot_values : Given → PartValues
+
+-- what a `Parts` of the program is
+abbrev pub part_values : Parts → PartValues
+part_values (program.Fields values) = field_values values.items
+part_values (program.Slots given) = slot_values given.items
+
+-- the values that are given for the slot with the name
+abbrev pub given_for : Given → List ℕ → Option (List Value)
+given_for [] name = None
+given_for (g ∷ given) name = if bytes_eq g.0 name then Some g.1 else given_for given name
+
+-- no slot is given twice
+abbrev pub are_distinct : Given → Bool
+are_distinct [] = true
+are_distinct (g ∷ given) = not (is_some (given_for given g.0)) && are_distinct given
+
+abbrev pub is_one : List Value → Bool
+is_one (v ∷ []) = true
+is_one vs = false
+
+-- a slot can take what it is given: a multislot any number of values, another slot one; given none, it has a default
+abbrev pub takes : SlotShape → Option (List Value) → Bool
+takes s None = is_some s.default
+takes s (Some vs) = s.is_multi || is_one vs
+
+-- what is given fits the slots: it names slots that are there, each at most once, and each slot can take it
+abbrev pub fits : List SlotShape → Given → Bool
+fits slots given =
+    list_all (λ g. is_some (slot_named slots g.0)) given && (are_distinct given && list_all (λ s. takes s (given_for given s.name)) slots)
+
+-- one value, which is no multifield
+abbrev pub one_value : List Value → Result Value Fault
+one_value (v ∷ []) = if is_multifield v then Err OneValueWanted else Ok v
+one_value vs = Err FactDoesNotFit
+
+-- the value of a slot, by what it is given
+abbrev pub slot_value : SlotShape → Option (List Value) → Result Value Fault
+slot_value s None = ok_or s.default FactDoesNotFit
+slot_value s (Some vs) = if s.is_multi then Ok (value.Multi (spliced vs)) else one_value vs
+
+-- the slots of a template, each with its value
+abbrev pub filled : List SlotShape → Given → Result (List (List ℕ × Value)) Fault
+filled [] given = Ok []
+filled (s ∷ slots) given = with_first (ok_then (λ v. (s.name, v)) (slot_value s (given_for given s.name))) (filled slots given)
+
+-- the fact of a relation with these slots; that they don't fit is told before a multifield where one value is wanted
+abbrev pub slots_built : List ℕ → List SlotShape → Given → Result FactValue Fault
+slots_built relation slots given = if fits slots given then ok_then (template_fact relation) (filled slots given) else Err FactDoesNotFit
+
+abbrev pub built_by : List ℕ → Option (List SlotShape) → PartValues → Result FactValue Fault
+built_by relation None (field_values vs) = Ok (ordered_fact relation (map value_of_field (spliced vs)))
+built_by relation None (slot_values given) = Err FactDoesNotFit
+built_by relation (Some slots) (field_values vs) = Err FactDoesNotFit
+built_by relation (Some slots) (slot_values given) = slots_built relation slots given
+
+-- the fact of a relation, by its template if it has one
+abbrev pub built : Templates → List ℕ → PartValues → Result FactValue Fault
+built templates relation parts = built_by relation (slots_of templates relation) parts

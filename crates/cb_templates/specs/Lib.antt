@@ -1,0 +1,7 @@
+pub mod Building
+pub mod Laws
+pub mod Reserved
+pub mod Results
+pub mod SlotForms
+pub mod Slots
+pub mod Templates

@@ -1,0 +1,243 @@
+//! The attributes of a slot as they are written.
+ghost use Rattle.std.specs.Prelude.{◌≡◌, None, Ok, Err, IfOk, IfErr};
+ghost use Rattle.cb_forms.specs.Members.{call_of, head_and_rest, members, symbol_of};
+ghost use Rattle.cb_forms.specs.Trees.{tree_of};
+ghost use Rattle.cb_templates.specs.Results.{Tells};
+ghost use Rattle.cb_templates.specs.SlotForms.{attribute_by, attributes_behind, default_constant, default_constants, default_of, is_variable, is_variable_form, is_variable_token, multi_default, no_call, no_attributes, no_constant, one_default, some_types, type_by, types_in, types_of};
+
+use crate::refused::Refused;
+use crate::slot::Types;
+use crate::slot_type::SlotType;
+use cb_facts::{Many, Value, splice};
+use cb_forms::{Fault, Form, Token, split_head};
+use std::alloc::Global;
+
+/// What a `default` attribute says.
+#[derive(Debug, Drop)]
+pub(crate) enum SlotDefault {
+    /// `?NONE`: each fact must give the slot.
+    Required,
+    /// `?DERIVE`: the value follows from the types.
+    Derived,
+    /// This value.
+    Fixed(Value),
+}
+
+/// The attributes of a slot that are given.
+#[derive(Debug, Drop)]
+pub(crate) struct Attributes {
+    /// What `type` says.
+    pub(crate) types: Option<Types>,
+    /// What `default` says.
+    pub(crate) default: Option<SlotDefault>,
+}
+
+/// The attributes that forms are, or the first fault.
+pub(crate) fn read_attributes(
+    alloc: Global,
+    is_multi: bool,
+    forms: &[Form],
+) -> Result<Attributes, Refused>
+    ensures ok { IfOk result (λ a. attributes_behind is_multi no_attributes (members forms.now) ≡ Ok a) }
+    ensures fault { IfErr result (λ r. Tells r (λ f. attributes_behind is_multi no_attributes (members forms.now) ≡ Err f)) }
+{
+    let mut attributes = Attributes {
+        types: None,
+        default: None,
+    };
+    for form in forms {
+        attributes = with_attribute(alloc, is_multi, attributes, form)?;
+    }
+    Ok(attributes)
+}
+
+/// The attributes with one more.
+fn with_attribute(
+    alloc: Global,
+    is_multi: bool,
+    attributes: Attributes,
+    form: &Form,
+) -> Result<Attributes, Refused>
+    ensures ok { IfOk result (λ a. attribute_by is_multi attributes (call_of (tree_of form.now)) ≡ Ok a) }
+    ensures fault { IfErr result (λ r. Tells r (λ f. attribute_by is_multi attributes (call_of (tree_of form.now)) ≡ Err f)) }
+{
+    let Some((name, forms)) = form.call() else {
+        return Err(Refused::Fault(Fault::MalformedForm));
+    };
+    if name == b"type".as_slice() {
+        if attributes.types.is_some() {
+            return Err(Refused::Fault(Fault::MalformedForm));
+        }
+        let types = Some(read_types(alloc, forms)?);
+        return Ok(Attributes {
+            types,
+            default: attributes.default,
+        });
+    }
+    if name == b"default".as_slice() {
+        if attributes.default.is_some() {
+            return Err(Refused::Fault(Fault::MalformedForm));
+        }
+        let default = Some(read_default(alloc, is_multi, forms)?);
+        return Ok(Attributes {
+            types: attributes.types,
+            default,
+        });
+    }
+    Err(Refused::Fault(Fault::NotInProfile))
+}
+
+/// What `type` says, by the forms behind it.
+fn read_types(alloc: Global, forms: &[Form]) -> Result<Types, Refused>
+    ensures ok { IfOk result (λ types. types_of (members forms.now) ≡ Ok types) }
+    ensures fault { IfErr result (λ r. Tells r (λ f. types_of (members forms.now) ≡ Err f)) }
+{
+    if is_variable(b"VARIABLE", forms) {
+        return Ok(Types::any());
+    }
+    let Some(_) = forms.split_first() else {
+        return Err(Refused::Fault(Fault::MalformedForm));
+    };
+    Ok(Types::of(read_type_names(alloc, forms)?))
+}
+
+#[tactic(auto, using(crate::proofs::Firsts::behind_none, crate::proofs::Firsts::behind_all, crate::proofs::Firsts::behind_one))]
+fn read_type_names(alloc: Global, forms: &[Form]) -> Result<Vec<SlotType>, Refused>
+    ensures ok { IfOk result (λ types. types_in (members forms.now) ≡ Ok types.items) }
+    ensures fault { IfErr result (λ r. Tells r (λ f. types_in (members forms.now) ≡ Err f)) }
+{
+    let mut types = Vec::new(alloc);
+    for form in forms {
+        types.push(read_type(form)?)?;
+    }
+    Ok(types)
+}
+
+fn read_type(form: &Form) -> Result<SlotType, Refused>
+    ensures ok { IfOk result (λ t. type_by (symbol_of (tree_of form.now)) ≡ Ok t) }
+    ensures fault { IfErr result (λ r. Tells r (λ f. type_by (symbol_of (tree_of form.now)) ≡ Err f)) }
+{
+    let Some(name) = form.symbol() else {
+        return Err(Refused::Fault(Fault::MalformedForm));
+    };
+    match SlotType::named(name) {
+        Some(type_named) => Ok(type_named),
+        None => Err(Refused::Fault(Fault::NotInProfile)),
+    }
+}
+
+/// What `default` says, by the forms behind it.
+fn read_default(alloc: Global, is_multi: bool, forms: &[Form]) -> Result<SlotDefault, Refused>
+    ensures ok { IfOk result (λ d. default_of is_multi (members forms.now) ≡ Ok d) }
+    ensures fault { IfErr result (λ r. Tells r (λ f. default_of is_multi (members forms.now) ≡ Err f)) }
+{
+    if is_variable(b"NONE", forms) {
+        return Ok(SlotDefault::Required);
+    }
+    if is_variable(b"DERIVE", forms) {
+        return Ok(SlotDefault::Derived);
+    }
+    if is_multi {
+        read_multi_default(alloc, forms)
+    } else {
+        read_one_default(alloc, forms)
+    }
+}
+
+fn read_one_default(alloc: Global, forms: &[Form]) -> Result<SlotDefault, Refused>
+    ensures ok { IfOk result (λ d. one_default (members forms.now) ≡ Ok d) }
+    ensures fault { IfErr result (λ r. Tells r (λ f. one_default (members forms.now) ≡ Err f)) }
+{
+    let Some((form, rest)) = forms.split_first() else {
+        return Err(Refused::Fault(Fault::MalformedForm));
+    };
+    match rest.split_first() {
+        None => Ok(SlotDefault::Fixed(read_constant(alloc, form)?)),
+        Some(_) => Err(Refused::Fault(Fault::MalformedForm)),
+    }
+}
+
+fn read_multi_default(alloc: Global, forms: &[Form]) -> Result<SlotDefault, Refused>
+    ensures ok { IfOk result (λ d. multi_default (members forms.now) ≡ Ok d) }
+    ensures fault { IfErr result (λ r. Tells r (λ f. multi_default (members forms.now) ≡ Err f)) }
+{
+    let values = read_constants(alloc, forms)?;
+    let fields = splice(alloc, values.as_slice())?;
+    Ok(SlotDefault::Fixed(Value::Multi(Many::from_vec(fields)?)))
+}
+
+#[tactic(auto, using(crate::proofs::Firsts::behind_none, crate::proofs::Firsts::behind_all, crate::proofs::Firsts::behind_one))]
+fn read_constants(alloc: Global, forms: &[Form]) -> Result<Vec<Value>, Refused>
+    ensures ok { IfOk result (λ values. default_constants (members forms.now) ≡ Ok values.items) }
+    ensures fault { IfErr result (λ r. Tells r (λ f. default_constants (members forms.now) ≡ Err f)) }
+{
+    let mut values = Vec::new(alloc);
+    for form in forms {
+        values.push(read_constant(alloc, form)?)?;
+    }
+    Ok(values)
+}
+
+fn read_constant(alloc: Global, form: &Form) -> Result<Value, Refused>
+    ensures ok { IfOk result (λ value. default_constant (tree_of form.now) ≡ Ok value) }
+    ensures fault { IfErr result (λ r. Tells r (λ f. default_constant (tree_of form.now) ≡ Err f)) }
+{
+    match form {
+        Form::Atom(token) => match Value::constant(alloc, token)? {
+            Some(value) => Ok(value),
+            None => Err(Refused::Fault(no_constant(token))),
+        },
+        Form::List(forms) => Err(Refused::Fault(no_call(forms))),
+    }
+}
+
+/// What is wrong with a token that is no constant.
+fn no_constant(token: &Token) -> Fault
+    ensures { result ≡ no_constant token.now }
+{
+    match token {
+        Token::Global(_) => Fault::NotInProfile,
+        _ => Fault::MalformedForm,
+    }
+}
+
+/// What is wrong with a list where a constant is wanted.
+fn no_call(forms: &[Form]) -> Fault
+    ensures { result ≡ no_call (head_and_rest (members forms.now)) }
+{
+    match split_head(forms) {
+        Some(_) => Fault::NotInProfile,
+        None => Fault::MalformedForm,
+    }
+}
+
+/// Whether forms are the variable of a name alone.
+fn is_variable(name: &[u8], forms: &[Form]) -> bool
+    ensures { result ≡ is_variable name.now (members forms.now) }
+{
+    let Some((form, rest)) = forms.split_first() else {
+        return false;
+    };
+    match rest.split_first() {
+        None => is_variable_form(name, form),
+        Some(_) => false,
+    }
+}
+
+fn is_variable_form(name: &[u8], form: &Form) -> bool
+    ensures { result ≡ is_variable_form name.now (tree_of form.now) }
+{
+    match form {
+        Form::Atom(token) => is_variable_token(name, token),
+        Form::List(_) => false,
+    }
+}
+
+fn is_variable_token(name: &[u8], token: &Token) -> bool
+    ensures { result ≡ is_variable_token name.now token.now }
+{
+    match token {
+        Token::Var(variable) => variable.as_slice() == name,
+        _ => false,
+    }
+}

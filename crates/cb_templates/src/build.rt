@@ -1,0 +1,188 @@
+//! Facts from the values that they are given.
+ghost use Rattle.std.specs.Prelude.{◌≡◌, None, Ok, Err, IfOk, IfErr, is_some, map, option_map};
+ghost use Rattle.std.specs.List.{list_all};
+ghost use Rattle.cb_facts.specs.Facts.{ordered_fact};
+ghost use Rattle.cb_facts.specs.Values.{spliced, value_of_field};
+ghost use Rattle.cb_templates.specs.Building.{are_distinct, built, filled, fits, given_for, is_one, one_value, part_values, slot_value, slots_built, takes};
+ghost use Rattle.cb_templates.specs.Results.{Tells};
+ghost use Rattle.cb_templates.specs.Slots.{slot_named};
+
+use crate::parts::{GivenSlot, Parts, find_given};
+use crate::refused::Refused;
+use crate::relations::Relations;
+use crate::slot::{Slot, find_slot};
+use cb_facts::{Fact, Many, Name, Value, is_multifield, splice, splice_values};
+use cb_forms::{Fault, NoMemory};
+use std::alloc::Global;
+
+/// The fact of a relation with these parts.
+///
+/// An ordered fact has the values as its fields, multifields spliced. A template's fact has all slots of the template in its
+/// order: a multislot the values that it is given, multifields spliced, another slot its one value, and a slot that isn't
+/// given its default.
+///
+/// It refuses with CB09 where the relation has a template and fields are given, or none and slots are given; where a slot
+/// is given that the template doesn't have, or twice, or without exactly one value though it is no multislot; and where a
+/// slot without a default isn't given. Else it refuses with CB22 where a slot that is no multislot is given a multifield.
+pub fn build_fact(
+    alloc: Global,
+    relations: &Relations,
+    relation: Name,
+    parts: Parts,
+) -> Result<Fact, Refused>
+    ensures ok { IfOk result (λ fact. built relations.now relation (part_values parts) ≡ Ok fact) }
+    ensures fault { IfErr result (λ r. Tells r (λ f. built relations.now relation (part_values parts) ≡ Err f)) }
+{
+    match relations.shape(&relation) {
+        None => match parts {
+            Parts::Fields(values) => Ok(build_ordered(alloc, relation, values)?),
+            Parts::Slots(_) => Err(Refused::Fault(Fault::FactDoesNotFit)),
+        },
+        Some(slots) => match parts {
+            Parts::Fields(_) => Err(Refused::Fault(Fault::FactDoesNotFit)),
+            Parts::Slots(given) => build_slots(alloc, relation, slots, given.as_slice()),
+        },
+    }
+}
+
+fn build_ordered(alloc: Global, relation: Name, values: Vec<Value>) -> Result<Fact, NoMemory>
+    ensures { IfOk result (λ fact. fact ≡ ordered_fact relation (map value_of_field (spliced values.items))) }
+{
+    let fields = splice_values(alloc, values)?;
+    Fact::ordered(alloc, relation, fields)
+}
+
+fn build_slots(
+    alloc: Global,
+    relation: Name,
+    slots: &[Slot],
+    given: &[GivenSlot],
+) -> Result<Fact, Refused>
+    ensures ok { IfOk result (λ fact. slots_built relation slots.now given.now ≡ Ok fact) }
+    ensures fault { IfErr result (λ r. Tells r (λ f. slots_built relation slots.now given.now ≡ Err f)) }
+{
+    if !fits(slots, given) {
+        return Err(Refused::Fault(Fault::FactDoesNotFit));
+    }
+    let content = fill(alloc, slots, given)?;
+    Ok(Fact::with_slots(alloc, relation, content)?)
+}
+
+/// Whether what is given fits the slots.
+fn fits(slots: &[Slot], given: &[GivenSlot]) -> bool
+    ensures { result ≡ fits slots.now given.now }
+{
+    are_known(slots, given) && are_distinct(given) && can_take(slots, given)
+}
+
+/// Whether only slots are given that are there.
+fn are_known(slots: &[Slot], given: &[GivenSlot]) -> bool
+    ensures { result ≡ list_all (λ g. is_some (slot_named slots.now g.0)) given.now }
+{
+    given.iter().all(|g| is_known(slots, g.name().as_slice()))
+}
+
+fn is_known(slots: &[Slot], name: &[u8]) -> bool
+    ensures { result ≡ is_some (slot_named slots.now name.now) }
+{
+    find_slot(slots, name).is_some()
+}
+
+/// Whether no slot is given twice.
+fn are_distinct(given: &[GivenSlot]) -> bool
+    ensures { result ≡ are_distinct given.now }
+{
+    let mut rest = given;
+    while let Some((first, following)) = rest.split_first() {
+        if find_given(following, first.name().as_slice()).is_some() {
+            return false;
+        }
+        rest = following;
+    }
+    true
+}
+
+/// Whether each slot can take what it is given.
+fn can_take(slots: &[Slot], given: &[GivenSlot]) -> bool
+    ensures { result ≡ list_all (λ s. takes s (given_for given.now s.name)) slots.now }
+{
+    slots.iter().all(|slot| takes(slot, given))
+}
+
+fn takes(slot: &Slot, given: &[GivenSlot]) -> bool
+    ensures { result ≡ takes slot.now (given_for given.now slot.now.name) }
+{
+    match find_given(given, slot.name().as_slice()) {
+        None => slot.default().is_some(),
+        Some(values) => slot.multi() || is_one(values),
+    }
+}
+
+fn is_one(values: &[Value]) -> bool
+    ensures { result ≡ is_one values.now }
+{
+    let Some((_, rest)) = values.split_first() else {
+        return false;
+    };
+    match rest.split_first() {
+        None => true,
+        Some(_) => false,
+    }
+}
+
+/// The slots of a template, each with its value.
+#[tactic(auto, using(crate::proofs::Firsts::behind_none, crate::proofs::Firsts::behind_all, crate::proofs::Firsts::behind_one))]
+fn fill(alloc: Global, slots: &[Slot], given: &[GivenSlot]) -> Result<Vec<(Name, Value)>, Refused>
+    ensures ok { IfOk result (λ content. filled slots.now given.now ≡ Ok content.items) }
+    ensures fault { IfErr result (λ r. Tells r (λ f. filled slots.now given.now ≡ Err f)) }
+{
+    let mut content = Vec::new(alloc);
+    for slot in slots {
+        let value = slot_value(alloc, slot, given)?;
+        content.push((slot.name().clone()?, value))?;
+    }
+    Ok(content)
+}
+
+/// The value of a slot.
+fn slot_value(alloc: Global, slot: &Slot, given: &[GivenSlot]) -> Result<Value, Refused>
+    ensures ok { IfOk result (λ value. slot_value slot.now (given_for given.now slot.now.name) ≡ Ok value) }
+    ensures fault { IfErr result (λ r. Tells r (λ f. slot_value slot.now (given_for given.now slot.now.name) ≡ Err f)) }
+{
+    match find_given(given, slot.name().as_slice()) {
+        None => default_value(slot),
+        Some(values) => {
+            if slot.multi() {
+                let fields = splice(alloc, values)?;
+                return Ok(Value::Multi(Many::from_vec(fields)?));
+            }
+            one_value(values)
+        }
+    }
+}
+
+fn default_value(slot: &Slot) -> Result<Value, Refused>
+    ensures ok { IfOk result (λ value. slot_value slot.now None ≡ Ok value) }
+    ensures fault { IfErr result (λ r. Tells r (λ f. slot_value slot.now None ≡ Err f)) }
+{
+    match slot.default() {
+        Some(value) => Ok(value.clone()?),
+        None => Err(Refused::Fault(Fault::FactDoesNotFit)),
+    }
+}
+
+fn one_value(values: &[Value]) -> Result<Value, Refused>
+    ensures ok { IfOk result (λ value. one_value values.now ≡ Ok value) }
+    ensures fault { IfErr result (λ r. Tells r (λ f. one_value values.now ≡ Err f)) }
+{
+    let Some((value, rest)) = values.split_first() else {
+        return Err(Refused::Fault(Fault::FactDoesNotFit));
+    };
+    if let Some(_) = rest.split_first() {
+        return Err(Refused::Fault(Fault::FactDoesNotFit));
+    }
+    if is_multifield(value) {
+        return Err(Refused::Fault(Fault::OneValueWanted));
+    }
+    Ok(value.clone()?)
+}

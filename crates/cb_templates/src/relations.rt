@@ -1,0 +1,113 @@
+//! The relations that have a template.
+ghost use Rattle.std.specs.Prelude.{◌≡◌, [], None, Some, Ok, Err, MatchOption, IfErr, IfOk, OnOk, OnErr};
+ghost use Rattle.cb_forms.specs.Members.{head_and_rest, members};
+ghost use Rattle.cb_templates.specs.Results.{Tells};
+ghost use Rattle.cb_templates.specs.Templates.{defined, named_template, slots_behind, slots_of, template_of};
+
+use crate::comment::without_comment;
+use crate::refused::Refused;
+use crate::reserved::is_reserved;
+use crate::slot::Slot;
+use crate::slot_form::read_slot;
+use cb_facts::Name;
+use cb_forms::{Fault, Form, split_head};
+use indexmap::IndexMap;
+use std::alloc::Global;
+use std::marker::Model;
+
+/// The slots of a template, in their order.
+#[derive(Debug, Drop)]
+struct Template {
+    slots: Vec<Slot>,
+}
+
+impl Model for Template {
+    ghost use Rattle.std.specs.Prelude.{List};
+    ghost use Rattle.cb_templates.specs.Slots.{SlotShape};
+
+    ghost Value = { List SlotShape };
+
+    ghost view = { λ t. t.slots.items };
+}
+
+/// The relations that have a template, each with its slots (`docs/LANGUAGE.md`, "Templates").
+///
+/// Contracts see the list of the pairs of a name and its slots, in the order in which the names were first defined.
+#[derive(Debug, Drop)]
+pub struct Relations {
+    alloc: Global,
+    templates: IndexMap<Name, Template>,
+}
+
+impl Model for Relations {
+    ghost use Rattle.cb_templates.specs.Templates.{Templates};
+
+    ghost Value = { Templates };
+
+    ghost view = { λ r. r.templates.entries };
+}
+
+impl Relations {
+    /// No relation has a template. It takes no memory yet.
+    pub fn new(alloc: Global) -> Relations
+        ensures { result ≡ [] }
+    {
+        Relations {
+            alloc,
+            templates: IndexMap::new(alloc),
+        }
+    }
+
+    /// Defines the template that a `deftemplate` form is, by the members behind its head, and takes it for the one that the
+    /// relation had, if it had one. `in_use` says that a fact, a `deffacts` or a rule names the relation.
+    ///
+    /// It refuses with the first fault in this order: CB08 where the name is no symbol or a reserved word, CB23 where the
+    /// relation is in use, and then those of each slot: CB08, CB14 and, behind its last attribute, CB10. Whatever it refuses,
+    /// nothing has changed.
+    pub fn define_template(&mut self, form: &[Form], in_use: bool) -> Result<(), Refused>
+        ensures ok { OnOk result (defined self.old in_use (members form.now) ≡ Ok self.new) }
+        ensures fault { IfErr result (λ r. Tells r (λ f. defined self.old in_use (members form.now) ≡ Err f)) }
+        ensures err { OnErr result (self.new ≡ self.old) }
+    {
+        let (name, template) = read_template(self.alloc, form, in_use)?;
+        self.templates.insert(name, template)?;
+        Ok(())
+    }
+
+    /// The slots of a relation's template, or `None` where the relation has none.
+    pub fn shape(&self, relation: &Name) -> Option<&[Slot]>
+        ensures { MatchOption result (slots_of self.now relation.now ≡ None) (λ slots. slots_of self.now relation.now ≡ Some slots.now) }
+    {
+        let template = self.templates.get(relation)?;
+        Some(template.slots.as_slice())
+    }
+}
+
+fn read_template(alloc: Global, forms: &[Form], in_use: bool) -> Result<(Name, Template), Refused>
+    ensures ok { IfOk result (λ t. template_of in_use (members forms.now) ≡ Ok t) }
+    ensures fault { IfErr result (λ r. Tells r (λ f. template_of in_use (members forms.now) ≡ Err f)) }
+{
+    let Some((name, forms)) = split_head(forms) else {
+        return Err(Refused::Fault(Fault::MalformedForm));
+    };
+    if is_reserved(name) {
+        return Err(Refused::Fault(Fault::MalformedForm));
+    }
+    if in_use {
+        return Err(Refused::Fault(Fault::TemplateInUse));
+    }
+    let slots = read_slots(alloc, without_comment(forms))?;
+    Ok((Name::new(alloc, name)?, Template { slots }))
+}
+
+fn read_slots(alloc: Global, forms: &[Form]) -> Result<Vec<Slot>, Refused>
+    ensures ok { IfOk result (λ slots. slots_behind [] (members forms.now) ≡ Ok slots.items) }
+    ensures fault { IfErr result (λ r. Tells r (λ f. slots_behind [] (members forms.now) ≡ Err f)) }
+{
+    let mut slots = Vec::new(alloc);
+    for form in forms {
+        let slot = read_slot(alloc, slots.as_slice(), form)?;
+        slots.push(slot)?;
+    }
+    Ok(slots)
+}

@@ -1,0 +1,117 @@
+//! The slots of a template as they are written.
+ghost use Rattle.std.specs.Prelude.{◌≡◌, [], Ok, Err, IfOk, IfErr};
+ghost use Rattle.cb_forms.specs.Members.{call_of, head_and_rest, members};
+ghost use Rattle.cb_forms.specs.Trees.{tree_of};
+ghost use Rattle.cb_templates.specs.Results.{Tells};
+ghost use Rattle.cb_templates.specs.SlotForms.{derived, derived_one, finished, named_slot, slot_by, slot_with};
+
+use crate::attribute::{Attributes, SlotDefault, read_attributes};
+use crate::refused::Refused;
+use crate::slot::{Slot, Types, find_slot};
+use crate::slot_type::SlotType;
+use cb_facts::{Many, Name, Value};
+use cb_forms::{Fault, Form, NoMemory, split_head};
+use std::alloc::Global;
+
+/// The slot that a form is, behind the slots of the template so far, or its first fault.
+pub(crate) fn read_slot(alloc: Global, slots: &[Slot], form: &Form) -> Result<Slot, Refused>
+    ensures ok { IfOk result (λ slot. slot_by slots.now (call_of (tree_of form.now)) ≡ Ok slot) }
+    ensures fault { IfErr result (λ r. Tells r (λ f. slot_by slots.now (call_of (tree_of form.now)) ≡ Err f)) }
+{
+    let Some((head, forms)) = form.call() else {
+        return Err(Refused::Fault(Fault::MalformedForm));
+    };
+    if head == b"slot".as_slice() {
+        return read_named(alloc, slots, false, forms);
+    }
+    if head == b"multislot".as_slice() {
+        return read_named(alloc, slots, true, forms);
+    }
+    Err(Refused::Fault(Fault::MalformedForm))
+}
+
+/// The slot that the forms behind `slot` or `multislot` make.
+fn read_named(
+    alloc: Global,
+    slots: &[Slot],
+    is_multi: bool,
+    forms: &[Form],
+) -> Result<Slot, Refused>
+    ensures ok { IfOk result (λ slot. named_slot slots.now is_multi (head_and_rest (members forms.now)) ≡ Ok slot) }
+    ensures fault { IfErr result (λ r. Tells r (λ f. named_slot slots.now is_multi (head_and_rest (members forms.now)) ≡ Err f)) }
+{
+    let Some((name, forms)) = split_head(forms) else {
+        return Err(Refused::Fault(Fault::MalformedForm));
+    };
+    if find_slot(slots, name).is_some() {
+        return Err(Refused::Fault(Fault::MalformedForm));
+    }
+    let attributes = read_attributes(alloc, is_multi, forms)?;
+    finish(alloc, name, is_multi, attributes)
+}
+
+/// The slot with these attributes.
+fn finish(
+    alloc: Global,
+    name: &[u8],
+    is_multi: bool,
+    attributes: Attributes,
+) -> Result<Slot, Refused>
+    ensures ok { IfOk result (λ slot. finished name.now is_multi attributes ≡ Ok slot) }
+    ensures fault { IfErr result (λ r. Tells r (λ f. finished name.now is_multi attributes ≡ Err f)) }
+{
+    let Attributes { types, default } = attributes;
+    let name = Name::new(alloc, name)?;
+    match types {
+        Some(types) => slot_with(alloc, name, is_multi, types, default),
+        None => slot_with(alloc, name, is_multi, Types::any(), default),
+    }
+}
+
+/// The slot of these types with what its `default` attribute says, if it has one.
+fn slot_with(
+    alloc: Global,
+    name: Name,
+    is_multi: bool,
+    types: Types,
+    default: Option<SlotDefault>,
+) -> Result<Slot, Refused>
+    ensures ok { IfOk result (λ slot. slot_with name is_multi types default ≡ Ok slot) }
+    ensures fault { IfErr result (λ r. Tells r (λ f. slot_with name is_multi types default ≡ Err f)) }
+{
+    match default {
+        None | Some(SlotDefault::Derived) => {
+            let value = derived(alloc, is_multi, &types)?;
+            Ok(Slot::new(name, is_multi, types, Some(value)))
+        }
+        Some(SlotDefault::Required) => Ok(Slot::new(name, is_multi, types, None)),
+        Some(SlotDefault::Fixed(value)) => {
+            if !types.allow_all(&value)? {
+                return Err(Refused::Fault(Fault::ValueNotAllowed));
+            }
+            Ok(Slot::new(name, is_multi, types, Some(value)))
+        }
+    }
+}
+
+/// The value of a slot of these types where nothing says which.
+fn derived(alloc: Global, is_multi: bool, types: &Types) -> Result<Value, NoMemory>
+    ensures { IfOk result (λ value. value ≡ derived is_multi types.now) }
+{
+    if is_multi {
+        return Ok(Value::Multi(Many::from_vec(Vec::new(alloc))?));
+    }
+    derived_one(alloc, types)
+}
+
+fn derived_one(alloc: Global, types: &Types) -> Result<Value, NoMemory>
+    ensures { IfOk result (λ value. value ≡ derived_one types.now) }
+{
+    if types.are_only(SlotType::Str) {
+        return Ok(Value::Str(Name::new(alloc, b"")?));
+    }
+    if types.are_only(SlotType::Integer) || types.are_only(SlotType::Number) {
+        return Ok(Value::Int(0));
+    }
+    Ok(Value::Symbol(Name::new(alloc, b"nil")?))
+}

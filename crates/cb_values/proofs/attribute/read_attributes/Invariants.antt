@@ -1,7 +1,0 @@
-use Rattle.std.proofs.Common.{◌≡◌, drop}
-use Rattle.cb_forms.specs.Members.{members}
-use Rattle.cb_values.specs.SlotForms.{attributes_behind, no_attributes}
-use Rattle.cb_values.proofs.attribute.read_attributes.Given as goal
-
-abbrev pub invariant-loop-form : goal.invariant-loop-form
-invariant-loop-form l = attributes_behind l.is_multi l.attributes (members (drop l.form-index l.forms)) ≡ attributes_behind l.is_multi no_attributes (members l.forms)

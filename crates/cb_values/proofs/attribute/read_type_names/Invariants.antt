@@ -1,8 +1,0 @@
-use Rattle.std.proofs.Common.{◌≡◌, drop}
-use Rattle.cb_forms.specs.Members.{members}
-use Rattle.cb_values.specs.SlotForms.{types_in}
-use Rattle.cb_values.proofs.Firsts.{behind_those}
-use Rattle.cb_values.proofs.attribute.read_type_names.Given as goal
-
-abbrev pub invariant-loop-form : goal.invariant-loop-form
-invariant-loop-form l = behind_those l.types.items (types_in (members (drop l.form-index l.forms))) ≡ types_in (members l.forms)

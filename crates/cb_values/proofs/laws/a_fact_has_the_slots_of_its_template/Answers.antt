@@ -1,5 +1,0 @@
-use Rattle.cb_values.proofs.SlotLaws.{fact_has_slots}
-use Rattle.cb_values.proofs.laws.a_fact_has_the_slots_of_its_template.Goals as goal
-
-pub returns : goal.returns
-returns c = fact_has_slots

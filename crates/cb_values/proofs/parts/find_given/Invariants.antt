@@ -1,6 +1,0 @@
-use Rattle.std.proofs.Common.{◌≡◌, drop}
-use Rattle.cb_values.specs.Building.{given_for}
-use Rattle.cb_values.proofs.parts.find_given.Given as goal
-
-abbrev pub invariant-loop-slot : goal.invariant-loop-slot
-invariant-loop-slot l = given_for (drop l.slot-index l.given) l.name ≡ given_for l.given l.name

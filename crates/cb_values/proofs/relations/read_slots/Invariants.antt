@@ -1,8 +1,0 @@
-use Rattle.std.proofs.Common.{◌≡◌, drop}
-use Rattle.std.proofs.Common.{[]}
-use Rattle.cb_forms.specs.Members.{members}
-use Rattle.cb_values.specs.Templates.{slots_behind}
-use Rattle.cb_values.proofs.relations.read_slots.Given as goal
-
-abbrev pub invariant-loop-form : goal.invariant-loop-form
-invariant-loop-form l = slots_behind l.slots.items (members (drop l.form-index l.forms)) ≡ slots_behind [] (members l.forms)

@@ -1,6 +1,0 @@
-use Rattle.std.proofs.Common.{◌≡◌, drop}
-use Rattle.cb_values.specs.Slots.{slot_named}
-use Rattle.cb_values.proofs.slot.find_slot.Given as goal
-
-abbrev pub invariant-loop-slot : goal.invariant-loop-slot
-invariant-loop-slot l = slot_named (drop l.slot-index l.slots) l.name ≡ slot_named l.slots l.name

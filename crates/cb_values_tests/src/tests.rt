@@ -1,0 +1,5 @@
+mod fact_list;
+mod facts;
+mod rows;
+mod templates;
+mod values;

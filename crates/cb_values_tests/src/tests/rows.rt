@@ -1,0 +1,185 @@
+//! Values, templates and facts from rows, and how they are shown.
+use cb_forms::{Form, Item, NoMemory, read_items};
+use cb_values::{
+    Fact, GivenSlot, Many, Name, Parts, Refused, Relations, Single, Value, build_fact, fact_text,
+};
+use std::alloc::Global;
+
+/// A field.
+pub(crate) enum Field {
+    Symbol(&'static str),
+    Str(&'static str),
+    Int(i64),
+    Address(u64),
+}
+
+/// A value.
+pub(crate) enum Row {
+    One(Field),
+    Many(&'static [Field]),
+}
+
+pub(crate) fn single(alloc: Global, field: &Field) -> Result<Single, NoMemory> {
+    Ok(match field {
+        Field::Symbol(text) => Single::Symbol(Name::new(alloc, text.as_bytes())?),
+        Field::Str(text) => Single::Str(Name::new(alloc, text.as_bytes())?),
+        Field::Int(number) => Single::Int(*number),
+        Field::Address(ix) => Single::Fact(*ix),
+    })
+}
+
+pub(crate) fn many(alloc: Global, fields: &[Field]) -> Result<Many, NoMemory> {
+    let mut singles = Vec::new(alloc);
+    for field in fields {
+        singles.push(single(alloc, field)?)?;
+    }
+    Many::from_vec(singles)
+}
+
+pub(crate) fn value(alloc: Global, row: &Row) -> Result<Value, NoMemory> {
+    Ok(match row {
+        Row::One(Field::Symbol(text)) => Value::Symbol(Name::new(alloc, text.as_bytes())?),
+        Row::One(Field::Str(text)) => Value::Str(Name::new(alloc, text.as_bytes())?),
+        Row::One(Field::Int(number)) => Value::Int(*number),
+        Row::One(Field::Address(ix)) => Value::Fact(*ix),
+        Row::Many(fields) => Value::Multi(many(alloc, fields)?),
+    })
+}
+
+/// The forms of a text.
+pub(crate) fn forms(alloc: Global, text: &str) -> Result<Vec<Form>, Refused> {
+    let mut forms = Vec::new(alloc);
+    for item in read_items(alloc, text.as_bytes())? {
+        match item {
+            Item::Form(form) => forms.push(form)?,
+            Item::Bad(fault) => return Err(Refused::Fault(fault)),
+        }
+    }
+    Ok(forms)
+}
+
+/// The constant that a form is.
+fn constant(alloc: Global, form: &Form) -> Result<Value, Refused> {
+    let Form::Atom(token) = form else {
+        return Err(Refused::NoMemory);
+    };
+    Ok(Value::constant(alloc, token)?.ok_or(Refused::NoMemory)?)
+}
+
+fn constants(alloc: Global, forms: &[Form]) -> Result<Vec<Value>, Refused> {
+    let mut values = Vec::new(alloc);
+    for form in forms {
+        values.push(constant(alloc, form)?)?;
+    }
+    Ok(values)
+}
+
+/// The value of a form: of a list the multifield of the constants in it.
+fn written_value(alloc: Global, form: &Form) -> Result<Value, Refused> {
+    match form {
+        Form::Atom(_) => constant(alloc, form),
+        Form::List(fields) => multifield(alloc, fields.as_slice()),
+    }
+}
+
+fn multifield(alloc: Global, forms: &[Form]) -> Result<Value, Refused> {
+    let values = constants(alloc, forms)?;
+    let fields = cb_values::splice(alloc, values.as_slice())?;
+    Ok(Value::Multi(Many::from_vec(fields)?))
+}
+
+fn written_values(alloc: Global, forms: &[Form]) -> Result<Vec<Value>, Refused> {
+    let mut values = Vec::new(alloc);
+    for form in forms {
+        values.push(written_value(alloc, form)?)?;
+    }
+    Ok(values)
+}
+
+fn given_slot(alloc: Global, form: &Form) -> Result<GivenSlot, Refused> {
+    let (name, forms) = form.call().ok_or(Refused::NoMemory)?;
+    let name = Name::new(alloc, name)?;
+    Ok(GivenSlot::new(name, written_values(alloc, forms)?))
+}
+
+fn given_slots(alloc: Global, forms: &[Form]) -> Result<Vec<GivenSlot>, Refused> {
+    let mut given = Vec::new(alloc);
+    for form in forms {
+        given.push(given_slot(alloc, form)?)?;
+    }
+    Ok(given)
+}
+
+/// What a fact is given, by its text. A list stands for a multifield.
+#[derive(Drop)]
+pub(crate) enum Given {
+    Fields(&'static str),
+    Slots(&'static str),
+}
+
+fn parts(alloc: Global, given: &Given) -> Result<Parts, Refused> {
+    Ok(match given {
+        Given::Fields(text) => Parts::Fields(written_values(
+            alloc,
+            forms(alloc, text)?.as_slice(),
+        )?),
+        Given::Slots(text) => Parts::Slots(given_slots(alloc, forms(alloc, text)?.as_slice())?),
+    })
+}
+
+/// Defines the template of these forms.
+fn define(alloc: Global, relations: &mut Relations, form: &Form) -> Result<(), Refused> {
+    match form {
+        Form::Atom(_) => Err(Refused::NoMemory),
+        Form::List(members) => relations.define_template(members.as_slice(), false),
+    }
+}
+
+/// The relations with templates, each written as a list of what stands behind `deftemplate`.
+pub(crate) fn defined(alloc: Global, templates: &str) -> Result<Relations, Refused> {
+    let mut relations = Relations::new(alloc);
+    for form in forms(alloc, templates)? {
+        define(alloc, &mut relations, &form)?;
+    }
+    Ok(relations)
+}
+
+/// The fact of a relation with what it is given.
+pub(crate) fn fact(
+    alloc: Global,
+    templates: &str,
+    relation: &str,
+    given: &Given,
+) -> Result<Fact, Refused> {
+    let relations = defined(alloc, templates)?;
+    let parts = parts(alloc, given)?;
+    build_fact(
+        alloc,
+        &relations,
+        Name::new(alloc, relation.as_bytes())?,
+        parts,
+    )
+}
+
+/// The text of a fact, or the number of the fault behind a `!`.
+pub(crate) fn shown_fact(alloc: Global, fact: Result<Fact, Refused>) -> Result<Vec<u8>, NoMemory> {
+    match fact {
+        Ok(fact) => fact_text(alloc, &fact),
+        Err(refused) => shown_refusal(alloc, refused),
+    }
+}
+
+/// The number of a fault behind a `!`.
+pub(crate) fn shown_refusal(alloc: Global, refused: Refused) -> Result<Vec<u8>, NoMemory> {
+    match refused {
+        Refused::Fault(fault) => numbered(alloc, fault.number()),
+        Refused::NoMemory => Err(NoMemory),
+    }
+}
+
+fn numbered(alloc: Global, number: u8) -> Result<Vec<u8>, NoMemory> {
+    let mut text = Vec::from_slice(alloc, b"!")?;
+    text.push(b'0' + number / 10)?;
+    text.push(b'0' + number % 10)?;
+    Ok(text)
+}
