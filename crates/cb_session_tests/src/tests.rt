@@ -2,7 +2,7 @@ ghost use Rattle.std.specs.Prelude.{◌≡◌, None};
 ghost use Rattle.cb_session.specs.Sessions.{IsReady};
 
 use cb_forms::{MemSink, Out};
-use cb_session::{Ending, Flow, Limits, Session, Status};
+use cb_session::{Ending, Flow, Limits, Session, Status, Stop};
 use std::alloc::Global;
 
 mod calls;
@@ -57,11 +57,11 @@ const FAULTY: Status = Status {
     ending: Ending::Done,
 };
 
-fn limits(max_form: usize) -> Limits {
+fn limits() -> Limits {
     Limits {
-        max_form: max_form.max(1).min(16_777_216),
-        max_firings: 1000,
-        max_turns: 1000,
+        max_form: 64,
+        max_firings: 0,
+        max_turns: 0,
     }
 }
 
@@ -74,7 +74,7 @@ fn first_wrong(alloc: Global, rows: &[Row]) -> Option<usize> {
 fn goes(alloc: Global, row: &Row) -> bool {
     match MemSink::new(alloc, 1000, 1000, None) {
         Ok(sink) => {
-            let mut session = Session::new(alloc, limits(1000));
+            let mut session = Session::new(alloc, limits());
             writes(&mut session, &mut Out::new(sink), row)
         }
         Err(_) => false,
@@ -100,8 +100,7 @@ fn takes(session: &mut Session, out: &mut Out<MemSink>, step: &Step) -> bool
 {
     let (piece, writes) = *step;
     let place = out.sink().bytes().len();
-    let flow = session.feed(piece, out);
-    flow == Ok(Flow::GoOn) && has_from(out, place, writes)
+    feeds(session, out, piece, Ok(Flow::GoOn)) && has_from(out, place, writes)
 }
 
 /// Whether the session ends with this status, and writes nothing more.
@@ -109,8 +108,28 @@ fn ends(session: &mut Session, out: &mut Out<MemSink>, status: Status) -> bool
     requires { session.old.stop ≡ None → IsReady out.old }
 {
     let place = out.sink().bytes().len();
-    let ended = session.finish(out);
-    ended == Ok(status) && has_from(out, place, b"")
+    finishes(session, out, Ok(status)) && has_from(out, place, b"")
+}
+
+/// Whether the session answers so where it is fed these bytes.
+fn feeds(
+    session: &mut Session,
+    out: &mut Out<MemSink>,
+    piece: &[u8],
+    answer: Result<Flow, Stop>,
+) -> bool
+    requires { session.old.stop ≡ None → IsReady out.old }
+    ensures { session.new.stop ≡ None → IsReady out.new }
+{
+    session.feed(piece, out) == answer
+}
+
+/// Whether the session answers so where the script ends.
+fn finishes(session: &mut Session, out: &mut Out<MemSink>, answer: Result<Status, Stop>) -> bool
+    requires { session.old.stop ≡ None → IsReady out.old }
+    ensures { session.new.stop ≡ None → IsReady out.new }
+{
+    session.finish(out) == answer
 }
 
 /// Whether this is what the sink has from a place on.

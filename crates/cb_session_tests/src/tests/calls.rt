@@ -3,7 +3,6 @@ ghost use Rattle.std.specs.Prelude.{◌≡◌, None};
 ghost use Rattle.cb_session.specs.Sessions.{IsReady};
 
 use super::*;
-use cb_session::Stop;
 
 /// A script that ends at a limit.
 const LIMITED: Status = Status {
@@ -24,9 +23,8 @@ struct Turn {
     written: &'static [u8],
 }
 
-/// Calls of a session with this limit, over a sink that fails at this write.
+/// Calls of a session over a sink that fails at this write.
 struct Talk {
-    max_form: usize,
     fail_at: Option<u64>,
     turns: &'static [Turn],
 }
@@ -34,7 +32,6 @@ struct Talk {
 const TALKS: [Talk; 6] = [
     // An item is carried out as soon as it has ended, and an open string is a fault.
     Talk {
-        max_form: 1000,
         fail_at: None,
         turns: &[
             Turn {
@@ -61,7 +58,6 @@ const TALKS: [Talk; 6] = [
     },
     // An open word is read at the end.
     Talk {
-        max_form: 1000,
         fail_at: None,
         turns: &[
             Turn {
@@ -83,7 +79,6 @@ const TALKS: [Talk; 6] = [
     },
     // A session that has ended answers its status again and writes nothing more.
     Talk {
-        max_form: 1000,
         fail_at: None,
         turns: &[
             Turn {
@@ -105,16 +100,18 @@ const TALKS: [Talk; 6] = [
     },
     // The same at a limit, which ends the script at once.
     Talk {
-        max_form: 3,
         fail_at: None,
         turns: &[
             Turn {
-                call: Call::Feed(b"ab abc", Ok(Flow::GoOn)),
-                held: b"abc",
+                call: Call::Feed(
+                    b"ab x123456789abcdef0123456789abcdef0123456789abcdef0123456789abcdef",
+                    Ok(Flow::GoOn),
+                ),
+                held: b"x123456789abcdef0123456789abcdef0123456789abcdef0123456789abcdef",
                 written: b"ab\n",
             },
             Turn {
-                call: Call::Feed(b"d (facts 1) ", Ok(Flow::Ended(LIMITED))),
+                call: Call::Feed(b"0 (facts 1) ", Ok(Flow::Ended(LIMITED))),
                 held: b"",
                 written: b"ab\n[CB91] form too long\n",
             },
@@ -132,7 +129,6 @@ const TALKS: [Talk; 6] = [
     },
     // A write that fails is answered by each later call.
     Talk {
-        max_form: 1000,
         fail_at: Some(1),
         turns: &[
             Turn {
@@ -154,7 +150,6 @@ const TALKS: [Talk; 6] = [
     },
     // The same at the end.
     Talk {
-        max_form: 1000,
         fail_at: Some(2),
         turns: &[
             Turn {
@@ -190,7 +185,7 @@ fn first_wrong_talk(alloc: Global, talks: &[Talk]) -> Option<usize> {
 fn is_answered(alloc: Global, talk: &Talk) -> bool {
     match MemSink::new(alloc, 1000, 1000, talk.fail_at) {
         Ok(sink) => {
-            let mut session = Session::new(alloc, limits(talk.max_form));
+            let mut session = Session::new(alloc, limits());
             all_go(&mut session, &mut Out::new(sink), talk.turns)
         }
         Err(_) => false,
@@ -215,8 +210,8 @@ fn answers(session: &mut Session, out: &mut Out<MemSink>, call: &Call) -> bool
     ensures { session.new.stop ≡ None → IsReady out.new }
 {
     match call {
-        Call::Feed(piece, answer) => session.feed(piece, out) == *answer,
-        Call::Finish(answer) => session.finish(out) == *answer,
+        Call::Feed(piece, answer) => feeds(session, out, piece, *answer),
+        Call::Finish(answer) => finishes(session, out, *answer),
     }
 }
 
