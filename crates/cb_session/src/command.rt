@@ -13,9 +13,6 @@ use cb_forms::{Fault, Form, Item, split_head};
 use cb_values::{Fact, Name, Refused, Relations, Value, without_comment};
 use std::alloc::Global;
 
-#[cfg(test)]
-mod tests;
-
 /// Where printed values go.
 #[derive(Clone, Copy, Debug, PartialEq, Eq)]
 pub(crate) enum Channel {

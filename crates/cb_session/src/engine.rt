@@ -20,9 +20,6 @@ use cb_values::{Fact, Name, Refused, Relations, Value};
 use std::alloc::Global;
 use std::marker::Model;
 
-#[cfg(test)]
-mod tests;
-
 /// What is kept from item to item: the facts, the templates, the facts of each `deffacts`, and whether a fault line was
 /// written.
 ///

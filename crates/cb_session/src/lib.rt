@@ -17,8 +17,6 @@ mod memory;
 mod print;
 mod session;
 mod status;
-#[cfg(test)]
-mod testing;
 
 pub use limits::Limits;
 pub use session::Session;

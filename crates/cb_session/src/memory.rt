@@ -1,5 +1,5 @@
 //! The working memory.
-ghost use Rattle.std.specs.Prelude.{◌≡◌, ◌≤◌, [], false, None, Some, IfOk, is_some, if◌then◌else◌};
+ghost use Rattle.std.specs.Prelude.{◌≡◌, [], false, None, Some, IfOk, is_some, if◌then◌else◌};
 ghost use Rattle.std.specs.List.{list_any, list_all};
 ghost use Rattle.std.specs.Str.{bytes_eq};
 ghost use Rattle.cb_session.specs.Groups.{name_relation};
@@ -10,9 +10,6 @@ use cb_forms::NoMemory;
 use cb_values::{Fact, FactList, Value};
 use std::alloc::Global;
 use std::marker::Model;
-
-#[cfg(test)]
-mod tests;
 
 /// The greatest index that a fact may have.
 const GREATEST_INDEX: u64 = 9_223_372_036_854_775_807;
@@ -56,18 +53,6 @@ impl WorkingMemory {
             alloc,
             facts: FactList::new(alloc),
             last: 0,
-        }
-    }
-
-    /// No facts, and the next index is the one behind this.
-    #[cfg(test)]
-    pub(crate) fn behind(alloc: Global, last: u64) -> WorkingMemory
-        requires { last ≤ 9223372036854775807 }
-    {
-        WorkingMemory {
-            alloc,
-            facts: FactList::new(alloc),
-            last,
         }
     }
 

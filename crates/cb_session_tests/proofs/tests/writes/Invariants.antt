@@ -1,0 +1,6 @@
+use Rattle.std.proofs.Common.{◌≡◌, None}
+use Rattle.cb_session.specs.Sessions.{IsReady}
+use Rattle.cb_session_tests.proofs.tests.writes.Given as goal
+
+abbrev pub invariant-loop-step : goal.invariant-loop-step
+invariant-loop-step l = l.session.stop ≡ None → IsReady l.out
