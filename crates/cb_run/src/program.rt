@@ -43,6 +43,3 @@ pub fn carry_out<'a, S: Source, K: Sink>(
     };
     Ok(run(alloc, source, out, limits))
 }
-
-#[cfg(test)]
-mod tests;

@@ -89,6 +89,3 @@ fn follow<S: Source, K: Sink>(session: &mut Session, source: &mut S, out: &mut O
     }
     Outcome::failed(Cause::ReadFault)
 }
-
-#[cfg(test)]
-mod tests;

@@ -87,6 +87,3 @@ fn limit(matches: &ArgMatches<'_>, id: &str, default: u64, min: u64, max: u64) -
     let _ = (min, max);
     matches.get_one(id).unwrap_or(default)
 }
-
-#[cfg(test)]
-mod tests;

@@ -1,28 +1,11 @@
-use super::*;
+//! The scripts of `examples/` and their transcripts.
+use super::rows::{Example, WITH_A_FAULT};
 
-/// A script of `examples/` writes its transcript, and its status is 1: it tells a fault.
-fn tells_a_fault(
-    rt: &(impl Abort + AllocGlobal),
-    script: &[u8],
-    written: &[u8],
-) -> Result<(), NoMemory> {
-    for chunk in [1, 80, 4096] {
-        let sink = MemSink::new(rt.alloc(), 2000, 100, None)?;
-        let outcome = Outcome {
-            status: 1,
-            cause: Cause::Done,
-        };
-        let mut source = MemSource::new(script, chunk, None);
-        goes(rt, 1000, &mut source, sink, written, outcome);
-    }
-    Ok(())
-}
-
-// examples/inventory.clp and its transcript, examples/inventory.txt.
-#[test]
-fn carries_out_the_inventory(rt: HostRuntime) -> Result<(), Fail> {
-    let script =
-        b"; What stands in the storeroom. A line of a count is a fact, and a count that is told twice is one fact.
+pub(super) const EXAMPLES: [Example; 2] = [
+    // examples/inventory.clp and its transcript, examples/inventory.txt.
+    Example {
+        name: "carries out the inventory",
+        script: b"; What stands in the storeroom. A line of a count is a fact, and a count that is told twice is one fact.
 
 (printout t \"Storeroom 4, counted by two people\" crlf)
 
@@ -41,8 +24,8 @@ fn carries_out_the_inventory(rt: HostRuntime) -> Result<(), Fail> {
 
 (printout t \"All that was counted:\" crlf)
 (facts)
-";
-    let written = b"Storeroom 4, counted by two people
+",
+        written: b"Storeroom 4, counted by two people
 <Fact-4>
 <Fact-3>
 <Fact-5>
@@ -54,16 +37,13 @@ f-3     (item nut m6 900)
 f-4     (note bolt m8 \"box \\\"B\\\" is torn\")
 f-5     (item washer m6 -3)
 For a total of 5 facts.
-";
-    tells_a_fault(&rt, script, written)?;
-    Ok(())
-}
-
-// examples/cluster.clp and its transcript, examples/cluster.txt.
-#[test]
-fn carries_out_the_cluster(rt: HostRuntime) -> Result<(), Fail> {
-    let script =
-        b"; The configuration of a small cluster, checked before it is rolled out. Services and settings are templates: a port that
+",
+        outcome: WITH_A_FAULT,
+    },
+    // examples/cluster.clp and its transcript, examples/cluster.txt.
+    Example {
+        name: "carries out the cluster",
+        script: b"; The configuration of a small cluster, checked before it is rolled out. Services and settings are templates: a port that
 ; is no number and a service without a name are told here, and not by the machines.
 
 (deftemplate service \"a program that runs on a machine\"
@@ -103,8 +83,8 @@ fn carries_out_the_cluster(rt: HostRuntime) -> Result<(), Fail> {
 (retract 6)
 (deftemplate setting (slot name))                 ; there are settings already
 (facts)
-";
-    let written = b"Each cluster:
+",
+        written: b"Each cluster:
 f-1     (service (name db) (port 5432) (host \"db-1.local\") (needs))
 f-2     (setting (of db) (key backup) (value on))
 f-3     (must-run db)
@@ -127,7 +107,7 @@ f-5     (service (name web) (port 8080) (host \"\") (needs db cache))
 f-7     (setting (of web) (key \"max clients\") (value 200))
 f-8     (service (name cache) (port 6379) (host \"\") (needs))
 For a total of 7 facts.
-";
-    tells_a_fault(&rt, script, written)?;
-    Ok(())
-}
+",
+        outcome: WITH_A_FAULT,
+    },
+];

@@ -1,28 +1,10 @@
-// The examples of docs/LANGUAGE.md, in its order.
-use super::*;
+//! The examples of `docs/LANGUAGE.md`, in its order.
+use super::rows::{Example, WITH_A_FAULT, WITHOUT_FAULT};
 
-/// A script writes its transcript and ends with this status.
-fn writes(
-    rt: &(impl Abort + AllocGlobal),
-    script: &[u8],
-    written: &[u8],
-    status: u8,
-) -> Result<(), NoMemory> {
-    for chunk in [1, 80, 4096] {
-        let sink = MemSink::new(rt.alloc(), 2000, 100, None)?;
-        let outcome = Outcome {
-            status,
-            cause: Cause::Done,
-        };
-        let mut source = MemSource::new(script, chunk, None);
-        goes(rt, 2000, &mut source, sink, written, outcome);
-    }
-    Ok(())
-}
-
-#[test]
-fn shows_values(rt: HostRuntime) -> Result<(), Fail> {
-    let script = b"?x
+pub(super) const LANGUAGE: [Example; 8] = [
+    Example {
+        name: "shows values",
+        script: b"?x
 $?rest
 (printout t ?x crlf)
 (assert (age ?x) (bind ?x 1))
@@ -30,8 +12,8 @@ $?rest
 (bind ?x 1)
 ?*limit*
 ?
-";
-    let written = b"[CB11] unbound variable
+",
+        written: b"[CB11] unbound variable
 [CB11] unbound variable
 [CB11] unbound variable
 [CB11] unbound variable
@@ -39,14 +21,12 @@ $?rest
 [CB14] not in this profile
 [CB12] unknown global variable
 [CB08] malformed form
-";
-    writes(&rt, script, written, 1)?;
-    Ok(())
-}
-
-#[test]
-fn shows_templates(rt: HostRuntime) -> Result<(), Fail> {
-    let script = b"(deftemplate part \"What lies on a shelf\"
+",
+        outcome: WITH_A_FAULT,
+    },
+    Example {
+        name: "shows templates",
+        script: b"(deftemplate part \"What lies on a shelf\"
     (slot name (type SYMBOL) (default ?NONE))
     (slot count (type INTEGER))
     (slot note (type STRING))
@@ -60,8 +40,8 @@ fn shows_templates(rt: HostRuntime) -> Result<(), Fail> {
 (assert (part (count 3)))
 (assert (part (name bolt) (count many)))
 (assert (part (name bolt) (colour red)))
-";
-    let written = b"<Fact-1>
+",
+        written: b"<Fact-1>
 <Fact-2>
 <Fact-1>
 f-1     (part (name bolt) (count 3) (note \"\") (owner \"nobody\") (sizes 8 10) (tags))
@@ -70,14 +50,12 @@ For a total of 2 facts.
 [CB09] fact does not fit its template
 [CB10] value not allowed in slot
 [CB09] fact does not fit its template
-";
-    writes(&rt, script, written, 1)?;
-    Ok(())
-}
-
-#[test]
-fn shows_derived_defaults(rt: HostRuntime) -> Result<(), Fail> {
-    let script = b"(deftemplate d
+",
+        outcome: WITH_A_FAULT,
+    },
+    Example {
+        name: "shows derived defaults",
+        script: b"(deftemplate d
     (slot a (type INTEGER))
     (slot b (type NUMBER))
     (slot c (type STRING))
@@ -93,19 +71,17 @@ fn shows_derived_defaults(rt: HostRuntime) -> Result<(), Fail> {
 (assert (d))
 (facts)
 (assert (d (i nil)))
-";
-    let written = b"<Fact-1>
+",
+        written: b"<Fact-1>
 f-1     (d (a 0) (b 0) (c \"\") (d nil) (e nil) (f nil) (g nil) (h 0) (i nil) (j) (k) (l 1 \"x\" y))
 For a total of 1 fact.
 [CB10] value not allowed in slot
-";
-    writes(&rt, script, written, 1)?;
-    Ok(())
-}
-
-#[test]
-fn shows_faults_of_templates(rt: HostRuntime) -> Result<(), Fail> {
-    let script = b"(deftemplate \"reading\" (slot at))
+",
+        outcome: WITH_A_FAULT,
+    },
+    Example {
+        name: "shows faults of templates",
+        script: b"(deftemplate \"reading\" (slot at))
 (deftemplate exists (slot at))
 (deftemplate t (slot at (range 1 9)) (field to))
 (deftemplate t (field to) (slot at (range 1 9)))
@@ -119,8 +95,8 @@ fn shows_faults_of_templates(rt: HostRuntime) -> Result<(), Fail> {
 (assert (t at 1))
 (deftemplate t (slot at (range 1 9)))
 (facts)
-";
-    let written = b"[CB08] malformed form
+",
+        written: b"[CB08] malformed form
 [CB08] malformed form
 [CB14] not in this profile
 [CB08] malformed form
@@ -135,14 +111,12 @@ fn shows_faults_of_templates(rt: HostRuntime) -> Result<(), Fail> {
 [CB23] template in use
 f-1     (t at 1)
 For a total of 1 fact.
-";
-    writes(&rt, script, written, 1)?;
-    Ok(())
-}
-
-#[test]
-fn shows_faults_of_facts(rt: HostRuntime) -> Result<(), Fail> {
-    let script = b"(deftemplate reading
+",
+        outcome: WITH_A_FAULT,
+    },
+    Example {
+        name: "shows faults of facts",
+        script: b"(deftemplate reading
     (slot at (type SYMBOL) (default ?NONE))
     (slot celsius (type INTEGER))
     (multislot marks (type SYMBOL)))
@@ -161,8 +135,8 @@ fn shows_faults_of_facts(rt: HostRuntime) -> Result<(), Fail> {
 (assert (reading hall 20))
 (assert (reading (at hall)) (reading (at ?x)) (reading))
 (facts)
-";
-    let written = b"[CB10] value not allowed in slot
+",
+        written: b"[CB10] value not allowed in slot
 [CB11] unbound variable
 [CB09] fact does not fit its template
 [CB10] value not allowed in slot
@@ -176,21 +150,19 @@ fn shows_faults_of_facts(rt: HostRuntime) -> Result<(), Fail> {
 [CB14] not in this profile
 [CB09] fact does not fit its template
 [CB11] unbound variable
-";
-    writes(&rt, script, written, 1)?;
-    Ok(())
-}
-
-#[test]
-fn shows_facts_and_printing(rt: HostRuntime) -> Result<(), Fail> {
-    let script = b"(assert (color red) (size \"X L\" 40))
+",
+        outcome: WITH_A_FAULT,
+    },
+    Example {
+        name: "shows facts and printing",
+        script: b"(assert (color red) (size \"X L\" 40))
 (assert (color red))
 (facts)
 (printout t \"a\" tab b crlf)
 blue
 \"x\"
-";
-    let written = b"<Fact-2>
+",
+        written: b"<Fact-2>
 <Fact-1>
 f-1     (color red)
 f-2     (size \"X L\" 40)
@@ -198,14 +170,12 @@ For a total of 2 facts.
 a\tb
 blue
 \"x\"
-";
-    writes(&rt, script, written, 0)?;
-    Ok(())
-}
-
-#[test]
-fn shows_deffacts_reset_and_clear(rt: HostRuntime) -> Result<(), Fail> {
-    let script = b"(deftemplate lamp (slot room) (slot state (default off)))
+",
+        outcome: WITHOUT_FAULT,
+    },
+    Example {
+        name: "shows deffacts reset and clear",
+        script: b"(deftemplate lamp (slot room) (slot state (default off)))
 (deffacts house \"What there is at the start\"
     (lamp (room hall))
     (lamp (room attic) (state on)))
@@ -225,8 +195,8 @@ fn shows_deffacts_reset_and_clear(rt: HostRuntime) -> Result<(), Fail> {
 (reset)
 (assert (lamp (watts 60)))
 (facts)
-";
-    let written = b"<Fact-1>
+",
+        written: b"<Fact-1>
 f-1     (visitor \"Ann\")
 For a total of 1 fact.
 f-1     (lamp (room hall) (state off))
@@ -241,14 +211,12 @@ For a total of 2 facts.
 <Fact-1>
 f-1     (lamp (watts 60))
 For a total of 1 fact.
-";
-    writes(&rt, script, written, 1)?;
-    Ok(())
-}
-
-#[test]
-fn shows_retractions(rt: HostRuntime) -> Result<(), Fail> {
-    let script = b"(assert (a) (b) (c) (d))
+",
+        outcome: WITH_A_FAULT,
+    },
+    Example {
+        name: "shows retractions",
+        script: b"(assert (a) (b) (c) (d))
 (retract 2)
 (retract 1 \"x\")
 (facts)
@@ -265,8 +233,8 @@ fn shows_retractions(rt: HostRuntime) -> Result<(), Fail> {
 (retract *)
 (reset)
 (assert (b))
-";
-    let written = b"<Fact-4>
+",
+        written: b"<Fact-4>
 [CB17] wrong type
 f-1     (a)
 f-3     (c)
@@ -283,7 +251,7 @@ For a total of 2 facts.
 [CB20] no such fact
 <Fact-6>
 <Fact-1>
-";
-    writes(&rt, script, written, 1)?;
-    Ok(())
-}
+",
+        outcome: WITH_A_FAULT,
+    },
+];

@@ -1,27 +1,11 @@
-use super::*;
+//! Templates and their facts: which fault comes first.
+use super::rows::*;
 
-/// Templates and their facts: which fault comes first.
-pub(super) fn rows() -> [Row; 12] {
-    [
-        types(),
-        defaults(),
-        numbers_of_constants(),
-        other_slots(),
-        repeated_names(),
-        other_attributes(),
-        default_of_another_type(),
-        names_before_slots(),
-        wildcards_in_facts(),
-        order_in_a_fact(),
-        calls_in_a_fact(),
-        call_in_a_slot(),
-    ]
-}
-
-// A type is SYMBOL, STRING, INTEGER, NUMBER, LEXEME, or ?VARIABLE alone.
-fn types() -> Row {
-    whole(
-        &[
+pub(super) const FAULT_ROWS: [Row; 12] = [
+    // A type is SYMBOL, STRING, INTEGER, NUMBER, LEXEME, or ?VARIABLE alone.
+    Row {
+        name: "types",
+        steps: &[
             (b"(deftemplate t (slot a (type FLOAT)))", CB14),
             (b"(deftemplate t (slot a (type 3)))", CB08),
             (b"(deftemplate t (slot a (type ?FOO)))", CB08),
@@ -32,14 +16,12 @@ fn types() -> Row {
             (b"(deftemplate t (slot a (type 3 FLOAT)))", CB08),
             (b"(deftemplate t (slot a (type FLOAT 3)))", CB14),
         ],
-        1,
-    )
-}
-
-// A default has constants.
-fn defaults() -> Row {
-    whole(
-        &[
+        ..FAULTY
+    },
+    // A default has constants.
+    Row {
+        name: "defaults",
+        steps: &[
             (b"(deftemplate t (slot a (default ?x)))", CB08),
             (b"(deftemplate t (slot a (default ())))", CB08),
             (b"(deftemplate t (slot a (default (1))))", CB08),
@@ -49,14 +31,12 @@ fn defaults() -> Row {
             (b"(deftemplate t (multislot a (default ?NONE 1)))", CB08),
             (b"(deftemplate t (multislot a (default 1 ?NONE)))", CB08),
         ],
-        1,
-    )
-}
-
-// The number of constants comes before them.
-fn numbers_of_constants() -> Row {
-    whole(
-        &[
+        ..FAULTY
+    },
+    // The number of constants comes before them.
+    Row {
+        name: "numbers of constants",
+        steps: &[
             (b"(deftemplate t (slot a (default (+ 1 2) 3)))", CB08),
             (b"(deftemplate t (slot a (default 3 (+ 1 2))))", CB08),
             (b"(deftemplate t (slot a (default)))", CB08),
@@ -64,28 +44,24 @@ fn numbers_of_constants() -> Row {
             (b"(assert (u))", b"<Fact-1>\n"),
             (b"(facts)", b"f-1     (u (a))\nFor a total of 1 fact.\n"),
         ],
-        1,
-    )
-}
-
-// What is no slot.
-fn other_slots() -> Row {
-    whole(
-        &[
+        ..FAULTY
+    },
+    // What is no slot.
+    Row {
+        name: "other slots",
+        steps: &[
             (b"(deftemplate t (field a))", CB08),
             (b"(deftemplate t (single-slot a))", CB08),
             (b"(deftemplate t a)", CB08),
             (b"(deftemplate t (slot))", CB08),
             (b"(deftemplate t (slot \"a\"))", CB08),
         ],
-        1,
-    )
-}
-
-// A name that is there already.
-fn repeated_names() -> Row {
-    whole(
-        &[
+        ..FAULTY
+    },
+    // A name that is there already.
+    Row {
+        name: "repeated names",
+        steps: &[
             (b"(deftemplate t (slot a) (slot a (foo)))", CB08),
             (
                 b"(deftemplate t (slot a (type INTEGER) (type FLOAT)))",
@@ -93,39 +69,33 @@ fn repeated_names() -> Row {
             ),
             (b"(deftemplate t (slot a (default 1) (default (f))))", CB08),
         ],
-        1,
-    )
-}
-
-// What is no attribute.
-fn other_attributes() -> Row {
-    whole(
-        &[
+        ..FAULTY
+    },
+    // What is no attribute.
+    Row {
+        name: "other attributes",
+        steps: &[
             (b"(deftemplate t (slot a (range 1 10)))", CB14),
             (b"(deftemplate t (slot a (foo)))", CB14),
             (b"(deftemplate t (slot a foo))", CB08),
             (b"(deftemplate t (slot a ()))", CB08),
             (b"(deftemplate t (slot a (3)))", CB08),
         ],
-        1,
-    )
-}
-
-// A default is compared with its type behind the attributes, before the next slot.
-fn default_of_another_type() -> Row {
-    whole(
-        &[(
+        ..FAULTY
+    },
+    // A default is compared with its type behind the attributes, before the next slot.
+    Row {
+        name: "default of another type",
+        steps: &[(
             b"(deftemplate t (slot a (default x) (type INTEGER)) (slot b (foo)))",
             CB10,
         )],
-        1,
-    )
-}
-
-// The name comes before the slots.
-fn names_before_slots() -> Row {
-    whole(
-        &[
+        ..FAULTY
+    },
+    // The name comes before the slots.
+    Row {
+        name: "names before slots",
+        steps: &[
             (b"(assert (p 1))", b"<Fact-1>\n"),
             (b"(deftemplate p (foo))", CB23),
             (b"(deftemplate test (foo))", CB08),
@@ -134,14 +104,12 @@ fn names_before_slots() -> Row {
             (b"(deftemplate \"c\")", CB08),
             (b"(deftemplate q \"c\" \"d\")", CB08),
         ],
-        1,
-    )
-}
-
-// Wildcards and connectives in facts.
-fn wildcards_in_facts() -> Row {
-    whole(
-        &[
+        ..FAULTY
+    },
+    // Wildcards and connectives in facts.
+    Row {
+        name: "wildcards in facts",
+        steps: &[
             (b"(deftemplate p (slot n) (multislot m))", b""),
             (b"(assert ?)", CB09),
             (b"(assert (p ?))", CB09),
@@ -151,14 +119,12 @@ fn wildcards_in_facts() -> Row {
             (b"(assert (a b|c))", CB08),
             (b"(assert (p (n 1|2)))", CB09),
         ],
-        1,
-    )
-}
-
-// The order in a slot, and at the end of a fact.
-fn order_in_a_fact() -> Row {
-    whole(
-        &[
+        ..FAULTY
+    },
+    // The order in a slot, and at the end of a fact.
+    Row {
+        name: "order in a fact",
+        steps: &[
             (
                 b"(deftemplate t (slot k (type INTEGER)) (slot r (default ?NONE)) (multislot m (type INTEGER)))",
                 b"",
@@ -171,30 +137,26 @@ fn order_in_a_fact() -> Row {
             (b"(assert (t (k 1) (k (bogus))))", CB09),
             (b"(assert (t (k 1)))", CB09),
         ],
-        1,
-    )
-}
-
-// Calls are not in this part of the language.
-fn calls_in_a_fact() -> Row {
-    whole(
-        &[
+        ..FAULTY
+    },
+    // Calls are not in this part of the language.
+    Row {
+        name: "calls in a fact",
+        steps: &[
             (b"(deftemplate p (slot a) (slot b))", b""),
             (
                 b"(assert (p (a (create$ 1)) (b (if TRUE then (println \"late\") 1))))",
                 CB14,
             ),
         ],
-        1,
-    )
-}
-
-fn call_in_a_slot() -> Row {
-    whole(
-        &[
+        ..FAULTY
+    },
+    Row {
+        name: "call in a slot",
+        steps: &[
             (b"(deftemplate p (slot a))", b""),
             (b"(assert (p (a (create$ 1))))", CB14),
         ],
-        1,
-    )
-}
+        ..FAULTY
+    },
+];
