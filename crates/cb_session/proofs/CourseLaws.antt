@@ -5,13 +5,13 @@ use Rattle.std.proofs.lemmas.List.{append-nil, append_assoc, map-append}
 use Rattle.cb_forms.specs.Cuts.{item_readings, cut_items, cut_readings, is_too_long}
 use Rattle.cb_forms.specs.Cutter.{Progress, fresh_progress, readings_in}
 use Rattle.cb_forms.specs.Items.{items, parts, whole, over, fitting}
-use Rattle.cb_forms.specs.Output.{Passed, PassedSome}
+use Rattle.cb_io.specs.Output.{Passed, PassedSome}
 use Rattle.cb_forms.specs.Trees.{Reading, reading_of}
 use Rattle.cb_forms.specs.declared.cut.Cut.{Cut}
 use Rattle.cb_forms.specs.declared.cut.Cut.TheVariants as cut
 use Rattle.cb_forms.specs.declared.form.Item.{Item}
 use Rattle.cb_forms.proofs.FittingLaws.{fitting-whole}
-use Rattle.cb_forms.proofs.Passing.{took_none, passed_some_more, passed_then, passed_some_then, flushed_some_then}
+use Rattle.cb_io.proofs.Passing.{took_none, passed_some_more, passed_then, passed_some_then, flushed_some_then}
 use Rattle.cb_session.specs.Courses.{from, cut_run, PutOn, PutSome, IsUnderWay, IsBehind}
 use Rattle.cb_session.specs.Engine.{State, first_state, carried}
 use Rattle.cb_session.specs.Sessions.{WroteSome}

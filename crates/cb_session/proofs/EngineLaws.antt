@@ -6,7 +6,7 @@ use Rattle.cb_forms.specs.declared.token.Token.TheVariants as token
 use Rattle.cb_session.specs.Commands.{Asked, command_of}
 use Rattle.cb_session.specs.Engine.{State, carried, carried_as, obeyed, faulted, wrote}
 use Rattle.cb_session.specs.Lines.{value_line}
-use Rattle.cb_values.specs.declared.value.Value.TheVariants as value
+use Rattle.cb_facts.specs.declared.value.Value.TheVariants as value
 
 pub carried-command : (s : State) (r : Reading) (command : Asked) → command_of s.templates r ≡ Ok command → carried s r ≡ obeyed s command
 unfolding carried

@@ -10,7 +10,7 @@ use Rattle.cb_forms.specs.declared.token.Token.TheVariants as token
 use Rattle.cb_session.specs.Engine.{State, first_state, limit_status, carried}
 use Rattle.cb_session.specs.Memory.{greatest_index}
 use Rattle.cb_session.specs.Heads.{is_refused}
-use Rattle.cb_values.specs.Reserved.{is_reserved}
+use Rattle.cb_templates.specs.Reserved.{is_reserved}
 use Rattle.cb_session.specs.Transcripts.{begun, after_all, so_far, complete, transcript, status_of}
 use Rattle.cb_session.specs.declared.status.Ending.TheVariants.{Done}
 

@@ -16,11 +16,11 @@ use Rattle.cb_session.specs.Memory.{Memory, empty_memory, asserted_all, is_retra
 use Rattle.cb_session.specs.declared.memory.Asserted.{Asserted}
 use Rattle.cb_session.specs.declared.memory.Asserted.TheVariants.{All, Exhausted}
 use Rattle.cb_session.proofs.IndexLaws.{contains_there}
-use Rattle.cb_values.specs.FactLists.{IndexedFacts, fact_at}
-use Rattle.cb_values.specs.Facts.{FactValue}
-use Rattle.cb_values.specs.Templates.{Templates, defined}
-use Rattle.cb_values.specs.declared.value.Value.{Value}
-use Rattle.cb_values.specs.declared.value.Value.TheVariants as value
+use Rattle.cb_facts.specs.FactLists.{IndexedFacts, fact_at}
+use Rattle.cb_facts.specs.Facts.{FactValue}
+use Rattle.cb_templates.specs.Templates.{Templates, defined}
+use Rattle.cb_facts.specs.declared.value.Value.{Value}
+use Rattle.cb_facts.specs.declared.value.Value.TheVariants as value
 
 -- a state without the mark for status 1
 abbrev unmarked : State → State

@@ -10,15 +10,15 @@ use Rattle.cb_forms.specs.declared.fault.Fault.{Fault}
 use Rattle.cb_forms.specs.declared.fault.Fault.TheVariants.{FactDoesNotFit}
 use Rattle.cb_session.specs.FactForms.{are_filled, headed_fact, parts_of, is_lone, known_slot, named_slot, slot_fields_of, slots_given}
 use Rattle.cb_session.specs.Laws.{followed_by}
-use Rattle.cb_values.proofs.FactListLaws.{false-from_not}
-use Rattle.cb_values.proofs.Firsts.{follows}
-use Rattle.cb_values.specs.Building.{Given, are_distinct, built, built_by, filled, fits, given_for, slot_value, slot_values, slots_built, takes}
-use Rattle.cb_values.specs.Facts.{FactValue, template_fact}
-use Rattle.cb_values.specs.Reserved.{is_reserved}
-use Rattle.cb_values.specs.Results.{and_then, ok_then, with_first}
-use Rattle.cb_values.specs.Slots.{GivenValues, SlotShape, slot_named}
-use Rattle.cb_values.specs.Templates.{Templates, slots_of}
-use Rattle.cb_values.specs.declared.value.Value.{Value}
+use Rattle.cb_facts.proofs.FactListLaws.{false-from_not}
+use Rattle.cb_templates.proofs.Firsts.{follows}
+use Rattle.cb_templates.specs.Building.{Given, are_distinct, built, built_by, filled, fits, given_for, slot_value, slot_values, slots_built, takes}
+use Rattle.cb_facts.specs.Facts.{FactValue, template_fact}
+use Rattle.cb_templates.specs.Reserved.{is_reserved}
+use Rattle.cb_templates.specs.Results.{and_then, ok_then, with_first}
+use Rattle.cb_templates.specs.Slots.{GivenValues, SlotShape, slot_named}
+use Rattle.cb_templates.specs.Templates.{Templates, slots_of}
+use Rattle.cb_facts.specs.declared.value.Value.{Value}
 
 same_words : (n k : List ℕ) → bytes_eq n k ≡ true → n ≡ k
 same_words n k h = (bytes_eq-Decides n k).0 h

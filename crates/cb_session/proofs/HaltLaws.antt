@@ -1,8 +1,8 @@
 -- Memory is wanted while a script is carried out: what was put before is flushed.
 use Rattle.std.proofs.Common.{◌≡◌, ℕ, List, [], ◌++◌, Option, refl, sym, ap, ◌∙◌, subst, append_assoc, take, drop}
 use Rattle.std.proofs.lemmas.List.{append-nil}
-use Rattle.cb_forms.specs.Output.{OutState, Passed, PassedSome}
-use Rattle.cb_forms.proofs.Passing.{took_none, flushed_some_then}
+use Rattle.cb_io.specs.Output.{OutState, Passed, PassedSome}
+use Rattle.cb_io.proofs.Passing.{took_none, flushed_some_then}
 use Rattle.cb_session.specs.Courses.{PutOn, PutBegun}
 use Rattle.cb_session.specs.Sessions.{WroteSome}
 use Rattle.cb_session.specs.Transcripts.{Run, so_far}

@@ -8,9 +8,9 @@ use Rattle.std.specs.List.{Contains}
 use Rattle.std.specs.Map.{keys_of}
 use Rattle.std.specs.Ordering.{nat_cmp, eq_by_cmp}
 use Rattle.cb_session.specs.Memory.{index_of}
-use Rattle.cb_values.proofs.FactEquality.{fact-Decides}
-use Rattle.cb_values.specs.FactLists.{IndexedFacts, fact_at, IsAbsent, IsFactBase}
-use Rattle.cb_values.specs.Facts.{FactValue, fact_eq}
+use Rattle.cb_facts.proofs.FactEquality.{fact-Decides}
+use Rattle.cb_facts.specs.FactLists.{IndexedFacts, fact_at, IsAbsent, IsFactBase}
+use Rattle.cb_facts.specs.Facts.{FactValue, fact_eq}
 
 contains_here : {X : Type 0} (x : X) (xs : List X) → Contains (x ∷ xs) x
 contains_here x xs = (0, omega arith, refl)

@@ -4,9 +4,9 @@ use Rattle.std.specs.BTreeMap.{is_at}
 use Rattle.std.specs.Ordering.{is_eq, nat_cmp, match_ordering}
 use Rattle.cb_session.specs.Laws.{NoneBehind, Keeps}
 use Rattle.cb_session.specs.Memory.{Memory, greatest_index, grown, asserted_beside, asserted_one, after_one, asserted_all, index_of}
-use Rattle.cb_values.proofs.FactListLaws.{is_at-Decides, false-from_not}
-use Rattle.cb_values.specs.FactLists.{IndexedFacts, fact_at, with_fact}
-use Rattle.cb_values.specs.Facts.{FactValue}
+use Rattle.cb_facts.proofs.FactListLaws.{is_at-Decides, false-from_not}
+use Rattle.cb_facts.specs.FactLists.{IndexedFacts, fact_at, with_fact}
+use Rattle.cb_facts.specs.Facts.{FactValue}
 
 not_at : (q i : ℕ) → q ≢ i → is_at (nat_cmp q) i ≡ false
 not_at q i apart = false-from_not (is_at (nat_cmp q) i) (λ e. apart ((is_at-Decides q i).0 e))

@@ -7,7 +7,6 @@ mod KeepLaws
 mod FaultLaws
 mod GivenLaws
 pub mod RunLaws
-pub mod WroteLaws
 pub mod CourseLaws
 pub mod PieceSteps
 pub mod HaltLaws

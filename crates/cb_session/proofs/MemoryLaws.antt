@@ -4,8 +4,8 @@ use Rattle.cb_session.specs.Memory.{Memory, greatest_index, grown, asserted_besi
 use Rattle.cb_session.specs.declared.memory.Asserted.{Asserted}
 use Rattle.cb_session.specs.declared.memory.Asserted.TheVariants.{All, Exhausted}
 use Rattle.cb_session.proofs.IndexLaws.{index_of-there, index_of-absent}
-use Rattle.cb_values.specs.FactLists.{IndexedFacts, fact_at, with_fact, IsAbsent, IsFactBase}
-use Rattle.cb_values.specs.Facts.{FactValue}
+use Rattle.cb_facts.specs.FactLists.{IndexedFacts, fact_at, with_fact, IsAbsent, IsFactBase}
+use Rattle.cb_facts.specs.Facts.{FactValue}
 
 -- a fact that is there keeps its index
 pub one-there : (m : Memory) (fact : FactValue) (ix : ℕ) → IsFactBase m.facts → fact_at m.facts ix ≡ Some fact → asserted_one m fact ≡ (m, Some ix)

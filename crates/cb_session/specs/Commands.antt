@@ -15,10 +15,10 @@ use Rattle.cb_session.specs.declared.command.Command.{Command}
 use Rattle.cb_session.specs.declared.command.Command.TheVariants as program
 use Rattle.cb_session.specs.declared.heads.Head.{Head}
 use Rattle.cb_session.specs.declared.heads.Head.TheVariants as head
-use Rattle.cb_values.specs.Facts.{FactValue}
-use Rattle.cb_values.specs.Results.{ok_then}
-use Rattle.cb_values.specs.Templates.{Templates, without_comment}
-use Rattle.cb_values.specs.declared.value.Value.{Value}
+use Rattle.cb_facts.specs.Facts.{FactValue}
+use Rattle.cb_templates.specs.Results.{ok_then}
+use Rattle.cb_templates.specs.Templates.{Templates, without_comment}
+use Rattle.cb_facts.specs.declared.value.Value.{Value}
 
 -- what an item asks for
 pub data Asked : Type 0 where

@@ -10,9 +10,9 @@ use Rattle.cb_forms.specs.declared.token.Token.TheVariants as token
 use Rattle.cb_session.specs.Heads.{head_of}
 use Rattle.cb_session.specs.declared.heads.Head.{Head}
 use Rattle.cb_session.specs.declared.heads.Head.TheVariants as head
-use Rattle.cb_values.specs.Results.{with_first}
-use Rattle.cb_values.specs.Values.{constant_of}
-use Rattle.cb_values.specs.declared.value.Value.{Value}
+use Rattle.cb_templates.specs.Results.{with_first}
+use Rattle.cb_facts.specs.Values.{constant_of}
+use Rattle.cb_facts.specs.declared.value.Value.{Value}
 
 -- what is wrong with a token that is no constant
 abbrev pub token_fault : Token → Fault

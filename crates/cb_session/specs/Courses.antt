@@ -3,7 +3,7 @@ use Rattle.std.specs.Prelude.{◌≡◌, ◌≤◌, ℕ, false, List, [], ◌++�
 use Rattle.cb_forms.specs.Cuts.{cut_readings, is_too_long}
 use Rattle.cb_forms.specs.Cutter.{Progress, readings_in}
 use Rattle.cb_forms.specs.Items.{whole, over}
-use Rattle.cb_forms.specs.Output.{Passed, PassedSome}
+use Rattle.cb_io.specs.Output.{Passed, PassedSome}
 use Rattle.cb_forms.specs.declared.cut.Cut.{Cut}
 use Rattle.cb_session.specs.Engine.{State}
 use Rattle.cb_session.specs.Transcripts.{Run, begun, after_all, too_long}

@@ -17,8 +17,8 @@ use Rattle.cb_session.specs.declared.memory.Asserted.{Asserted}
 use Rattle.cb_session.specs.declared.memory.Asserted.TheVariants.{All, Exhausted}
 use Rattle.cb_session.specs.declared.status.Ending.TheVariants.{Limit}
 use Rattle.cb_session.specs.declared.status.Status.{Status}
-use Rattle.cb_values.specs.Templates.{Templates, defined}
-use Rattle.cb_values.specs.declared.value.Value.{Value}
+use Rattle.cb_templates.specs.Templates.{Templates, defined}
+use Rattle.cb_facts.specs.declared.value.Value.{Value}
 
 -- What is kept from item to item: the facts, the templates, the facts of each `deffacts`, and whether a fault line was
 -- written.

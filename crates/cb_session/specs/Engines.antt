@@ -3,7 +3,7 @@ use Rattle.std.specs.Prelude.{◌≡◌, ◌<◌, ◌≤◌, ℕ, None}
 use Rattle.cb_session.specs.Engine.{State, Outcome}
 use Rattle.cb_session.specs.Memory.{greatest_index}
 use Rattle.cb_session.specs.declared.done.Done.{Done}
-use Rattle.cb_values.specs.FactLists.{IndexedFacts, fact_at, IsFactBase}
+use Rattle.cb_facts.specs.FactLists.{IndexedFacts, fact_at, IsFactBase}
 
 -- what a `Done` says, where this is the state behind it
 abbrev pub outcome : State → Done → Outcome

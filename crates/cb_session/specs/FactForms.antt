@@ -8,13 +8,13 @@ use Rattle.cb_forms.specs.Trees.{Tree, atom, branch, Trees, no_trees, tree}
 use Rattle.cb_forms.specs.declared.fault.Fault.{Fault}
 use Rattle.cb_forms.specs.declared.fault.Fault.TheVariants.{FactDoesNotFit, NotInProfile, ValueNotAllowed}
 use Rattle.cb_session.specs.Constants.{value_of}
-use Rattle.cb_values.specs.Building.{Given, PartValues, field_values, slot_values, given_for, built}
-use Rattle.cb_values.specs.Facts.{FactValue}
-use Rattle.cb_values.specs.Reserved.{is_reserved}
-use Rattle.cb_values.specs.Results.{ok_then, and_then, with_first}
-use Rattle.cb_values.specs.Slots.{GivenValues, SlotShape, Types, allows_all, slot_named}
-use Rattle.cb_values.specs.Templates.{Templates, slots_of}
-use Rattle.cb_values.specs.declared.value.Value.{Value}
+use Rattle.cb_templates.specs.Building.{Given, PartValues, field_values, slot_values, given_for, built}
+use Rattle.cb_facts.specs.Facts.{FactValue}
+use Rattle.cb_templates.specs.Reserved.{is_reserved}
+use Rattle.cb_templates.specs.Results.{ok_then, and_then, with_first}
+use Rattle.cb_templates.specs.Slots.{GivenValues, SlotShape, Types, allows_all, slot_named}
+use Rattle.cb_templates.specs.Templates.{Templates, slots_of}
+use Rattle.cb_facts.specs.declared.value.Value.{Value}
 
 -- the first of the forms is a list
 abbrev pub begins_with_list : Trees → Bool

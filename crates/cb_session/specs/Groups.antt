@@ -3,7 +3,7 @@ use Rattle.std.specs.Prelude.{ℕ, Bool, List, [], ◌∷◌, ◌++◌}
 use Rattle.std.specs.List.{flat_map, list_any}
 use Rattle.std.specs.Map.{remove_entry}
 use Rattle.std.specs.Str.{bytes_eq}
-use Rattle.cb_values.specs.Facts.{FactValue}
+use Rattle.cb_facts.specs.Facts.{FactValue}
 
 -- each group of facts behind its name, in the order of their definition
 abbrev pub Groups : Type 0

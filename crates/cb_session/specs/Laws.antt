@@ -4,8 +4,8 @@ use Rattle.std.specs.List.{Contains}
 use Rattle.cb_forms.specs.Trees.{Reading, Trees, no_trees, tree}
 use Rattle.cb_session.specs.Engine.{State, carried}
 use Rattle.cb_session.specs.Memory.{Memory}
-use Rattle.cb_values.specs.FactLists.{fact_at}
-use Rattle.cb_values.specs.Facts.{FactValue}
+use Rattle.cb_facts.specs.FactLists.{fact_at}
+use Rattle.cb_facts.specs.Facts.{FactValue}
 
 -- no fact has an index behind the last one
 abbrev pub NoneBehind : Memory → Type 0

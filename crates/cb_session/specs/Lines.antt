@@ -4,10 +4,10 @@ use Rattle.std.specs.Fmt.{decimal}
 use Rattle.std.specs.List.{flat_map}
 use Rattle.cb_forms.specs.Faults.{number_of, text_of}
 use Rattle.cb_forms.specs.declared.fault.Fault.{Fault}
-use Rattle.cb_values.specs.FactLists.{IndexedFacts}
-use Rattle.cb_values.specs.Facts.{FactValue}
-use Rattle.cb_values.specs.Texts.{address_bytes, fact_bytes, quoted_bytes}
-use Rattle.cb_values.specs.declared.value.Value.{Value}
+use Rattle.cb_facts.specs.FactLists.{IndexedFacts}
+use Rattle.cb_facts.specs.Facts.{FactValue}
+use Rattle.cb_facts.specs.Texts.{address_bytes, fact_bytes, quoted_bytes}
+use Rattle.cb_facts.specs.declared.value.Value.{Value}
 
 -- a number below 100, in two digits
 abbrev pub two_digits : ℕ → List ℕ

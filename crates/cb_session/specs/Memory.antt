@@ -3,10 +3,10 @@ use Rattle.std.specs.Prelude.{ℕ, ◌+◌, Bool, true, false, List, [], ◌∷�
 use Rattle.std.specs.Str.{bytes_eq}
 use Rattle.cb_session.specs.declared.memory.Asserted.{Asserted}
 use Rattle.cb_session.specs.declared.memory.Asserted.TheVariants.{All, Exhausted}
-use Rattle.cb_values.specs.FactLists.{IndexedFacts, fact_at, with_fact, without_fact}
-use Rattle.cb_values.specs.Facts.{FactValue, fact_eq}
-use Rattle.cb_values.specs.declared.value.Value.{Value}
-use Rattle.cb_values.specs.declared.value.Value.TheVariants as value
+use Rattle.cb_facts.specs.FactLists.{IndexedFacts, fact_at, with_fact, without_fact}
+use Rattle.cb_facts.specs.Facts.{FactValue, fact_eq}
+use Rattle.cb_facts.specs.declared.value.Value.{Value}
+use Rattle.cb_facts.specs.declared.value.Value.TheVariants as value
 
 -- the facts that are there, by their indices, and the index that was given last
 pub record Memory : Type 0 where

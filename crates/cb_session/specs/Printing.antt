@@ -5,9 +5,9 @@ use Rattle.std.specs.Option.{option_map_or}
 use Rattle.std.specs.Str.{bytes_eq}
 use Rattle.cb_session.specs.declared.command.Channel.{Channel}
 use Rattle.cb_session.specs.declared.command.Channel.TheVariants.{Output, Nowhere}
-use Rattle.cb_values.specs.Texts.{plain_bytes}
-use Rattle.cb_values.specs.declared.value.Value.{Value}
-use Rattle.cb_values.specs.declared.value.Value.TheVariants as value
+use Rattle.cb_facts.specs.Texts.{plain_bytes}
+use Rattle.cb_facts.specs.declared.value.Value.{Value}
+use Rattle.cb_facts.specs.declared.value.Value.TheVariants as value
 
 -- the byte that a word stands for
 abbrev pub control_named : List ℕ → Option ℕ

@@ -1,7 +1,7 @@
 -- What a session has been told, and what it has written of a transcript.
 use Rattle.std.specs.Prelude.{◌≡◌, ℕ, false, List, [], ◌++◌, Option, Some, None}
-use Rattle.cb_forms.specs.Moved.{Took}
-use Rattle.cb_forms.specs.Output.{OutState}
+use Rattle.cb_io.specs.Moved.{Took}
+use Rattle.cb_io.specs.Output.{OutState}
 use Rattle.cb_session.specs.declared.status.Flow.{Flow}
 use Rattle.cb_session.specs.declared.status.Flow.TheVariants.{GoOn, Ended}
 use Rattle.cb_session.specs.declared.status.Status.{Status}

@@ -1,6 +1,6 @@
 //! Carrying out the items of a script, and writing what they write.
 ghost use Rattle.std.specs.Prelude.{◌≡◌, ◌<◌, ◌++◌, [], Ok, Err, IfOk, IfSome, OnOk, OnErr, None, false};
-ghost use Rattle.cb_forms.specs.Output.{Passed, PassedSome};
+ghost use Rattle.cb_io.specs.Output.{Passed, PassedSome};
 ghost use Rattle.cb_forms.specs.Trees.{atom, reading_of};
 ghost use Rattle.cb_session.specs.Courses.{cut_run, PutBegun};
 ghost use Rattle.cb_session.specs.Engine.{carried};

@@ -3,7 +3,7 @@ ghost use Rattle.std.specs.Prelude.{◌≡◌, Ok, Err, IfOk, IfErr};
 ghost use Rattle.cb_forms.specs.Members.{head_and_rest, members, symbol_of};
 ghost use Rattle.cb_forms.specs.Trees.{reading_of, tree_of};
 ghost use Rattle.cb_session.specs.Commands.{asked_by, assert_command, bare_command, command_of, deffacts_command, form_command, headed_command, named_channel, printout_command, retract_command};
-ghost use Rattle.cb_values.specs.Results.{Tells};
+ghost use Rattle.cb_templates.specs.Results.{Tells};
 ghost use Rattle.std.specs.Option.{option_and_then};
 
 use crate::constant::{read_constant, read_values};

@@ -3,7 +3,7 @@ ghost use Rattle.std.specs.Prelude.{◌≡◌, Ok, Err, IfOk, IfErr};
 ghost use Rattle.cb_forms.specs.Members.{head_and_rest, members};
 ghost use Rattle.cb_forms.specs.Trees.{tree_of};
 ghost use Rattle.cb_session.specs.Constants.{call_fault, headed_fault, token_fault, token_value, value_of, values_of};
-ghost use Rattle.cb_values.specs.Results.{Tells};
+ghost use Rattle.cb_templates.specs.Results.{Tells};
 
 use crate::heads::{Head, read_head};
 use cb_forms::{Fault, Form, Token, split_head};
@@ -11,7 +11,7 @@ use cb_values::{Refused, Value};
 use std::alloc::Global;
 
 /// The values of forms, or the first fault.
-#[tactic(auto, using(cb_values::proofs::Firsts::behind_none, cb_values::proofs::Firsts::behind_all, cb_values::proofs::Firsts::behind_one))]
+#[tactic(auto, using(cb_templates::proofs::Firsts::behind_none, cb_templates::proofs::Firsts::behind_all, cb_templates::proofs::Firsts::behind_one))]
 pub(crate) fn read_values(alloc: Global, forms: &[Form]) -> Result<Vec<Value>, Refused>
     ensures ok { IfOk result (λ values. values_of (members forms.now) ≡ Ok values.items) }
     ensures fault { IfErr result (λ r. Tells r (λ f. values_of (members forms.now) ≡ Err f)) }

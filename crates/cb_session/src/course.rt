@@ -1,6 +1,6 @@
 //! A script that is under way.
 ghost use Rattle.std.specs.Prelude.{◌≡◌, ◌≤◌, ◌<◌, ◌++◌, ◌∷◌, [], Err, None, IfOk, OnOk, OnErr, false};
-ghost use Rattle.cb_forms.specs.Output.{PassedSome};
+ghost use Rattle.cb_io.specs.Output.{PassedSome};
 ghost use Rattle.cb_session.specs.Courses.{PutOn, PutSome, PutBegun, IsUnderWay, IsBehind};
 ghost use Rattle.cb_session.specs.Sessions.{IsReady, Wrote, WroteSome};
 ghost use Rattle.cb_session.specs.Transcripts.{so_far, complete, transcript, status_at_end, status_of};

@@ -7,7 +7,7 @@ ghost use Rattle.cb_session.specs.Engine.{after_assert, after_reset, carried, fa
 ghost use Rattle.cb_session.specs.Engines.{outcome};
 ghost use Rattle.cb_session.specs.Groups.{facts_in, with_group};
 ghost use Rattle.cb_session.specs.Memory.{asserted_all, empty_memory};
-ghost use Rattle.cb_values.specs.Templates.{defined};
+ghost use Rattle.cb_templates.specs.Templates.{defined};
 
 use crate::command::{Command, read_command};
 use crate::done::Done;

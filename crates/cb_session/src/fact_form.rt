@@ -3,10 +3,10 @@ ghost use Rattle.std.specs.Prelude.{◌≡◌, [], ◌∷◌, Ok, Err, IfOk, IfE
 ghost use Rattle.cb_forms.specs.Members.{call_of, members};
 ghost use Rattle.cb_forms.specs.Trees.{tree_of};
 ghost use Rattle.cb_session.specs.FactForms.{allowed, are_filled, begins_with_list, fact_of, facts_of, field_of, fields_of, headed_fact, is_equals, is_lone, known_slot, named_slot, parts_of, slot_fields_of, slot_given, slots_given};
-ghost use Rattle.cb_values.specs.Building.{part_values};
-ghost use Rattle.cb_values.specs.Results.{Tells, and_then};
-ghost use Rattle.cb_values.specs.Slots.{slot_named};
-ghost use Rattle.cb_values.specs.Templates.{slots_of};
+ghost use Rattle.cb_templates.specs.Building.{part_values};
+ghost use Rattle.cb_templates.specs.Results.{Tells, and_then};
+ghost use Rattle.cb_templates.specs.Slots.{slot_named};
+ghost use Rattle.cb_templates.specs.Templates.{slots_of};
 
 use crate::constant::read_value;
 use cb_forms::{Fault, Form};
@@ -17,7 +17,7 @@ use cb_values::{
 use std::alloc::Global;
 
 /// The facts that forms are, by the templates of their relations, or the first fault.
-#[tactic(auto, using(cb_values::proofs::Firsts::behind_none, cb_values::proofs::Firsts::behind_all, cb_values::proofs::Firsts::behind_one))]
+#[tactic(auto, using(cb_templates::proofs::Firsts::behind_none, cb_templates::proofs::Firsts::behind_all, cb_templates::proofs::Firsts::behind_one))]
 pub(crate) fn read_facts(
     alloc: Global,
     relations: &Relations,
@@ -66,7 +66,7 @@ fn read_parts(
 }
 
 /// The fields of an ordered fact, or the first fault.
-#[tactic(auto, using(cb_values::proofs::Firsts::behind_none, cb_values::proofs::Firsts::behind_all, cb_values::proofs::Firsts::behind_one))]
+#[tactic(auto, using(cb_templates::proofs::Firsts::behind_none, cb_templates::proofs::Firsts::behind_all, cb_templates::proofs::Firsts::behind_one))]
 fn read_fields(alloc: Global, forms: &[Form]) -> Result<Vec<Value>, Refused>
     ensures ok { IfOk result (λ fields. fields_of (members forms.now) ≡ Ok fields.items) }
     ensures fault { IfErr result (λ r. Tells r (λ f. fields_of (members forms.now) ≡ Err f)) }
@@ -166,7 +166,7 @@ fn is_lone(forms: &[Form]) -> bool
 }
 
 /// The values of a slot, each of its types, or the first fault.
-#[tactic(auto, using(cb_values::proofs::Firsts::behind_none, cb_values::proofs::Firsts::behind_all, cb_values::proofs::Firsts::behind_one))]
+#[tactic(auto, using(cb_templates::proofs::Firsts::behind_none, cb_templates::proofs::Firsts::behind_all, cb_templates::proofs::Firsts::behind_one))]
 fn read_slot_fields(alloc: Global, slot: &Slot, forms: &[Form]) -> Result<Vec<Value>, Refused>
     ensures ok { IfOk result (λ values. slot_fields_of slot.now.types (members forms.now) ≡ Ok values.items) }
     ensures fault { IfErr result (λ r. Tells r (λ f. slot_fields_of slot.now.types (members forms.now) ≡ Err f)) }

@@ -20,7 +20,7 @@ pub(crate) struct Group {
 
 impl Model for Group {
     ghost use Rattle.std.specs.Prelude.{List};
-    ghost use Rattle.cb_values.specs.Facts.{FactValue};
+    ghost use Rattle.cb_facts.specs.Facts.{FactValue};
 
     ghost Value = { List FactValue };
 

@@ -11,10 +11,10 @@ ghost use Rattle.cb_session.specs.Laws.{Keeps, NoneBehind, followed_by, TakesFac
 ghost use Rattle.cb_session.specs.Memory.{Memory, asserted_all};
 ghost use Rattle.cb_session.specs.Transcripts.{begun, so_far, complete, transcript};
 ghost use Rattle.cb_session.specs.declared.status.Status.{Status};
-ghost use Rattle.cb_values.specs.Facts.{FactValue};
-ghost use Rattle.cb_values.specs.Slots.{SlotShape};
-ghost use Rattle.cb_values.specs.Templates.{Templates, slots_of};
-ghost use Rattle.cb_values.specs.declared.value.Value.{Value};
+ghost use Rattle.cb_facts.specs.Facts.{FactValue};
+ghost use Rattle.cb_templates.specs.Slots.{SlotShape};
+ghost use Rattle.cb_templates.specs.Templates.{Templates, slots_of};
+ghost use Rattle.cb_facts.specs.declared.value.Value.{Value};
 
 /// Before its first byte a script has written nothing. What it has written so far is a beginning of what it writes
 /// however it goes on.

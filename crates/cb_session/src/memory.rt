@@ -4,7 +4,7 @@ ghost use Rattle.std.specs.List.{list_any, list_all};
 ghost use Rattle.std.specs.Str.{bytes_eq};
 ghost use Rattle.cb_session.specs.Groups.{name_relation};
 ghost use Rattle.cb_session.specs.Memory.{asserted_all, asserted_one, empty_memory, is_retractable, retracted_all, retracted_one, without};
-ghost use Rattle.cb_values.specs.FactLists.{fact_at};
+ghost use Rattle.cb_facts.specs.FactLists.{fact_at};
 
 use cb_forms::NoMemory;
 use cb_values::{Fact, FactList, Value};

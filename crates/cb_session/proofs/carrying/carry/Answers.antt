@@ -1,5 +1,5 @@
 use Rattle.std.proofs.Common.{List, ℕ, ◌++◌, sym, ap, ◌∙◌, subst}
-use Rattle.cb_forms.specs.Output.{Passed, PassedSome}
+use Rattle.cb_io.specs.Output.{Passed, PassedSome}
 use Rattle.cb_session.proofs.CourseLaws.{on_ok, on_err, if_ok}
 use Rattle.cb_session.proofs.EngineLaws.{carried-symbol}
 use Rattle.cb_session.proofs.carrying.carry.Goals as goal

@@ -1,5 +1,5 @@
 use Rattle.std.proofs.Common.{List, ℕ, ◌≡◌, ◌++◌, sym, ap, ◌∙◌, subst}
-use Rattle.cb_forms.specs.Output.{PassedSome}
+use Rattle.cb_io.specs.Output.{PassedSome}
 use Rattle.cb_forms.specs.Trees.{reading_of}
 use Rattle.cb_session.specs.Engine.{carried}
 use Rattle.cb_session.proofs.CourseLaws.{passed_nothing}

@@ -1,7 +1,7 @@
 use Rattle.std.proofs.Common.{◌≡◌, length}
 use Rattle.cb_forms.specs.Members.{members}
 use Rattle.cb_session.specs.FactForms.{fields_of}
-use Rattle.cb_values.proofs.Firsts.{behind_those}
+use Rattle.cb_templates.proofs.Firsts.{behind_those}
 use Rattle.cb_session.proofs.fact_form.read_fields.Given as goal
 
 abbrev pub invariant-loop-first : goal.invariant-loop-first

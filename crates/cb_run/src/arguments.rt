@@ -1,0 +1,60 @@
+//! The whole program, with the words that the system has for it.
+ghost use Rattle.cb_session.specs.Sessions.{IsReady};
+
+use crate::program::carry_out;
+use crate::reports::{ended, no_memory, refused};
+use cb_forms::{Out, Sink, Source};
+use std::env::{self, Env};
+use std::io::{self, Eprint, Print};
+
+/// Carries out the script as the program's words ask, and reports on standard error what there is to report; its exit
+/// status.
+pub fn run_program<R: AllocGlobal + Env + Print + Eprint, S: Source, K: Sink>(
+    rt: &R,
+    source: &mut S,
+    out: &mut Out<K>,
+) -> u8
+    requires { IsReady out.old }
+{
+    match given_words(rt) {
+        Ok(given) => carry_out_words(rt, given.as_slice(), source, out),
+        Err(status) => status,
+    }
+}
+
+/// The program's words, its name first. Where they can't be had, that is reported, and this is the exit status.
+fn given_words<R: AllocGlobal + Env + Eprint>(rt: &R) -> Result<Vec<String>, u8> {
+    let args = match env::args(rt) {
+        Ok(args) => args,
+        Err(error) if error.kind() == io::ErrorKind::OutOfMemory => return Err(no_memory(rt)),
+        Err(error) => {
+            let _ = eprintln!(rt; "clipsbatch: {error}");
+            return Err(2);
+        }
+    };
+    match args.collect::<Vec<String>>(rt.alloc()) {
+        Ok(given) => Ok(given),
+        Err(_) => Err(no_memory(rt)),
+    }
+}
+
+/// Carries the script out as these words ask, and reports what there is to report; its exit status.
+fn carry_out_words<R: AllocGlobal + Print + Eprint, S: Source, K: Sink>(
+    rt: &R,
+    given: &[String],
+    source: &mut S,
+    out: &mut Out<K>,
+) -> u8
+    requires { IsReady out.old }
+{
+    let mut words = Vec::new(rt.alloc());
+    for word in given {
+        if words.push(word.as_str()).is_err() {
+            return no_memory(rt);
+        }
+    }
+    match carry_out(rt.alloc(), words.as_slice(), source, out) {
+        Ok(outcome) => ended(rt, outcome),
+        Err(error) => refused(rt, error),
+    }
+}

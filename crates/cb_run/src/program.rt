@@ -1,0 +1,45 @@
+//! The whole program, but for where its words and its bytes come from and go to.
+ghost use Rattle.std.specs.Prelude.{◌≡◌, IfOk, IfErr, OnErr, map, true, codes};
+ghost use Rattle.clap.specs.Words.{FailsBy, fault_of, kind_of, takes};
+ghost use Rattle.cb_session.specs.Sessions.{IsReady};
+ghost use Rattle.cb_run.specs.Commands.{limit_of, limits_app};
+ghost use Rattle.cb_run.specs.Ran.{Ran};
+
+use crate::outcome::Outcome;
+use crate::script::run;
+use crate::words::read_words;
+use cb_forms::{Out, Sink, Source};
+use clap::Error;
+use clap::error::ErrorKind;
+use std::alloc::Global;
+
+/// Reads the limits from the program's words, its name first, and then carries out the script as `run` does.
+///
+/// An error comes as in `read_words`. Then nothing was read of the script, and nothing written.
+pub fn carry_out<'a, S: Source, K: Sink>(
+    alloc: Global,
+    words: &'a [&'a str],
+    source: &mut S,
+    out: &mut Out<K>,
+) -> Result<Outcome, Error>
+    requires { IsReady out.old }
+    // All that `run` promises, with the longest item that the words allow.
+    ensures ran { IfOk result (λ outcome. Ran
+        (limit_of (codes "max-form") 1048576 (map (λ w. w.now) words.entry.now)) outcome
+        (S.left source.old) (S.left source.new) (K.has out.old.sink) (K.has out.new.sink)
+        (S.failures source.old) (S.failures source.new)
+        (K.failures out.old.sink) (K.failures out.new.sink)) }
+
+    // The words are refused, or ask for help.
+    ensures refused { IfErr result (λ e. takes limits_app (map (λ w. w.now) words.entry.now) ≡ true
+        → kind_of e ≡ ErrorKind.OutOfMemory) }
+    ensures kinds { FailsBy (fault_of limits_app (map (λ w. w.now) words.entry.now)) result }
+    ensures unread { OnErr result (source.new ≡ source.old) }
+    ensures unwritten { OnErr result (out.new ≡ out.old) }
+{
+    let limits = match read_words(alloc, words) {
+        Ok(limits) => limits,
+        Err(error) => return Err(error),
+    };
+    Ok(run(alloc, source, out, limits))
+}

@@ -1,0 +1,40 @@
+//! What is reported outside the transcript, and the exit status that goes with it.
+ghost use Rattle.std.specs.Prelude.{◌≡◌, ◌≢◌};
+ghost use Rattle.clap.specs.Words.{kind_of};
+
+use crate::outcome::{Cause, Outcome};
+use clap::Error;
+use clap::error::ErrorKind;
+use std::io::{Eprint, Print};
+
+/// Reports why the words are refused, or the help that they ask for; its exit status.
+pub(crate) fn refused<R: Print + Eprint>(rt: &R, error: Error) -> u8
+    ensures memory { kind_of error ≡ ErrorKind.OutOfMemory → result ≡ 3 }
+    ensures help { kind_of error ≡ ErrorKind.DisplayHelp → result ≡ 0 }
+    ensures wrong { kind_of error ≢ ErrorKind.OutOfMemory → kind_of error ≢ ErrorKind.DisplayHelp
+        → kind_of error ≢ ErrorKind.DisplayVersion → result ≡ 2 }
+{
+    if error.kind() == ErrorKind::OutOfMemory {
+        return no_memory(rt);
+    }
+    let _ = error.print(rt);
+    if error.use_stderr() { 2 } else { 0 }
+}
+
+/// Reports that memory was refused; its exit status.
+pub(crate) fn no_memory<R: Eprint>(rt: &R) -> u8
+    ensures { result ≡ 3 }
+{
+    ended(rt, Outcome::failed(Cause::NoMemory))
+}
+
+/// Reports how a run ended, where there is something to report; its exit status.
+pub(crate) fn ended<R: Eprint>(rt: &R, outcome: Outcome) -> u8
+    ensures { result ≡ outcome.status }
+{
+    let line = outcome.line();
+    if !line.is_empty() {
+        let _ = eprintln!(rt; "{line}");
+    }
+    outcome.status
+}

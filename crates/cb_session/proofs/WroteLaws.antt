@@ -1,1 +1,0 @@
--- What the sink has gained of a transcript.

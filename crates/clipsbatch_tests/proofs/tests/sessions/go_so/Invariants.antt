@@ -1,0 +1,6 @@
+use Rattle.std.proofs.Common.{◌≡◌, None}
+use Rattle.cb_session.specs.Sessions.{IsReady}
+use Rattle.clipsbatch_tests.proofs.tests.sessions.go_so.Given as goal
+
+abbrev pub invariant-loop-turn : goal.invariant-loop-turn
+invariant-loop-turn l = l.session.stop ≡ None → IsReady l.out

@@ -1,0 +1,10 @@
+mod examples;
+mod fault_rows;
+mod first_rows;
+mod language;
+mod pieces;
+mod rows;
+mod runs;
+mod sessions;
+mod template_rows;
+mod words;

@@ -1,0 +1,257 @@
+//! The examples of `docs/LANGUAGE.md`, in its order.
+use super::rows::{Example, WITH_A_FAULT, WITHOUT_FAULT};
+
+pub(super) const LANGUAGE: [Example; 8] = [
+    Example {
+        name: "shows values",
+        script: b"?x
+$?rest
+(printout t ?x crlf)
+(assert (age ?x) (bind ?x 1))
+(assert (bind ?x 1) (age ?x))
+(bind ?x 1)
+?*limit*
+?
+",
+        written: b"[CB11] unbound variable
+[CB11] unbound variable
+[CB11] unbound variable
+[CB11] unbound variable
+[CB11] unbound variable
+[CB14] not in this profile
+[CB12] unknown global variable
+[CB08] malformed form
+",
+        outcome: WITH_A_FAULT,
+    },
+    Example {
+        name: "shows templates",
+        script: b"(deftemplate part \"What lies on a shelf\"
+    (slot name (type SYMBOL) (default ?NONE))
+    (slot count (type INTEGER))
+    (slot note (type STRING))
+    (slot owner (type LEXEME) (default \"nobody\"))
+    (multislot sizes (default 8 10) (type NUMBER))
+    (multislot tags))
+(assert (part (count 3) (name bolt)))
+(assert (part (name nut) (tags red \"X L\") (sizes) (note \"say \\\"yes\\\"\")))
+(assert (part (name bolt) (sizes 8 10) (count +03)))
+(facts)
+(assert (part (count 3)))
+(assert (part (name bolt) (count many)))
+(assert (part (name bolt) (colour red)))
+",
+        written: b"<Fact-1>
+<Fact-2>
+<Fact-1>
+f-1     (part (name bolt) (count 3) (note \"\") (owner \"nobody\") (sizes 8 10) (tags))
+f-2     (part (name nut) (count 0) (note \"say \\\"yes\\\"\") (owner \"nobody\") (sizes) (tags red \"X L\"))
+For a total of 2 facts.
+[CB09] fact does not fit its template
+[CB10] value not allowed in slot
+[CB09] fact does not fit its template
+",
+        outcome: WITH_A_FAULT,
+    },
+    Example {
+        name: "shows derived defaults",
+        script: b"(deftemplate d
+    (slot a (type INTEGER))
+    (slot b (type NUMBER))
+    (slot c (type STRING))
+    (slot d (type SYMBOL))
+    (slot e (type LEXEME))
+    (slot f)
+    (slot g (type ?VARIABLE) (default ?DERIVE))
+    (slot h (type INTEGER INTEGER))
+    (slot i (type INTEGER NUMBER))
+    (multislot j (type INTEGER))
+    (multislot k (default))
+    (multislot l (default 1 \"x\" y)))
+(assert (d))
+(facts)
+(assert (d (i nil)))
+",
+        written: b"<Fact-1>
+f-1     (d (a 0) (b 0) (c \"\") (d nil) (e nil) (f nil) (g nil) (h 0) (i nil) (j) (k) (l 1 \"x\" y))
+For a total of 1 fact.
+[CB10] value not allowed in slot
+",
+        outcome: WITH_A_FAULT,
+    },
+    Example {
+        name: "shows faults of templates",
+        script: b"(deftemplate \"reading\" (slot at))
+(deftemplate exists (slot at))
+(deftemplate t (slot at (range 1 9)) (field to))
+(deftemplate t (field to) (slot at (range 1 9)))
+(deftemplate t (slot at (type INTEGER) (type FLOAT)))
+(deftemplate t (slot at (type INTEGER FLOAT) (type INTEGER)))
+(deftemplate t (slot at (default (+ 1 2) 3)))
+(deftemplate t (multislot at (default (+ 1 2) ?x)))
+(deftemplate t (slot at (default warm) (type INTEGER)) (slot at))
+(deftemplate t (slot at (default warm) (type INTEGER) (range 1 9)))
+(deftemplate t (slot at) (slot at (range 1 9)))
+(assert (t at 1))
+(deftemplate t (slot at (range 1 9)))
+(facts)
+",
+        written: b"[CB08] malformed form
+[CB08] malformed form
+[CB14] not in this profile
+[CB08] malformed form
+[CB08] malformed form
+[CB14] not in this profile
+[CB08] malformed form
+[CB14] not in this profile
+[CB10] value not allowed in slot
+[CB14] not in this profile
+[CB08] malformed form
+<Fact-1>
+[CB23] template in use
+f-1     (t at 1)
+For a total of 1 fact.
+",
+        outcome: WITH_A_FAULT,
+    },
+    Example {
+        name: "shows faults of facts",
+        script: b"(deftemplate reading
+    (slot at (type SYMBOL) (default ?NONE))
+    (slot celsius (type INTEGER))
+    (multislot marks (type SYMBOL)))
+(assert (reading (celsius warm) (at ?x)))
+(assert (reading (at ?x) (celsius warm)))
+(assert (reading (celsius warm cold)))
+(assert (reading (marks ok 3 ?x)))
+(assert (reading (marks ok ?x 3)))
+(assert (reading (marks 3) (weight 1)))
+(assert (reading (weight 1) (marks 3)))
+(assert (reading (celsius 20) (celsius warm)))
+(assert (reading (celsius 20)))
+(assert (reading (celsius warm)))
+(assert (reading (celsius = (+ 1 2))))
+(assert (reading (marks = (+ 1 2))))
+(assert (reading hall 20))
+(assert (reading (at hall)) (reading (at ?x)) (reading))
+(facts)
+",
+        written: b"[CB10] value not allowed in slot
+[CB11] unbound variable
+[CB09] fact does not fit its template
+[CB10] value not allowed in slot
+[CB11] unbound variable
+[CB10] value not allowed in slot
+[CB09] fact does not fit its template
+[CB09] fact does not fit its template
+[CB09] fact does not fit its template
+[CB10] value not allowed in slot
+[CB09] fact does not fit its template
+[CB14] not in this profile
+[CB09] fact does not fit its template
+[CB11] unbound variable
+",
+        outcome: WITH_A_FAULT,
+    },
+    Example {
+        name: "shows facts and printing",
+        script: b"(assert (color red) (size \"X L\" 40))
+(assert (color red))
+(facts)
+(printout t \"a\" tab b crlf)
+blue
+\"x\"
+",
+        written: b"<Fact-2>
+<Fact-1>
+f-1     (color red)
+f-2     (size \"X L\" 40)
+For a total of 2 facts.
+a\tb
+blue
+\"x\"
+",
+        outcome: WITHOUT_FAULT,
+    },
+    Example {
+        name: "shows deffacts reset and clear",
+        script: b"(deftemplate lamp (slot room) (slot state (default off)))
+(deffacts house \"What there is at the start\"
+    (lamp (room hall))
+    (lamp (room attic) (state on)))
+(deffacts clock (hour 8))
+(assert (visitor \"Ann\"))
+(facts)
+(reset)
+(facts)
+(deffacts house (lamp (room cellar)))
+(deffacts clock (hour 9) (minute ?m))
+(reset)
+(facts)
+(deftemplate lamp (slot watts))
+(clear)
+(facts)
+(deftemplate lamp (slot watts (type INTEGER)))
+(reset)
+(assert (lamp (watts 60)))
+(facts)
+",
+        written: b"<Fact-1>
+f-1     (visitor \"Ann\")
+For a total of 1 fact.
+f-1     (lamp (room hall) (state off))
+f-2     (lamp (room attic) (state on))
+f-3     (hour 8)
+For a total of 3 facts.
+[CB11] unbound variable
+f-1     (hour 8)
+f-2     (lamp (room cellar) (state off))
+For a total of 2 facts.
+[CB23] template in use
+<Fact-1>
+f-1     (lamp (watts 60))
+For a total of 1 fact.
+",
+        outcome: WITH_A_FAULT,
+    },
+    Example {
+        name: "shows retractions",
+        script: b"(assert (a) (b) (c) (d))
+(retract 2)
+(retract 1 \"x\")
+(facts)
+(retract 3 2 4)
+(facts)
+(retract 9 x)
+(retract)
+(retract ?f)
+(assert (b))
+(retract * 4)
+(facts)
+(assert (b))
+(retract *)
+(retract *)
+(reset)
+(assert (b))
+",
+        written: b"<Fact-4>
+[CB17] wrong type
+f-1     (a)
+f-3     (c)
+f-4     (d)
+For a total of 3 facts.
+[CB20] no such fact
+f-1     (a)
+f-4     (d)
+For a total of 2 facts.
+[CB17] wrong type
+[CB07] wrong arguments
+[CB11] unbound variable
+<Fact-5>
+[CB20] no such fact
+<Fact-6>
+<Fact-1>
+",
+        outcome: WITH_A_FAULT,
+    },
+];

@@ -1,0 +1,218 @@
+//! Sessions, call by call.
+ghost use Rattle.std.specs.Prelude.{◌≡◌, None};
+ghost use Rattle.cb_session.specs.Sessions.{IsReady};
+
+use cb_forms::{MemSink, NoMemory, Out};
+use cb_session::{Ending, Flow, Limits, Session, Status, Stop};
+use std::alloc::Global;
+
+/// A call, and what it answers.
+enum Call {
+    Feed(&'static [u8], Result<Flow, Stop>),
+    Finish(Result<Status, Stop>),
+}
+
+/// A call, and what the session shows and the sink has after it. After a `Stop` nothing is said of what it shows.
+struct Turn {
+    call: Call,
+    held: &'static [u8],
+    written: &'static [u8],
+}
+
+/// The calls of a session, whose sink may fail at a write.
+struct Talk {
+    name: &'static str,
+    fail_at: Option<u64>,
+    turns: &'static [Turn],
+}
+
+const CLEAN: Status = Status {
+    code: 0,
+    ending: Ending::Done,
+};
+
+const FAULTY: Status = Status {
+    code: 1,
+    ending: Ending::Done,
+};
+
+const TALKS: [Talk; 5] = [
+    Talk {
+        name: "it shows what is open",
+        fail_at: None,
+        turns: &[
+            Turn {
+                call: Call::Feed(b"(assert (a)) \"b", Ok(Flow::GoOn)),
+                held: b"\"b",
+                written: b"<Fact-1>\n",
+            },
+            Turn {
+                call: Call::Feed(b" c)", Ok(Flow::GoOn)),
+                held: b"\"b c)",
+                written: b"<Fact-1>\n",
+            },
+        ],
+    },
+    Talk {
+        name: "it ends an open string",
+        fail_at: None,
+        turns: &[
+            Turn {
+                call: Call::Feed(b"\"b c)", Ok(Flow::GoOn)),
+                held: b"\"b c)",
+                written: b"",
+            },
+            Turn {
+                call: Call::Finish(Ok(FAULTY)),
+                held: b"",
+                written: b"[CB01] form not closed\n",
+            },
+        ],
+    },
+    Talk {
+        name: "it ends an open word",
+        fail_at: None,
+        turns: &[
+            Turn {
+                call: Call::Feed(b"-0", Ok(Flow::GoOn)),
+                held: b"-0",
+                written: b"",
+            },
+            Turn {
+                call: Call::Finish(Ok(CLEAN)),
+                held: b"",
+                written: b"0\n",
+            },
+        ],
+    },
+    Talk {
+        name: "it stays ended",
+        fail_at: None,
+        turns: &[
+            Turn {
+                call: Call::Finish(Ok(CLEAN)),
+                held: b"",
+                written: b"",
+            },
+            Turn {
+                call: Call::Feed(b" x ", Ok(Flow::Ended(CLEAN))),
+                held: b"",
+                written: b"",
+            },
+            Turn {
+                call: Call::Finish(Ok(CLEAN)),
+                held: b"",
+                written: b"",
+            },
+        ],
+    },
+    Talk {
+        name: "it stays stopped",
+        fail_at: Some(1),
+        turns: &[
+            Turn {
+                call: Call::Feed(b"(assert (a))", Err(Stop::WriteFault)),
+                held: b"",
+                written: b"",
+            },
+            Turn {
+                call: Call::Feed(b" x ", Err(Stop::WriteFault)),
+                held: b"",
+                written: b"",
+            },
+            Turn {
+                call: Call::Finish(Err(Stop::WriteFault)),
+                held: b"",
+                written: b"",
+            },
+        ],
+    },
+];
+
+/// Whether these bytes lead there.
+fn feeds(
+    session: &mut Session,
+    out: &mut Out<MemSink>,
+    bytes: &[u8],
+    want: Result<Flow, Stop>,
+) -> bool
+    requires { session.old.stop ≡ None → IsReady out.old }
+    ensures { session.new.stop ≡ None → IsReady out.new }
+{
+    session.feed(bytes, out) == want
+}
+
+/// Whether the script's end leads there.
+fn finishes(session: &mut Session, out: &mut Out<MemSink>, want: Result<Status, Stop>) -> bool
+    requires { session.old.stop ≡ None → IsReady out.old }
+    ensures { session.new.stop ≡ None → IsReady out.new }
+{
+    session.finish(out) == want
+}
+
+/// Whether the call answers what it should.
+fn answers(session: &mut Session, out: &mut Out<MemSink>, call: &Call) -> bool
+    requires { session.old.stop ≡ None → IsReady out.old }
+    ensures { session.new.stop ≡ None → IsReady out.new }
+{
+    match call {
+        Call::Feed(bytes, want) => feeds(session, out, bytes, *want),
+        Call::Finish(want) => finishes(session, out, *want),
+    }
+}
+
+/// Whether the session is stopped after a call that should answer a `Stop`, and after no other.
+fn stops(session: &Session, call: &Call) -> bool {
+    match call {
+        Call::Feed(_, want) => session.failed() == want.is_err(),
+        Call::Finish(want) => session.failed() == want.is_err(),
+    }
+}
+
+/// Whether the session shows what is open after this turn, and the sink has what was written.
+fn shows(session: &Session, out: &Out<MemSink>, turn: &Turn) -> bool {
+    (session.failed() || session.held() == turn.held) && out.sink().bytes() == turn.written
+}
+
+/// Whether these turns go so, one after another.
+fn go_so(session: &mut Session, out: &mut Out<MemSink>, turns: &[Turn]) -> bool
+    requires { session.old.stop ≡ None → IsReady out.old }
+{
+    for turn in turns {
+        if !answers(session, out, &turn.call)
+            || !stops(session, &turn.call)
+            || !shows(session, out, turn)
+        {
+            return false;
+        }
+    }
+    true
+}
+
+/// Whether a session goes so from its start.
+fn goes_so(alloc: Global, talk: &Talk) -> Result<bool, NoMemory> {
+    let limits = Limits {
+        max_form: 1000,
+        max_firings: 1000,
+        max_turns: 1000,
+    };
+    let mut session = Session::new(alloc, limits);
+    let mut out = Out::new(MemSink::new(alloc, 1000, 1000, talk.fail_at)?);
+    Ok(go_so(&mut session, &mut out, talk.turns))
+}
+
+/// The name of the first session that doesn't go so.
+fn first_wrong(alloc: Global) -> Result<Option<&'static str>, NoMemory> {
+    for talk in &TALKS {
+        if !goes_so(alloc, talk)? {
+            return Ok(Some(talk.name));
+        }
+    }
+    Ok(None)
+}
+
+#[test]
+fn sessions_answer_and_show(rt: HostRuntime) -> Result<(), NoMemory> {
+    assert_eq!(rt; first_wrong(rt.alloc())?, None);
+    Ok(())
+}
