@@ -43,8 +43,9 @@ const READ_FAULT: Outcome = Outcome {
 };
 
 fn limits(max_form: usize) -> Limits {
+    let is_within = 1 <= max_form && max_form <= 16_777_216;
     Limits {
-        max_form: max_form.max(1).min(16_777_216),
+        max_form: if is_within { max_form } else { 1 },
         max_firings: 1000,
         max_turns: 1000,
     }
@@ -189,11 +190,34 @@ fn stops_at_each_read(
     Ok(true)
 }
 
+/// Whether the run goes to its end where a read would fail behind the one that tells the script's end: that read does not come.
+fn ends_before_a_read(
+    alloc: Global,
+    row: &Row,
+    whole: &Whole,
+    block: usize,
+) -> Result<bool, NoMemory>
+    requires { 0 < block }
+{
+    let script = whole.script.as_slice();
+    let want = Want {
+        max_form: row.max_form,
+        written: whole.written.as_slice(),
+        outcome: row.outcome,
+    };
+    let sink = MemSink::new(alloc, 1000, 1000, None)?;
+    let reads = (script.len().div_ceil(block) as u64).saturating_add(1);
+    let mut source = MemSource::new(script, block, Some(reads.saturating_add(1)));
+    Ok(goes(alloc, &mut source, sink, want))
+}
+
 /// Whether each read stops the run where it fails, for reads of one byte, of a few, and of some more.
 fn stops_at_all_reads(alloc: Global, row: &Row, whole: &Whole) -> Result<bool, NoMemory> {
     let script = whole.script.as_slice();
     for block in [1, 3, 7] {
-        if !stops_at_each_read(alloc, row, script, block)? {
+        if !stops_at_each_read(alloc, row, script, block)?
+            || !ends_before_a_read(alloc, row, whole, block)?
+        {
             return Ok(false);
         }
     }
