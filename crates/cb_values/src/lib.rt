@@ -7,8 +7,7 @@ pub use cb_facts::{
     Content, Fact, FactList, Many, Name, Single, Value, fact_text, is_among, plain_text,
     quoted_text, splice,
 };
-pub use cb_templates::laws;
 pub use cb_templates::{
     GivenSlot, Parts, Refused, Relations, Slot, build_fact, find_given, find_slot, is_reserved,
-    without_comment,
+    laws, without_comment,
 };

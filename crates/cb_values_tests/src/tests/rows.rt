@@ -1,5 +1,5 @@
 //! Values, templates and facts from rows, and how they are shown.
-use cb_forms::{Form, Item, NoMemory, read_items};
+use cb_forms::{Form, Item, NoMemory, read_items, split_head};
 use cb_values::{
     Fact, GivenSlot, Many, Name, Parts, Refused, Relations, Single, Value, build_fact, fact_text,
 };
@@ -110,20 +110,16 @@ fn given_slots(alloc: Global, forms: &[Form]) -> Result<Vec<GivenSlot>, Refused>
     Ok(given)
 }
 
-/// What a fact is given, by its text. A list stands for a multifield.
-#[derive(Drop)]
+/// The relation of a fact and what it is given, by their text. A list stands for a multifield.
 pub(crate) enum Given {
     Fields(&'static str),
     Slots(&'static str),
 }
 
-fn parts(alloc: Global, given: &Given) -> Result<Parts, Refused> {
+fn parts(alloc: Global, given: &Given, forms: &[Form]) -> Result<Parts, Refused> {
     Ok(match given {
-        Given::Fields(text) => Parts::Fields(written_values(
-            alloc,
-            forms(alloc, text)?.as_slice(),
-        )?),
-        Given::Slots(text) => Parts::Slots(given_slots(alloc, forms(alloc, text)?.as_slice())?),
+        Given::Fields(_) => Parts::Fields(written_values(alloc, forms)?),
+        Given::Slots(_) => Parts::Slots(given_slots(alloc, forms)?),
     })
 }
 
@@ -144,21 +140,22 @@ pub(crate) fn defined(alloc: Global, templates: &str) -> Result<Relations, Refus
     Ok(relations)
 }
 
-/// The fact of a relation with what it is given.
-pub(crate) fn fact(
-    alloc: Global,
-    templates: &str,
-    relation: &str,
-    given: &Given,
-) -> Result<Fact, Refused> {
+/// The fact that is given so where the relations have these templates.
+pub(crate) fn fact(alloc: Global, templates: &str, given: &Given) -> Result<Fact, Refused> {
     let relations = defined(alloc, templates)?;
-    let parts = parts(alloc, given)?;
-    build_fact(
-        alloc,
-        &relations,
-        Name::new(alloc, relation.as_bytes())?,
-        parts,
-    )
+    let (Given::Fields(text) | Given::Slots(text)) = given;
+    given_fact(alloc, &relations, given, forms(alloc, text)?.as_slice())
+}
+
+fn given_fact(
+    alloc: Global,
+    relations: &Relations,
+    given: &Given,
+    forms: &[Form],
+) -> Result<Fact, Refused> {
+    let (relation, forms) = split_head(forms).ok_or(Refused::NoMemory)?;
+    let parts = parts(alloc, given, forms)?;
+    build_fact(alloc, relations, Name::new(alloc, relation)?, parts)
 }
 
 /// The text of a fact, or the number of the fault behind a `!`.

@@ -1,6 +1,6 @@
 //! Constants, the texts and the order of values, and parts of multifields.
 use super::rows::{Field, Row, forms, many, value};
-use cb_forms::{Form, NoMemory, Token};
+use cb_forms::{Form, NoMemory};
 use cb_values::{Many, Refused, Value, plain_text, quoted_text};
 use std::alloc::Global;
 use std::cmp::Ordering;
@@ -82,23 +82,16 @@ const MIXED: [Field; 4] = [
     Field::Address(7),
 ];
 
-fn has_texts(alloc: Global, row: &Texts) -> Result<bool, NoMemory> {
-    let value = value(alloc, &row.value)?;
-    Ok(is_plain(alloc, &value, row.plain)? && is_quoted(alloc, &value, row.quoted)?)
-}
-
-fn is_plain(alloc: Global, value: &Value, text: &str) -> Result<bool, NoMemory> {
-    Ok(plain_text(alloc, value)?.as_slice() == text.as_bytes())
-}
-
-fn is_quoted(alloc: Global, value: &Value, text: &str) -> Result<bool, NoMemory> {
-    Ok(quoted_text(alloc, value)?.as_slice() == text.as_bytes())
+fn has_texts(alloc: Global, value: &Value, row: &Texts) -> Result<bool, NoMemory> {
+    let plain = plain_text(alloc, value)?;
+    let quoted = quoted_text(alloc, value)?;
+    Ok(plain.as_slice() == row.plain.as_bytes() && quoted.as_slice() == row.quoted.as_bytes())
 }
 
 /// The first row of these that has other texts.
 fn first_wrong_text(alloc: Global, rows: &[Texts]) -> Result<Option<usize>, NoMemory> {
     for (i, row) in rows.iter().enumerate() {
-        if !has_texts(alloc, row)? {
+        if !has_texts(alloc, &value(alloc, &row.value)?, row)? {
             return Ok(Some(i));
         }
     }
@@ -213,25 +206,20 @@ fn shares_a_part(rt: HostRuntime) -> Result<(), NoMemory> {
     Ok(())
 }
 
-fn constant(alloc: Global, form: &Form) -> Result<Option<Value>, NoMemory> {
-    match form {
-        Form::Atom(token) => Value::constant(alloc, token),
-        Form::List(_) => Ok(None),
+/// The text of the constant that a form is.
+fn shown(alloc: Global, form: &Form) -> Result<Vec<u8>, NoMemory> {
+    if let Form::Atom(token) = form {
+        if let Some(value) = Value::constant(alloc, token)? {
+            return quoted_text(alloc, &value);
+        }
     }
-}
-
-fn shown(alloc: Global, constant: Option<Value>) -> Result<Vec<u8>, NoMemory> {
-    match constant {
-        Some(value) => quoted_text(alloc, &value),
-        None => Ok(Vec::from_slice(alloc, b"none")?),
-    }
+    Ok(Vec::from_slice(alloc, b"none")?)
 }
 
 fn shown_constants(alloc: Global, text: &str) -> Result<Vec<u8>, Refused> {
     let mut shown_ones = Vec::new(alloc);
     for form in forms(alloc, text)? {
-        let one = shown(alloc, constant(alloc, &form)?)?;
-        shown_ones.extend_from_slice(one.as_slice())?;
+        shown_ones.extend_from_slice(shown(alloc, &form)?.as_slice())?;
         shown_ones.push(b' ')?;
     }
     Ok(shown_ones)
