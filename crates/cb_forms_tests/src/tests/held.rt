@@ -12,12 +12,18 @@ const ROWS: [(&[u8], &[u8]); 6] = [
     (b")~z(", b"..z.(."),
 ];
 
+/// One more byte, and what is held behind it.
+fn hold(cutter: &mut Cutter, byte: u8, held: &mut Vec<u8>) -> Result<(), NoMemory> {
+    cutter.step(byte)?;
+    held.extend_from_slice(cutter.held())?;
+    Ok(())
+}
+
 /// What is held behind each byte.
 fn held(alloc: Global, cutter: &mut Cutter, text: &[u8]) -> Result<Vec<u8>, NoMemory> {
     let mut held = Vec::new(alloc);
     for byte in text {
-        cutter.step(*byte)?;
-        held.extend_from_slice(cutter.held())?;
+        hold(cutter, *byte, &mut held)?;
         held.push(b'.')?;
     }
     Ok(held)

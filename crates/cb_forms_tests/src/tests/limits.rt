@@ -68,10 +68,18 @@ fn first_broken(alloc: Global, row: &Row) -> Result<Option<usize>, NoMemory> {
     Ok(None)
 }
 
+/// The first row at which one isn't.
+fn first_wrong(alloc: Global) -> Result<Option<usize>, NoMemory> {
+    for (place, row) in ROWS.iter().enumerate() {
+        if first_broken(alloc, row)?.is_some() {
+            return Ok(Some(place));
+        }
+    }
+    Ok(None)
+}
+
 #[test]
 fn keeps_to_its_limit(rt: HostRuntime) -> Result<(), NoMemory> {
-    for row in &ROWS {
-        assert_eq!(rt; first_broken(rt.alloc(), row)?, None, "{:?}", row.text);
-    }
+    assert_eq!(rt; first_wrong(rt.alloc())?, None);
     Ok(())
 }

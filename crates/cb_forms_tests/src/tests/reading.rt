@@ -199,9 +199,7 @@ fn read_by_steps(alloc: Global, cutter: &mut Cutter, text: &[u8]) -> Result<Show
     for byte in text {
         shown.add_cut(&cutter.step(*byte)?)?;
     }
-    if let Some(item) = cutter.end()? {
-        shown.add_item(&item)?;
-    }
+    shown.add_some(cutter.end()?.as_ref())?;
     Ok(shown)
 }
 

@@ -8,13 +8,19 @@ const TEXT: &[u8] = b"(ab \"c\" (1)) ?x&d";
 
 const ITEMS: &[u8] = b" ( s:ab t:c ( i:1 ) ) v:x & s:d";
 
-/// One more byte: whether the cutter then says that it failed exactly if it answered so, which it does each time once it
-/// has.
+/// Whether a call says that it failed exactly if the cutter then does, and does so once one has.
+fn is_told(had_failed: bool, has_failed: bool, is_err: bool) -> bool {
+    has_failed == is_err && (is_err || !had_failed)
+}
+
+/// One more byte, and whether it is told so.
 fn step_is_told(cutter: &mut Cutter, shown: &mut Shown, byte: u8) -> Result<bool, NoMemory> {
     let had_failed = cutter.failed();
     let cut = cutter.step(byte);
-    let is_told = cutter.failed() == cut.is_err() && (cut.is_err() || !had_failed);
-    shown.add_cut(&cut.unwrap_or(Cut::More))?;
+    let is_told = is_told(had_failed, cutter.failed(), cut.is_err());
+    if let Ok(cut) = cut {
+        shown.add_cut(&cut)?;
+    }
     Ok(is_told)
 }
 
@@ -22,9 +28,9 @@ fn step_is_told(cutter: &mut Cutter, shown: &mut Shown, byte: u8) -> Result<bool
 fn end_is_told(cutter: &mut Cutter, shown: &mut Shown) -> Result<bool, NoMemory> {
     let had_failed = cutter.failed();
     let end = cutter.end();
-    let is_told = cutter.failed() == end.is_err() && (end.is_err() || !had_failed);
-    if let Some(item) = end.unwrap_or(None) {
-        shown.add_item(&item)?;
+    let is_told = is_told(had_failed, cutter.failed(), end.is_err());
+    if let Ok(item) = end {
+        shown.add_some(item.as_ref())?;
     }
     Ok(is_told)
 }

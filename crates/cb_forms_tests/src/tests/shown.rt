@@ -102,16 +102,25 @@ impl Shown {
         }
     }
 
-    /// A `!` for an item that is too long, and nothing where a byte gave nothing.
-    pub(crate) fn add_cut(&mut self, cut: &Cut) -> Result<(), NoMemory> {
-        match cut {
-            Cut::More => Ok(()),
-            Cut::Item(item) => self.add_item(item),
-            Cut::TwoItems(first, second) => {
-                self.add_item(first)?;
-                self.add_item(second)
-            }
-            Cut::TooLong => self.add(b" !"),
+    pub(crate) fn add_some(&mut self, item: Option<&Item>) -> Result<(), NoMemory> {
+        match item {
+            Some(item) => self.add_item(item),
+            None => Ok(()),
         }
+    }
+
+    /// The items that a byte gave.
+    pub(crate) fn add_cut(&mut self, cut: &Cut) -> Result<(), NoMemory> {
+        let (first, second) = items_of(cut);
+        self.add_some(first)?;
+        self.add_some(second)
+    }
+}
+
+fn items_of(cut: &Cut) -> (Option<&Item>, Option<&Item>) {
+    match cut {
+        Cut::More | Cut::TooLong => (None, None),
+        Cut::Item(item) => (Some(item), None),
+        Cut::TwoItems(first, second) => (Some(first), Some(second)),
     }
 }

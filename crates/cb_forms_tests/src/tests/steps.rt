@@ -44,9 +44,7 @@ fn given(alloc: Global, cutter: &mut Cutter, text: &[u8]) -> Result<Shown, NoMem
         shown.add_cut(&cutter.step(*byte)?)?;
     }
     shown.add(b".")?;
-    if let Some(item) = cutter.end()? {
-        shown.add_item(&item)?;
-    }
+    shown.add_some(cutter.end()?.as_ref())?;
     Ok(shown)
 }
 
@@ -58,9 +56,7 @@ fn given_within(alloc: Global, cutter: &mut Cutter, text: &[u8]) -> Result<Shown
         shown.add_cut(&take(cutter, *byte)?)?;
     }
     shown.add(b".")?;
-    if let Some(item) = cutter.end()? {
-        shown.add_item(&item)?;
-    }
+    shown.add_some(cutter.end()?.as_ref())?;
     Ok(shown)
 }
 
