@@ -1,0 +1,68 @@
+#!/usr/bin/env python3
+"""Runs the gate and adds up the processor time of its parts. Run it at the repository's top, on a quiet machine.
+
+Each `rattle` process that runs while the gate does is looked at every fifth of a second, by the system's own count of
+its processor time. Where it stands says what it is for: the proof of a crate, its tests, its must-fail edits, or a
+program. What a process takes after its last look is lost, so the sum falls short by some hundredths.
+"""
+import collections
+import os
+import re
+import subprocess
+import sys
+import time
+
+TICKS = os.sysconf("SC_CLK_TCK")
+
+
+def looks():
+    """Yields the process, the folder, the words and the seconds of each `rattle` process."""
+    for pid in filter(str.isdigit, os.listdir("/proc")):
+        try:
+            words = open(f"/proc/{pid}/cmdline").read().split("\0")
+            if not words[0].endswith("/rattle"):
+                continue
+            stat = open(f"/proc/{pid}/stat").read().rsplit(")", 1)[1].split()
+            yield pid, stat[19], os.readlink(f"/proc/{pid}/cwd"), words, (int(stat[11]) + int(stat[12])) / TICKS
+        except OSError:
+            continue
+
+
+def part(folder, words):
+    """The crate, and what is done with it."""
+    crate = words[words.index("--crate-name") + 1] if "--crate-name" in words else "?"
+    text = " ".join(words)
+    if "must-fail" in folder or "must_fail" in folder or "mustfail" in folder or "must-fail" in text:
+        return crate, "edits"
+    if "--test" in words or crate.endswith("_tests"):
+        return crate, "tests"
+    return crate, "code"
+
+
+def main():
+    began = time.time()
+    top = os.getcwd()
+    gate = subprocess.Popen(["rt", "ci"])
+    seconds, parts, places = {}, {}, collections.Counter()
+    while gate.poll() is None:
+        for pid, start, folder, words, spent in looks():
+            seconds[pid, start] = spent
+            parts[pid, start] = part(folder, words)
+            places[folder.replace(top, "."), " ".join(w for w in words[1:] if not w.startswith("/"))[:160]] += 1
+        time.sleep(0.2)
+    table = collections.Counter()
+    for key, spent in seconds.items():
+        table[parts[key]] += spent
+    for (crate, kind), spent in sorted(table.items(), key=lambda row: (row[0][1], row[0][0])):
+        print(f"{kind:8} {crate:20} {spent / 60:7.1f} min")
+    for kind in sorted({kind for _, kind in table}):
+        print(f"{kind:8} {'all':20} {sum(s for (_, k), s in table.items() if k == kind) / 60:7.1f} min")
+    print(f"{'all':29} {sum(table.values()) / 60:7.1f} min of processor time, {(time.time() - began) / 60:.1f} min on the clock")
+    if "--places" in sys.argv:
+        for place, count in places.most_common(60):
+            print(count, *place)
+    return gate.returncode
+
+
+if __name__ == "__main__":
+    sys.exit(main())
