@@ -1,28 +1,29 @@
 -- What a caller knows of a source over memory.
-use Rattle.std.specs.Prelude.{ℕ, ◌+◌, List, drop, Option}
+use Rattle.std.specs.Prelude.{ℕ, List, drop, take, Option}
 use Rattle.cb_io.specs.Countdown.{calls_left}
+use Rattle.cb_io.specs.Histories.{Reads, after_read, after_read_fault}
 
--- the bytes that it hasn't given yet, the most that a read gives, which read fails, and how many have failed
+-- the bytes that it hasn't given yet, the most that a read gives, which read fails, and what its reads gave
 pub record Supply : Type 0 where
   pub left : List ℕ
   pub chunk : ℕ
   pub fails_in : Option ℕ
-  pub failures : ℕ
+  pub reads : Reads
 
--- the supply behind a read that gave n bytes
-abbrev pub supply_after_read : Supply → ℕ → Supply
-supply_after_read s n = record {
+-- the supply after a read that gave n bytes, into a buffer of this length
+abbrev pub supply_after_read : Supply → ℕ → ℕ → Supply
+supply_after_read s room n = record {
   left = drop n s.left;
   chunk = s.chunk;
   fails_in = calls_left s.fails_in;
-  failures = s.failures;
+  reads = after_read s.reads room n (take n s.left);
 }
 
--- the supply behind a read that failed
+-- the supply after a read that failed
 abbrev pub supply_after_fault : Supply → Supply
 supply_after_fault s = record {
   left = s.left;
   chunk = s.chunk;
   fails_in = calls_left s.fails_in;
-  failures = s.failures + 1;
+  reads = after_read_fault s.reads;
 }

@@ -5,6 +5,7 @@
 #![tactic(auto)]
 
 mod countdown;
+mod histories;
 mod mem_sink;
 mod mem_source;
 mod no_memory;
@@ -13,6 +14,7 @@ mod sink;
 mod source;
 mod trace;
 
+pub use histories::{ReadHistory, WriteHistory, with_all};
 pub use mem_sink::MemSink;
 pub use mem_source::MemSource;
 pub use no_memory::NoMemory;

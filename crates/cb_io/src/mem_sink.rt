@@ -1,5 +1,5 @@
 //! A sink over memory.
-ghost use Rattle.std.specs.Prelude.{◌≡◌, ◌↔◌, ◌<◌, [], Some, length, min, IsErr, IsOk, IfOk, OnErr};
+ghost use Rattle.std.specs.Prelude.{◌≡◌, ◌↔◌, ◌<◌, [], length, min, IsErr, IsOk, IfOk, OnErr};
 ghost use Rattle.cb_io.specs.Countdown.{IsDue};
 ghost use Rattle.cb_io.specs.MemSink.{store_after_write, store_after_fault};
 
@@ -76,9 +76,7 @@ impl MemSink {
 }
 
 impl Sink for MemSink {
-    ghost has = { λ s. Some s.bytes };
-
-    ghost failures = { λ s. s.failures };
+    ghost writes = { λ s. record { bytes = s.bytes; failures = s.failures } };
 
     /// Takes as many bytes as the chunk and the room allow. It answers an error at the chosen write
     /// alone; with no room left it answers 0, which counts as a failure where the slice isn't empty.

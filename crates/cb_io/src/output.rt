@@ -1,7 +1,6 @@
 //! The one place where output goes through.
 ghost use Rattle.std.specs.Prelude.{◌≡◌, ◌<◌, ◌≤◌, ◌+◌, ◌++◌, [], take, length, true, false, IsErr, OnOk, OnErr};
-ghost use Rattle.cb_io.specs.Moved.{Took};
-ghost use Rattle.cb_io.specs.Output.{Passed, PassedSome};
+ghost use Rattle.cb_io.specs.Output.{PassedSome, Puts, write_extent};
 
 use crate::sink::{Sink, WriteFault};
 use std::marker::Model;
@@ -60,18 +59,7 @@ impl<K: Sink> Out<K> {
     /// A `WriteFault` comes where the sink failed during this call, and at each call after one that
     /// answered a fault. The sink then has a beginning of what was put, and gets no byte more.
     pub fn put(&mut self, bytes: &[u8]) -> Result<(), WriteFault>
-        ensures ok { let all = self.old.pending ++ bytes.now in
-            OnOk result (Passed (K.has self.old.sink) (K.has self.new.sink) all self.new.pending) }
-        ensures ok_counts { OnOk result (K.failures self.new.sink ≡ K.failures self.old.sink) }
-        ensures ok_before { OnOk result (self.old.fault ≡ false) }
-        ensures ok_after { OnOk result (self.new.fault ≡ false) }
-
-        // The first fault.
-        ensures err { let all = self.old.pending ++ bytes.now in
-            OnErr result (self.old.fault ≡ false
-            → PassedSome (K.has self.old.sink) (K.has self.new.sink) all) }
-        ensures err_counts { OnErr result (self.old.fault ≡ false
-            → K.failures self.old.sink < K.failures self.new.sink) }
+        ensures puts { self.old.fault ≡ false → Puts K.writes self.old self.new (write_extent result) bytes.now }
         ensures err_after { OnErr result (self.new.fault ≡ true) }
 
         // After a fault.
@@ -100,17 +88,8 @@ impl<K: Sink> Out<K> {
     /// A `WriteFault` comes where the sink failed during this call, and at each call after one that
     /// answered a fault. The sink then has a beginning of what was put, and gets no byte more.
     pub fn flush(&mut self) -> Result<(), WriteFault>
-        ensures ok { OnOk result (Took (K.has self.old.sink) (K.has self.new.sink) self.old.pending) }
+        ensures puts { self.old.fault ≡ false → Puts K.writes self.old self.new (write_extent result) [] }
         ensures ok_pending { OnOk result (self.new.pending ≡ []) }
-        ensures ok_counts { OnOk result (K.failures self.new.sink ≡ K.failures self.old.sink) }
-        ensures ok_before { OnOk result (self.old.fault ≡ false) }
-        ensures ok_after { OnOk result (self.new.fault ≡ false) }
-
-        // The first fault.
-        ensures err { OnErr result (self.old.fault ≡ false
-            → PassedSome (K.has self.old.sink) (K.has self.new.sink) self.old.pending) }
-        ensures err_counts { OnErr result (self.old.fault ≡ false
-            → K.failures self.old.sink < K.failures self.new.sink) }
         ensures err_after { OnErr result (self.new.fault ≡ true) }
 
         // After a fault.
@@ -151,10 +130,10 @@ fn check(fault: bool) -> Result<(), WriteFault>
 
 /// Writes all of the slice; where the sink fails, a beginning of it was written.
 fn write_all<K: Sink>(sink: &mut K, bytes: &[u8]) -> Result<(), WriteFault>
-    ensures ok { OnOk result (Took (K.has sink.old) (K.has sink.new) bytes.now) }
-    ensures counts { OnOk result (K.failures sink.new ≡ K.failures sink.old) }
-    ensures err { OnErr result (PassedSome (K.has sink.old) (K.has sink.new) bytes.now) }
-    ensures err_counts { OnErr result (K.failures sink.old < K.failures sink.new) }
+    ensures ok { OnOk result ((K.writes sink.new).bytes ≡ (K.writes sink.old).bytes ++ bytes.now) }
+    ensures counts { OnOk result ((K.writes sink.new).failures ≡ (K.writes sink.old).failures) }
+    ensures err { OnErr result (PassedSome (K.writes sink.old).bytes (K.writes sink.new).bytes bytes.now) }
+    ensures err_counts { OnErr result ((K.writes sink.old).failures < (K.writes sink.new).failures) }
 {
     let mut done = 0;
     while done < bytes.len() {

@@ -1,6 +1,6 @@
 //! Where bytes go.
-ghost use Rattle.std.specs.Prelude.{◌≡◌, ◌≤◌, ◌<◌, ◌+◌, List, ℕ, Option, length, take, IfOk, OnErr};
-ghost use Rattle.cb_io.specs.Moved.{Took};
+ghost use Rattle.std.specs.Prelude.{◌≡◌, ◌≤◌, length, take, IfOk, OnErr};
+ghost use Rattle.cb_io.specs.Histories.{Writes, after_write, after_write_fault};
 
 use thiserror::Error;
 
@@ -11,11 +11,8 @@ pub struct WriteFault;
 
 /// Something that takes bytes in order, as standard output or a buffer in memory.
 pub trait Sink {
-    // the bytes that it has taken, or `None` where it doesn't tell
-    ghost has: { Self → Option (List ℕ) };
-
-    // how many writes failed so far; to take nothing of a slice that isn't empty is a failure
-    ghost failures: { Self → ℕ };
+    // the bytes that its writes took, and how many of them failed; to take nothing of a slice that isn't empty is a failure
+    ghost writes: { Self → Writes };
 
     /// Takes a beginning of the slice, and answers how many bytes that is: often fewer than all.
     ///
@@ -24,11 +21,7 @@ pub trait Sink {
     /// later write may succeed.
     fn write(&mut self, bytes: &[u8]) -> Result<usize, WriteFault>
         ensures within { IfOk result (λ n. n ≤ length bytes.now) }
-        ensures took { IfOk result (λ n. Took (has self.old) (has self.new) (take n bytes.now)) }
-        ensures counts_some { IfOk result (λ n. 0 < n → failures self.new ≡ failures self.old) }
-        ensures counts_none { IfOk result
-            (λ n. n ≡ 0 → 0 < length bytes.now → failures self.new ≡ failures self.old + 1) }
-        ensures counts_empty { IfOk result (λ n. length bytes.now ≡ 0 → failures self.new ≡ failures self.old) }
-        ensures counts_err { OnErr result (failures self.new ≡ failures self.old + 1) }
-        ensures err { OnErr result (has self.new ≡ has self.old) };
+        ensures noted { IfOk result
+            (λ n. writes self.new ≡ after_write (writes self.old) (length bytes.now) n (take n bytes.now)) }
+        ensures err_noted { OnErr result (writes self.new ≡ after_write_fault (writes self.old)) };
 }

@@ -1,5 +1,6 @@
 //! Where bytes come from.
-ghost use Rattle.std.specs.Prelude.{◌≡◌, ◌≤◌, ◌<◌, ◌+◌, List, ℕ, Option, length, take, IfOk, OnOk, OnErr};
+ghost use Rattle.std.specs.Prelude.{◌≡◌, ◌≤◌, ◌<◌, List, ℕ, Option, length, take, IfOk, OnErr};
+ghost use Rattle.cb_io.specs.Histories.{Reads, after_read, after_read_fault};
 ghost use Rattle.cb_io.specs.Moved.{Gave, IsAtEnd};
 
 use thiserror::Error;
@@ -14,8 +15,8 @@ pub trait Source {
     // the bytes that it hasn't given yet, or `None` where it doesn't tell
     ghost left: { Self → Option (List ℕ) };
 
-    // how many reads failed so far
-    ghost failures: { Self → ℕ };
+    // the bytes that its reads gave, how many of them reported the end, and how many failed
+    ghost reads: { Self → Reads };
 
     /// Reads the next bytes into the buffer's front, and answers how many: at most the buffer's length,
     /// and often fewer. What stands in the buffer behind them is left open.
@@ -28,7 +29,8 @@ pub trait Source {
         ensures within { IfOk result (λ n. n ≤ length buf.old) }
         ensures gave { IfOk result (λ n. Gave (left self.old) (left self.new) (take n buf.new)) }
         ensures end { IfOk result (λ n. n ≡ 0 → 0 < length buf.old → IsAtEnd (left self.new)) }
-        ensures counts_ok { OnOk result (failures self.new ≡ failures self.old) }
-        ensures counts_err { OnErr result (failures self.new ≡ failures self.old + 1) }
-        ensures err { OnErr result (left self.new ≡ left self.old) };
+        ensures noted { IfOk result
+            (λ n. reads self.new ≡ after_read (reads self.old) (length buf.old) n (take n buf.new)) }
+        ensures err { OnErr result (left self.new ≡ left self.old) }
+        ensures err_noted { OnErr result (reads self.new ≡ after_read_fault (reads self.old)) };
 }

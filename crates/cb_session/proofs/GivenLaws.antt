@@ -56,10 +56,10 @@ alike_swapped g h rest apart = record {
       (λ t u. let one : g.0 ≡ name = same_words g.0 name t in let other : h.0 ≡ name = same_words h.0 name u in let yes : bytes_eq g.0 h.0 ≡ true = (bytes_eq-Decides g.0 h.0).1 (one ∙ sym other) in cc);
 }
 
-alike_behind : (front a b : Given) → Alike a b → Alike (front ++ a) (front ++ b)
-alike_behind [] a b like = like
-alike_behind (g ∷ front) a b like =
-    let more : Alike (front ++ a) (front ++ b) = alike_behind front a b like in
+alike_after : (front a b : Given) → Alike a b → Alike (front ++ a) (front ++ b)
+alike_after [] a b like = like
+alike_after (g ∷ front) a b like =
+    let more : Alike (front ++ a) (front ++ b) = alike_after front a b like in
     record {
       known = λ slots. ap (λ t. is_some (slot_named slots g.0) && t) (more.known slots);
       distinct = ap₂ (λ (o : Option (List Value)) (t : Bool). not (is_some o) && t) (more.same g.0) more.distinct;
@@ -99,34 +99,34 @@ named_slot_alike slots a b None like = refl
 named_slot_alike slots a b (Some (name, ts)) like = slot_given_alike a b (slot_named slots name) ts like
 
 -- the fact that is built of what a result gives
-abbrev fact_behind : Templates → List ℕ → Result Given Fault → Result FactValue Fault
-fact_behind templates relation r = and_then r (λ given. built templates relation (slot_values given))
+abbrev fact_after : Templates → List ℕ → Result Given Fault → Result FactValue Fault
+fact_after templates relation r = and_then r (λ given. built templates relation (slot_values given))
 
 fact_if : (templates : Templates) (relation : List ℕ) (t : Bool) (a b : Given) → Alike a b
-    → fact_behind templates relation (if t then Ok a else Err FactDoesNotFit) ≡ fact_behind templates relation (if t then Ok b else Err FactDoesNotFit)
+    → fact_after templates relation (if t then Ok a else Err FactDoesNotFit) ≡ fact_after templates relation (if t then Ok b else Err FactDoesNotFit)
 fact_if templates relation true a b like = built_by_alike relation (slots_of templates relation) a b like
 fact_if templates relation false a b like = refl
 
 next_alike : (templates : Templates) (relation : List ℕ) (r : Result GivenValues Fault) (f g : GivenValues → Result Given Fault)
-    → ((k : GivenValues) → fact_behind templates relation (f k) ≡ fact_behind templates relation (g k))
-    → fact_behind templates relation (and_then r f) ≡ fact_behind templates relation (and_then r g)
+    → ((k : GivenValues) → fact_after templates relation (f k) ≡ fact_after templates relation (g k))
+    → fact_after templates relation (and_then r f) ≡ fact_after templates relation (and_then r g)
 next_alike templates relation (Ok k) f g more = more k
 next_alike templates relation (Err e) f g more = refl
 
 -- Whatever follows, two slots given may have changed places before.
 fact_alike : (templates : Templates) (relation : List ℕ) (slots : List SlotShape) (front : Given) (g h : GivenValues) (back : Given) (ts : Trees) → bytes_eq g.0 h.0 ≡ false
-    → fact_behind templates relation (slots_given slots (front ++ g ∷ h ∷ back) ts) ≡ fact_behind templates relation (slots_given slots (front ++ h ∷ g ∷ back) ts)
+    → fact_after templates relation (slots_given slots (front ++ g ∷ h ∷ back) ts) ≡ fact_after templates relation (slots_given slots (front ++ h ∷ g ∷ back) ts)
 fact_alike templates relation slots front g h back no_trees apart =
-    let like : Alike (front ++ g ∷ h ∷ back) (front ++ h ∷ g ∷ back) = alike_behind front (g ∷ h ∷ back) (h ∷ g ∷ back) (alike_swapped g h back apart) in
-    ap (λ t. fact_behind templates relation (if t then Ok (front ++ g ∷ h ∷ back) else Err FactDoesNotFit)) (are_filled_alike slots (front ++ g ∷ h ∷ back) (front ++ h ∷ g ∷ back) like)
+    let like : Alike (front ++ g ∷ h ∷ back) (front ++ h ∷ g ∷ back) = alike_after front (g ∷ h ∷ back) (h ∷ g ∷ back) (alike_swapped g h back apart) in
+    ap (λ t. fact_after templates relation (if t then Ok (front ++ g ∷ h ∷ back) else Err FactDoesNotFit)) (are_filled_alike slots (front ++ g ∷ h ∷ back) (front ++ h ∷ g ∷ back) like)
     ∙ fact_if templates relation (are_filled slots (front ++ h ∷ g ∷ back)) (front ++ g ∷ h ∷ back) (front ++ h ∷ g ∷ back) like
 fact_alike templates relation slots front g h back (tree t ts) apart =
-    let like : Alike (front ++ g ∷ h ∷ back) (front ++ h ∷ g ∷ back) = alike_behind front (g ∷ h ∷ back) (h ∷ g ∷ back) (alike_swapped g h back apart) in
-    ap (λ r. fact_behind templates relation (and_then r (λ k. slots_given slots ((front ++ g ∷ h ∷ back) ++ k ∷ []) ts))) (named_slot_alike slots (front ++ g ∷ h ∷ back) (front ++ h ∷ g ∷ back) (call_of t) like)
+    let like : Alike (front ++ g ∷ h ∷ back) (front ++ h ∷ g ∷ back) = alike_after front (g ∷ h ∷ back) (h ∷ g ∷ back) (alike_swapped g h back apart) in
+    ap (λ r. fact_after templates relation (and_then r (λ k. slots_given slots ((front ++ g ∷ h ∷ back) ++ k ∷ []) ts))) (named_slot_alike slots (front ++ g ∷ h ∷ back) (front ++ h ∷ g ∷ back) (call_of t) like)
     ∙ next_alike templates relation (named_slot slots (front ++ h ∷ g ∷ back) (call_of t)) (λ k. slots_given slots ((front ++ g ∷ h ∷ back) ++ k ∷ []) ts) (λ k. slots_given slots ((front ++ h ∷ g ∷ back) ++ k ∷ []) ts)
-    (λ k. ap (λ a. fact_behind templates relation (slots_given slots a ts)) (append_assoc front (g ∷ h ∷ back) (k ∷ []))
+    (λ k. ap (λ a. fact_after templates relation (slots_given slots a ts)) (append_assoc front (g ∷ h ∷ back) (k ∷ []))
     ∙ (fact_alike templates relation slots front g h (back ++ k ∷ []) ts apart
-    ∙ sym (ap (λ a. fact_behind templates relation (slots_given slots a ts)) (append_assoc front (h ∷ g ∷ back) (k ∷ [])))))
+    ∙ sym (ap (λ a. fact_after templates relation (slots_given slots a ts)) (append_assoc front (h ∷ g ∷ back) (k ∷ [])))))
 
 -- what a slot is given by itself: its name and its values, or `None` where the template hasn't the slot
 abbrev AloneGiven : Type 0
@@ -140,7 +140,7 @@ abbrev alone : List SlotShape → Option (List ℕ × Trees) → AloneGiven
 alone slots None = None
 alone slots (Some (name, ts)) = alone_by (slot_named slots name) ts
 
--- the same behind those that are given before
+-- the same after those that are given before
 abbrev placed : Given → AloneGiven → Result GivenValues Fault
 placed given None = Err FactDoesNotFit
 placed given (Some (name, r)) = if is_some (given_for given name) then Err FactDoesNotFit else ok_then (λ vs. (name, vs)) r
@@ -188,19 +188,19 @@ first_given : {X Y : Type 0} (p : Bool) (g : X) (next : X → Result Y Fault) �
 first_given true g next = refl
 first_given false g next = refl
 
-none_behind : {Y Z : Type 0} (r : Result Y Fault) (next : Y → Result Z Fault) (z : Z) → ((y : Y) → r ≡ Ok y → ⊥) → and_then r next ≡ Ok z → ⊥
-none_behind (Err e) next z none h = cc
-none_behind (Ok y) next z none h = none y refl
+none_after : {Y Z : Type 0} (r : Result Y Fault) (next : Y → Result Z Fault) (z : Z) → ((y : Y) → r ≡ Ok y → ⊥) → and_then r next ≡ Ok z → ⊥
+none_after (Err e) next z none h = cc
+none_after (Ok y) next z none h = none y refl
 
 no_fact : {X Y Z : Type 0} (r : Result X Fault) (second : X → Result Y Fault) (next : Y → Result Z Fault) (z : Z) → ((x : X) → (y : Y) → second x ≡ Ok y → ⊥) → and_then (and_then r second) next ≡ Ok z → ⊥
 no_fact (Err e) second next z none h = cc
-no_fact (Ok x) second next z none h = none_behind (second x) next z (λ y e. none x y e) h
+no_fact (Ok x) second next z none h = none_after (second x) next z (λ y e. none x y e) h
 
 either_fault : {X : Type 0} (t : Bool) (e : Fault) (x : X) → (if◌then◌else◌ {A = Result X Fault} t (Err FactDoesNotFit) (Err e)) ≡ Ok x → ⊥
 either_fault true e x h = cc
 either_fault false e x h = cc
 
--- what two forms give, one behind the other, and what follows
+-- what two forms give, one after the other, and what follows
 abbrev two_given : List SlotShape → Given → AloneGiven → AloneGiven → Trees → Result Given Fault
 two_given slots before p q ts =
     and_then (placed before p) (λ g. and_then (placed (before ++ g ∷ []) q) (λ h. slots_given slots ((before ++ g ∷ []) ++ h ∷ []) ts))
@@ -219,44 +219,44 @@ both_given slots before n k vs ws ts =
     ∙ ap (λ t. if t then Err FactDoesNotFit else end) (given_last before n k vs))
 
 swap_given : (templates : Templates) (relation : List ℕ) (slots : List SlotShape) (before : Given) (p q : AloneGiven) (ts : Trees) (fact : FactValue)
-    → fact_behind templates relation (two_given slots before p q ts) ≡ Ok fact → fact_behind templates relation (two_given slots before q p ts) ≡ Ok fact
+    → fact_after templates relation (two_given slots before p q ts) ≡ Ok fact → fact_after templates relation (two_given slots before q p ts) ≡ Ok fact
 swap_given templates relation slots before None q ts fact h = absurd (cc)
 swap_given templates relation slots before (Some (n, r)) None ts fact h =
     absurd (no_fact (placed before (Some (n, r))) (λ g. and_then (Err FactDoesNotFit) (λ h. slots_given slots ((before ++ g ∷ []) ++ h ∷ []) ts)) (λ given. built templates relation (slot_values given)) fact (λ g y e. cc) h)
 swap_given templates relation slots before (Some (n, Err e)) (Some (k, s)) ts fact h =
-    absurd (none_behind (placed before (Some (n, Err e))) (λ g. fact_behind templates relation (and_then (placed (before ++ g ∷ []) (Some (k, s))) (λ h. slots_given slots ((before ++ g ∷ []) ++ h ∷ []) ts))) fact
+    absurd (none_after (placed before (Some (n, Err e))) (λ g. fact_after templates relation (and_then (placed (before ++ g ∷ []) (Some (k, s))) (λ h. slots_given slots ((before ++ g ∷ []) ++ h ∷ []) ts))) fact
     (λ y e'. either_fault (is_some (given_for before n)) e y e') (follows (placed before (Some (n, Err e))) (λ g. and_then (placed (before ++ g ∷ []) (Some (k, s))) (λ h. slots_given slots ((before ++ g ∷ []) ++ h ∷ []) ts)) (λ given. built templates relation (slot_values given)) ∙ h))
 swap_given templates relation slots before (Some (n, Ok vs)) (Some (k, Err e)) ts fact h =
     absurd (no_fact (placed before (Some (n, Ok vs))) (λ g. and_then (placed (before ++ g ∷ []) (Some (k, Err e))) (λ h. slots_given slots ((before ++ g ∷ []) ++ h ∷ []) ts)) (λ given. built templates relation (slot_values given)) fact
-    (λ g y e'. none_behind (placed (before ++ g ∷ []) (Some (k, Err e))) (λ h. slots_given slots ((before ++ g ∷ []) ++ h ∷ []) ts) y (λ x e''. either_fault (is_some (given_for (before ++ g ∷ []) k)) e x e'') e') h)
+    (λ g y e'. none_after (placed (before ++ g ∷ []) (Some (k, Err e))) (λ h. slots_given slots ((before ++ g ∷ []) ++ h ∷ []) ts) y (λ x e''. either_fault (is_some (given_for (before ++ g ∷ []) k)) e x e'') e') h)
 swap_given templates relation slots before (Some (n, Ok vs)) (Some (k, Ok ws)) ts fact h =
     let next : Given → Result FactValue Fault = λ given. built templates relation (slot_values given) in
     let one : Result Given Fault = slots_given slots ((before ++ (n, vs) ∷ []) ++ (k, ws) ∷ []) ts in
     let other : Result Given Fault = slots_given slots ((before ++ (k, ws) ∷ []) ++ (n, vs) ∷ []) ts in
     ap (λ r. and_then r next) (both_given slots before k n ws vs ts)
     ∙ settled (is_some (given_for before n)) (is_some (given_for before k)) (bytes_eq n k) (bytes_eq k n) one other next fact (apart_too n k)
-    (λ apart. ap (λ a. fact_behind templates relation (slots_given slots a ts)) (append_assoc before ((n, vs) ∷ []) ((k, ws) ∷ []))
+    (λ apart. ap (λ a. fact_after templates relation (slots_given slots a ts)) (append_assoc before ((n, vs) ∷ []) ((k, ws) ∷ []))
     ∙ (fact_alike templates relation slots before (n, vs) (k, ws) [] ts apart
-    ∙ sym (ap (λ a. fact_behind templates relation (slots_given slots a ts)) (append_assoc before ((k, ws) ∷ []) ((n, vs) ∷ [])))))
+    ∙ sym (ap (λ a. fact_after templates relation (slots_given slots a ts)) (append_assoc before ((k, ws) ∷ []) ((n, vs) ∷ [])))))
     (sym (ap (λ r. and_then r next) (both_given slots before n k vs ws ts)) ∙ h)
 
 forms_given : (templates : Templates) (relation : List ℕ) (slots : List SlotShape) (before : Given) (t u : Tree) (back : Trees)
-    → fact_behind templates relation (slots_given slots before (tree t (tree u back))) ≡ fact_behind templates relation (two_given slots before (alone slots (call_of t)) (alone slots (call_of u)) back)
+    → fact_after templates relation (slots_given slots before (tree t (tree u back))) ≡ fact_after templates relation (two_given slots before (alone slots (call_of t)) (alone slots (call_of u)) back)
 forms_given templates relation slots before t u back =
-    ap (λ r. fact_behind templates relation (and_then r (λ g. slots_given slots (before ++ g ∷ []) (tree u back)))) (placed_named slots before (call_of t))
+    ap (λ r. fact_after templates relation (and_then r (λ g. slots_given slots (before ++ g ∷ []) (tree u back)))) (placed_named slots before (call_of t))
     ∙ next_alike templates relation (placed before (alone slots (call_of t))) (λ g. slots_given slots (before ++ g ∷ []) (tree u back))
     (λ g. and_then (placed (before ++ g ∷ []) (alone slots (call_of u))) (λ h. slots_given slots ((before ++ g ∷ []) ++ h ∷ []) back))
-    (λ g. ap (λ r. fact_behind templates relation (and_then r (λ h. slots_given slots ((before ++ g ∷ []) ++ h ∷ []) back))) (placed_named slots (before ++ g ∷ []) (call_of u)))
+    (λ g. ap (λ r. fact_after templates relation (and_then r (λ h. slots_given slots ((before ++ g ∷ []) ++ h ∷ []) back))) (placed_named slots (before ++ g ∷ []) (call_of u)))
 
 kept : (templates : Templates) (relation : List ℕ) (r : Result GivenValues Fault) (f g : GivenValues → Result Given Fault) (fact : FactValue)
-    → ((k : GivenValues) → fact_behind templates relation (f k) ≡ Ok fact → fact_behind templates relation (g k) ≡ Ok fact)
-    → fact_behind templates relation (and_then r f) ≡ Ok fact → fact_behind templates relation (and_then r g) ≡ Ok fact
+    → ((k : GivenValues) → fact_after templates relation (f k) ≡ Ok fact → fact_after templates relation (g k) ≡ Ok fact)
+    → fact_after templates relation (and_then r f) ≡ Ok fact → fact_after templates relation (and_then r g) ≡ Ok fact
 kept templates relation (Ok k) f g fact more h = more k h
 kept templates relation (Err e) f g fact more h = h
 
 swap_forms : (templates : Templates) (relation : List ℕ) (slots : List SlotShape) (before : Given) (front : Trees) (t u : Tree) (back : Trees) (fact : FactValue)
-    → fact_behind templates relation (slots_given slots before (followed_by front (tree t (tree u back)))) ≡ Ok fact
-    → fact_behind templates relation (slots_given slots before (followed_by front (tree u (tree t back)))) ≡ Ok fact
+    → fact_after templates relation (slots_given slots before (followed_by front (tree t (tree u back)))) ≡ Ok fact
+    → fact_after templates relation (slots_given slots before (followed_by front (tree u (tree t back)))) ≡ Ok fact
 swap_forms templates relation slots before no_trees t u back fact h =
     forms_given templates relation slots before u t back
     ∙ swap_given templates relation slots before (alone slots (call_of t)) (alone slots (call_of u)) back fact (sym (forms_given templates relation slots before t u back) ∙ h)
@@ -264,16 +264,16 @@ swap_forms templates relation slots before (tree v front) t u back fact h =
     kept templates relation (named_slot slots before (call_of v)) (λ g. slots_given slots (before ++ g ∷ []) (followed_by front (tree t (tree u back)))) (λ g. slots_given slots (before ++ g ∷ []) (followed_by front (tree u (tree t back)))) fact
     (λ g e. swap_forms templates relation slots (before ++ g ∷ []) front t u back fact e) h
 
-by_slots : (templates : Templates) (relation : List ℕ) (r : Result Given Fault) → and_then (ok_then slot_values r) (built templates relation) ≡ fact_behind templates relation r
+by_slots : (templates : Templates) (relation : List ℕ) (r : Result Given Fault) → and_then (ok_then slot_values r) (built templates relation) ≡ fact_after templates relation r
 by_slots templates relation (Ok given) = refl
 by_slots templates relation (Err e) = refl
 
-swap_if : (templates : Templates) (relation : List ℕ) (t : Bool) (r s : Result Given Fault) (fact : FactValue) → (fact_behind templates relation r ≡ Ok fact → fact_behind templates relation s ≡ Ok fact)
+swap_if : (templates : Templates) (relation : List ℕ) (t : Bool) (r s : Result Given Fault) (fact : FactValue) → (fact_after templates relation r ≡ Ok fact → fact_after templates relation s ≡ Ok fact)
     → (if t then Err FactDoesNotFit else and_then (ok_then slot_values r) (built templates relation)) ≡ Ok fact → (if t then Err FactDoesNotFit else and_then (ok_then slot_values s) (built templates relation)) ≡ Ok fact
 swap_if templates relation true r s fact same h = h
 swap_if templates relation false r s fact same h = by_slots templates relation s ∙ same (sym (by_slots templates relation r) ∙ h)
 
--- Two slots that stand one behind the other in a fact may change places.
+-- Two slots that stand side by side in a fact may change places.
 pub slots_swapped : (templates : Templates) (relation : List ℕ) (slots : List SlotShape) (front back : Trees) (t u : Tree) (fact : FactValue) → slots_of templates relation ≡ Some slots
     → headed_fact templates (Some (relation, followed_by front (tree t (tree u back)))) ≡ Ok fact → headed_fact templates (Some (relation, followed_by front (tree u (tree t back)))) ≡ Ok fact
 slots_swapped templates relation slots front back t u fact is h =

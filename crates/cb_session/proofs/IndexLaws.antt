@@ -7,7 +7,7 @@ use Rattle.std.specs.BTreeMap.{is_at}
 use Rattle.std.specs.List.{Contains}
 use Rattle.std.specs.Map.{keys_of}
 use Rattle.std.specs.Ordering.{nat_cmp, eq_by_cmp}
-use Rattle.cb_session.specs.Memory.{index_of}
+use Rattle.cb_session.specs.WorkingMemory.{index_of}
 use Rattle.cb_facts.proofs.FactEquality.{fact-Decides}
 use Rattle.cb_facts.specs.FactLists.{IndexedFacts, fact_at, IsAbsent, IsFactBase}
 use Rattle.cb_facts.specs.Facts.{FactValue, fact_eq}

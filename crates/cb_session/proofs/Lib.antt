@@ -1,13 +1,12 @@
-pub mod LineLaws
-pub mod IndexLaws
-pub mod EngineLaws
-pub mod GroupLaws
-pub mod MemoryLaws
+mod LineLaws
+mod DeffactsLaws
+mod MemoryLaws
+mod IndexLaws
 mod KeepLaws
 mod FaultLaws
 mod GivenLaws
 pub mod RunLaws
-pub mod CourseLaws
-pub mod PieceSteps
-pub mod HaltLaws
+pub mod ScriptLaws
+mod ActLaws
+mod StepLaws
 mod Examples

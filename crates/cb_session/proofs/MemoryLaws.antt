@@ -1,8 +1,8 @@
 -- The assertion of one fact, and of one list of facts behind another.
 use Rattle.std.proofs.Common.{◌≡◌, ◌≤◌, ◌<◌, ◌+◌, ◌++◌, ℕ, true, false, List, [], ◌∷◌, Option, Some, None, refl, sym, ap, ◌∙◌, nat_lt, rules, if◌then◌else◌}
-use Rattle.cb_session.specs.Memory.{Memory, greatest_index, grown, asserted_beside, asserted_one, after_one, asserted_all}
-use Rattle.cb_session.specs.declared.memory.Asserted.{Asserted}
-use Rattle.cb_session.specs.declared.memory.Asserted.TheVariants.{All, Exhausted}
+use Rattle.cb_session.specs.WorkingMemory.{Memory, greatest_index, grown, asserted_beside, asserted_one, after_one, asserted_all}
+use Rattle.cb_session.specs.declared.working_memory.Asserted.{Asserted}
+use Rattle.cb_session.specs.declared.working_memory.Asserted.TheVariants.{All, Exhausted}
 use Rattle.cb_session.proofs.IndexLaws.{index_of-there, index_of-absent}
 use Rattle.cb_facts.specs.FactLists.{IndexedFacts, fact_at, with_fact, IsAbsent, IsFactBase}
 use Rattle.cb_facts.specs.Facts.{FactValue}

@@ -5,7 +5,8 @@ use Rattle.std.proofs.lemmas.List.{append-nil, append_assoc}
 use Rattle.cb_forms.specs.Items.{items, parts, whole, over, fitting}
 use Rattle.cb_forms.specs.Trees.{Reading}
 use Rattle.cb_forms.proofs.FittingLaws.{fitting-items, fitting-kept, whole-fitting, over-kept_all, whole-more}
-use Rattle.cb_session.specs.Engine.{carried}
+use Rattle.cb_session.specs.Transcripts.{executed}
+use Rattle.cb_session.specs.declared.limits.Limits.{Limits}
 use Rattle.cb_session.specs.Lines.{too_long_line}
 use Rattle.cb_session.specs.Transcripts.{Run, begun, after_status, after, after_all, too_long_status, too_long, so_far, complete}
 use Rattle.cb_session.specs.declared.status.Status.{Status}
@@ -14,7 +15,7 @@ pub after_all-append : (run : Run) (xs ys : List Reading) → after_all run (xs 
 after_all-append run [] ys = refl
 after_all-append run (x ∷ xs) ys = after_all-append (after run x) xs ys
 
--- behind the end nothing counts
+-- after the end nothing counts
 pub after_all-ended : (run : Run) (status : Status) (xs : List Reading) → run.status ≡ Some status → after_all run xs ≡ run
 after_all-ended run status [] h = refl
 after_all-ended run status (x ∷ xs) h =
@@ -36,7 +37,7 @@ pub grows-trans : (a b c : List ℕ) → Grows a b → Grows b c → Grows a c
 grows-trans a b c f g = record { more = f.more ++ g.more; is = g.is ∙ (ap (λ it. it ++ g.more) f.is ∙ append_assoc a f.more g.more) }
 
 pub grows-status : (o : Option Status) (run : Run) (x : Reading) → Grows run.written (after_status o run x).written
-grows-status None run x = record { more = (carried run.state x).written; is = refl }
+grows-status None run x = record { more = (executed run.state x).written; is = refl }
 grows-status (Some status) run x = grows-same run.written run.written refl
 
 pub grows-all : (run : Run) (xs : List Reading) → Grows run.written (after_all run xs).written
@@ -51,89 +52,89 @@ pub grows-long : (run : Run) → Grows run.written (too_long run).written
 grows-long run = grows-long_status run.status run
 
 -- the run so far, by whether an item is too long
-pub so_far-fits : (n : ℕ) (p : List ℕ) → over n p ≡ false → so_far n p ≡ after_all begun (whole p)
+pub so_far-fits : (l : Limits) (p : List ℕ) → over l.max_form p ≡ false → so_far l p ≡ after_all begun (whole p)
 unfolding so_far
-so_far-fits n p h = ap (λ t. if t then too_long (after_all begun (fitting n p)) else after_all begun (whole p)) h
+so_far-fits l p h = ap (λ t. if t then too_long (after_all begun (fitting l.max_form p)) else after_all begun (whole p)) h
 
-pub so_far-long : (n : ℕ) (p : List ℕ) → over n p ≡ true → so_far n p ≡ too_long (after_all begun (fitting n p))
+pub so_far-long : (l : Limits) (p : List ℕ) → over l.max_form p ≡ true → so_far l p ≡ too_long (after_all begun (fitting l.max_form p))
 unfolding so_far
-so_far-long n p h = ap (λ t. if t then too_long (after_all begun (fitting n p)) else after_all begun (whole p)) h
+so_far-long l p h = ap (λ t. if t then too_long (after_all begun (fitting l.max_form p)) else after_all begun (whole p)) h
 
-pub complete-fits : (n : ℕ) (s : List ℕ) → over n s ≡ false → complete n s ≡ after_all begun (items s)
+pub complete-fits : (l : Limits) (s : List ℕ) → over l.max_form s ≡ false → complete l s ≡ after_all begun (items s)
 unfolding complete
-complete-fits n s h = ap (λ t. if t then too_long (after_all begun (fitting n s)) else after_all begun (fitting n s)) h ∙ ap (after_all begun) (fitting-items n s h)
+complete-fits l s h = ap (λ t. if t then too_long (after_all begun (fitting l.max_form s)) else after_all begun (fitting l.max_form s)) h ∙ ap (after_all begun) (fitting-items l.max_form s h)
 
-pub complete-long : (n : ℕ) (s : List ℕ) → over n s ≡ true → complete n s ≡ too_long (after_all begun (fitting n s))
+pub complete-long : (l : Limits) (s : List ℕ) → over l.max_form s ≡ true → complete l s ≡ too_long (after_all begun (fitting l.max_form s))
 unfolding complete
-complete-long n s h = ap (λ t. if t then too_long (after_all begun (fitting n s)) else after_all begun (fitting n s)) h
+complete-long l s h = ap (λ t. if t then too_long (after_all begun (fitting l.max_form s)) else after_all begun (fitting l.max_form s)) h
 
--- what fits, behind what has ended
-fitting-run : (n : ℕ) (p r : List ℕ) → over n p ≡ false → (more : List Reading) × (after_all begun (fitting n (p ++ r)) ≡ after_all (after_all begun (whole p)) more)
-fitting-run n p r fits =
-    let begins = whole-fitting n p r fits in (begins.more, ap (after_all begun) begins.is ∙ after_all-append begun (whole p) begins.more)
+-- what fits, after what has ended
+fitting-run : (l : Limits) (p r : List ℕ) → over l.max_form p ≡ false → (more : List Reading) × (after_all begun (fitting l.max_form (p ++ r)) ≡ after_all (after_all begun (whole p)) more)
+fitting-run l p r fits =
+    let begins = whole-fitting l.max_form p r fits in (begins.more, ap (after_all begun) begins.is ∙ after_all-append begun (whole p) begins.more)
 
 -- however the script goes on, what is written so far is a beginning of all
-pub so_far-grows : (n : ℕ) (p r : List ℕ) → Grows (so_far n p).written (complete n (p ++ r)).written
+pub so_far-grows : (l : Limits) (p r : List ℕ) → Grows (so_far l p).written (complete l (p ++ r)).written
 unfolding so_far complete
-so_far-grows n p r = elim (cases_Bool (over n p)) [
+so_far-grows l p r = elim (cases_Bool (over l.max_form p)) [
   | inl long ↦
-      let long' = over-kept_all n p r long in
-      let same : complete n (p ++ r) ≡ so_far n p = complete-long n (p ++ r) long' ∙ (ap (λ xs. too_long (after_all begun xs)) (fitting-kept n p r long) ∙ sym (so_far-long n p long)) in
-      grows-same (so_far n p).written (complete n (p ++ r)).written (ap (λ it. it.written) same)
+      let long' = over-kept_all l.max_form p r long in
+      let same : complete l (p ++ r) ≡ so_far l p = complete-long l (p ++ r) long' ∙ (ap (λ xs. too_long (after_all begun xs)) (fitting-kept l.max_form p r long) ∙ sym (so_far-long l p long)) in
+      grows-same (so_far l p).written (complete l (p ++ r)).written (ap (λ it. it.written) same)
   | inr fits ↦
-      let more = fitting-run n p r fits in
+      let more = fitting-run l p r fits in
       let here = after_all begun (whole p) in
-      let grown : Grows here.written (after_all begun (fitting n (p ++ r))).written = subst (λ (it : Run). Grows here.written it.written) (sym more.1) (grows-all here more.0) in
-      let P : Bool → Type 0 = λ t. Grows here.written (if t then too_long (after_all begun (fitting n (p ++ r))) else after_all begun (fitting n (p ++ r))).written in
-      let all : P (over n (p ++ r)) = elim (over n (p ++ r)) as P [
-        | true ↦ grows-trans here.written (after_all begun (fitting n (p ++ r))).written (too_long (after_all begun (fitting n (p ++ r)))).written grown (grows-long (after_all begun (fitting n (p ++ r))))
+      let grown : Grows here.written (after_all begun (fitting l.max_form (p ++ r))).written = subst (λ (it : Run). Grows here.written it.written) (sym more.1) (grows-all here more.0) in
+      let P : Bool → Type 0 = λ t. Grows here.written (if t then too_long (after_all begun (fitting l.max_form (p ++ r))) else after_all begun (fitting l.max_form (p ++ r))).written in
+      let all : P (over l.max_form (p ++ r)) = elim (over l.max_form (p ++ r)) as P [
+        | true ↦ grows-trans here.written (after_all begun (fitting l.max_form (p ++ r))).written (too_long (after_all begun (fitting l.max_form (p ++ r)))).written grown (grows-long (after_all begun (fitting l.max_form (p ++ r))))
         | false ↦ grown
       ] in
-      subst (λ (it : Run). Grows it.written (complete n (p ++ r)).written) (sym (so_far-fits n p fits)) all
+      subst (λ (it : Run). Grows it.written (complete l (p ++ r)).written) (sym (so_far-fits l p fits)) all
 ]
 
 -- a script that has ended so far has ended so
-pub so_far-ended : (n : ℕ) (p r : List ℕ) (status : Status) → (so_far n p).status ≡ Some status → (so_far n (p ++ r) ≡ so_far n p) × (complete n (p ++ r) ≡ so_far n p)
+pub so_far-ended : (l : Limits) (p r : List ℕ) (status : Status) → (so_far l p).status ≡ Some status → (so_far l (p ++ r) ≡ so_far l p) × (complete l (p ++ r) ≡ so_far l p)
 unfolding so_far complete
-so_far-ended n p r status ended = elim (cases_Bool (over n p)) [
+so_far-ended l p r status ended = elim (cases_Bool (over l.max_form p)) [
   | inl long ↦
-      let long' = over-kept_all n p r long in
-      let same = ap (λ xs. too_long (after_all begun xs)) (fitting-kept n p r long) ∙ sym (so_far-long n p long) in
-      (so_far-long n (p ++ r) long' ∙ same, complete-long n (p ++ r) long' ∙ same)
+      let long' = over-kept_all l.max_form p r long in
+      let same = ap (λ xs. too_long (after_all begun xs)) (fitting-kept l.max_form p r long) ∙ sym (so_far-long l p long) in
+      (so_far-long l (p ++ r) long' ∙ same, complete-long l (p ++ r) long' ∙ same)
   | inr fits ↦
       let here = after_all begun (whole p) in
-      let is = so_far-fits n p fits in
+      let is = so_far-fits l p fits in
       let over_here : here.status ≡ Some status = ap (λ it. it.status) (sym is) ∙ ended in
-      let more = fitting-run n p r fits in
-      let rest : after_all begun (fitting n (p ++ r)) ≡ here = more.1 ∙ after_all-ended here status more.0 over_here in
-      let long_rest : too_long (after_all begun (fitting n (p ++ r))) ≡ here = ap too_long rest ∙ too_long-ended here status over_here in
+      let more = fitting-run l p r fits in
+      let rest : after_all begun (fitting l.max_form (p ++ r)) ≡ here = more.1 ∙ after_all-ended here status more.0 over_here in
+      let long_rest : too_long (after_all begun (fitting l.max_form (p ++ r))) ≡ here = ap too_long rest ∙ too_long-ended here status over_here in
       let wholes = whole-more p r in
       let whole_rest : after_all begun (whole (p ++ r)) ≡ here = ap (after_all begun) wholes.is ∙ (after_all-append begun (whole p) wholes.more ∙ after_all-ended here status wholes.more over_here) in
-      let P : Bool → Type 0 = λ t. ((if t then too_long (after_all begun (fitting n (p ++ r))) else after_all begun (whole (p ++ r))) ≡ here) × ((if t then too_long (after_all begun (fitting n (p ++ r))) else after_all begun (fitting n (p ++ r))) ≡ here) in
-      let both : P (over n (p ++ r)) = elim (over n (p ++ r)) as P [ true ↦ (long_rest, long_rest) | false ↦ (whole_rest, rest) ] in
+      let P : Bool → Type 0 = λ t. ((if t then too_long (after_all begun (fitting l.max_form (p ++ r))) else after_all begun (whole (p ++ r))) ≡ here) × ((if t then too_long (after_all begun (fitting l.max_form (p ++ r))) else after_all begun (fitting l.max_form (p ++ r))) ≡ here) in
+      let both : P (over l.max_form (p ++ r)) = elim (over l.max_form (p ++ r)) as P [ true ↦ (long_rest, long_rest) | false ↦ (whole_rest, rest) ] in
       (both.0 ∙ sym is, both.1 ∙ sym is)
 ]
 
 -- however the script goes on, what is written so far is a beginning of what is written then
-pub so_far-grows_far : (n : ℕ) (p r : List ℕ) → Grows (so_far n p).written (so_far n (p ++ r)).written
+pub so_far-grows_far : (l : Limits) (p r : List ℕ) → Grows (so_far l p).written (so_far l (p ++ r)).written
 unfolding so_far
-so_far-grows_far n p r = elim (cases_Bool (over n p)) [
+so_far-grows_far l p r = elim (cases_Bool (over l.max_form p)) [
   | inl long ↦
-      let long' = over-kept_all n p r long in
-      let same : so_far n (p ++ r) ≡ so_far n p = so_far-long n (p ++ r) long' ∙ (ap (λ xs. too_long (after_all begun xs)) (fitting-kept n p r long) ∙ sym (so_far-long n p long)) in
-      grows-same (so_far n p).written (so_far n (p ++ r)).written (ap (λ it. it.written) same)
+      let long' = over-kept_all l.max_form p r long in
+      let same : so_far l (p ++ r) ≡ so_far l p = so_far-long l (p ++ r) long' ∙ (ap (λ xs. too_long (after_all begun xs)) (fitting-kept l.max_form p r long) ∙ sym (so_far-long l p long)) in
+      grows-same (so_far l p).written (so_far l (p ++ r)).written (ap (λ it. it.written) same)
   | inr fits ↦
-      let more = fitting-run n p r fits in
+      let more = fitting-run l p r fits in
       let wholes = whole-more p r in
       let here = after_all begun (whole p) in
       let whole_is : after_all begun (whole (p ++ r)) ≡ after_all here wholes.more = ap (after_all begun) wholes.is ∙ after_all-append begun (whole p) wholes.more in
-      let one : Grows here.written (too_long (after_all begun (fitting n (p ++ r)))).written = grows-trans here.written (after_all begun (fitting n (p ++ r))).written (too_long (after_all begun (fitting n (p ++ r)))).written (subst (λ (it : Run). Grows here.written it.written) (sym more.1) (grows-all here more.0)) (grows-long (after_all begun (fitting n (p ++ r)))) in
+      let one : Grows here.written (too_long (after_all begun (fitting l.max_form (p ++ r)))).written = grows-trans here.written (after_all begun (fitting l.max_form (p ++ r))).written (too_long (after_all begun (fitting l.max_form (p ++ r)))).written (subst (λ (it : Run). Grows here.written it.written) (sym more.1) (grows-all here more.0)) (grows-long (after_all begun (fitting l.max_form (p ++ r)))) in
       let two : Grows here.written (after_all begun (whole (p ++ r))).written = subst (λ (it : Run). Grows here.written it.written) (sym whole_is) (grows-all here wholes.more) in
-      let P : Bool → Type 0 = λ t. Grows here.written (if t then too_long (after_all begun (fitting n (p ++ r))) else after_all begun (whole (p ++ r))).written in
-      let all : P (over n (p ++ r)) = elim (over n (p ++ r)) as P [ true ↦ one | false ↦ two ] in
-      subst (λ (it : Run). Grows it.written (so_far n (p ++ r)).written) (sym (so_far-fits n p fits)) all
+      let P : Bool → Type 0 = λ t. Grows here.written (if t then too_long (after_all begun (fitting l.max_form (p ++ r))) else after_all begun (whole (p ++ r))).written in
+      let all : P (over l.max_form (p ++ r)) = elim (over l.max_form (p ++ r)) as P [ true ↦ one | false ↦ two ] in
+      subst (λ (it : Run). Grows it.written (so_far l (p ++ r)).written) (sym (so_far-fits l p fits)) all
 ]
 
-pub so_far-none : (n : ℕ) → so_far n [] ≡ begun
+pub so_far-none : (l : Limits) → so_far l [] ≡ begun
 unfolding so_far over whole parts
-so_far-none n = refl
+so_far-none l = refl

@@ -6,7 +6,7 @@ use Rattle.cb_forms.specs.Faults.{number_of, text_of}
 use Rattle.cb_forms.specs.declared.fault.Fault.{Fault}
 use Rattle.cb_facts.specs.FactLists.{IndexedFacts}
 use Rattle.cb_facts.specs.Facts.{FactValue}
-use Rattle.cb_facts.specs.Texts.{address_bytes, fact_bytes, quoted_bytes}
+use Rattle.cb_facts.specs.Texts.{fact_bytes, quoted_bytes}
 use Rattle.cb_facts.specs.declared.value.Value.{Value}
 
 -- a number below 100, in two digits
@@ -25,11 +25,7 @@ fault_line f = codes "[CB" ++ (two_digits (number_of f) ++ (codes "] " ++ (text_
 abbrev pub value_line : Value → List ℕ
 value_line v = quoted_bytes v ++ codes "\n"
 
--- the address of a fact
-abbrev pub address_line : ℕ → List ℕ
-address_line ix = address_bytes ix ++ codes "\n"
-
--- a fact behind its index
+-- a fact after its index
 abbrev pub fact_line : ℕ × FactValue → List ℕ
 fact_line (ix, fact) = codes "f-" ++ (left_in 5 (decimal ix) ++ (codes " " ++ (fact_bytes fact ++ codes "\n")))
 

@@ -1,25 +1,45 @@
 -- The transcript and the status of a script.
-use Rattle.std.specs.Prelude.{ℕ, Bool, List, [], ◌∷◌, ◌++◌, Option, Some, None, if◌then◌else◌}
+use Rattle.std.specs.Prelude.{ℕ, Bool, true, List, [], ◌∷◌, ◌++◌, Option, Some, None, Result, Ok, Err, length, drop, if◌then◌else◌}
 use Rattle.cb_forms.specs.Items.{whole, over, fitting}
 use Rattle.cb_forms.specs.Trees.{Reading}
-use Rattle.cb_session.specs.Engine.{first_state, Outcome, carried, limit_status}
-use Rattle.cb_session.specs.Lines.{too_long_line}
-use Rattle.cb_session.specs.declared.status.Ending.TheVariants.{Done}
+use Rattle.cb_session.specs.Acts.{State, first_state}
+use Rattle.cb_session.specs.Actions.{acted}
+use Rattle.cb_session.specs.Lines.{fault_line, exhausted_line, too_long_line}
+use Rattle.cb_session.specs.declared.act.Ended.{Ended}
+use Rattle.cb_session.specs.declared.act.Ended.TheVariants as ended
+use Rattle.cb_session.specs.declared.limits.Limits.{Limits}
+use Rattle.cb_session.specs.declared.status.Ending.TheVariants.{Done, Limit}
 use Rattle.cb_session.specs.declared.status.Status.{Status}
 
 -- how far a script has come: the state, all that was written, and the status if it has ended
-abbrev pub Run : Type 0
-Run = Outcome
+pub record Run : Type 0 where
+  pub state : State
+  pub written : List ℕ
+  pub status : Option Status
 
 abbrev pub begun : Run
 begun = record { state = first_state; written = []; status = None }
 
-abbrev pub behind : Run → Outcome → Run
-behind run next = record { state = next.state; written = run.written ++ next.written; status = next.status }
+abbrev pub limit_status : Status
+limit_status = record { code = 4; ending = Limit }
 
--- one more item; behind the end nothing counts
+-- An item was done so far: this is the state, this was written, and so it ended. A fault is a line, and the script goes on; a
+-- limit is a line, and the script ends.
+abbrev pub concluded : State → List ℕ → Result (Unit {0}) Ended → Run
+concluded s bytes (Ok _) = record { state = s; written = bytes; status = None }
+concluded s bytes (Err (ended.Fault f)) = record { state = record s { is_faulted = true }; written = bytes ++ fault_line f; status = None }
+concluded s bytes (Err ended.Limit) = record { state = s; written = bytes ++ exhausted_line; status = Some limit_status }
+
+-- what an item does to a script
+unfoldable pub executed : State → Reading → Run
+executed s r = concluded (acted r s).state (acted r s).written (acted r s).answer
+
+abbrev pub joined : Run → Run → Run
+joined run next = record { state = next.state; written = run.written ++ next.written; status = next.status }
+
+-- one more item; after the end nothing counts
 abbrev pub after_status : Option Status → Run → Reading → Run
-after_status None run item = behind run (carried run.state item)
+after_status None run item = joined run (executed run.state item)
 after_status (Some status) run item = run
 
 abbrev pub after : Run → Reading → Run
@@ -44,17 +64,26 @@ status_at_end None is_faulted = record { code = if is_faulted then 1 else 0; end
 status_at_end (Some status) is_faulted = status
 
 -- The script p, so far: each item that has ended is carried out, up to one that is too long.
-unfoldable pub so_far : ℕ → List ℕ → Run
-so_far max_form p = if over max_form p then too_long (after_all begun (fitting max_form p)) else after_all begun (whole p)
+unfoldable pub so_far : Limits → List ℕ → Run
+so_far limits p = if over limits.max_form p then too_long (after_all begun (fitting limits.max_form p)) else after_all begun (whole p)
 
 -- the whole script s
-unfoldable pub complete : ℕ → List ℕ → Run
-complete max_form s = if over max_form s then too_long (after_all begun (fitting max_form s)) else after_all begun (fitting max_form s)
+unfoldable pub complete : Limits → List ℕ → Run
+complete limits s =
+    if over limits.max_form s then too_long (after_all begun (fitting limits.max_form s)) else after_all begun (fitting limits.max_form s)
 
 -- what a script writes
-abbrev pub transcript : ℕ → List ℕ → List ℕ
-transcript max_form s = (complete max_form s).written
+abbrev pub transcript : Limits → List ℕ → List ℕ
+transcript limits s = (complete limits s).written
 
 -- how it ends
-abbrev pub status_of : ℕ → List ℕ → Status
-status_of max_form s = status_at_end (complete max_form s).status (complete max_form s).state.is_faulted
+abbrev pub status_of : Limits → List ℕ → Status
+status_of limits s = status_at_end (complete limits s).status (complete limits s).state.is_faulted
+
+-- what the bytes q add to what the script p has written so far
+unfoldable pub added : Limits → List ℕ → List ℕ → List ℕ
+added limits p q = drop (length (so_far limits p).written) (so_far limits (p ++ q)).written
+
+-- what the end of the script p adds to it
+unfoldable pub added_at_end : Limits → List ℕ → List ℕ
+added_at_end limits p = drop (length (so_far limits p).written) (transcript limits p)

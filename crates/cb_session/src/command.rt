@@ -2,25 +2,17 @@
 ghost use Rattle.std.specs.Prelude.{◌≡◌, Ok, Err, IfOk, IfErr};
 ghost use Rattle.cb_forms.specs.Members.{head_and_rest, members, symbol_of};
 ghost use Rattle.cb_forms.specs.Trees.{reading_of, tree_of};
-ghost use Rattle.cb_session.specs.Commands.{asked_by, assert_command, bare_command, command_of, deffacts_command, form_command, headed_command, named_channel, printout_command, retract_command};
+ghost use Rattle.cb_session.specs.Requests.{request_by, assert_request, bare_request, request_of, deffacts_request, form_request, headed_request, named_channel, printout_request, retract_request};
 ghost use Rattle.cb_templates.specs.Results.{Tells};
 ghost use Rattle.std.specs.Option.{option_and_then};
 
 use crate::constant::{read_constant, read_values};
 use crate::fact_form::read_facts;
 use crate::heads::{Head, read_head};
+use crate::print::Channel;
 use cb_forms::{Fault, Form, Item, split_head};
 use cb_values::{Fact, Name, Refused, Relations, Value, without_comment};
 use std::alloc::Global;
-
-/// Where printed values go.
-#[derive(Clone, Copy, Debug, PartialEq, Eq)]
-pub(crate) enum Channel {
-    /// To the transcript: `t` and `stdout`.
-    Output,
-    /// Nowhere: `nil`.
-    Nowhere,
-}
 
 /// What an item asks for.
 #[derive(Debug, Drop)]
@@ -30,7 +22,7 @@ pub(crate) enum Command<'a> {
     /// To define the template that these forms are, which stand behind `deftemplate`.
     DefineTemplate(&'a [Form]),
     /// To keep facts under a name for `reset`.
-    DefineFacts(Name, Vec<Fact>),
+    DefineDeffacts(Name, Vec<Fact>),
     /// To assert facts, one after another.
     Assert(Vec<Fact>),
     /// To retract the facts that values say.
@@ -51,8 +43,8 @@ pub(crate) fn read_command<'a>(
     relations: &Relations,
     item: &'a Item,
 ) -> Result<Command<'a>, Refused>
-    ensures ok { IfOk result (λ command. command_of relations.now (reading_of item.now) ≡ Ok (asked_by command)) }
-    ensures fault { IfErr result (λ r. Tells r (λ f. command_of relations.now (reading_of item.now) ≡ Err f)) }
+    ensures ok { IfOk result (λ command. request_of relations.now (reading_of item.now) ≡ Ok (request_by command)) }
+    ensures fault { IfErr result (λ r. Tells r (λ f. request_of relations.now (reading_of item.now) ≡ Err f)) }
 {
     match item {
         Item::Form(form) => read_form(alloc, relations, form),
@@ -65,8 +57,8 @@ fn read_form<'a>(
     relations: &Relations,
     form: &'a Form,
 ) -> Result<Command<'a>, Refused>
-    ensures ok { IfOk result (λ command. form_command relations.now (tree_of form.now) ≡ Ok (asked_by command)) }
-    ensures fault { IfErr result (λ r. Tells r (λ f. form_command relations.now (tree_of form.now) ≡ Err f)) }
+    ensures ok { IfOk result (λ command. form_request relations.now (tree_of form.now) ≡ Ok (request_by command)) }
+    ensures fault { IfErr result (λ r. Tells r (λ f. form_request relations.now (tree_of form.now) ≡ Err f)) }
 {
     match form {
         Form::Atom(token) => Ok(Command::Show(read_constant(alloc, token)?)),
@@ -79,8 +71,8 @@ fn read_list<'a>(
     relations: &Relations,
     forms: &'a [Form],
 ) -> Result<Command<'a>, Refused>
-    ensures ok { IfOk result (λ command. headed_command relations.now (head_and_rest (members forms.now)) ≡ Ok (asked_by command)) }
-    ensures fault { IfErr result (λ r. Tells r (λ f. headed_command relations.now (head_and_rest (members forms.now)) ≡ Err f)) }
+    ensures ok { IfOk result (λ command. headed_request relations.now (head_and_rest (members forms.now)) ≡ Ok (request_by command)) }
+    ensures fault { IfErr result (λ r. Tells r (λ f. headed_request relations.now (head_and_rest (members forms.now)) ≡ Err f)) }
 {
     let Some((name, args)) = split_head(forms) else {
         return Err(Refused::Fault(Fault::MalformedForm));
@@ -104,14 +96,14 @@ fn read_deffacts<'a>(
     relations: &Relations,
     args: &'a [Form],
 ) -> Result<Command<'a>, Refused>
-    ensures ok { IfOk result (λ command. deffacts_command relations.now (head_and_rest (members args.now)) ≡ Ok (asked_by command)) }
-    ensures fault { IfErr result (λ r. Tells r (λ f. deffacts_command relations.now (head_and_rest (members args.now)) ≡ Err f)) }
+    ensures ok { IfOk result (λ command. deffacts_request relations.now (head_and_rest (members args.now)) ≡ Ok (request_by command)) }
+    ensures fault { IfErr result (λ r. Tells r (λ f. deffacts_request relations.now (head_and_rest (members args.now)) ≡ Err f)) }
 {
     let Some((name, forms)) = split_head(args) else {
         return Err(Refused::Fault(Fault::MalformedForm));
     };
     let facts = read_facts(alloc, relations, without_comment(forms))?;
-    Ok(Command::DefineFacts(Name::new(alloc, name)?, facts))
+    Ok(Command::DefineDeffacts(Name::new(alloc, name)?, facts))
 }
 
 fn read_assert<'a>(
@@ -119,8 +111,8 @@ fn read_assert<'a>(
     relations: &Relations,
     args: &'a [Form],
 ) -> Result<Command<'a>, Refused>
-    ensures ok { IfOk result (λ command. assert_command relations.now (members args.now) ≡ Ok (asked_by command)) }
-    ensures fault { IfErr result (λ r. Tells r (λ f. assert_command relations.now (members args.now) ≡ Err f)) }
+    ensures ok { IfOk result (λ command. assert_request relations.now (members args.now) ≡ Ok (request_by command)) }
+    ensures fault { IfErr result (λ r. Tells r (λ f. assert_request relations.now (members args.now) ≡ Err f)) }
 {
     let Some(_) = args.split_first() else {
         return Err(Refused::Fault(Fault::WrongArguments));
@@ -129,8 +121,8 @@ fn read_assert<'a>(
 }
 
 fn read_retract<'a>(alloc: Global, args: &'a [Form]) -> Result<Command<'a>, Refused>
-    ensures ok { IfOk result (λ command. retract_command (members args.now) ≡ Ok (asked_by command)) }
-    ensures fault { IfErr result (λ r. Tells r (λ f. retract_command (members args.now) ≡ Err f)) }
+    ensures ok { IfOk result (λ command. retract_request (members args.now) ≡ Ok (request_by command)) }
+    ensures fault { IfErr result (λ r. Tells r (λ f. retract_request (members args.now) ≡ Err f)) }
 {
     let Some(_) = args.split_first() else {
         return Err(Refused::Fault(Fault::WrongArguments));
@@ -140,8 +132,8 @@ fn read_retract<'a>(alloc: Global, args: &'a [Form]) -> Result<Command<'a>, Refu
 
 /// A command that takes no arguments.
 fn read_bare<'a>(command: Command<'a>, args: &'a [Form]) -> Result<Command<'a>, Refused>
-    ensures ok { IfOk result (λ told. bare_command (asked_by command.entry) (members args.now) ≡ Ok (asked_by told)) }
-    ensures fault { IfErr result (λ r. Tells r (λ f. bare_command (asked_by command.entry) (members args.now) ≡ Err f)) }
+    ensures ok { IfOk result (λ told. bare_request (request_by command.entry) (members args.now) ≡ Ok (request_by told)) }
+    ensures fault { IfErr result (λ r. Tells r (λ f. bare_request (request_by command.entry) (members args.now) ≡ Err f)) }
 {
     match args.split_first() {
         None => Ok(command),
@@ -150,8 +142,8 @@ fn read_bare<'a>(command: Command<'a>, args: &'a [Form]) -> Result<Command<'a>, 
 }
 
 fn read_printout<'a>(alloc: Global, args: &'a [Form]) -> Result<Command<'a>, Refused>
-    ensures ok { IfOk result (λ command. printout_command (members args.now) ≡ Ok (asked_by command)) }
-    ensures fault { IfErr result (λ r. Tells r (λ f. printout_command (members args.now) ≡ Err f)) }
+    ensures ok { IfOk result (λ command. printout_request (members args.now) ≡ Ok (request_by command)) }
+    ensures fault { IfErr result (λ r. Tells r (λ f. printout_request (members args.now) ≡ Err f)) }
 {
     let Some((first, values)) = args.split_first() else {
         return Err(Refused::Fault(Fault::NotInProfile));

@@ -1,22 +1,26 @@
 //! Carrying out items.
-ghost use Rattle.std.specs.Prelude.{◌≡◌, [], None, IfOk};
+ghost use Rattle.std.specs.Prelude.{◌≡◌, IfSome, Ok, None, Some, IfOk, false, true, option_map};
 ghost use Rattle.cb_forms.specs.Members.{members};
-ghost use Rattle.cb_forms.specs.Trees.{reading_of};
-ghost use Rattle.cb_session.specs.Commands.{asked_by};
-ghost use Rattle.cb_session.specs.Engine.{after_assert, after_reset, carried, faulted, first_state, is_in_use, is_name_in_use, last_address, obeyed, retracted, with_templates, wrote};
-ghost use Rattle.cb_session.specs.Engines.{outcome};
-ghost use Rattle.cb_session.specs.Groups.{facts_in, with_group};
-ghost use Rattle.cb_session.specs.Memory.{asserted_all, empty_memory};
-ghost use Rattle.cb_templates.specs.Templates.{defined};
+ghost use Rattle.cb_forms.specs.Trees.{atom, reading_of};
+ghost use Rattle.cb_io.specs.Output.{Puts};
+ghost use Rattle.cb_session.specs.Actions.{acted, is_in_use, is_name_in_use, performed, performed_and_shown, retract, shown_line};
+ghost use Rattle.cb_session.specs.Acts.{first_state};
+ghost use Rattle.cb_session.specs.Lines.{fault_line, value_line};
+ghost use Rattle.cb_session.specs.Requests as request;
+ghost use Rattle.cb_session.specs.Requests.{request_by};
+ghost use Rattle.cb_session.specs.Scripts.{cut_run};
+ghost use Rattle.cb_session.specs.Transcripts.{executed, limit_status};
+ghost use Rattle.cb_session.specs.Went.{Executes, Quietly, Went, stop_extent};
 
+use crate::act::{Break, Ended};
 use crate::command::{Command, read_command};
-use crate::done::Done;
-use crate::groups::FactGroups;
-use crate::line::{address_line, exhausted_line, fact_lines, fault_line, value_line};
-use crate::memory::{Asserted, WorkingMemory, are_retractable};
-use crate::print::print;
-use cb_forms::{Fault, Form, Item, NoMemory, split_head};
-use cb_values::{Fact, Name, Refused, Relations, Value};
+use crate::deffacts::DeffactsTable;
+use crate::line::{fault_line, put, put_fact_lines, put_text, value_line};
+use crate::print::{Channel, put_printed};
+use crate::status::{Status, Stop};
+use crate::working_memory::{Asserted, WorkingMemory, are_retractable};
+use cb_forms::{Cut, Fault, Form, Item, Out, Sink, Token, split_head};
+use cb_values::{Fact, Name, Relations, Value};
 use std::alloc::Global;
 use std::marker::Model;
 
@@ -29,16 +33,16 @@ pub(crate) struct Engine {
     alloc: Global,
     memory: WorkingMemory,
     relations: Relations,
-    groups: FactGroups,
+    deffacts: DeffactsTable,
     is_faulted: bool,
 }
 
 impl Model for Engine {
-    ghost use Rattle.cb_session.specs.Engine.{State};
+    ghost use Rattle.cb_session.specs.Acts.{State};
 
     ghost Value = { State };
 
-    ghost view = { λ e. record { memory = e.memory; templates = e.relations; groups = e.groups; is_faulted = e.is_faulted } };
+    ghost view = { λ e. record { memory = e.memory; templates = e.relations; deffacts = e.deffacts; is_faulted = e.is_faulted } };
 }
 
 impl Engine {
@@ -50,7 +54,7 @@ impl Engine {
             alloc,
             memory: WorkingMemory::new(alloc),
             relations: Relations::new(alloc),
-            groups: FactGroups::new(alloc),
+            deffacts: DeffactsTable::new(alloc),
             is_faulted: false,
         }
     }
@@ -62,55 +66,126 @@ impl Engine {
         self.is_faulted
     }
 
-    /// Carries out an item. Growth is refused as `NoMemory`.
-    pub(crate) fn carry_out(&mut self, item: &Item) -> Result<Done, NoMemory>
-        ensures { IfOk result (λ done. carried self.old (reading_of item.now) ≡ outcome self.new done) }
+    /// Executes what a byte completed: items, one after another, or the end at an item that is too long. The answer is the
+    /// status, where the script ends with it.
+    pub(crate) fn execute_cut<K: Sink>(
+        &mut self,
+        cut: &Cut,
+        out: &mut Out<K>,
+    ) -> Result<Option<Status>, Stop>
+        requires { out.old.fault ≡ false }
+        ensures { Executes K.writes out.old out.new self.new result (cut_run self.old cut.now) }
     {
-        match read_command(self.alloc, &self.relations, item) {
-            Ok(command) => self.obey(command),
-            Err(Refused::Fault(fault)) => self.tell(fault),
-            Err(Refused::NoMemory) => Err(NoMemory),
+        match cut {
+            Cut::More => Ok(None),
+            Cut::Item(item) => self.execute(item, out),
+            Cut::TwoItems(first, second) => match self.execute(first, out) {
+                Ok(None) => self.execute(second, out),
+                Ok(Some(status)) => Ok(Some(status)),
+                Err(stop) => Err(stop),
+            },
+            Cut::TooLong => end_at_limit(b"[CB91] form too long\n", out),
         }
     }
 
-    /// Writes the line of a fault.
-    fn tell(&mut self, fault: Fault) -> Result<Done, NoMemory>
-        ensures { IfOk result (λ done. faulted self.old fault ≡ outcome self.new done) }
+    /// Executes an item, and puts what it writes. The answer is the status, where the script ends with the item.
+    pub(crate) fn execute<K: Sink>(
+        &mut self,
+        item: &Item,
+        out: &mut Out<K>,
+    ) -> Result<Option<Status>, Stop>
+        requires { out.old.fault ≡ false }
+        ensures { Executes K.writes out.old out.new self.new result (executed self.old (reading_of item.now)) }
     {
-        self.is_faulted = true;
-        Ok(Done::going_on(fault_line(self.alloc, fault)?))
+        match item_symbol(item) {
+            Some(name) => show_symbol(name, out),
+            None => self.execute_item(item, out),
+        }
     }
 
-    fn obey(&mut self, command: Command<'_>) -> Result<Done, NoMemory>
-        ensures { IfOk result (λ done. obeyed self.old (asked_by command.entry) ≡ outcome self.new done) }
+    fn execute_item<K: Sink>(
+        &mut self,
+        item: &Item,
+        out: &mut Out<K>,
+    ) -> Result<Option<Status>, Stop>
+        requires { out.old.fault ≡ false }
+        ensures { Executes K.writes out.old out.new self.new result (executed self.old (reading_of item.now)) }
+    {
+        match self.act(item, out) {
+            Ok(()) => Ok(None),
+            Err(Break::Ended(Ended::Fault(fault))) => self.report(fault, out),
+            Err(Break::Ended(Ended::Limit)) => end_at_limit(b"[CB94] numbers exhausted\n", out),
+            Err(Break::Stop(stop)) => Err(stop),
+        }
+    }
+
+    /// Puts the line of a fault.
+    fn report<K: Sink>(&mut self, fault: Fault, out: &mut Out<K>) -> Result<Option<Status>, Stop>
+        requires { out.old.fault ≡ false }
+        ensures state { self.new ≡ record self.old { is_faulted = true } }
+        ensures status { IfOk result (λ status. status ≡ None) }
+        ensures puts { Puts K.writes out.old out.new (stop_extent result) (fault_line fault) }
+    {
+        self.is_faulted = true;
+        match put_text(fault_line(self.alloc, fault), out) {
+            Ok(()) => Ok(None),
+            Err(stop) => Err(stop),
+        }
+    }
+
+    /// Reads the request that an item is, does it, and puts its value on a line.
+    fn act<K: Sink>(&mut self, item: &Item, out: &mut Out<K>) -> Result<(), Break>
+        requires { out.old.fault ≡ false }
+        ensures { Went K.writes out.old out.new self.new result (acted (reading_of item.now) self.old) }
+    {
+        match read_command(self.alloc, &self.relations, item) {
+            Ok(command) => self.perform_and_show(command, out),
+            Err(refused) => Err(Break::from(refused)),
+        }
+    }
+
+    fn perform_and_show<K: Sink>(
+        &mut self,
+        command: Command<'_>,
+        out: &mut Out<K>,
+    ) -> Result<(), Break>
+        requires { out.old.fault ≡ false }
+        ensures { Went K.writes out.old out.new self.new result (performed_and_shown (request_by command.entry) self.old) }
+    {
+        let value = self.perform(command, out)?;
+        show(self.alloc, value, out)?;
+        Ok(())
+    }
+
+    /// Does what a request asks for. The answer is its value, if it has one.
+    fn perform<K: Sink>(
+        &mut self,
+        command: Command<'_>,
+        out: &mut Out<K>,
+    ) -> Result<Option<Value>, Break>
+        requires { out.old.fault ≡ false }
+        ensures { Went K.writes out.old out.new self.new result (performed (request_by command.entry) self.old) }
     {
         match command {
-            Command::Show(value) => Ok(Done::going_on(value_line(self.alloc, &value)?)),
+            Command::Show(value) => Ok(Some(value)),
             Command::DefineTemplate(forms) => self.define_template(forms),
-            Command::DefineFacts(name, facts) => self.define_facts(name, facts),
+            Command::DefineDeffacts(name, facts) => self.define_deffacts(name, facts),
             Command::Assert(facts) => self.assert(facts.as_slice()),
             Command::Retract(values) => self.retract(values.as_slice()),
-            Command::ListFacts => Ok(Done::going_on(fact_lines(self.alloc, self.memory.facts())?)),
-            Command::Print(channel, values) => Ok(Done::going_on(print(
-                self.alloc,
-                channel,
-                values.as_slice(),
-            )?)),
+            Command::ListFacts => self.list_facts(out),
+            Command::Print(channel, values) => self.print(channel, values.as_slice(), out),
             Command::Reset => self.reset(),
-            Command::Clear => Ok(self.clear()),
+            Command::Clear => self.clear(),
         }
     }
 
     /// Defines the template that forms are.
-    fn define_template(&mut self, forms: &[Form]) -> Result<Done, NoMemory>
-        ensures { IfOk result (λ done. with_templates self.old (defined self.old.templates (is_name_in_use self.old (members forms.now)) (members forms.now)) ≡ outcome self.new done) }
+    fn define_template(&mut self, forms: &[Form]) -> Result<Option<Value>, Break>
+        ensures { Quietly self.new result (performed (request.define_template (members forms.now)) self.old) }
     {
         let in_use = self.is_name_in_use(forms);
-        match self.relations.define_template(forms, in_use) {
-            Ok(()) => Ok(Done::going_on(Vec::new(self.alloc))),
-            Err(Refused::Fault(fault)) => self.tell(fault),
-            Err(Refused::NoMemory) => Err(NoMemory),
-        }
+        self.relations.define_template(forms, in_use)?;
+        Ok(None)
     }
 
     /// Whether the relation that a template is written for is in use.
@@ -126,69 +201,133 @@ impl Engine {
     fn is_in_use(&self, relation: &[u8]) -> bool
         ensures { result ≡ is_in_use self.now relation.now }
     {
-        self.memory.names(relation) || self.groups.name(relation)
+        self.memory.mentions(relation) || self.deffacts.mentions(relation)
     }
 
     /// Keeps facts under a name for `reset`.
-    fn define_facts(&mut self, name: Name, facts: Vec<Fact>) -> Result<Done, NoMemory>
-        ensures { IfOk result (λ done. wrote (record self.old { groups = with_group self.old.groups name facts.items }) [] ≡ outcome self.new done) }
+    fn define_deffacts(&mut self, name: Name, facts: Vec<Fact>) -> Result<Option<Value>, Break>
+        ensures { Quietly self.new result (performed (request.define_deffacts name facts.items) self.old) }
     {
-        self.groups.define(name, facts)?;
-        Ok(Done::going_on(Vec::new(self.alloc)))
+        self.deffacts.define(name, facts)?;
+        Ok(None)
     }
 
-    /// Asserts facts, each before the next.
-    fn assert(&mut self, facts: &[Fact]) -> Result<Done, NoMemory>
-        ensures { IfOk result (λ done. after_assert self.old (asserted_all self.old.memory None facts.now) ≡ outcome self.new done) }
+    /// Asserts facts, each before the next. The answer is the address of the last.
+    fn assert(&mut self, facts: &[Fact]) -> Result<Option<Value>, Break>
+        ensures { Quietly self.new result (performed (request.assert facts.now) self.old) }
     {
         match self.memory.assert_all(None, facts)? {
-            Asserted::All(last) => Ok(Done::going_on(last_address(self.alloc, last)?)),
-            Asserted::Exhausted => Ok(Done::limited(exhausted_line(self.alloc)?)),
+            Asserted::All(last) => Ok(address(last)),
+            Asserted::Exhausted => Err(Break::Ended(Ended::Limit)),
         }
     }
 
     /// Retracts the facts that values say.
-    fn retract(&mut self, values: &[Value]) -> Result<Done, NoMemory>
-        ensures { IfOk result (λ done. retracted self.old values.now ≡ outcome self.new done) }
+    fn retract(&mut self, values: &[Value]) -> Result<Option<Value>, Break>
+        ensures { Quietly self.new result (retract values.now self.old) }
     {
         if !are_retractable(values) {
-            return self.tell(Fault::WrongType);
+            return Err(Break::Ended(Ended::Fault(Fault::WrongType)));
         }
-        if self.memory.retract_all(values) {
-            Ok(Done::going_on(Vec::new(self.alloc)))
-        } else {
-            self.tell(Fault::NoSuchFact)
+        if !self.memory.retract_all(values) {
+            return Err(Break::Ended(Ended::Fault(Fault::NoSuchFact)));
         }
+        Ok(None)
+    }
+
+    /// Puts the lines of all facts.
+    fn list_facts<K: Sink>(&mut self, out: &mut Out<K>) -> Result<Option<Value>, Break>
+        requires { out.old.fault ≡ false }
+        ensures { Went K.writes out.old out.new self.new result (performed request.list_facts self.old) }
+    {
+        put_fact_lines(self.alloc, self.memory.facts(), out)?;
+        Ok(None)
+    }
+
+    /// Puts what values print.
+    fn print<K: Sink>(
+        &mut self,
+        channel: Channel,
+        values: &[Value],
+        out: &mut Out<K>,
+    ) -> Result<Option<Value>, Break>
+        requires { out.old.fault ≡ false }
+        ensures { Went K.writes out.old out.new self.new result (performed (request.print channel values.now) self.old) }
+    {
+        put_printed(self.alloc, channel, values, out)?;
+        Ok(None)
     }
 
     /// Drops all facts, and asserts those of each `deffacts`, under indices from 1.
-    fn reset(&mut self) -> Result<Done, NoMemory>
-        ensures { IfOk result (λ done. after_reset self.old (asserted_all empty_memory None (facts_in self.old.groups)) ≡ outcome self.new done) }
+    fn reset(&mut self) -> Result<Option<Value>, Break>
+        ensures { Quietly self.new result (performed request.reset self.old) }
     {
         self.memory = WorkingMemory::new(self.alloc);
-        match self.groups.assert_into(&mut self.memory)? {
-            Asserted::All(_) => Ok(Done::going_on(Vec::new(self.alloc))),
-            Asserted::Exhausted => Ok(Done::limited(exhausted_line(self.alloc)?)),
+        match self.deffacts.assert_into(&mut self.memory)? {
+            Asserted::All(_) => Ok(None),
+            Asserted::Exhausted => Err(Break::Ended(Ended::Limit)),
         }
     }
 
     /// Forgets the facts, the templates and each `deffacts`.
-    fn clear(&mut self) -> Done
-        ensures { wrote (record first_state { is_faulted = self.old.is_faulted }) [] ≡ outcome self.new result }
+    fn clear(&mut self) -> Result<Option<Value>, Break>
+        ensures { Quietly self.new result (performed request.clear self.old) }
     {
         self.memory = WorkingMemory::new(self.alloc);
         self.relations = Relations::new(self.alloc);
-        self.groups = FactGroups::new(self.alloc);
-        Done::going_on(Vec::new(self.alloc))
+        self.deffacts = DeffactsTable::new(self.alloc);
+        Ok(None)
     }
 }
 
-/// The line of the address of the fact asserted last.
-fn last_address(alloc: Global, last: Option<u64>) -> Result<Vec<u8>, NoMemory>
-    ensures { IfOk result (λ line. line.items ≡ last_address last) }
+/// The symbol that an item is.
+fn item_symbol(item: &Item) -> Option<&[u8]>
+    ensures { IfSome result (λ name. reading_of item.now ≡ Ok (atom (Token.Symbol name.now))) }
 {
-    match last {
-        Some(ix) => address_line(alloc, ix),
-        None => Ok(Vec::new(alloc)),
+    let Item::Form(form) = item else {
+        return None;
+    };
+    let name = form.symbol()?;
+    Some(name)
+}
+
+/// Puts the line of a symbol that is shown, which is the symbol itself: it takes no memory.
+fn show_symbol<K: Sink>(name: &[u8], out: &mut Out<K>) -> Result<Option<Status>, Stop>
+    requires { out.old.fault ≡ false }
+    ensures status { IfOk result (λ status. status ≡ None) }
+    ensures puts { Puts K.writes out.old out.new (stop_extent result) (value_line (Value.Symbol name.now)) }
+{
+    put(name, out)?;
+    put(b"\n", out)?;
+    Ok(None)
+}
+
+/// Puts the line of a limit, with which the script ends.
+fn end_at_limit<K: Sink>(line: &[u8], out: &mut Out<K>) -> Result<Option<Status>, Stop>
+    requires { out.old.fault ≡ false }
+    ensures status { IfOk result (λ status. status ≡ Some limit_status) }
+    ensures puts { Puts K.writes out.old out.new (stop_extent result) line.now }
+{
+    match put(line, out) {
+        Ok(()) => Ok(Some(Status::LIMITED)),
+        Err(stop) => Err(stop),
     }
+}
+
+/// Puts a value on a line, if there is one.
+fn show<K: Sink>(alloc: Global, value: Option<Value>, out: &mut Out<K>) -> Result<(), Stop>
+    requires { out.old.fault ≡ false }
+    ensures { Puts K.writes out.old out.new (stop_extent result) (shown_line value) }
+{
+    match value {
+        Some(value) => put_text(value_line(alloc, &value), out),
+        None => Ok(()),
+    }
+}
+
+/// The address of a fact.
+fn address(ix: Option<u64>) -> Option<Value>
+    ensures { result ≡ option_map Value.Fact ix }
+{
+    ix.map(Value::Fact)
 }

@@ -1,22 +1,20 @@
 //! Scripts carried out item by item, and their transcripts.
 #![tactic(auto)]
 
-mod carrying;
+mod act;
 mod command;
 mod constant;
-mod course;
-mod done;
+mod deffacts;
 mod engine;
 mod fact_form;
-mod groups;
 mod heads;
 pub mod laws;
 mod limits;
 mod line;
-mod memory;
 mod print;
 mod session;
 mod status;
+mod working_memory;
 
 pub use limits::Limits;
 pub use session::Session;

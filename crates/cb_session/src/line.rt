@@ -1,9 +1,13 @@
 //! The lines of a transcript.
-ghost use Rattle.std.specs.Prelude.{◌≡◌, ◌++◌, IfOk, OnOk};
-ghost use Rattle.cb_session.specs.Lines.{address_line, exhausted_line, fact_line, fact_lines, fault_line, left_in, many_line, total_line, value_line};
+ghost use Rattle.std.specs.Prelude.{◌≡◌, ◌++◌, IfOk, OnOk, List, ℕ, false};
+ghost use Rattle.std.specs.List.{flat_map};
+ghost use Rattle.cb_io.specs.Output.{Puts};
+ghost use Rattle.cb_session.specs.Lines.{fact_line, fact_lines, fault_line, left_in, many_line, total_line, value_line};
+ghost use Rattle.cb_session.specs.Went.{stop_extent};
 
-use cb_forms::{Fault, NoMemory};
-use cb_values::{Fact, FactList, Value, fact_text, plain_text, quoted_text};
+use crate::status::Stop;
+use cb_forms::{Fault, NoMemory, Out, Sink};
+use cb_values::{Fact, FactList, Value, fact_text, quoted_text};
 use itoa::Buffer;
 use std::alloc::Global;
 
@@ -31,32 +35,68 @@ pub(crate) fn value_line(alloc: Global, value: &Value) -> Result<Vec<u8>, NoMemo
     Ok(line)
 }
 
-/// The line of the address of the fact with an index.
-pub(crate) fn address_line(alloc: Global, ix: u64) -> Result<Vec<u8>, NoMemory>
-    ensures { IfOk result (λ line. line.items ≡ address_line ix) }
+/// Puts the lines of all facts, and of how many there are.
+pub(crate) fn put_fact_lines<K: Sink>(
+    alloc: Global,
+    facts: &FactList,
+    out: &mut Out<K>,
+) -> Result<(), Stop>
+    requires { out.old.fault ≡ false }
+    ensures { Puts K.writes out.old out.new (stop_extent result) (fact_lines facts.now) }
 {
-    let mut line = plain_text(alloc, &Value::Fact(ix))?;
-    line.push(b'\n')?;
+    put_each_line(alloc, facts, out)?;
+    put_text(total_line(alloc, facts.len()), out)
+}
+
+fn put_each_line<K: Sink>(alloc: Global, facts: &FactList, out: &mut Out<K>) -> Result<(), Stop>
+    requires { out.old.fault ≡ false }
+    ensures { Puts K.writes out.old out.new (stop_extent result) (flat_map fact_line facts.now) }
+{
+    for (ix, fact) in facts.iter() {
+        put_text(fact_line(alloc, *ix, fact), out)?;
+    }
+    Ok(())
+}
+
+/// Puts bytes.
+pub(crate) fn put<K: Sink>(bytes: &[u8], out: &mut Out<K>) -> Result<(), Stop>
+    requires { out.old.fault ≡ false }
+    ensures { Puts K.writes out.old out.new (stop_extent result) bytes.now }
+{
+    match out.put(bytes) {
+        Ok(()) => Ok(()),
+        Err(_) => Err(Stop::WriteFault),
+    }
+}
+
+/// Puts a text, if there was memory for it.
+pub(crate) fn put_text<K: Sink>(
+    text: Result<Vec<u8>, NoMemory>,
+    out: &mut Out<K>,
+) -> Result<(), Stop>
+    requires { out.old.fault ≡ false }
+    ensures { (bytes : List ℕ) → IfOk text (λ t. t.items ≡ bytes) → Puts K.writes out.old out.new (stop_extent result) bytes }
+{
+    match text {
+        Ok(text) => put(text.as_slice(), out),
+        Err(_) => Err(Stop::NoMemory),
+    }
+}
+
+fn fact_line(alloc: Global, ix: u64, fact: &Fact) -> Result<Vec<u8>, NoMemory>
+    ensures { IfOk result (λ line. line.items ≡ fact_line (ix, fact.now)) }
+{
+    let mut line = Vec::new(alloc);
+    add_fact_line(alloc, &mut line, ix, fact)?;
     Ok(line)
 }
 
-/// The line that says that no index is left.
-pub(crate) fn exhausted_line(alloc: Global) -> Result<Vec<u8>, NoMemory>
-    ensures { IfOk result (λ line. line.items ≡ exhausted_line) }
+fn total_line(alloc: Global, count: usize) -> Result<Vec<u8>, NoMemory>
+    ensures { IfOk result (λ line. line.items ≡ total_line count) }
 {
-    Ok(b"[CB94] numbers exhausted\n".to_vec(alloc)?)
-}
-
-/// The lines of all facts, and of how many there are.
-pub(crate) fn fact_lines(alloc: Global, facts: &FactList) -> Result<Vec<u8>, NoMemory>
-    ensures { IfOk result (λ lines. lines.items ≡ fact_lines facts.now) }
-{
-    let mut lines = Vec::new(alloc);
-    for (ix, fact) in facts.iter() {
-        add_fact_line(alloc, &mut lines, *ix, fact)?;
-    }
-    add_total_line(&mut lines, facts.len())?;
-    Ok(lines)
+    let mut line = Vec::new(alloc);
+    add_total_line(&mut line, count)?;
+    Ok(line)
 }
 
 fn add_fact_line(alloc: Global, lines: &mut Vec<u8>, ix: u64, fact: &Fact) -> Result<(), NoMemory>

@@ -1,41 +1,59 @@
 //! What `printout` writes.
-ghost use Rattle.std.specs.Prelude.{◌≡◌, ◌++◌, IfOk, OnOk};
+ghost use Rattle.std.specs.Prelude.{◌≡◌, false, Ok, Err};
 ghost use Rattle.std.specs.List.{flat_map};
+ghost use Rattle.cb_io.specs.Output.{Puts};
 ghost use Rattle.cb_session.specs.Printing.{control_named, control_of, printed, printed_value};
+ghost use Rattle.cb_session.specs.Went.{stop_extent};
 
-use crate::command::Channel;
-use cb_forms::NoMemory;
+use crate::line::{put, put_text};
+use crate::status::Stop;
+use cb_forms::{Out, Sink};
 use cb_values::{Value, plain_text};
 use std::alloc::Global;
 
-/// What values print on a channel. Growth is refused as `NoMemory`.
-pub(crate) fn print(alloc: Global, channel: Channel, values: &[Value]) -> Result<Vec<u8>, NoMemory>
-    ensures { IfOk result (λ text. text.items ≡ printed channel values.now) }
+/// Where printed values go.
+#[derive(Clone, Copy, Debug, PartialEq, Eq)]
+pub(crate) enum Channel {
+    /// To the transcript: `t` and `stdout`.
+    Output,
+    /// Nowhere: `nil`.
+    Nowhere,
+}
+
+/// Prints values on a channel, one after another. Growth is refused as `NoMemory`.
+pub(crate) fn put_printed<K: Sink>(
+    alloc: Global,
+    channel: Channel,
+    values: &[Value],
+    out: &mut Out<K>,
+) -> Result<(), Stop>
+    requires { out.old.fault ≡ false }
+    ensures { Puts K.writes out.old out.new (stop_extent result) (printed channel values.now) }
 {
     match channel {
-        Channel::Output => print_values(alloc, values),
-        Channel::Nowhere => Ok(Vec::new(alloc)),
+        Channel::Output => put_values(alloc, values, out),
+        Channel::Nowhere => Ok(()),
     }
 }
 
-fn print_values(alloc: Global, values: &[Value]) -> Result<Vec<u8>, NoMemory>
-    ensures { IfOk result (λ text. text.items ≡ flat_map printed_value values.now) }
+fn put_values<K: Sink>(alloc: Global, values: &[Value], out: &mut Out<K>) -> Result<(), Stop>
+    requires { out.old.fault ≡ false }
+    ensures { Puts K.writes out.old out.new (stop_extent result) (flat_map printed_value values.now) }
 {
-    let mut text = Vec::new(alloc);
     for value in values {
-        add_printed(alloc, &mut text, value)?;
-    }
-    Ok(text)
-}
-
-fn add_printed(alloc: Global, text: &mut Vec<u8>, value: &Value) -> Result<(), NoMemory>
-    ensures { OnOk result (text.new.items ≡ text.old.items ++ printed_value value.now) }
-{
-    match control(value) {
-        Some(byte) => text.push(byte)?,
-        None => text.extend_from_slice(plain_text(alloc, value)?.as_slice())?,
+        put_value(alloc, value, out)?;
     }
     Ok(())
+}
+
+fn put_value<K: Sink>(alloc: Global, value: &Value, out: &mut Out<K>) -> Result<(), Stop>
+    requires { out.old.fault ≡ false }
+    ensures { Puts K.writes out.old out.new (stop_extent result) (printed_value value.now) }
+{
+    match control(value) {
+        Some(byte) => put(&[byte], out),
+        None => put_text(plain_text(alloc, value), out),
+    }
 }
 
 /// The byte that a symbol stands for.

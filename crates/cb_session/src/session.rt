@@ -1,24 +1,28 @@
 //! A script carried out while it comes.
-ghost use Rattle.std.specs.Prelude.{◌≡◌, ◌<◌, ◌++◌, [], Some, None, Ok, Err, IfOk, IfErr, IfSome, IsSome, OnOk, OnErr, is_some, length, ◌≤◌};
-ghost use Rattle.cb_session.specs.Sessions.{fresh_told, told_of, flow_of, IsReady, Wrote, WroteSome};
+ghost use Rattle.std.specs.Prelude.{◌≡◌, ◌≤◌, List, ℕ, ◌++◌, [], ◌∷◌, Some, None, Ok, Err, IfOk, IfErr, IfSome, IsSome, OnOk, is_some, length, false};
 ghost use Rattle.cb_forms.specs.Items.{rest};
-ghost use Rattle.cb_session.specs.Transcripts.{so_far, transcript, status_of};
+ghost use Rattle.cb_io.specs.Output.{IsReady, OutState, Puts};
+ghost use Rattle.cb_session.specs.Scripts.{Ends, IsUnderWay, Steps};
+ghost use Rattle.cb_session.specs.Sessions.{HasTaken, flow_of, fresh_session, session_after};
+ghost use Rattle.cb_session.specs.Transcripts.{added, added_at_end, so_far, status_at_end, status_of};
+ghost use Rattle.cb_session.specs.Went.{extent_at, stop_extent};
 
-use crate::course::Course;
+use crate::engine::Engine;
 use crate::limits::Limits;
-use crate::status::{Flow, Status, Stop};
-use cb_forms::{Out, Sink, Trace};
+use crate::status::{Ending, Flow, Status, Stop};
+use cb_forms::{Cutter, Out, Sink, Trace};
 use std::alloc::Global;
 use std::marker::Model;
 
 /// Carries out a script item by item, while its bytes come, and writes its transcript.
 ///
-/// Contracts see the bytes fed, the status that was answered where the script has ended, and the stop that was answered
-/// where it could not be carried out further.
+/// Contracts see the limits, the bytes fed, the status that was answered where the script has ended, and the stop that was
+/// answered where it could not be carried out further.
 #[derive(Drop)]
 pub struct Session {
-    course: Course,
-    max_form: usize,
+    limits: Limits,
+    cutter: Cutter,
+    engine: Engine,
     status: Option<Status>,
     stop: Option<Stop>,
     fed: Trace<u8>,
@@ -26,24 +30,25 @@ pub struct Session {
 
 impl Model for Session {
     ghost use Rattle.std.specs.Prelude.{◌≡◌, None};
-    ghost use Rattle.cb_session.specs.Courses.{IsBehind};
-    ghost use Rattle.cb_session.specs.Sessions.{Told};
+    ghost use Rattle.cb_session.specs.Scripts.{IsUnderWay};
+    ghost use Rattle.cb_session.specs.Sessions.{SessionState};
 
-    ghost Value = { Told };
+    ghost Value = { SessionState };
 
-    ghost view = { λ s. record { max_form = s.max_form; fed = s.fed.items; status = s.status; stop = s.stop } };
+    ghost view = { λ s. record { limits = s.limits; fed = s.fed.items; status = s.status; stop = s.stop } };
 
-    ghost invariant = { λ s. s.stop ≡ None → s.status ≡ None → IsBehind s.max_form s.fed.items s.course.cutter s.course.engine };
+    ghost invariant = { λ s. s.stop ≡ None → s.status ≡ None → IsUnderWay s.limits s.fed.items s.cutter s.engine };
 }
 
 impl Session {
     /// A session before the first byte of a script.
     pub fn new(alloc: Global, limits: Limits) -> Session
-        ensures { result ≡ fresh_told limits.max_form }
+        ensures { result ≡ fresh_session limits }
     {
         Session {
-            course: Course::new(alloc, limits.max_form),
-            max_form: limits.max_form,
+            cutter: Cutter::new(alloc, limits.max_form),
+            limits,
+            engine: Engine::new(alloc),
             status: None,
             stop: None,
             fed: Trace::new(),
@@ -55,25 +60,27 @@ impl Session {
     ///
     /// `Ended` comes where the script has ended, with its status: then nothing more is carried out, and every later call
     /// answers that status. A `Stop` comes where memory or the sink fails, and every later call answers it.
-    pub fn feed<K: Sink>(&mut self, piece: &[u8], out: &mut Out<K>) -> Result<Flow, Stop>
+    pub fn feed<K: Sink>(&mut self, bytes: &[u8], out: &mut Out<K>) -> Result<Flow, Stop>
         requires { self.old.stop ≡ None → IsReady out.old }
         // The script goes on.
-        ensures fed { OnOk result (self.old.status ≡ None → self.new ≡ told_of self.old.max_form (self.old.fed ++ piece.now) (so_far self.old.max_form (self.old.fed ++ piece.now)).status) }
-        ensures wrote { OnOk result (self.old.status ≡ None → Wrote (K.has out.old.sink) (K.has out.new.sink) (so_far self.old.max_form self.old.fed).written (so_far self.old.max_form (self.old.fed ++ piece.now)).written) }
-        ensures flow { IfOk result (λ flow. self.old.status ≡ None → flow ≡ flow_of (so_far self.old.max_form (self.old.fed ++ piece.now)).status) }
+        ensures puts { self.old.stop ≡ None → self.old.status ≡ None
+            → Puts K.writes out.old out.new (stop_extent result) (added self.old.limits self.old.fed bytes.now) }
+        ensures fed { OnOk result (self.old.status ≡ None
+            → self.new ≡ session_after self.old.limits (self.old.fed ++ bytes.now)
+            (so_far self.old.limits (self.old.fed ++ bytes.now)).status) }
+        ensures flow { IfOk result (λ flow. self.old.status ≡ None
+            → flow ≡ flow_of (so_far self.old.limits (self.old.fed ++ bytes.now)).status) }
         ensures ready { OnOk result (IsReady out.new) }
-        ensures counts { OnOk result (K.failures out.new.sink ≡ K.failures out.old.sink) }
 
         // It stops.
         ensures stop { IfErr result (λ stop. self.new.stop ≡ Some stop) }
-        ensures wrote_some { OnErr result (self.old.stop ≡ None → WroteSome (K.has out.old.sink) (K.has out.new.sink) (so_far self.old.max_form self.old.fed).written (so_far self.old.max_form (self.old.fed ++ piece.now)).written) }
-        ensures sink_failed { result ≡ Err Stop.WriteFault → self.old.stop ≡ None → K.failures out.old.sink < K.failures out.new.sink }
         ensures halted { result ≡ Err Stop.NoMemory → self.old.stop ≡ None → IsReady out.new }
-        ensures halted_counts { result ≡ Err Stop.NoMemory → K.failures out.new.sink ≡ K.failures out.old.sink }
 
         // It has ended, or has stopped.
-        ensures ended { self.old.stop ≡ None → IfSome self.old.status (λ status. (result ≡ Ok (Flow.Ended status)) × (self.new ≡ self.old) × (out.new ≡ out.old)) }
-        ensures stopped { IfSome self.old.stop (λ stop. (result ≡ Err stop) × (self.new ≡ self.old) × (out.new ≡ out.old)) }
+        ensures ended { self.old.stop ≡ None → IfSome self.old.status (λ status.
+            (result ≡ Ok (Flow.Ended status)) × (self.new ≡ self.old) × (out.new ≡ out.old)) }
+        ensures stopped { IfSome self.old.stop (λ stop.
+            (result ≡ Err stop) × (self.new ≡ self.old) × (out.new ≡ out.old)) }
     {
         if let Some(stop) = self.stop {
             return Err(stop);
@@ -81,17 +88,63 @@ impl Session {
         if let Some(status) = self.status {
             return Ok(Flow::Ended(status));
         }
-        match self.course.feed(piece, out) {
-            Ok(status) => {
-                self.fed = noted(&self.fed, piece);
-                self.status = status;
-                Ok(flow(status))
-            }
+        match self.feed_and_flush(bytes, out) {
+            Ok(()) => Ok(flow(self.status)),
             Err(stop) => {
                 self.stop = Some(stop);
                 Err(stop)
             }
         }
+    }
+
+    /// Takes the next bytes, and writes all that their items write.
+    fn feed_and_flush<K: Sink>(&mut self, bytes: &[u8], out: &mut Out<K>) -> Result<(), Stop>
+        requires on { self.old.stop ≡ None }
+        requires goes { self.old.status ≡ (so_far self.old.limits self.old.fed).status }
+        requires ready { IsReady out.old }
+        ensures fed { HasTaken self.old bytes.now self.new result }
+        ensures puts { Puts K.writes out.old out.new (stop_extent result) (added self.old.limits self.old.fed bytes.now) }
+        ensures ready { OnOk result (IsReady out.new) }
+        ensures halted { result ≡ Err Stop.NoMemory → IsReady out.new }
+    {
+        match self.take_all(bytes, out) {
+            Ok(()) => flush(out),
+            Err(stop) => Err(halt(stop, out)),
+        }
+    }
+
+    /// Takes the next bytes, one after another.
+    fn take_all<K: Sink>(&mut self, bytes: &[u8], out: &mut Out<K>) -> Result<(), Stop>
+        requires on { self.old.stop ≡ None }
+        requires goes { self.old.status ≡ (so_far self.old.limits self.old.fed).status }
+        requires fine { out.old.fault ≡ false }
+        ensures fed { HasTaken self.old bytes.now self.new result }
+        ensures puts { Puts K.writes out.old out.new (stop_extent result) (added self.old.limits self.old.fed bytes.now) }
+    {
+        for byte in bytes {
+            self.take(*byte, out)?;
+        }
+        Ok(())
+    }
+
+    /// Takes the next byte, and carries out what it completes. After the script's end a byte does nothing.
+    fn take<K: Sink>(&mut self, byte: u8, out: &mut Out<K>) -> Result<(), Stop>
+        requires on { self.old.stop ≡ None }
+        requires goes { self.old.status ≡ (so_far self.old.limits self.old.fed).status }
+        requires fine { out.old.fault ≡ false }
+        ensures fed { HasTaken self.old (byte ∷ []) self.new result }
+        ensures puts { Puts K.writes out.old out.new (stop_extent result) (added self.old.limits self.old.fed (byte ∷ [])) }
+    {
+        if self.status.is_some() {
+            self.fed = self.fed.and(&byte);
+            return Ok(());
+        }
+        self.stop = Some(Stop::NoMemory);
+        let status = step(&mut self.cutter, &mut self.engine, byte, out)?;
+        self.fed = self.fed.and(&byte);
+        self.status = status;
+        self.stop = None;
+        Ok(())
     }
 
     /// Ends the script, after its last byte: carries out the item that is open there, and gives the status. Later calls
@@ -101,22 +154,23 @@ impl Session {
     pub fn finish<K: Sink>(&mut self, out: &mut Out<K>) -> Result<Status, Stop>
         requires { self.old.stop ≡ None → IsReady out.old }
         // The script ends.
-        ensures told { IfOk result (λ status. self.old.status ≡ None → self.new ≡ told_of self.old.max_form self.old.fed (Some status)) }
-        ensures wrote { OnOk result (self.old.status ≡ None → Wrote (K.has out.old.sink) (K.has out.new.sink) (so_far self.old.max_form self.old.fed).written (transcript self.old.max_form self.old.fed)) }
-        ensures status { IfOk result (λ status. self.old.status ≡ None → status ≡ status_of self.old.max_form self.old.fed) }
+        ensures puts { self.old.stop ≡ None → self.old.status ≡ None
+            → Puts K.writes out.old out.new (stop_extent result) (added_at_end self.old.limits self.old.fed) }
+        ensures ended_now { IfOk result (λ status. self.old.status ≡ None
+            → self.new ≡ session_after self.old.limits self.old.fed (Some status)) }
+        ensures status { IfOk result (λ status. self.old.status ≡ None
+            → status ≡ status_of self.old.limits self.old.fed) }
         ensures ready { OnOk result (IsReady out.new) }
-        ensures counts { OnOk result (K.failures out.new.sink ≡ K.failures out.old.sink) }
 
         // It stops.
         ensures stop { IfErr result (λ stop. self.new.stop ≡ Some stop) }
-        ensures wrote_some { OnErr result (self.old.stop ≡ None → WroteSome (K.has out.old.sink) (K.has out.new.sink) (so_far self.old.max_form self.old.fed).written (transcript self.old.max_form self.old.fed)) }
-        ensures sink_failed { result ≡ Err Stop.WriteFault → self.old.stop ≡ None → K.failures out.old.sink < K.failures out.new.sink }
         ensures halted { result ≡ Err Stop.NoMemory → self.old.stop ≡ None → IsReady out.new }
-        ensures halted_counts { result ≡ Err Stop.NoMemory → K.failures out.new.sink ≡ K.failures out.old.sink }
 
         // It had ended, or had stopped.
-        ensures ended { self.old.stop ≡ None → IfSome self.old.status (λ status. (result ≡ Ok status) × (self.new ≡ self.old) × (out.new ≡ out.old)) }
-        ensures stopped { IfSome self.old.stop (λ stop. (result ≡ Err stop) × (self.new ≡ self.old) × (out.new ≡ out.old)) }
+        ensures ended { self.old.stop ≡ None → IfSome self.old.status (λ status.
+            (result ≡ Ok status) × (self.new ≡ self.old) × (out.new ≡ out.old)) }
+        ensures stopped { IfSome self.old.stop (λ stop.
+            (result ≡ Err stop) × (self.new ≡ self.old) × (out.new ≡ out.old)) }
     {
         if let Some(stop) = self.stop {
             return Err(stop);
@@ -124,11 +178,8 @@ impl Session {
         if let Some(status) = self.status {
             return Ok(status);
         }
-        match self.course.finish(out) {
-            Ok(status) => {
-                self.status = Some(status);
-                Ok(status)
-            }
+        match self.end_and_flush(out) {
+            Ok(status) => Ok(status),
             Err(stop) => {
                 self.stop = Some(stop);
                 Err(stop)
@@ -136,15 +187,51 @@ impl Session {
         }
     }
 
+    /// Ends the script, and writes all that is left to write.
+    fn end_and_flush<K: Sink>(&mut self, out: &mut Out<K>) -> Result<Status, Stop>
+        requires on { self.old.stop ≡ None }
+        requires goes { self.old.status ≡ None }
+        requires ready { IsReady out.old }
+        ensures ended { IfOk result (λ status. self.new ≡ session_after self.old.limits self.old.fed (Some status)) }
+        ensures status { IfOk result (λ status. status ≡ status_of self.old.limits self.old.fed) }
+        ensures puts { Puts K.writes out.old out.new (stop_extent result) (added_at_end self.old.limits self.old.fed) }
+        ensures ready { OnOk result (IsReady out.new) }
+        ensures halted { result ≡ Err Stop.NoMemory → IsReady out.new }
+    {
+        let status = match self.end(out) {
+            Ok(status) => status,
+            Err(stop) => return Err(halt(stop, out)),
+        };
+        flush(out)?;
+        Ok(status)
+    }
+
+    /// Ends the script: carries out the item that is open.
+    fn end<K: Sink>(&mut self, out: &mut Out<K>) -> Result<Status, Stop>
+        requires on { self.old.stop ≡ None }
+        requires goes { self.old.status ≡ None }
+        requires fine { out.old.fault ≡ false }
+        ensures ended { IfOk result (λ status. self.new ≡ session_after self.old.limits self.old.fed (Some status)) }
+        ensures status { IfOk result (λ status. status ≡ status_of self.old.limits self.old.fed) }
+        ensures puts { Puts K.writes out.old out.new (stop_extent result) (added_at_end self.old.limits self.old.fed) }
+    {
+        self.stop = Some(Stop::NoMemory);
+        let status = execute_last(&mut self.cutter, &mut self.engine, out)?;
+        let status = status_at_end(status, self.engine.is_faulted());
+        self.status = Some(status);
+        self.stop = None;
+        Ok(status)
+    }
+
     /// The bytes of the item that is open, none after the script has ended. After a `Stop` they may be any.
     pub fn held(&self) -> &[u8]
         ensures rest { self.now.stop ≡ None → self.now.status ≡ None → result.now ≡ rest self.now.fed }
         ensures ended { self.now.stop ≡ None → IsSome self.now.status → result.now ≡ [] }
-        ensures within { self.now.stop ≡ None → length result.now ≤ self.now.max_form }
+        ensures within { self.now.stop ≡ None → length result.now ≤ self.now.limits.max_form }
     {
         match self.status {
             Some(_) => &[],
-            None => self.course.cutter.held(),
+            None => self.cutter.held(),
         }
     }
 
@@ -153,6 +240,90 @@ impl Session {
         ensures { result ≡ is_some self.now.stop }
     {
         self.stop.is_some()
+    }
+}
+
+/// Takes the next byte of a script that goes on, and executes what it completes. The answer is the status, where the script ends
+/// with it. A byte that completes nothing, as nearly all do, is cheap.
+fn step<K: Sink>(
+    cutter: &mut Cutter,
+    engine: &mut Engine,
+    byte: u8,
+    out: &mut Out<K>,
+) -> Result<Option<Status>, Stop>
+    requires { out.old.fault ≡ false }
+    ensures { (limits : Limits) (fed : List ℕ) → IsUnderWay limits fed cutter.old engine.old
+        → Steps K.writes out.old out.new limits fed byte cutter.new engine.new result }
+{
+    match cutter.step_within(byte) {
+        Ok(true) => Ok(None),
+        Ok(false) => step_on(cutter, engine, byte, out),
+        Err(_) => Err(Stop::NoMemory),
+    }
+}
+
+/// The same of a byte that may complete an item.
+fn step_on<K: Sink>(
+    cutter: &mut Cutter,
+    engine: &mut Engine,
+    byte: u8,
+    out: &mut Out<K>,
+) -> Result<Option<Status>, Stop>
+    requires { out.old.fault ≡ false }
+    ensures { (limits : Limits) (fed : List ℕ) → IsUnderWay limits fed cutter.old engine.old
+        → Steps K.writes out.old out.new limits fed byte cutter.new engine.new result }
+{
+    let cut = match cutter.step(byte) {
+        Ok(cut) => cut,
+        Err(_) => return Err(Stop::NoMemory),
+    };
+    engine.execute_cut(&cut, out)
+}
+
+/// Executes the item that is open at the end of a script, if there is one. The answer is the status, where the script ends with
+/// it.
+fn execute_last<K: Sink>(
+    cutter: &mut Cutter,
+    engine: &mut Engine,
+    out: &mut Out<K>,
+) -> Result<Option<Status>, Stop>
+    requires { out.old.fault ≡ false }
+    ensures { (limits : Limits) (fed : List ℕ) → IsUnderWay limits fed cutter.old engine.old
+        → Ends K.writes out.old out.new limits fed engine.new result }
+{
+    match cutter.end() {
+        Ok(Some(item)) => engine.execute(&item, out),
+        Ok(None) => Ok(None),
+        Err(_) => Err(Stop::NoMemory),
+    }
+}
+
+/// Writes all that was put.
+fn flush<K: Sink>(out: &mut Out<K>) -> Result<(), Stop>
+    requires { out.old.fault ≡ false }
+    ensures puts { Puts K.writes out.old out.new (stop_extent result) [] }
+    ensures ready { OnOk result (IsReady out.new) }
+    ensures err { IfErr result (λ stop. stop ≡ Stop.WriteFault) }
+{
+    match out.flush() {
+        Ok(()) => Ok(()),
+        Err(_) => Err(Stop::WriteFault),
+    }
+}
+
+/// The stop, after all that was put is written; a write fault where that fails.
+fn halt<K: Sink>(stop: Stop, out: &mut Out<K>) -> Stop
+    requires { stop ≡ Stop.NoMemory → out.old.fault ≡ false }
+    ensures puts { (o : OutState K) (bytes : List ℕ) → Puts K.writes o out.old (extent_at stop) bytes
+        → Puts K.writes o out.new (extent_at result) bytes }
+    ensures ready { result ≡ Stop.NoMemory → IsReady out.new }
+{
+    match stop {
+        Stop::WriteFault => Stop::WriteFault,
+        Stop::NoMemory => match out.flush() {
+            Ok(()) => Stop::NoMemory,
+            Err(_) => Stop::WriteFault,
+        },
     }
 }
 
@@ -166,13 +337,15 @@ fn flow(status: Option<Status>) -> Flow
     }
 }
 
-/// The bytes fed, with these behind them.
-fn noted(fed: &Trace<u8>, piece: &[u8]) -> Trace<u8>
-    ensures { result.items ≡ fed.now.items ++ piece.now }
+/// How a script ends at its end, unless it has ended before.
+fn status_at_end(status: Option<Status>, is_faulted: bool) -> Status
+    ensures { result ≡ status_at_end status is_faulted }
 {
-    let mut all = fed.again();
-    for byte in piece {
-        all = all.and(byte);
+    match status {
+        Some(status) => status,
+        None => Status {
+            code: if is_faulted { 1 } else { 0 },
+            ending: Ending::Done,
+        },
     }
-    all
 }

@@ -1,0 +1,45 @@
+use Rattle.std.proofs.Common.{◌≡◌, Err, sym, subst, rules}
+use Rattle.cb_forms.specs.Trees.{reading_of}
+use Rattle.cb_io.proofs.Putting.{puts_fine}
+use Rattle.cb_session.specs.Actions.{acted}
+use Rattle.cb_session.specs.Acts.{State}
+use Rattle.cb_session.specs.Transcripts.{executed}
+use Rattle.cb_session.specs.Went.{Executes, Went}
+use Rattle.cb_session.specs.declared.act.Break.TheVariants as break
+use Rattle.cb_session.specs.declared.act.Ended.TheVariants as ended
+use Rattle.cb_session.proofs.ActLaws.{executes-done, executes-fault, executes-limit, executes-stopped}
+use Rattle.cb_session.proofs.engine.Engine.execute_item.Goals as goal
+
+pub report-requires : goal.report-requires
+report-requires g c =
+    let r : c.act.result ≡ Err (break.Ended (ended.Fault c.in-Err-Ended-Fault.fault)) = search rules in
+    let h = subst (λ it. Went g.K.Sink.writes c.args.out.now c.act.new.out c.act.new.self it (acted (reading_of c.args.item.now) c.args.self.now)) r c.act.ensures in
+    puts_fine g.K.Sink.writes _ _ _ h.puts
+
+pub end_at_limit-requires : goal.end_at_limit-requires
+end_at_limit-requires g c =
+    let r : c.act.result ≡ Err (break.Ended ended.Limit) = search rules in
+    let h = subst (λ it. Went g.K.Sink.writes c.args.out.now c.act.new.out c.act.new.self it (acted (reading_of c.args.item.now) c.args.self.now)) r c.act.ensures in
+    puts_fine g.K.Sink.writes _ _ _ h.puts
+
+pub returns-in-Ok : goal.returns-in-Ok
+returns-in-Ok g c = executes-done g.K.Sink.writes _ _ c.args.self.now _ (reading_of c.args.item.now) c.in-Ok.field-0 c.in-Ok.ensures
+
+pub returns-in-Err-Ended-Fault : goal.returns-in-Err-Ended-Fault
+returns-in-Err-Ended-Fault g c =
+    let r : c.act.result ≡ Err (break.Ended (ended.Fault c.in-Err-Ended-Fault.fault)) = search rules in
+    let h = subst (λ it. Went g.K.Sink.writes c.args.out.now c.act.new.out c.act.new.self it (acted (reading_of c.args.item.now) c.args.self.now)) r c.act.ensures in
+    let P : State → Type 0 = λ it. Executes g.K.Sink.writes c.args.out.now c.report.new.out it c.report.result (executed c.args.self.now (reading_of c.args.item.now)) in
+    subst P (sym c.report.ensures.state) (executes-fault g.K.Sink.writes _ _ _ c.args.self.now c.act.new.self (reading_of c.args.item.now) _ c.in-Err-Ended-Fault.fault h c.report.ensures.puts c.report.ensures.status)
+
+pub returns-in-Err-Ended-Limit : goal.returns-in-Err-Ended-Limit
+returns-in-Err-Ended-Limit g c =
+    let r : c.act.result ≡ Err (break.Ended ended.Limit) = search rules in
+    let h = subst (λ it. Went g.K.Sink.writes c.args.out.now c.act.new.out c.act.new.self it (acted (reading_of c.args.item.now) c.args.self.now)) r c.act.ensures in
+    executes-limit g.K.Sink.writes _ _ _ c.args.self.now c.act.new.self (reading_of c.args.item.now) _ h c.end_at_limit.ensures.puts c.end_at_limit.ensures.status
+
+pub returns-in-Err-Stop : goal.returns-in-Err-Stop
+returns-in-Err-Stop g c =
+    let r : c.act.result ≡ Err (break.Stop c.in-Err-Stop.stop) = search rules in
+    let h = subst (λ it. Went g.K.Sink.writes c.args.out.now c.act.new.out c.act.new.self it (acted (reading_of c.args.item.now) c.args.self.now)) r c.act.ensures in
+    executes-stopped g.K.Sink.writes _ _ c.args.self.now c.act.new.self (reading_of c.args.item.now) c.in-Err-Stop.stop h

@@ -1,6 +1,0 @@
-use Rattle.std.proofs.Common.{◌≡◌, drop}
-use Rattle.cb_session.specs.Memory.{asserted_all}
-use Rattle.cb_session.proofs.memory.WorkingMemory.assert_all.Given as goal
-
-abbrev pub invariant-loop-fact : goal.invariant-loop-fact
-invariant-loop-fact l = asserted_all l.self l.last (drop l.fact-index l.facts) ≡ asserted_all l.initial.self l.initial.last l.facts
