@@ -1,5 +1,5 @@
 ghost use Rattle.std.specs.Prelude.{◌≡◌, None};
-ghost use Rattle.cb_session.specs.Sessions.{IsReady};
+ghost use Rattle.cb_io.specs.Output.{IsReady};
 
 use cb_forms::{MemSink, Out};
 use cb_session::{Ending, Flow, Limits, Session, Status, Stop};

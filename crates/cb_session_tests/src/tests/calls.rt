@@ -1,6 +1,6 @@
 //! Calls of a session, one after another.
 ghost use Rattle.std.specs.Prelude.{◌≡◌, None};
-ghost use Rattle.cb_session.specs.Sessions.{IsReady};
+ghost use Rattle.cb_io.specs.Output.{IsReady};
 
 use super::*;
 

@@ -87,7 +87,7 @@ fn goes_in_two(
 ) -> Result<bool, NoMemory> {
     let sink = MemSink::new(alloc, 1000, 7, None)?;
     let (now, later) = script.split_at(place.min(script.len()));
-    Ok(goes(alloc, &mut TwoPieces { now, later }, sink, want))
+    Ok(goes(alloc, &mut TwoPieces::new(now, later), sink, want))
 }
 
 /// Whether the script goes so however it comes: in blocks of every length, or cut in two at each byte.
@@ -316,10 +316,7 @@ fn carries_the_scripts_of_the_language_out(rt: HostRuntime) -> Result<(), NoMemo
 
 /// Whether a word that is too long with its fourth byte ends the run before it reads on.
 fn hands_on_before_it_reads_on(alloc: Global) -> Result<bool, NoMemory> {
-    let mut source = TwoPieces {
-        now: b"abcd",
-        later: b" (assert (a))",
-    };
+    let mut source = TwoPieces::new(b"abcd", b" (assert (a))");
     let want = Want {
         max_form: 3,
         written: b"[CB91] form too long\n",

@@ -1,5 +1,5 @@
 use Rattle.std.proofs.Common.{◌≡◌, None}
-use Rattle.cb_session.specs.Sessions.{IsReady}
+use Rattle.cb_io.specs.Output.{IsReady}
 use Rattle.cb_session_tests.proofs.tests.calls.all_go.Given as goal
 
 abbrev pub invariant-loop-turn : goal.invariant-loop-turn

@@ -1,5 +1,5 @@
 use Rattle.std.proofs.Common.{◌≡◌, None}
-use Rattle.cb_session.specs.Sessions.{IsReady}
+use Rattle.cb_io.specs.Output.{IsReady}
 use Rattle.clipsbatch_tests.proofs.tests.sessions.go_so.Given as goal
 
 abbrev pub invariant-loop-turn : goal.invariant-loop-turn
