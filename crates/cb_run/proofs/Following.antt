@@ -1,7 +1,7 @@
 -- A run that goes on.
-use Rattle.std.proofs.Common.{◌≡◌, ◌≤◌, ◌≢◌, take, ◌+◌, arith, ℕ, List, [], ◌++◌, length, Option, Some, None, refl, sym, ap, ◌∙◌, subst, append_assoc}
+use Rattle.std.proofs.Common.{◌≡◌, ◌==◌, ◌≤◌, ◌<◌, ◌≢◌, ◌&&◌, true, nat_lt, ap₂, rules, if◌then◌else◌, take, ◌+◌, arith, ℕ, List, [], ◌++◌, length, Option, Some, None, refl, sym, ap, ◌∙◌, subst, append_assoc}
 use Rattle.std.proofs.lemmas.List.{append-nil, length-append, length-take}
-use Rattle.cb_io.specs.Histories.{Reads, Writes}
+use Rattle.cb_io.specs.Histories.{Reads, Writes, after_read}
 use Rattle.cb_io.specs.Moved.{Gave}
 use Rattle.cb_session.specs.Sessions.{SessionState, fresh_session, session_after, flow_of}
 use Rattle.cb_session.specs.Transcripts.{so_far, added}
@@ -94,3 +94,10 @@ pub turns_on : (turn n : ℕ) (l : Limits) (fed buf : List ℕ) (status : Option
 turns_on turn n l fed buf status t is before some within =
     let all : t.fed ≡ fed ++ take n buf = ap (λ t. t.fed) is in
     rw all (omega (arith, length-append fed (take n buf), length-take n buf))
+
+-- a read that reported the end
+pub ended_more : (r r' : Reads) (room n : ℕ) (bytes : List ℕ) → r' ≡ after_read r room n bytes → n ≡ 0 → 0 < room → r'.ends ≡ r.ends + 1
+ended_more r r' room n bytes is zero some =
+    let yes : nat_lt 0 room ≡ true = search rules in
+    let none : (n == 0) ≡ true = rw zero refl in
+    ap (λ it. it.ends) is ∙ ap₂ (λ t u. if t && u then r.ends + 1 else r.ends) none yes
