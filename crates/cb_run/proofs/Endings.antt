@@ -1,11 +1,13 @@
 -- How a run ends.
-use Rattle.std.proofs.Common.{◌≡◌, ◌<◌, ◌≤◌, ◌+◌, ◌-◌, ◌^◌, arith, ℕ, List, [], ◌++◌, length, Option, Some, None, refl, sym, ap, ◌∙◌, subst}
+use Rattle.std.proofs.Common.{◌≡◌, ◌≢◌, ◌<◌, ◌≤◌, ◌+◌, ◌-◌, ◌^◌, arith, ℕ, List, [], ◌++◌, length, Option, Some, None, refl, sym, ap, ◌∙◌, subst, append_assoc}
 use Rattle.std.proofs.lemmas.List.{append-nil, length-append}
 use Rattle.std.specs.Prelude.{IfSome}
-use Rattle.cb_io.specs.Moved.{Gave, Took, IsAtEnd}
-use Rattle.cb_io.proofs.Passing.{took_then, took_none}
-use Rattle.cb_session.specs.Sessions.{Told, flow_of, Wrote, WroteSome}
-use Rattle.cb_session.specs.Transcripts.{so_far, transcript, status_of}
+use Rattle.cb_forms.specs.Laws.{BeginsWith}
+use Rattle.cb_io.specs.Histories.{Reads, Writes}
+use Rattle.cb_io.specs.Moved.{Gave, IsAtEnd}
+use Rattle.cb_session.specs.Sessions.{SessionState, flow_of}
+use Rattle.cb_session.specs.Transcripts.{so_far, complete, transcript, status_of, status_at_end, added, added_at_end}
+use Rattle.cb_session.specs.declared.limits.Limits.{Limits}
 use Rattle.cb_session.specs.declared.status.Ending.{Ending}
 use Rattle.cb_session.specs.declared.status.Ending.TheVariants as ending
 use Rattle.cb_session.specs.declared.status.Flow.{Flow}
@@ -13,13 +15,15 @@ use Rattle.cb_session.specs.declared.status.Flow.TheVariants.{Ended}
 use Rattle.cb_session.specs.declared.status.Status.{Status}
 use Rattle.cb_session.specs.declared.status.Stop.{Stop}
 use Rattle.cb_session.specs.declared.status.Stop.TheVariants as stop
+use Rattle.cb_session.proofs.RunLaws.{so_far-ended, so_far-grows, so_far-early}
+use Rattle.cb_session.proofs.ScriptLaws.{added-grown, end-grown}
 use Rattle.cb_run.specs.Outcomes.{cause_of, ended_as, stopped_as, failed_as, HasEnded, HasStopped, HasFailed}
-use Rattle.cb_run.specs.Ran.{Ran}
-use Rattle.cb_run.specs.Runs.{IsPrompt, WroteBeginning, WroteBeginningHowever}
-use Rattle.cb_run.specs.declared.outcome.Cause.TheVariants.{ReadFault, WriteFault}
-use Rattle.cb_run.proofs.Moves.{gave_then, took_wrote, passed_wrote}
-use Rattle.cb_run.proofs.Following.{Following, following_same, flow_some}
-use Rattle.cb_run.proofs.Scripts.{IsWhole, whole_so_far, whole_at_end, beginning_so_far, however_so_far, beginning_at_end, however_at_end}
+use Rattle.cb_run.specs.Ran.{IsTranscript, Ran}
+use Rattle.cb_run.specs.Runs.{IsPrompt}
+use Rattle.cb_run.specs.declared.outcome.Cause.TheVariants.{Done, ReadFault, WriteFault}
+use Rattle.cb_run.specs.declared.outcome.Outcome.{Outcome}
+use Rattle.cb_run.proofs.Moves.{gave_then, read_all, WroteAll, WroteBegun}
+use Rattle.cb_run.proofs.Following.{Following, GaveMore, wrote_more, read_more, flow_some}
 
 -- what has ended has not failed
 ended_not_failed : (e : Ending) → HasFailed (cause_of e) → ⊥
@@ -62,168 +66,219 @@ stopped_status : (s : Stop) → (stopped_as s).status ≡ 3
 stopped_status stop.NoMemory = refl
 stopped_status stop.WriteFault = refl
 
--- a run that the script's own ending ended
-ran_whole : (max : ℕ) (status : Status) (from from' to to' : Option (List ℕ)) (reads reads' writes writes' : ℕ)
-    → reads' ≡ reads → writes' ≡ writes → IsPrompt max from from' to to' → IsWhole max status from to to'
-    → Ran max (ended_as status) from from' to to' reads reads' writes writes'
-ran_whole max status None from' to to' reads reads' writes writes' same kept prompt whole = record {
-  whole_transcript = λ _. tt;
-  script_status = λ _. tt;
-  prompt = prompt;
-  after_read_fault = λ h. absurd (ended_not_read_fault status.ending h);
-  after_stop = λ h. absurd (ended_not_stopped status.ending h);
-  after_stop_however = λ h. absurd (ended_not_stopped status.ending h);
-  read_failed = λ h. absurd (ended_not_read_fault status.ending h);
-  no_read_failed = λ _. same;
-  write_failed = λ h. absurd (ended_not_write_fault status.ending h);
-  no_write_failed = λ _. kept;
-  status_of_fault = λ h. absurd (ended_not_failed status.ending h);
-}
-ran_whole max status (Some s) from' to to' reads reads' writes writes' same kept prompt whole = record {
-  whole_transcript = λ _. whole.0;
-  script_status = λ _. ap ended_as whole.1;
-  prompt = prompt;
-  after_read_fault = λ h. absurd (ended_not_read_fault status.ending h);
-  after_stop = λ h. absurd (ended_not_stopped status.ending h);
-  after_stop_however = λ h. absurd (ended_not_stopped status.ending h);
-  read_failed = λ h. absurd (ended_not_read_fault status.ending h);
-  no_read_failed = λ _. same;
-  write_failed = λ h. absurd (ended_not_write_fault status.ending h);
-  no_write_failed = λ _. kept;
-  status_of_fault = λ h. absurd (ended_not_failed status.ending h);
-}
+not_done : (e : Ending) → e ≢ ending.Done → cause_of e ≡ Done → ⊥
+not_done ending.Done other h = other refl
+not_done ending.Exit other h = cc
+not_done ending.Limit other h = cc
 
--- a run that memory or the sink stopped
-ran_part : (max : ℕ) (s : Stop) (from from' to to' : Option (List ℕ)) (reads reads' writes writes' : ℕ)
-    → reads' ≡ reads → (s ≡ stop.WriteFault → writes < writes') → (s ≡ stop.NoMemory → writes' ≡ writes) → IsPrompt max from from' to to' → WroteBeginning max from to to'
-    → WroteBeginningHowever max from from' to to' → Ran max (stopped_as s) from from' to to' reads reads' writes writes'
-ran_part max s from from' to to' reads reads' writes writes' same failed kept prompt beginning however = record {
-  whole_transcript = λ h. absurd (stopped_not_ended s h);
-  script_status = λ h. absurd (stopped_not_ended s h);
-  prompt = prompt;
-  after_read_fault = λ h. absurd (stopped_not_read_fault s h);
-  after_stop = λ _. beginning;
-  after_stop_however = λ _. however;
-  read_failed = λ h. absurd (stopped_not_read_fault s h);
-  no_read_failed = λ _. same;
-  write_failed = λ h. failed (stopped_write_fault s h);
-  no_write_failed = λ h. kept (stopped_no_memory s h);
-  status_of_fault = λ _. stopped_status s;
-}
+stopped_not_done : (s : Stop) → (stopped_as s).cause ≡ Done → ⊥
+stopped_not_done stop.NoMemory h = cc
+stopped_not_done stop.WriteFault h = cc
 
--- a run that was behind its last read
-prompt_here : (max : ℕ) (told : Told) (from a to b b' : Option (List ℕ)) (all : List ℕ) → Following max told from a to b
-    → ((bytes : List ℕ) × Took b b' bytes) → IsPrompt max from a to b'
-prompt_here max told from a to b b' all before next = record {
-  before = told.fed;
-  piece = [];
-  more = next.0;
-  read = subst (λ (it : List ℕ). Gave from a it) (sym (append-nil told.fed)) before.read;
-  is_short = omega arith;
-  goes_on = before.goes_on;
-  wrote = took_then to b b' _ next.0 before.wrote next.1;
-}
+-- a script that has ended so far
+ended_transcript : (l : Limits) (p r : List ℕ) (status : Status) → (so_far l p).status ≡ Some status → IsTranscript l (ended_as status) (p ++ r) (so_far l p).written
+ended_transcript l p r status ended =
+    let same : complete l (p ++ r) ≡ so_far l p = (so_far-ended l p r status ended).1 in
+    let over : (complete l (p ++ r)).status ≡ Some status = ap (λ it. it.status) same ∙ ended in (
+      sym (ap (λ it. it.written) same),
+      ap ended_as (sym (ap (λ o. status_at_end o (complete l (p ++ r)).state.is_faulted) over)),
+    )
 
-prompt_piece : (max : ℕ) (told : Told) (from a a' to b b' : Option (List ℕ)) (piece : List ℕ) → Following max told from a to b → Gave a a' piece
-    → length piece ≤ 4096 → ((bytes : List ℕ) × Took b b' bytes) → IsPrompt max from a' to b'
-prompt_piece max told from a a' to b b' piece before read short next = record {
-  before = told.fed;
-  piece = piece;
-  more = next.0;
-  read = gave_then from a a' told.fed piece before.read read;
-  is_short = short;
-  goes_on = before.goes_on;
-  wrote = took_then to b b' _ next.0 before.wrote next.1;
-}
+ended_alone : (l : Limits) (p : List ℕ) (status : Status) → (so_far l p).status ≡ Some status → IsTranscript l (ended_as status) p (so_far l p).written
+ended_alone l p status ended = subst (λ it. IsTranscript l (ended_as status) it (so_far l p).written) (append-nil p) (ended_transcript l p [] status ended)
 
--- a piece behind which the script has ended
-pub ran_ended : (max : ℕ) (told : Told) (from a a' to b b' : Option (List ℕ)) (piece : List ℕ) (status : Status) (reads reads' writes writes' : ℕ)
-    → reads' ≡ reads → writes' ≡ writes → Following max told from a to b → Gave a a' piece → length piece ≤ 4096
-    → (flow : Flow) → flow ≡ Ended status → flow ≡ flow_of (so_far told.max_form (told.fed ++ piece)).status
-    → Wrote b b' (so_far told.max_form told.fed).written (so_far told.max_form (told.fed ++ piece)).written
-    → Ran max (ended_as status) from a' to b' reads reads' writes writes'
-ran_ended max told from a a' to b b' piece status reads reads' writes writes' same kept before read short flow ends tells wrote =
-    let wrote' : Wrote b b' (so_far max told.fed).written (so_far max (told.fed ++ piece)).written = rw before.same_max at wrote in
-    let ended : (so_far max (told.fed ++ piece)).status ≡ Some status = flow_some _ status (sym ends ∙ (rw before.same_max at tells)) in
-    let all = gave_then from a a' told.fed piece before.read read in
-    ran_whole max status from a' to b' reads reads' writes writes' same kept
-    (prompt_piece max told from a a' to b b' piece before read short (wrote'.0, wrote'.1))
-    (whole_so_far max status from a' to b' (told.fed ++ piece) all ended (took_wrote to b b' _ _ before.wrote wrote'))
+-- where the source tells its bytes
+of_all : (l : Limits) (result : Outcome) (left left' : Option (List ℕ)) (p wrote : List ℕ) → Gave left left' p → ((r : List ℕ) → IsTranscript l result (p ++ r) wrote) → IfSome left (λ s. IsTranscript l result s wrote)
+of_all l result None left' p wrote gave h = tt
+of_all l result (Some s) left' p wrote gave h = subst (λ it. IsTranscript l result it wrote) (sym gave.1) (h gave.0)
 
--- a piece that could not be carried out whole
-pub ran_stopped : (max : ℕ) (told : Told) (from a a' to b b' : Option (List ℕ)) (piece : List ℕ) (s : Stop) (reads reads' writes writes' : ℕ)
-    → reads' ≡ reads → (s ≡ stop.WriteFault → writes < writes') → (s ≡ stop.NoMemory → writes' ≡ writes) → Following max told from a to b → Gave a a' piece → length piece ≤ 4096
-    → WroteSome b b' (so_far told.max_form told.fed).written (so_far told.max_form (told.fed ++ piece)).written
-    → Ran max (stopped_as s) from a' to b' reads reads' writes writes'
-ran_stopped max told from a a' to b b' piece s reads reads' writes writes' same failed kept before read short wrote =
-    let wrote' : WroteSome b b' (so_far max told.fed).written (so_far max (told.fed ++ piece)).written = rw before.same_max at wrote in
-    let all = gave_then from a a' told.fed piece before.read read in
-    let some = passed_wrote to b b' _ _ before.wrote wrote' in
-    ran_part max s from a' to b' reads reads' writes writes' same failed kept
-    (prompt_piece max told from a a' to b b' piece before read short (wrote'.0, wrote'.2))
-    (beginning_so_far max from a' to b' (told.fed ++ piece) all some)
-    (however_so_far max from a' to b' (told.fed ++ piece) all some)
+of_all_read : (l : Limits) (result : Outcome) (left left' : Option (List ℕ)) (p wrote : List ℕ) → Gave left left' p → IsAtEnd left' → IsTranscript l result p wrote → IfSome left (λ s. IsTranscript l result s wrote)
+of_all_read l result None left' p wrote gave end h = tt
+of_all_read l result (Some s) left' p wrote gave end h = subst (λ it. IsTranscript l result it wrote) (sym (read_all s p left' gave end)) h
 
--- the end of the script, carried out
-pub ran_finished : (max : ℕ) (told : Told) (from a a' to b b' : Option (List ℕ)) (piece : List ℕ) (status : Status) (reads reads' writes writes' : ℕ)
-    → reads' ≡ reads → writes' ≡ writes → Following max told from a to b → piece ≡ [] → Gave a a' piece → IsAtEnd a' → status ≡ status_of told.max_form told.fed
-    → Wrote b b' (so_far told.max_form told.fed).written (transcript told.max_form told.fed)
-    → Ran max (ended_as status) from a' to b' reads reads' writes writes'
-ran_finished max told from a a' to b b' piece status reads reads' writes writes' same kept before none read end is wrote =
-    let here = following_same max told from a a' to b piece none before read in
-    let wrote' : Wrote b b' (so_far max told.fed).written (transcript max told.fed) = rw before.same_max at wrote in
-    let is' : status ≡ status_of max told.fed = rw before.same_max at is in
-    ran_whole max status from a' to b' reads reads' writes writes' same kept
-    (prompt_here max told from a' to b b' [] here (wrote'.0, wrote'.1))
-    (subst (λ (it : Status). IsWhole max it from to b') (sym is') (whole_at_end max from a' to b' told.fed here.read end (took_wrote to b b' _ _ before.wrote wrote')))
+begins_of_all : (l : Limits) (left left' : Option (List ℕ)) (p wrote : List ℕ) → Gave left left' p → ((r : List ℕ) → BeginsWith wrote (transcript l (p ++ r))) → IfSome left (λ s. BeginsWith wrote (transcript l s))
+begins_of_all l None left' p wrote gave h = tt
+begins_of_all l (Some s) left' p wrote gave h = subst (λ it. BeginsWith wrote (transcript l it)) (sym gave.1) (h gave.0)
 
--- the end of the script, not carried out whole
-pub ran_unfinished : (max : ℕ) (told : Told) (from a a' to b b' : Option (List ℕ)) (piece : List ℕ) (s : Stop) (reads reads' writes writes' : ℕ)
-    → reads' ≡ reads → (s ≡ stop.WriteFault → writes < writes') → (s ≡ stop.NoMemory → writes' ≡ writes) → Following max told from a to b → piece ≡ [] → Gave a a' piece → IsAtEnd a'
-    → WroteSome b b' (so_far told.max_form told.fed).written (transcript told.max_form told.fed)
-    → Ran max (stopped_as s) from a' to b' reads reads' writes writes'
-ran_unfinished max told from a a' to b b' piece s reads reads' writes writes' same failed kept before none read end wrote =
-    let here = following_same max told from a a' to b piece none before read in
-    let wrote' : WroteSome b b' (so_far max told.fed).written (transcript max told.fed) = rw before.same_max at wrote in
-    ran_part max s from a' to b' reads reads' writes writes' same failed kept
-    (prompt_here max told from a' to b b' [] here (wrote'.0, wrote'.2))
-    (beginning_at_end max from a' to b' told.fed here.read end (passed_wrote to b b' _ _ before.wrote wrote'))
-    (however_at_end max from a' to b' end)
+begins_of_all_read : (l : Limits) (left left' : Option (List ℕ)) (p wrote : List ℕ) → Gave left left' p → IsAtEnd left' → BeginsWith wrote (transcript l p) → IfSome left (λ s. BeginsWith wrote (transcript l s))
+begins_of_all_read l None left' p wrote gave end h = tt
+begins_of_all_read l (Some s) left' p wrote gave end h = subst (λ it. BeginsWith wrote (transcript l it)) (sym (read_all s p left' gave end)) h
 
--- a read that failed, or one too many
-ran_read_fault : (max : ℕ) (told : Told) (from a to b : Option (List ℕ)) (reads reads' writes writes' : ℕ) → Following max told from a to b → writes' ≡ writes
-    → IfSome from (λ s. length s < 2 ^ 64 - 1 → reads < reads') → Ran max (failed_as ReadFault) from a to b reads reads' writes writes'
-ran_read_fault max told from a to b reads reads' writes writes' here kept failed = record {
-  whole_transcript = λ h. absurd h;
-  script_status = λ h. absurd h;
-  prompt = prompt_here max told from a to b b [] here ([], took_none b);
-  after_read_fault = λ _. (told.fed, here.read, here.wrote);
-  after_stop = λ h. absurd h;
-  after_stop_however = λ h. absurd h;
-  read_failed = λ _. failed;
-  no_read_failed = λ other. absurd (other refl);
-  write_failed = λ h. cc;
-  no_write_failed = λ _. kept;
-  status_of_fault = λ _. refl;
-}
+begins_then : (a b c : List ℕ) → BeginsWith a b → BeginsWith b c → BeginsWith a c
+begins_then a b c (m, e) (n, f) = (m ++ n, f ∙ (ap (λ it. it ++ n) e ∙ append_assoc a m n))
 
-failed_read : (from : Option (List ℕ)) (reads reads' : ℕ) → reads < reads' → IfSome from (λ s. length s < 2 ^ 64 - 1 → reads < reads')
-failed_read None reads reads' more = tt
-failed_read (Some s) reads reads' more = λ _. more
+no_reads_failed : (left : Option (List ℕ)) (reads reads' : Reads) → reads.failures < reads'.failures → IfSome left (λ s. length s < 2 ^ 64 - 1 → reads.failures < reads'.failures)
+no_reads_failed None reads reads' more = tt
+no_reads_failed (Some s) reads reads' more = λ _. more
 
-pub ran_unread : (max : ℕ) (told : Told) (from a a' to b : Option (List ℕ)) (reads reads' writes writes' : ℕ) → Following max told from a to b → a' ≡ a
-    → reads < reads' → writes' ≡ writes → Ran max (failed_as ReadFault) from a' to b reads reads' writes writes'
-ran_unread max told from a a' to b reads reads' writes writes' before same more kept =
-    ran_read_fault max told from a' to b reads reads' writes writes' (subst (λ (it : Option (List ℕ)). Following max told from it to b) (sym same) before) kept
-    (failed_read from reads reads' more)
+module _ (l : Limits) (s : SessionState) (left a a' : Option (List ℕ)) (reads r r' : Reads) (writes w w' : Writes) (piece : List ℕ) (before : Following l s left a reads r writes w) where
+  -- the script has ended with this piece
+  pub ran_ended : (status : Status) (flow : Flow) → length piece ≤ 4096 → Gave a a' piece → GaveMore piece r r' → WroteAll (added s.limits s.fed piece) w w' → flow ≡ Ended status → flow ≡ flow_of (so_far s.limits (s.fed ++ piece)).status
+      → Ran l (ended_as status) left a' reads r' writes w'
+  ran_ended status flow short gave read more ends tells =
+      let p = s.fed ++ piece in
+      let ended : (so_far l p).status ≡ Some status = flow_some _ status (sym ends ∙ (rw before.same_limits at tells)) in
+      let all = gave_then left a a' s.fed piece before.gave gave in
+      record {
+        read = p;
+        wrote = (so_far l p).written;
+        read_is = read_more l s left a a' reads r r' writes w w' piece before read;
+        wrote_is = wrote_more l s left a a' reads r r' writes w w' piece before more;
+        prompt = record { before = s.fed; piece = piece; more = added l s.fed piece; read_is = refl; is_short = short; goes_on = before.goes_on; wrote_is = added-grown l s.fed piece };
+        ended = λ _. ended_alone l p status ended;
+        ended_however = λ _ _ rest. ended_transcript l p rest status ended;
+        end_was_read = λ h. absurd (not_done status.ending (so_far-early l p status ended) h);
+        after_read_fault = λ h. absurd (ended_not_read_fault status.ending h);
+        after_stop = λ h. absurd (ended_not_stopped status.ending h);
+        after_stop_however = λ h. absurd (ended_not_stopped status.ending h);
+        no_read_failed = λ _. read.failures ∙ before.read_failures;
+        write_failed = λ h. absurd (ended_not_write_fault status.ending h);
+        no_write_failed = λ _. more.failures ∙ before.write_failures;
+        status_of_fault = λ h. absurd (ended_not_failed status.ending h);
+        gave = all;
+        whole_transcript = λ _. of_all l (ended_as status) left a' p (so_far l p).written all (λ rest. ended_transcript l p rest status ended);
+        after_stop_of_all = λ h. absurd (ended_not_stopped status.ending h);
+        read_failed = λ h. absurd (ended_not_read_fault status.ending h);
+      }
 
-too_many : (from a : Option (List ℕ)) (p : List ℕ) (reads reads' : ℕ) → Gave from a p → 18446744073709551615 ≤ length p
-    → IfSome from (λ s. length s < 2 ^ 64 - 1 → reads < reads')
-too_many None a p reads reads' read many = tt
-too_many (Some s) a p reads reads' read many = λ few.
-    let lengths : length s ≡ length p + length read.0 = ap length read.1 ∙ length-append p read.0 in
+  -- a piece that could not be carried out whole
+  pub ran_stopped : (e : Stop) → length piece ≤ 4096 → Gave a a' piece → GaveMore piece r r' → WroteBegun (added s.limits s.fed piece) w w' e → Ran l (stopped_as e) left a' reads r' writes w'
+  ran_stopped e short gave read more =
+      let p = s.fed ++ piece in
+      let some : WroteBegun (added l s.fed piece) w w' e = rw before.same_limits at more in
+      let here = (so_far l s.fed).written in
+      let all = gave_then left a a' s.fed piece before.gave gave in
+      let begins : BeginsWith (here ++ some.written) (so_far l p).written =
+      (some.unwritten, added-grown l s.fed piece ∙ (ap (λ it. here ++ it) some.is ∙ sym (append_assoc here some.written some.unwritten))) in
+      let however : (rest : List ℕ) → BeginsWith (here ++ some.written) (transcript l (p ++ rest)) = λ rest.
+          let grows = so_far-grows l p rest in begins_then _ _ _ begins (grows.more, grows.is) in
+      record {
+        read = p;
+        wrote = here ++ some.written;
+        read_is = read_more l s left a a' reads r r' writes w w' piece before read;
+        wrote_is = some.bytes_are ∙ (ap (λ it. it ++ some.written) before.wrote ∙ append_assoc writes.bytes here some.written);
+        prompt = record { before = s.fed; piece = piece; more = some.written; read_is = refl; is_short = short; goes_on = before.goes_on; wrote_is = refl };
+        ended = λ h. absurd (stopped_not_ended e h);
+        ended_however = λ h. absurd (stopped_not_ended e h);
+        end_was_read = λ h. absurd (stopped_not_done e h);
+        after_read_fault = λ h. absurd (stopped_not_read_fault e h);
+        after_stop = λ _. subst (λ it. BeginsWith (here ++ some.written) (transcript l it)) (append-nil p) (however []);
+        after_stop_however = λ _ _ rest. however rest;
+        no_read_failed = λ _. read.failures ∙ before.read_failures;
+        write_failed = λ h. let more : w.failures < w'.failures = some.write_fault (stopped_write_fault e h) in rw (← before.write_failures) more;
+        no_write_failed = λ h. some.no_memory (stopped_no_memory e h) ∙ before.write_failures;
+        status_of_fault = λ _. stopped_status e;
+        gave = all;
+        whole_transcript = λ h. absurd (stopped_not_ended e h);
+        after_stop_of_all = λ _. begins_of_all l left a' p (here ++ some.written) all however;
+        read_failed = λ h. absurd (stopped_not_read_fault e h);
+      }
+
+module _ (l : Limits) (s : SessionState) (left a a' : Option (List ℕ)) (reads r r' : Reads) (writes w w' : Writes) (before : Following l s left a reads r writes w) (gave : Gave a a' []) (end : IsAtEnd a')
+    (bytes : r'.bytes ≡ r.bytes ++ []) (ends : r'.ends ≡ r.ends + 1) (failures : r'.failures ≡ r.failures) where
+  gave_all : Gave left a' s.fed
+  gave_all = subst (λ it. Gave left a' it) (append-nil s.fed) (gave_then left a a' s.fed [] before.gave gave)
+
+  read_all_bytes : r'.bytes ≡ reads.bytes ++ s.fed
+  read_all_bytes = bytes ∙ (append-nil r.bytes ∙ before.read)
+
+  another_end : r'.ends ≡ reads.ends → ⊥
+  another_end h = let one : r'.ends ≡ r.ends + 1 = ends in let same : r.ends ≡ reads.ends = before.ends in omega arith
+
+  -- the end of the script
+  pub ran_finished : (status : Status) → WroteAll (added_at_end s.limits s.fed) w w' → status ≡ status_of s.limits s.fed → Ran l (ended_as status) left a' reads r' writes w'
+  ran_finished status more is =
+      let adds : WroteAll (added_at_end l s.fed) w w' = rw before.same_limits at more in
+      let is' : status ≡ status_of l s.fed = rw before.same_limits at is in
+      let all : IsTranscript l (ended_as status) s.fed (transcript l s.fed) = (refl, ap ended_as is') in
+      record {
+        read = s.fed;
+        wrote = transcript l s.fed;
+        read_is = read_all_bytes;
+        wrote_is = adds.bytes_are ∙ (ap (λ it. it ++ added_at_end l s.fed) before.wrote ∙ (append_assoc writes.bytes (so_far l s.fed).written (added_at_end l s.fed) ∙ ap (λ it. writes.bytes ++ it) (sym (end-grown l s.fed))));
+        prompt = record { before = s.fed; piece = []; more = added_at_end l s.fed; read_is = sym (append-nil s.fed); is_short = omega arith; goes_on = before.goes_on; wrote_is = end-grown l s.fed };
+        ended = λ _. all;
+        ended_however = λ _ h. absurd (another_end h);
+        end_was_read = λ _. let one : r'.ends ≡ r.ends + 1 = ends in let same : r.ends ≡ reads.ends = before.ends in omega arith;
+        after_read_fault = λ h. absurd (ended_not_read_fault status.ending h);
+        after_stop = λ h. absurd (ended_not_stopped status.ending h);
+        after_stop_however = λ h. absurd (ended_not_stopped status.ending h);
+        no_read_failed = λ _. failures ∙ before.read_failures;
+        write_failed = λ h. absurd (ended_not_write_fault status.ending h);
+        no_write_failed = λ _. adds.failures ∙ before.write_failures;
+        status_of_fault = λ h. absurd (ended_not_failed status.ending h);
+        gave = gave_all;
+        whole_transcript = λ _. of_all_read l (ended_as status) left a' s.fed (transcript l s.fed) gave_all end all;
+        after_stop_of_all = λ h. absurd (ended_not_stopped status.ending h);
+        read_failed = λ h. absurd (ended_not_read_fault status.ending h);
+      }
+
+  -- the end of the script, not carried out whole
+  pub ran_unfinished : (e : Stop) → WroteBegun (added_at_end s.limits s.fed) w w' e → Ran l (stopped_as e) left a' reads r' writes w'
+  ran_unfinished e more =
+      let some : WroteBegun (added_at_end l s.fed) w w' e = rw before.same_limits at more in
+      let here = (so_far l s.fed).written in
+      let begins : BeginsWith (here ++ some.written) (transcript l s.fed) =
+      (some.unwritten, end-grown l s.fed ∙ (ap (λ it. here ++ it) some.is ∙ sym (append_assoc here some.written some.unwritten))) in
+      record {
+        read = s.fed;
+        wrote = here ++ some.written;
+        read_is = read_all_bytes;
+        wrote_is = some.bytes_are ∙ (ap (λ it. it ++ some.written) before.wrote ∙ append_assoc writes.bytes here some.written);
+        prompt = record { before = s.fed; piece = []; more = some.written; read_is = sym (append-nil s.fed); is_short = omega arith; goes_on = before.goes_on; wrote_is = refl };
+        ended = λ h. absurd (stopped_not_ended e h);
+        ended_however = λ h. absurd (stopped_not_ended e h);
+        end_was_read = λ h. absurd (stopped_not_done e h);
+        after_read_fault = λ h. absurd (stopped_not_read_fault e h);
+        after_stop = λ _. begins;
+        after_stop_however = λ _ h. absurd (another_end h);
+        no_read_failed = λ _. failures ∙ before.read_failures;
+        write_failed = λ h. let more : w.failures < w'.failures = some.write_fault (stopped_write_fault e h) in rw (← before.write_failures) more;
+        no_write_failed = λ h. some.no_memory (stopped_no_memory e h) ∙ before.write_failures;
+        status_of_fault = λ _. stopped_status e;
+        gave = gave_all;
+        whole_transcript = λ h. absurd (stopped_not_ended e h);
+        after_stop_of_all = λ _. begins_of_all_read l left a' s.fed (here ++ some.written) gave_all end begins;
+        read_failed = λ h. absurd (stopped_not_read_fault e h);
+      }
+
+module _ (l : Limits) (s : SessionState) (left a : Option (List ℕ)) (reads r r' : Reads) (writes w : Writes) (before : Following l s left a reads r writes w) where
+  ran_read_fault : r'.bytes ≡ r.bytes → IfSome left (λ t. length t < 2 ^ 64 - 1 → reads.failures < r'.failures) → Ran l (failed_as ReadFault) left a reads r' writes w
+  ran_read_fault bytes failed = record {
+    read = s.fed;
+    wrote = (so_far l s.fed).written;
+    read_is = bytes ∙ before.read;
+    wrote_is = before.wrote;
+    prompt = record { before = s.fed; piece = []; more = []; read_is = sym (append-nil s.fed); is_short = omega arith; goes_on = before.goes_on; wrote_is = sym (append-nil (so_far l s.fed).written) };
+    ended = λ h. absurd h;
+    ended_however = λ h. absurd h;
+    end_was_read = λ h. cc;
+    after_read_fault = λ _. refl;
+    after_stop = λ h. absurd h;
+    after_stop_however = λ h. absurd h;
+    no_read_failed = λ other. absurd (other refl);
+    write_failed = λ h. cc;
+    no_write_failed = λ _. before.write_failures;
+    status_of_fault = λ _. refl;
+    gave = before.gave;
+    whole_transcript = λ h. absurd h;
+    after_stop_of_all = λ h. absurd h;
+    read_failed = λ _. failed;
+  }
+
+  -- a read that failed
+  pub ran_unread : r'.bytes ≡ r.bytes → r'.failures ≡ r.failures + 1 → Ran l (failed_as ReadFault) left a reads r' writes w
+  ran_unread bytes more =
+      let same : r.failures ≡ reads.failures = before.read_failures in
+      ran_read_fault bytes (no_reads_failed left reads r' (omega arith))
+
+too_many : (left a : Option (List ℕ)) (p : List ℕ) (reads r : Reads) → Gave left a p → 18446744073709551615 ≤ length p → IfSome left (λ s. length s < 2 ^ 64 - 1 → reads.failures < r.failures)
+too_many None a p reads r gave many = tt
+too_many (Some s) a p reads r gave many = λ few.
+    let lengths : length s ≡ length p + length gave.0 = ap length gave.1 ∙ length-append p gave.0 in
     absurd (omega arith)
 
-pub ran_endless : (max : ℕ) (told : Told) (from a to b : Option (List ℕ)) (reads reads' writes writes' : ℕ) → Following max told from a to b
-    → 18446744073709551615 ≤ length told.fed → writes' ≡ writes → Ran max (failed_as ReadFault) from a to b reads reads' writes writes'
-ran_endless max told from a to b reads reads' writes writes' here many kept = ran_read_fault max told from a to b reads reads' writes writes' here kept (too_many from a told.fed reads reads' here.read many)
+-- one read too many
+pub ran_endless : (l : Limits) (s : SessionState) (left a : Option (List ℕ)) (reads r : Reads) (writes w : Writes) → Following l s left a reads r writes w → 18446744073709551615 ≤ length s.fed
+    → Ran l (failed_as ReadFault) left a reads r writes w
+ran_endless l s left a reads r writes w here many = ran_read_fault l s left a reads r r writes w here refl (too_many left a s.fed reads r here.gave many)

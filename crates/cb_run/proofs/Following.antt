@@ -1,24 +1,36 @@
 -- A run that goes on.
-use Rattle.std.proofs.Common.{◌≡◌, ◌≤◌, ◌≢◌, take, ◌+◌, arith, ℕ, List, [], ◌++◌, length, Option, Some, None, refl, sym, ap, ◌∙◌, subst}
+use Rattle.std.proofs.Common.{◌≡◌, ◌==◌, ◌≤◌, ◌<◌, ◌≢◌, ◌&&◌, true, nat_lt, ap₂, rules, if◌then◌else◌, take, ◌+◌, arith, ℕ, List, [], ◌++◌, length, Option, Some, None, refl, sym, ap, ◌∙◌, subst, append_assoc}
 use Rattle.std.proofs.lemmas.List.{append-nil, length-append, length-take}
-use Rattle.cb_io.specs.Moved.{Gave, Took}
-use Rattle.cb_io.proofs.Passing.{took_none}
-use Rattle.cb_session.specs.Sessions.{Told, fresh_told, told_of, flow_of, Wrote}
-use Rattle.cb_session.specs.Transcripts.{so_far}
+use Rattle.cb_io.specs.Histories.{Reads, Writes, after_read}
+use Rattle.cb_io.specs.Moved.{Gave}
+use Rattle.cb_session.specs.Sessions.{SessionState, fresh_session, session_after, flow_of}
+use Rattle.cb_session.specs.Transcripts.{so_far, added}
+use Rattle.cb_session.specs.declared.limits.Limits.{Limits}
 use Rattle.cb_session.specs.declared.status.Flow.{Flow}
 use Rattle.cb_session.specs.declared.status.Flow.TheVariants.{GoOn, Ended}
 use Rattle.cb_session.specs.declared.status.Status.{Status}
 use Rattle.cb_session.proofs.RunLaws.{so_far-none}
-use Rattle.cb_run.proofs.Moves.{gave_then, gave_none, took_wrote}
+use Rattle.cb_session.proofs.ScriptLaws.{added-grown}
+use Rattle.cb_run.proofs.Moves.{gave_then, gave_none, WroteAll}
 
--- The session has been fed all that was read, its script goes on, and all that is written so far went to the sink.
-pub record Following (max : ℕ) (told : Told) (from from' to to' : Option (List ℕ)) : Type 0 where
-  pub same_max : told.max_form ≡ max
-  pub no_status : told.status ≡ None
-  pub no_stop : told.stop ≡ None
-  pub goes_on : (so_far max told.fed).status ≡ None
-  pub read : Gave from from' told.fed
-  pub wrote : Took to to' (so_far max told.fed).written
+-- The session has been fed all that was read, its script goes on, and all that is written so far was written.
+pub record Following (limits : Limits) (s : SessionState) (left left' : Option (List ℕ)) (reads reads' : Reads) (writes writes' : Writes) : Type 0 where
+  pub same_limits : s.limits ≡ limits
+  pub no_status : s.status ≡ None
+  pub no_stop : s.stop ≡ None
+  pub goes_on : (so_far limits s.fed).status ≡ None
+  pub gave : Gave left left' s.fed
+  pub read : reads'.bytes ≡ reads.bytes ++ s.fed
+  pub ends : reads'.ends ≡ reads.ends
+  pub read_failures : reads'.failures ≡ reads.failures
+  pub wrote : writes'.bytes ≡ writes.bytes ++ (so_far limits s.fed).written
+  pub write_failures : writes'.failures ≡ writes.failures
+
+-- a read gave these bytes, and no end
+pub record GaveMore (piece : List ℕ) (reads reads' : Reads) : Type 0 where
+  pub bytes : reads'.bytes ≡ reads.bytes ++ piece
+  pub ends : reads'.ends ≡ reads.ends
+  pub failures : reads'.failures ≡ reads.failures
 
 -- a flow tells the status
 pub flow_none : (o : Option Status) → GoOn ≡ flow_of o → o ≡ None
@@ -30,56 +42,62 @@ flow_some None status h = cc
 flow_some (Some other) status h = cc
 
 -- nothing was read
-pub following_none : (max : ℕ) (told : Told) (from to : Option (List ℕ)) → told ≡ fresh_told max → Following max told from from to to
-following_none max told from to fresh =
-    let none = so_far-none max in
-    subst (λ (it : Told). Following max it from from to to) (sym fresh) (record {
-      same_max = refl;
+pub following_none : (l : Limits) (s : SessionState) (left : Option (List ℕ)) (reads : Reads) (writes : Writes) → s ≡ fresh_session l → Following l s left left reads reads writes writes
+following_none l s left reads writes fresh =
+    let none = so_far-none l in
+    subst (λ (it : SessionState). Following l it left left reads reads writes writes) (sym fresh) (record {
+      same_limits = refl;
       no_status = refl;
       no_stop = refl;
       goes_on = ap (λ it. it.status) none;
-      read = gave_none from;
-      wrote = subst (λ (it : List ℕ). Took to to it) (sym (ap (λ it. it.written) none)) (took_none to);
+      gave = gave_none left;
+      read = sym (append-nil reads.bytes);
+      ends = refl;
+      read_failures = refl;
+      wrote = sym (append-nil writes.bytes) ∙ ap (λ it. writes.bytes ++ it) (sym (ap (λ it. it.written) none));
+      write_failures = refl;
     })
 
--- one piece more, and the script goes on
-pub following_on : (max : ℕ) (told told' : Told) (from a a' to b b' : Option (List ℕ)) (piece : List ℕ) → Following max told from a to b → Gave a a' piece
-    → told' ≡ told_of told.max_form (told.fed ++ piece) (so_far told.max_form (told.fed ++ piece)).status
-    → Wrote b b' (so_far told.max_form told.fed).written (so_far told.max_form (told.fed ++ piece)).written
-    → (flow : Flow) → flow ≡ GoOn → flow ≡ flow_of (so_far told.max_form (told.fed ++ piece)).status
-    → Following max told' from a' to b'
-following_on max told told' from a a' to b b' piece before read is wrote flow goes tells =
-    let is' : told' ≡ told_of max (told.fed ++ piece) (so_far max (told.fed ++ piece)).status = rw before.same_max at is in
-    let wrote' : Wrote b b' (so_far max told.fed).written (so_far max (told.fed ++ piece)).written = rw before.same_max at wrote in
-    let none : (so_far max (told.fed ++ piece)).status ≡ None = flow_none _ (sym goes ∙ (rw before.same_max at tells)) in
-    subst (λ (it : Told). Following max it from a' to b') (sym is') (record {
-      same_max = refl;
-      no_status = none;
-      no_stop = refl;
-      goes_on = none;
-      read = gave_then from a a' told.fed piece before.read read;
-      wrote = took_wrote to b b' _ _ before.wrote wrote';
-    })
+module _ (l : Limits) (s : SessionState) (left a a' : Option (List ℕ)) (reads r r' : Reads) (writes w w' : Writes) (piece : List ℕ) (before : Following l s left a reads r writes w) where
+  -- what was written, with what a piece adds
+  pub wrote_more : WroteAll (added s.limits s.fed piece) w w' → w'.bytes ≡ writes.bytes ++ (so_far l (s.fed ++ piece)).written
+  wrote_more more =
+      let adds : WroteAll (added l s.fed piece) w w' = rw before.same_limits at more in
+      adds.bytes_are ∙ (ap (λ it. it ++ added l s.fed piece) before.wrote ∙ (append_assoc writes.bytes (so_far l s.fed).written (added l s.fed piece) ∙ ap (λ it. writes.bytes ++ it) (sym (added-grown l s.fed piece))))
 
--- nothing more came
-same_read : (from a a' : Option (List ℕ)) (p piece : List ℕ) → piece ≡ [] → Gave from a p → Gave a a' piece → Gave from a' p
-same_read from a a' p piece none before read =
-    subst (λ (it : List ℕ). Gave from a' it) (ap (λ it. p ++ it) none ∙ append-nil p) (gave_then from a a' p piece before read)
+  pub read_more : GaveMore piece r r' → r'.bytes ≡ reads.bytes ++ (s.fed ++ piece)
+  read_more more = more.bytes ∙ (ap (λ it. it ++ piece) before.read ∙ append_assoc reads.bytes s.fed piece)
 
-pub following_same : (max : ℕ) (told : Told) (from a a' to b : Option (List ℕ)) (piece : List ℕ) → piece ≡ [] → Following max told from a to b → Gave a a' piece
-    → Following max told from a' to b
-following_same max told from a a' to b piece none before read = record {
-  same_max = before.same_max;
-  no_status = before.no_status;
-  no_stop = before.no_stop;
-  goes_on = before.goes_on;
-  read = same_read from a a' told.fed piece none before.read read;
-  wrote = before.wrote;
-}
+  -- one piece more, and the script goes on
+  pub following_on : (t : SessionState) (flow : Flow) → Gave a a' piece → GaveMore piece r r' → WroteAll (added s.limits s.fed piece) w w'
+      → t ≡ session_after s.limits (s.fed ++ piece) (so_far s.limits (s.fed ++ piece)).status → flow ≡ GoOn → flow ≡ flow_of (so_far s.limits (s.fed ++ piece)).status
+      → Following l t left a' reads r' writes w'
+  following_on t flow gave read more is goes tells =
+      let is' : t ≡ session_after l (s.fed ++ piece) (so_far l (s.fed ++ piece)).status = rw before.same_limits at is in
+      let none : (so_far l (s.fed ++ piece)).status ≡ None = flow_none _ (sym goes ∙ (rw before.same_limits at tells)) in
+      subst (λ (it : SessionState). Following l it left a' reads r' writes w') (sym is') (record {
+        same_limits = refl;
+        no_status = none;
+        no_stop = refl;
+        goes_on = none;
+        gave = gave_then left a a' s.fed piece before.gave gave;
+        read = read_more read;
+        ends = read.ends ∙ before.ends;
+        read_failures = read.failures ∙ before.read_failures;
+        wrote = wrote_more more;
+        write_failures = more.failures ∙ before.write_failures;
+      })
 
 -- each piece has a byte at least, so no more pieces come than bytes
-pub turns_on : (turn n max : ℕ) (fed buf : List ℕ) (status : Option Status) (told : Told) → told ≡ told_of max (fed ++ take n buf) status
-    → turn ≤ length fed → n ≢ 0 → n ≤ length buf → turn + 1 ≤ length told.fed
-turns_on turn n max fed buf status told is before some within =
-    let all : told.fed ≡ fed ++ take n buf = ap (λ t. t.fed) is in
+pub turns_on : (turn n : ℕ) (l : Limits) (fed buf : List ℕ) (status : Option Status) (t : SessionState) → t ≡ session_after l (fed ++ take n buf) status
+    → turn ≤ length fed → n ≢ 0 → n ≤ length buf → turn + 1 ≤ length t.fed
+turns_on turn n l fed buf status t is before some within =
+    let all : t.fed ≡ fed ++ take n buf = ap (λ t. t.fed) is in
     rw all (omega (arith, length-append fed (take n buf), length-take n buf))
+
+-- a read that reported the end
+pub ended_more : (r r' : Reads) (room n : ℕ) (bytes : List ℕ) → r' ≡ after_read r room n bytes → n ≡ 0 → 0 < room → r'.ends ≡ r.ends + 1
+ended_more r r' room n bytes is zero some =
+    let yes : nat_lt 0 room ≡ true = search rules in
+    let none : (n == 0) ≡ true = rw zero refl in
+    ap (λ it. it.ends) is ∙ ap₂ (λ t u. if t && u then r.ends + 1 else r.ends) none yes

@@ -1,10 +1,12 @@
 -- Bytes that came and went in several steps.
-use Rattle.std.proofs.Common.{ℕ, List, [], ◌++◌, Option, Some, None, refl, sym, ap, ◌∙◌, subst}
-use Rattle.std.proofs.lemmas.List.{append_assoc}
-use Rattle.cb_io.specs.Moved.{Gave, Took}
-use Rattle.cb_io.specs.Output.{PassedSome}
-use Rattle.cb_io.proofs.Passing.{took_then}
-use Rattle.cb_session.specs.Sessions.{Wrote, WroteSome}
+use Rattle.std.proofs.Common.{◌≡◌, ◌<◌, ◌≢◌, ℕ, List, [], ◌++◌, Option, Some, None, refl, sym, ap, ◌∙◌, subst}
+use Rattle.std.proofs.lemmas.List.{append_assoc, append-nil}
+use Rattle.cb_io.specs.Histories.{Writes}
+use Rattle.cb_io.specs.Moved.{Gave, IsAtEnd}
+use Rattle.cb_io.specs.Output.{OutState, Extent, all_put, out_of_memory, write_failed, Puts}
+use Rattle.cb_session.specs.Went.{extent_at}
+use Rattle.cb_session.specs.declared.status.Stop.{Stop}
+use Rattle.cb_session.specs.declared.status.Stop.TheVariants as stop
 
 -- one read after another
 pub gave_then : (a b c : Option (List ℕ)) (xs ys : List ℕ) → Gave a b xs → Gave b c ys → Gave a c (xs ++ ys)
@@ -18,11 +20,54 @@ pub gave_none : (a : Option (List ℕ)) → Gave a a []
 gave_none None = tt
 gave_none (Some had) = (had, refl, refl)
 
--- what was written so far, and then the rest
-pub took_wrote : (a b c : Option (List ℕ)) (before all : List ℕ) → Took a b before → Wrote b c before all → Took a c all
-took_wrote a b c before all first next = subst (λ (it : List ℕ). Took a c it) (sym next.2) (took_then a b c before next.0 first next.1)
+-- all was read
+pub read_all : (s p : List ℕ) (from' : Option (List ℕ)) → Gave (Some s) from' p → IsAtEnd from' → s ≡ p
+read_all s p from' read end =
+    let nothing : read.0 ≡ [] = subst IsAtEnd read.2 end in
+    read.1 ∙ (ap (λ it. p ++ it) nothing ∙ append-nil p)
 
--- what was written so far, and then a beginning of the rest
-pub passed_wrote : (a b c : Option (List ℕ)) (before all : List ℕ) → Took a b before → WroteSome b c before all → PassedSome a c all
-passed_wrote a b c before all first next =
-    (next.1, (before ++ next.0, took_then a b c before next.0 first next.2, append_assoc before next.0 next.1 ∙ sym next.3))
+-- all of the bytes were written
+pub record WroteAll (bytes : List ℕ) (writes writes' : Writes) : Type 0 where
+  pub bytes_are : writes'.bytes ≡ writes.bytes ++ bytes
+  pub failures : writes'.failures ≡ writes.failures
+
+-- a beginning of the bytes was written, before a stop
+pub record WroteBegun (bytes : List ℕ) (writes writes' : Writes) (s : Stop) : Type 0 where
+  pub written : List ℕ
+  pub unwritten : List ℕ
+  pub is : bytes ≡ written ++ unwritten
+  pub bytes_are : writes'.bytes ≡ writes.bytes ++ written
+  pub no_memory : s ≡ stop.NoMemory → writes'.failures ≡ writes.failures
+  pub write_fault : s ≡ stop.WriteFault → writes.failures < writes'.failures
+
+module _ {K : Type 0} (writes : K → Writes) (o o1 : OutState K) (bytes : List ℕ) (none : o.pending ≡ []) where
+  pub wrote-all : o1.pending ≡ [] → Puts writes o o1 all_put bytes → WroteAll bytes (writes o.sink) (writes o1.sink)
+  unfolding Puts
+  wrote-all flushed h = record {
+    bytes_are =
+        let moved : h.passed.0 ≡ bytes = sym (append-nil h.passed.0) ∙ (ap (λ it. h.passed.0 ++ it) (sym flushed) ∙ (h.passed.2 ∙ ap (λ it. it ++ bytes) none)) in
+        h.passed.1 ∙ ap (λ it. (writes o.sink).bytes ++ it) moved;
+    failures = h.counts;
+  }
+
+  pub wrote-begun : (s : Stop) → (s ≡ stop.NoMemory → o1.pending ≡ []) → Puts writes o o1 (extent_at s) bytes → WroteBegun bytes (writes o.sink) (writes o1.sink) s
+  unfolding Puts
+  wrote-begun stop.NoMemory flushed h =
+      let all = h.all in
+      let moved : all.passed.0 ≡ h.put = sym (append-nil all.passed.0) ∙ (ap (λ it. all.passed.0 ++ it) (sym (flushed refl)) ∙ (all.passed.2 ∙ ap (λ it. it ++ h.put) none)) in
+      record {
+        written = h.put;
+        unwritten = h.unput;
+        is = h.is;
+        bytes_are = all.passed.1 ∙ ap (λ it. (writes o.sink).bytes ++ it) moved;
+        no_memory = λ _. all.counts;
+        write_fault = λ e. cc;
+      }
+  wrote-begun stop.WriteFault flushed h = record {
+    written = h.passed.1.0;
+    unwritten = h.passed.0;
+    is = sym (h.passed.1.2 ∙ ap (λ it. it ++ bytes) none);
+    bytes_are = h.passed.1.1;
+    no_memory = λ e. cc;
+    write_fault = λ _. h.counts;
+  }

@@ -1,4 +1,5 @@
 pub mod Commands
 pub mod Outcomes
 pub mod Ran
+pub mod RanBy
 pub mod Runs

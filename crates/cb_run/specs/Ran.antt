@@ -1,22 +1,43 @@
 -- All that is promised of a run, in one record.
-use Rattle.std.specs.Prelude.{◌≡◌, ◌≢◌, ◌<◌, ◌-◌, ◌^◌, ℕ, List, length, Option, IfSome}
-use Rattle.cb_io.specs.Moved.{Took}
-use Rattle.cb_session.specs.Transcripts.{transcript, status_of}
+use Rattle.std.specs.Prelude.{◌≡◌, ◌≢◌, ◌<◌, ◌-◌, ◌^◌, ◌++◌, ℕ, List, length, Option, IfSome}
+use Rattle.cb_forms.specs.Laws.{BeginsWith}
+use Rattle.cb_io.specs.Histories.{Reads, Writes}
+use Rattle.cb_io.specs.Moved.{Gave}
 use Rattle.cb_run.specs.Outcomes.{ended_as, HasEnded, HasStopped, HasFailed}
-use Rattle.cb_run.specs.Runs.{IsPrompt, WroteAllRead, WroteBeginning, WroteBeginningHowever}
-use Rattle.cb_run.specs.declared.outcome.Cause.TheVariants.{ReadFault, WriteFault}
+use Rattle.cb_run.specs.Runs.{IsPrompt}
+use Rattle.cb_run.specs.declared.outcome.Cause.TheVariants.{Done, ReadFault, WriteFault}
 use Rattle.cb_run.specs.declared.outcome.Outcome.{Outcome}
+use Rattle.cb_session.specs.Transcripts.{so_far, transcript, status_of}
+use Rattle.cb_session.specs.declared.limits.Limits.{Limits}
 
--- `reads` and `reads'` count the reads that had failed when the run began and behind it, `writes` and `writes'` the writes.
-pub record Ran (max : ℕ) (result : Outcome) (from from' to to' : Option (List ℕ)) (reads reads' writes writes' : ℕ) : Type 0 where
-  pub whole_transcript : HasEnded result.cause → IfSome from (λ s. Took to to' (transcript max s))
-  pub script_status : HasEnded result.cause → IfSome from (λ s. result ≡ ended_as (status_of max s))
-  pub prompt : IsPrompt max from from' to to'
-  pub after_read_fault : result.cause ≡ ReadFault → WroteAllRead max from from' to to'
-  pub after_stop : HasStopped result.cause → WroteBeginning max from to to'
-  pub after_stop_however : HasStopped result.cause → WroteBeginningHowever max from from' to to'
-  pub read_failed : result.cause ≡ ReadFault → IfSome from (λ s. length s < 2 ^ 64 - 1 → reads < reads')
-  pub no_read_failed : (result.cause ≢ ReadFault) → reads' ≡ reads
-  pub write_failed : result.cause ≡ WriteFault → writes < writes'
-  pub no_write_failed : (result.cause ≢ WriteFault) → writes' ≡ writes
+-- the script has written all of its transcript and ended so
+abbrev pub IsTranscript : Limits → Outcome → List ℕ → List ℕ → Type 0
+IsTranscript limits result script wrote = (wrote ≡ transcript limits script) × (result ≡ ended_as (status_of limits script))
+
+-- A run with this outcome. The source had `left` left when the run began and has `left'` now, if it tells; its reads had given
+-- `reads` and have given `reads'`; the writes of the sink had taken `writes` and have taken `writes'`.
+pub record Ran (limits : Limits) (result : Outcome) (left left' : Option (List ℕ)) (reads reads' : Reads) (writes writes' : Writes) : Type 0 where
+  -- what the run read and what it wrote
+  pub read : List ℕ
+  pub wrote : List ℕ
+  pub read_is : reads'.bytes ≡ reads.bytes ++ read
+  pub wrote_is : writes'.bytes ≡ writes.bytes ++ wrote
+  -- However it went.
+  pub prompt : IsPrompt limits read wrote
+  -- The script has ended: by its end only where a read reported it; else so, however the script goes on.
+  pub ended : HasEnded result.cause → IsTranscript limits result read wrote
+  pub ended_however : HasEnded result.cause → reads'.ends ≡ reads.ends → (rest : List ℕ) → IsTranscript limits result (read ++ rest) wrote
+  pub end_was_read : result.cause ≡ Done → reads.ends < reads'.ends
+  -- The run failed.
+  pub after_read_fault : result.cause ≡ ReadFault → wrote ≡ (so_far limits read).written
+  pub after_stop : HasStopped result.cause → BeginsWith wrote (transcript limits read)
+  pub after_stop_however : HasStopped result.cause → reads'.ends ≡ reads.ends → (rest : List ℕ) → BeginsWith wrote (transcript limits (read ++ rest))
+  pub no_read_failed : (result.cause ≢ ReadFault) → reads'.failures ≡ reads.failures
+  pub write_failed : result.cause ≡ WriteFault → writes.failures < writes'.failures
+  pub no_write_failed : (result.cause ≢ WriteFault) → writes'.failures ≡ writes.failures
   pub status_of_fault : HasFailed result.cause → result.status ≡ 3
+  -- A source that tells its bytes: of all of them, read or not.
+  pub gave : Gave left left' read
+  pub whole_transcript : HasEnded result.cause → IfSome left (λ s. IsTranscript limits result s wrote)
+  pub after_stop_of_all : HasStopped result.cause → IfSome left (λ s. BeginsWith wrote (transcript limits s))
+  pub read_failed : result.cause ≡ ReadFault → IfSome left (λ s. length s < 2 ^ 64 - 1 → reads.failures < reads'.failures)

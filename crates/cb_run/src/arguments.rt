@@ -1,5 +1,5 @@
 //! The whole program, with the words that the system has for it.
-ghost use Rattle.cb_session.specs.Sessions.{IsReady};
+ghost use Rattle.cb_io.specs.Output.{IsReady};
 
 use crate::program::carry_out;
 use crate::reports::{ended, no_memory, refused};

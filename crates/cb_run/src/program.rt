@@ -1,9 +1,9 @@
 //! The whole program, but for where its words and its bytes come from and go to.
-ghost use Rattle.std.specs.Prelude.{◌≡◌, IfOk, IfErr, OnErr, map, true, codes};
+ghost use Rattle.std.specs.Prelude.{◌≡◌, IfOk, IfErr, OnErr, map, true};
 ghost use Rattle.clap.specs.Words.{FailsBy, fault_of, kind_of, takes};
-ghost use Rattle.cb_session.specs.Sessions.{IsReady};
-ghost use Rattle.cb_run.specs.Commands.{limit_of, limits_app};
-ghost use Rattle.cb_run.specs.Ran.{Ran};
+ghost use Rattle.cb_io.specs.Output.{IsReady};
+ghost use Rattle.cb_run.specs.Commands.{limits_app};
+ghost use Rattle.cb_run.specs.RanBy.{RanBy};
 
 use crate::outcome::Outcome;
 use crate::script::run;
@@ -23,12 +23,10 @@ pub fn carry_out<'a, S: Source, K: Sink>(
     out: &mut Out<K>,
 ) -> Result<Outcome, Error>
     requires { IsReady out.old }
-    // All that `run` promises, with the longest item that the words allow.
-    ensures ran { IfOk result (λ outcome. Ran
-        (limit_of (codes "max-form") 1048576 (map (λ w. w.now) words.entry.now)) outcome
-        (S.left source.old) (S.left source.new) (K.has out.old.sink) (K.has out.new.sink)
-        (S.failures source.old) (S.failures source.new)
-        (K.failures out.old.sink) (K.failures out.new.sink)) }
+    // All that `run` promises, with the limits that the words give.
+    ensures ran { IfOk result (λ outcome. RanBy (map (λ w. w.now) words.entry.now) outcome
+        (S.left source.old) (S.left source.new) (S.reads source.old) (S.reads source.new)
+        (K.writes out.old.sink) (K.writes out.new.sink)) }
 
     // The words are refused, or ask for help.
     ensures refused { IfErr result (λ e. takes limits_app (map (λ w. w.now) words.entry.now) ≡ true

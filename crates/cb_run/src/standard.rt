@@ -1,76 +1,80 @@
-//! Standard input and standard output, which tell no contract their bytes.
-ghost use Rattle.std.specs.Prelude.{◌≡◌, None, length};
+//! Standard input and standard output. Contracts don't know what bytes the system has for them, but which bytes the reads gave and
+//! the writes took: each is noted right after the system's own call, in the few lines below, which a reader checks by eye.
+ghost use Rattle.std.specs.Prelude.{◌≡◌, None};
+ghost use Rattle.cb_io.specs.Histories.{no_reads, no_writes};
 
-use cb_forms::{ReadFault, Sink, Source, Trace, WriteFault};
+use cb_io::{ReadFault, ReadHistory, Sink, Source, WriteFault, WriteHistory};
 use std::io::{Read, Stdin, Stdout, Write};
 
-/// Standard input as a source. Contracts see none of its bytes, and how many reads failed.
+/// Standard input as a source. It doesn't tell the bytes that it has left.
 #[derive(Drop)]
 pub struct StandardInput {
     stdin: Stdin,
-    failed: Trace<()>,
+    history: ReadHistory,
 }
 
 impl StandardInput {
-    /// Reads from this handle; no read has failed.
+    /// Reads from this handle; no read was made.
     pub fn new(stdin: Stdin) -> StandardInput
         ensures left { ⟦<StandardInput as Source>⟧.left result ≡ None }
-        ensures failures { ⟦<StandardInput as Source>⟧.failures result ≡ 0 }
+        ensures reads { ⟦<StandardInput as Source>⟧.reads result ≡ no_reads }
     {
-        let failed = Trace::new();
-        StandardInput { stdin, failed }
+        StandardInput {
+            stdin,
+            history: ReadHistory::new(),
+        }
     }
 }
 
 impl Source for StandardInput {
     ghost left = { λ _. None };
 
-    ghost failures = { λ s. length s.failed.items };
+    ghost reads = { λ s. s.history };
 
     fn read(&mut self, buf: &mut [u8]) -> Result<usize, ReadFault> {
         match self.stdin.read(buf) {
-            Ok(n) => Ok(n),
+            Ok(n) => {
+                self.history.read(buf.len(), &buf[..n]);
+                Ok(n)
+            }
             Err(_) => {
-                self.failed = self.failed.and(&());
+                self.history.failed();
                 Err(ReadFault)
             }
         }
     }
 }
 
-/// Standard output as a sink. Contracts see none of its bytes, and how many writes failed.
+/// Standard output as a sink.
 #[derive(Drop)]
 pub struct StandardOutput {
     stdout: Stdout,
-    failed: Trace<()>,
+    history: WriteHistory,
 }
 
 impl StandardOutput {
-    /// Writes to this handle; no write has failed.
+    /// Writes to this handle; no write was made.
     pub fn new(stdout: Stdout) -> StandardOutput
-        ensures has { ⟦<StandardOutput as Sink>⟧.has result ≡ None }
-        ensures failures { ⟦<StandardOutput as Sink>⟧.failures result ≡ 0 }
+        ensures { ⟦<StandardOutput as Sink>⟧.writes result ≡ no_writes }
     {
-        let failed = Trace::new();
-        StandardOutput { stdout, failed }
+        StandardOutput {
+            stdout,
+            history: WriteHistory::new(),
+        }
     }
 }
 
 impl Sink for StandardOutput {
-    ghost has = { λ _. None };
-
-    ghost failures = { λ s. length s.failed.items };
+    ghost writes = { λ s. s.history };
 
     fn write(&mut self, bytes: &[u8]) -> Result<usize, WriteFault> {
         match self.stdout.write(bytes) {
             Ok(n) => {
-                if n == 0 && !bytes.is_empty() {
-                    self.failed = self.failed.and(&());
-                }
+                self.history.wrote(bytes.len(), &bytes[..n]);
                 Ok(n)
             }
             Err(_) => {
-                self.failed = self.failed.and(&());
+                self.history.failed();
                 Err(WriteFault)
             }
         }

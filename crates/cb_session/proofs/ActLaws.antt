@@ -125,7 +125,7 @@ concluded_begins s w (Err ended.Limit) = record { more = exhausted_line; is = re
 
 pub executed_begins : (s : State) (r : Reading) → Begins (acted r s).written (executed s r).written
 unfolding executed
-pub executed_begins s r = concluded_begins (acted r s).state (acted r s).written (acted r s).answer
+executed_begins s r = concluded_begins (acted r s).state (acted r s).written (acted r s).answer
 
 module _ {K : Type 0} (writes : K → Writes) (o o1 : OutState K) (s t : State) (r : Reading) where
   -- an item that stopped

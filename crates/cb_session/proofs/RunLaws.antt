@@ -1,14 +1,18 @@
 -- How a run grows with its script.
-use Rattle.std.proofs.Common.{◌≡◌, ℕ, Bool, true, false, List, [], ◌∷◌, ◌++◌, Option, Some, None, refl, sym, ap, ◌∙◌, subst, inl, inr, if◌then◌else◌}
+use Rattle.std.proofs.Common.{◌≡◌, ◌≢◌, ℕ, Bool, true, false, List, [], ◌∷◌, ◌++◌, Option, Some, None, Result, Ok, Err, refl, sym, ap, ◌∙◌, subst, inl, inr, if◌then◌else◌}
 use Rattle.std.proofs.lemmas.Bool.{cases_Bool}
 use Rattle.std.proofs.lemmas.List.{append-nil, append_assoc}
 use Rattle.cb_forms.specs.Items.{items, parts, whole, over, fitting}
 use Rattle.cb_forms.specs.Trees.{Reading}
 use Rattle.cb_forms.proofs.FittingLaws.{fitting-items, fitting-kept, whole-fitting, over-kept_all, whole-more}
-use Rattle.cb_session.specs.Transcripts.{executed}
+use Rattle.cb_session.specs.Actions.{acted}
+use Rattle.cb_session.specs.Acts.{State}
 use Rattle.cb_session.specs.declared.limits.Limits.{Limits}
 use Rattle.cb_session.specs.Lines.{too_long_line}
-use Rattle.cb_session.specs.Transcripts.{Run, begun, after_status, after, after_all, too_long_status, too_long, so_far, complete}
+use Rattle.cb_session.specs.Transcripts.{Run, begun, concluded, executed, limit_status, after_status, after, after_all, too_long_status, too_long, so_far, complete}
+use Rattle.cb_session.specs.declared.act.Ended.{Ended}
+use Rattle.cb_session.specs.declared.act.Ended.TheVariants as ended
+use Rattle.cb_session.specs.declared.status.Ending.TheVariants as ending
 use Rattle.cb_session.specs.declared.status.Status.{Status}
 
 pub after_all-append : (run : Run) (xs ys : List Reading) → after_all run (xs ++ ys) ≡ after_all (after_all run xs) ys
@@ -138,3 +142,38 @@ so_far-grows_far l p r = elim (cases_Bool (over l.max_form p)) [
 pub so_far-none : (l : Limits) → so_far l [] ≡ begun
 unfolding so_far over whole parts
 so_far-none l = refl
+
+-- where a script has ended before its end, it has not ended by its end
+abbrev IsEarly : Option Status → Type 0
+IsEarly o = (status : Status) → o ≡ Some status → status.ending ≢ ending.Done
+
+concluded-early : (s : State) (w : List ℕ) (r : Result (Unit {0}) Ended) → IsEarly (concluded s w r).status
+concluded-early s w (Ok _) status h = absurd (cc)
+concluded-early s w (Err (ended.Fault f)) status h = absurd (cc)
+concluded-early s w (Err ended.Limit) status h = let is : limit_status ≡ status = cc in λ done. (let no : limit_status.ending ≡ ending.Done = ap (λ it. it.ending) is ∙ done in cc)
+
+executed-early : (s : State) (r : Reading) → IsEarly (executed s r).status
+unfolding executed
+executed-early s r = concluded-early (acted r s).state (acted r s).written (acted r s).answer
+
+after-early : (o : Option Status) (run : Run) (x : Reading) → o ≡ run.status → IsEarly run.status → IsEarly (after_status o run x).status
+after-early None run x is early = executed-early run.state x
+after-early (Some status) run x is early = early
+
+all-early : (run : Run) (xs : List Reading) → IsEarly run.status → IsEarly (after_all run xs).status
+all-early run [] early = early
+all-early run (x ∷ xs) early = all-early (after run x) xs (after-early run.status run x refl early)
+
+long-early : (o : Option Status) (run : Run) → o ≡ run.status → IsEarly run.status → IsEarly (too_long_status o run).status
+long-early None run is early = λ status h done. let same : limit_status ≡ status = cc in (let no : limit_status.ending ≡ ending.Done = ap (λ it. it.ending) same ∙ done in cc)
+long-early (Some status) run is early = early
+
+begun-early : IsEarly begun.status
+begun-early status h = absurd (cc)
+
+pub so_far-early : (l : Limits) (p : List ℕ) (status : Status) → (so_far l p).status ≡ Some status → status.ending ≢ ending.Done
+unfolding so_far
+so_far-early l p = elim (cases_Bool (over l.max_form p)) [
+  | inl long ↦ subst (λ (it : Run). IsEarly it.status) (sym (so_far-long l p long)) (long-early (after_all begun (fitting l.max_form p)).status (after_all begun (fitting l.max_form p)) refl (all-early begun (fitting l.max_form p) begun-early))
+  | inr fits ↦ subst (λ (it : Run). IsEarly it.status) (sym (so_far-fits l p fits)) (all-early begun (whole p) begun-early)
+]
