@@ -62,7 +62,11 @@ impl<'a> TwoPieces<'a> {
     /// One piece, and then the other.
     pub(super) fn new(now: &'a [u8], later: &'a [u8]) -> TwoPieces<'a> {
         let history = ReadHistory::new();
-        TwoPieces { now, later, history }
+        TwoPieces {
+            now,
+            later,
+            history,
+        }
     }
 }
 
