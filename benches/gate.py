@@ -31,8 +31,7 @@ def looks():
 def part(folder, words):
     """The crate, and what is done with it."""
     crate = words[words.index("--crate-name") + 1] if "--crate-name" in words else "?"
-    text = " ".join(words)
-    if "must-fail" in folder or "must_fail" in folder or "mustfail" in folder or "must-fail" in text:
+    if "rt-edit" in folder:
         return crate, "edits"
     if "--test" in words or crate.endswith("_tests"):
         return crate, "tests"
@@ -41,14 +40,12 @@ def part(folder, words):
 
 def main():
     began = time.time()
-    top = os.getcwd()
     gate = subprocess.Popen(["rt", "ci"])
-    seconds, parts, places = {}, {}, collections.Counter()
+    seconds, parts = {}, {}
     while gate.poll() is None:
         for pid, start, folder, words, spent in looks():
             seconds[pid, start] = spent
             parts[pid, start] = part(folder, words)
-            places[folder.replace(top, "."), " ".join(w for w in words[1:] if not w.startswith("/"))[:160]] += 1
         time.sleep(0.2)
     table = collections.Counter()
     for key, spent in seconds.items():
@@ -58,9 +55,6 @@ def main():
     for kind in sorted({kind for _, kind in table}):
         print(f"{kind:8} {'all':20} {sum(s for (_, k), s in table.items() if k == kind) / 60:7.1f} min")
     print(f"{'all':29} {sum(table.values()) / 60:7.1f} min of processor time, {(time.time() - began) / 60:.1f} min on the clock")
-    if "--places" in sys.argv:
-        for place, count in places.most_common(60):
-            print(count, *place)
     return gate.returncode
 
 

@@ -1,8 +1,8 @@
 -- Calls that put bytes, one after another.
-use Rattle.std.proofs.Common.{◌≡◌, ◌<◌, ℕ, false, List, [], ◌++◌, Result, Ok, Err, OnOk, refl, sym, ap, ◌∙◌, subst, append_assoc}
+use Rattle.std.proofs.Common.{◌≡◌, ◌<◌, ℕ, false, List, [], ◌++◌, refl, sym, ap, ◌∙◌, subst, append_assoc}
 use Rattle.std.proofs.lemmas.List.{append-nil}
 use Rattle.cb_io.specs.Histories.{Writes}
-use Rattle.cb_io.specs.Output.{OutState, Passed, PassedSome, Extent, all_put, out_of_memory, write_failed, PutAll, PutSome, PutFailed, Puts}
+use Rattle.cb_io.specs.Output.{OutState, PassedSome, Extent, all_put, out_of_memory, write_failed, PutAll, Puts}
 use Rattle.cb_io.proofs.Passing.{passed_none, passed_two, passed_some_two, passed_some_more}
 
 module _ {K : Type 0} (writes : K → Writes) where

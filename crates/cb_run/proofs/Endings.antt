@@ -19,7 +19,6 @@ use Rattle.cb_session.proofs.RunLaws.{so_far-ended, so_far-grows, so_far-early}
 use Rattle.cb_session.proofs.ScriptLaws.{added-grown, end-grown}
 use Rattle.cb_run.specs.Outcomes.{cause_of, ended_as, stopped_as, failed_as, HasEnded, HasStopped, HasFailed}
 use Rattle.cb_run.specs.Ran.{IsTranscript, Ran}
-use Rattle.cb_run.specs.Runs.{IsPrompt}
 use Rattle.cb_run.specs.declared.outcome.Cause.TheVariants.{Done, ReadFault, WriteFault}
 use Rattle.cb_run.specs.declared.outcome.Outcome.{Outcome}
 use Rattle.cb_run.proofs.Moves.{gave_then, read_all, WroteAll, WroteBegun}
@@ -151,7 +150,7 @@ module _ (l : Limits) (s : SessionState) (left a a' : Option (List ℕ)) (reads 
       let begins : BeginsWith (here ++ some.written) (so_far l p).written =
       (some.unwritten, added-grown l s.fed piece ∙ (ap (λ it. here ++ it) some.is ∙ sym (append_assoc here some.written some.unwritten))) in
       let however : (rest : List ℕ) → BeginsWith (here ++ some.written) (transcript l (p ++ rest)) = λ rest.
-          let grows = so_far-grows l p rest in begins_then _ _ _ begins (grows.more, grows.is) in
+      let grows = so_far-grows l p rest in begins_then _ _ _ begins (grows.more, grows.is) in
       record {
         read = p;
         wrote = here ++ some.written;

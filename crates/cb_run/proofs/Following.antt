@@ -1,5 +1,5 @@
 -- A run that goes on.
-use Rattle.std.proofs.Common.{◌≡◌, ◌==◌, ◌≤◌, ◌<◌, ◌≢◌, ◌&&◌, true, nat_lt, ap₂, rules, if◌then◌else◌, take, ◌+◌, arith, ℕ, List, [], ◌++◌, length, Option, Some, None, refl, sym, ap, ◌∙◌, subst, append_assoc}
+use Rattle.std.proofs.Common.{◌≡◌, ◌==◌, ◌≤◌, ◌<◌, ◌≢◌, ◌&&◌, true, nat_lt, ap₂, rules, if◌then◌else◌, take, ◌+◌, arith, ℕ, List, ◌++◌, length, Option, Some, None, refl, sym, ap, ◌∙◌, subst, append_assoc}
 use Rattle.std.proofs.lemmas.List.{append-nil, length-append, length-take}
 use Rattle.cb_io.specs.Histories.{Reads, Writes, after_read}
 use Rattle.cb_io.specs.Moved.{Gave}

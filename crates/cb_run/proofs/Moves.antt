@@ -1,9 +1,9 @@
 -- Bytes that came and went in several steps.
-use Rattle.std.proofs.Common.{◌≡◌, ◌<◌, ◌≢◌, ℕ, List, [], ◌++◌, Option, Some, None, refl, sym, ap, ◌∙◌, subst}
+use Rattle.std.proofs.Common.{◌≡◌, ◌<◌, ℕ, List, [], ◌++◌, Option, Some, None, refl, sym, ap, ◌∙◌, subst}
 use Rattle.std.proofs.lemmas.List.{append_assoc, append-nil}
 use Rattle.cb_io.specs.Histories.{Writes}
 use Rattle.cb_io.specs.Moved.{Gave, IsAtEnd}
-use Rattle.cb_io.specs.Output.{OutState, Extent, all_put, out_of_memory, write_failed, Puts}
+use Rattle.cb_io.specs.Output.{OutState, all_put, Puts}
 use Rattle.cb_session.specs.Went.{extent_at}
 use Rattle.cb_session.specs.declared.status.Stop.{Stop}
 use Rattle.cb_session.specs.declared.status.Stop.TheVariants as stop

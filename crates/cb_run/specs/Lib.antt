@@ -3,3 +3,4 @@ pub mod Outcomes
 pub mod Ran
 pub mod RanBy
 pub mod Runs
+pub mod Statuses

@@ -1,9 +1,14 @@
 //! The whole program, with the words that the system has for it.
+ghost use Rattle.std.specs.Prelude.{◌≡◌, ◌⊎◌, List, IfOk, map};
+ghost use Rattle.std.specs.String.{string_bytes};
+ghost use Rattle.clap.specs.Words.{Text};
 ghost use Rattle.cb_io.specs.Output.{IsReady};
+ghost use Rattle.cb_run.specs.Statuses.{EndedBefore, EndedByRun, Untouched};
 
 use crate::program::carry_out;
 use crate::reports::{ended, no_memory, refused};
-use cb_forms::{Out, Sink, Source};
+use cb_forms::{NoMemory, Out, Sink, Source};
+use std::alloc::Global;
 use std::env::{self, Env};
 use std::io::{self, Eprint, Print};
 
@@ -15,6 +20,15 @@ pub fn run_program<R: AllocGlobal + Env + Print + Eprint, S: Source, K: Sink>(
     out: &mut Out<K>,
 ) -> u8
     requires { IsReady out.old }
+    // By some words; that they are those that the system has is not said. Or they could not be had.
+    ensures { ((words : List Text) × (EndedByRun words result
+        (S.left source.old) (S.left source.new) (S.reads source.old) (S.reads source.new)
+        (K.writes out.old.sink) (K.writes out.new.sink)
+        ⊎ EndedBefore words result
+        (S.left source.old) (S.left source.new) (S.reads source.old) (S.reads source.new)
+        (K.writes out.old.sink) (K.writes out.new.sink)))
+        ⊎ Untouched (S.left source.old) (S.left source.new) (S.reads source.old) (S.reads source.new)
+        (K.writes out.old.sink) (K.writes out.new.sink) }
 {
     match given_words(rt) {
         Ok(given) => carry_out_words(rt, given.as_slice(), source, out),
@@ -39,22 +53,37 @@ fn given_words<R: AllocGlobal + Env + Eprint>(rt: &R) -> Result<Vec<String>, u8>
 }
 
 /// Carries the script out as these words ask, and reports what there is to report; its exit status.
-fn carry_out_words<R: AllocGlobal + Print + Eprint, S: Source, K: Sink>(
+pub fn carry_out_words<R: AllocGlobal + Print + Eprint, S: Source, K: Sink>(
     rt: &R,
     given: &[String],
     source: &mut S,
     out: &mut Out<K>,
 ) -> u8
     requires { IsReady out.old }
+    ensures { EndedByRun (map string_bytes given.now) result
+        (S.left source.old) (S.left source.new) (S.reads source.old) (S.reads source.new)
+        (K.writes out.old.sink) (K.writes out.new.sink)
+        ⊎ EndedBefore (map string_bytes given.now) result
+        (S.left source.old) (S.left source.new) (S.reads source.old) (S.reads source.new)
+        (K.writes out.old.sink) (K.writes out.new.sink) }
 {
-    let mut words = Vec::new(rt.alloc());
-    for word in given {
-        if words.push(word.as_str()).is_err() {
-            return no_memory(rt);
-        }
-    }
+    let words = match borrowed(rt.alloc(), given) {
+        Ok(words) => words,
+        Err(_) => return no_memory(rt),
+    };
     match carry_out(rt.alloc(), words.as_slice(), source, out) {
         Ok(outcome) => ended(rt, outcome),
         Err(error) => refused(rt, error),
     }
+}
+
+/// These words, borrowed.
+fn borrowed<'a>(alloc: Global, given: &'a [String]) -> Result<Vec<&'a str>, NoMemory>
+    ensures { IfOk result (λ words. map (λ w. w.now) words.items ≡ map string_bytes given.now) }
+{
+    let mut words = Vec::new(alloc);
+    for word in given {
+        words.push(word.as_str())?;
+    }
+    Ok(words)
 }

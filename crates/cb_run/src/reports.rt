@@ -1,6 +1,7 @@
 //! What is reported outside the transcript, and the exit status that goes with it.
-ghost use Rattle.std.specs.Prelude.{◌≡◌, ◌≢◌};
+ghost use Rattle.std.specs.Prelude.{◌≡◌};
 ghost use Rattle.clap.specs.Words.{kind_of};
+ghost use Rattle.cb_run.specs.Statuses.{IsStatusFor};
 
 use crate::outcome::{Cause, Outcome};
 use clap::Error;
@@ -9,10 +10,7 @@ use std::io::{Eprint, Print};
 
 /// Reports why the words are refused, or the help that they ask for; its exit status.
 pub(crate) fn refused<R: Print + Eprint>(rt: &R, error: Error) -> u8
-    ensures memory { kind_of error ≡ ErrorKind.OutOfMemory → result ≡ 3 }
-    ensures help { kind_of error ≡ ErrorKind.DisplayHelp → result ≡ 0 }
-    ensures wrong { kind_of error ≢ ErrorKind.OutOfMemory → kind_of error ≢ ErrorKind.DisplayHelp
-        → kind_of error ≢ ErrorKind.DisplayVersion → result ≡ 2 }
+    ensures { IsStatusFor (kind_of error) result }
 {
     if error.kind() == ErrorKind::OutOfMemory {
         return no_memory(rt);

@@ -10,8 +10,8 @@ use Rattle.cb_forms.specs.declared.form.Item.{Item}
 use Rattle.cb_forms.specs.declared.fault.Fault.{Fault}
 use Rattle.cb_forms.specs.declared.token.Token.TheVariants as token
 use Rattle.cb_io.specs.Histories.{Writes}
-use Rattle.cb_io.specs.Output.{OutState, Extent, all_put, out_of_memory, write_failed, Puts}
-use Rattle.cb_io.proofs.Putting.{puts_none, puts_then, puts_nothing, puts_refused, puts_less, puts_failed, puts_as}
+use Rattle.cb_io.specs.Output.{OutState, all_put, Puts}
+use Rattle.cb_io.proofs.Putting.{puts_none, puts_then, puts_nothing, puts_less, puts_failed, puts_as}
 use Rattle.cb_session.specs.Acts.{State, Effect, Act, after_writing, follow, give_or_fault}
 use Rattle.cb_session.specs.Actions.{acted, performed, performed_and_shown, shown, shown_line}
 use Rattle.cb_session.specs.Lines.{fault_line, exhausted_line, too_long_line, value_line}

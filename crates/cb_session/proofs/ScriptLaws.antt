@@ -8,7 +8,6 @@ use Rattle.cb_forms.specs.Cutter.{Progress, fresh_progress, readings_in}
 use Rattle.cb_forms.specs.Items.{items, parts, whole, over, fitting}
 use Rattle.cb_forms.specs.Trees.{Reading, reading_of}
 use Rattle.cb_forms.specs.declared.cut.Cut.{Cut}
-use Rattle.cb_forms.specs.declared.cut.Cut.TheVariants as cut
 use Rattle.cb_forms.specs.declared.form.Item.{Item}
 use Rattle.cb_forms.proofs.FittingLaws.{fitting-whole}
 use Rattle.cb_session.specs.Acts.{State, first_state}

@@ -1,5 +1,5 @@
 -- A session that takes a byte more, and ends.
-use Rattle.std.proofs.Common.{◌≡◌, ◌≤◌, ◌+◌, ◌<◌, ℕ, true, false, List, [], ◌∷◌, ◌++◌, Option, Some, None, Result, Ok, Err, IfOk, OnOk, is_some, refl, sym, ap, ap₂, ◌∙◌, subst, length, take, drop, get_or, append_assoc}
+use Rattle.std.proofs.Common.{◌≡◌, ◌+◌, ◌<◌, ℕ, true, false, List, [], ◌∷◌, ◌++◌, Option, Some, None, Result, Ok, Err, IfOk, OnOk, is_some, refl, sym, ap, ap₂, ◌∙◌, subst, length, take, drop, get_or, append_assoc}
 use Rattle.std.proofs.lemmas.List.{append-nil, take_more, take-append-drop}
 use Rattle.cb_forms.specs.Cuts.{item_readings, cut_items, is_too_long}
 use Rattle.cb_forms.specs.Cutter.{Progress, readings_in}
@@ -9,18 +9,18 @@ use Rattle.cb_forms.specs.declared.cut.Cut.{Cut}
 use Rattle.cb_forms.specs.declared.cut.Cut.TheVariants as cut
 use Rattle.cb_forms.specs.declared.form.Item.{Item}
 use Rattle.cb_io.specs.Histories.{Writes}
-use Rattle.cb_io.specs.Output.{OutState, Extent, all_put, out_of_memory, Puts}
+use Rattle.cb_io.specs.Output.{OutState}
 use Rattle.cb_io.proofs.Putting.{puts_none, puts_nothing, puts_as}
 use Rattle.cb_session.specs.Acts.{State}
 use Rattle.cb_session.specs.Scripts.{from, cut_run, IsUnderWay, Steps, Ends}
 use Rattle.cb_session.specs.Sessions.{SessionState, session_after}
-use Rattle.cb_session.specs.Transcripts.{Run, joined, after_all, executed, so_far, complete, added, added_at_end}
-use Rattle.cb_session.specs.Went.{Executes, stop_extent}
+use Rattle.cb_session.specs.Transcripts.{after_all, executed, so_far, added}
+use Rattle.cb_session.specs.Went.{Executes}
 use Rattle.cb_session.specs.declared.limits.Limits.{Limits}
 use Rattle.cb_session.specs.declared.status.Status.{Status}
 use Rattle.cb_session.specs.declared.status.Stop.{Stop}
 use Rattle.cb_session.specs.declared.status.Stop.TheVariants as stop
-use Rattle.cb_session.proofs.ScriptLaws.{so_far-push, way-push, way-status, complete-end, added-joined, added-then, end-joined, ended-status, ended-adds, next-byte}
+use Rattle.cb_session.proofs.ScriptLaws.{so_far-push, way-push, complete-end, added-joined, added-then, end-joined, ended-status, ended-adds, next-byte}
 
 if_ok : {T E : Type 0} (P Q : T → Type 0) (r : Result T E) → ((x : T) → P x → Q x) → IfOk r P → IfOk r Q
 if_ok P Q (Ok x) f h = f x h

@@ -1,12 +1,12 @@
 -- What the requests of a script do.
-use Rattle.std.specs.Prelude.{◌||◌, ◌++◌, ℕ, Bool, true, false, List, [], Option, Some, None, Result, Ok, Err, option_map, if◌then◌else◌}
+use Rattle.std.specs.Prelude.{◌||◌, ℕ, Bool, true, false, List, [], Option, Some, None, Ok, Err, option_map, if◌then◌else◌}
 use Rattle.std.specs.List.{list_any, list_all}
 use Rattle.std.specs.Option.{option_map_or}
 use Rattle.std.specs.Str.{bytes_eq}
 use Rattle.cb_forms.specs.Members.{head_and_rest}
 use Rattle.cb_forms.specs.Trees.{Reading, Trees}
 use Rattle.cb_forms.specs.declared.fault.Fault.TheVariants.{NoSuchFact, WrongType}
-use Rattle.cb_session.specs.Acts.{State, first_state, Effect, Act, give, stop, give_or_fault, write, become, follow, ◌>>=◌}
+use Rattle.cb_session.specs.Acts.{State, first_state, Act, give, stop, give_or_fault, write, become, ◌>>=◌}
 use Rattle.cb_session.specs.Deffacts.{with_deffacts, facts_in, is_named_in_deffacts}
 use Rattle.cb_session.specs.Lines.{value_line, fact_lines}
 use Rattle.cb_session.specs.Printing.{printed}

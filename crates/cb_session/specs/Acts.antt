@@ -1,5 +1,5 @@
 -- Acts: what is done to the state and what is written, one act after another.
-use Rattle.std.specs.Prelude.{ℕ, Bool, false, List, [], ◌++◌, Option, Some, None, Result, Ok, Err}
+use Rattle.std.specs.Prelude.{ℕ, Bool, false, List, [], ◌++◌, Option, None, Result, Ok, Err}
 use Rattle.cb_forms.specs.declared.fault.Fault.{Fault}
 use Rattle.cb_session.specs.Deffacts.{DeffactsTable}
 use Rattle.cb_session.specs.WorkingMemory.{Memory, empty_memory}

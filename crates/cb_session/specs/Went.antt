@@ -1,5 +1,5 @@
 -- What a call that carries something out did to the output and to the state.
-use Rattle.std.specs.Prelude.{◌≡◌, List, [], ℕ, Option, Result, Ok, Err, OnOk, IfOk}
+use Rattle.std.specs.Prelude.{◌≡◌, [], Option, Result, Ok, Err, OnOk, IfOk}
 use Rattle.cb_io.specs.Histories.{Writes}
 use Rattle.cb_io.specs.Output.{OutState, Extent, all_put, out_of_memory, write_failed, Puts}
 use Rattle.cb_session.specs.Acts.{State, Effect}

@@ -11,7 +11,6 @@ use cb_values::{Fact, FactList, Value};
 use std::alloc::Global;
 use std::marker::Model;
 
-
 /// The greatest index that a fact may have.
 const GREATEST_INDEX: u64 = 9_223_372_036_854_775_807;
 

@@ -1,5 +1,5 @@
 use Rattle.cb_run.proofs.script.follow.Goals as goal
-use Rattle.std.proofs.Common.{ap, arith, rules, ◌∙◌, refl, subst, ◌≡◌, ◌≢◌, ◌≤◌, ◌+◌, ◌++◌, length, [], take, Err, List, ℕ}
+use Rattle.std.proofs.Common.{ap, arith, rules, ◌∙◌, refl, ◌≡◌, ◌≢◌, ◌≤◌, ◌+◌, ◌++◌, length, [], take, Err}
 use Rattle.std.proofs.lemmas.List.{length-take}
 use Rattle.cb_io.specs.Moved.{Gave}
 use Rattle.cb_run.proofs.Following.{GaveMore, ended_more, following_none, following_on, turns_on}

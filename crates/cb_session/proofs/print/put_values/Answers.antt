@@ -1,4 +1,4 @@
-use Rattle.std.proofs.Common.{◌≡◌, ◌++◌, ◌+◌, Err, take, drop, refl, ap, sym, ◌∙◌, rules}
+use Rattle.std.proofs.Common.{◌≡◌, ◌++◌, ◌+◌, Err, take, drop, refl, ap, sym, rules}
 use Rattle.std.specs.List.{flat_map}
 use Rattle.cb_io.proofs.Putting.{puts_none, puts_fine, puts_then, puts_as}
 use Rattle.cb_session.specs.Printing.{printed_value}

@@ -1,4 +1,4 @@
-use Rattle.std.proofs.Common.{◌≡◌, ◌++◌, Option, None, false, refl, subst}
+use Rattle.std.proofs.Common.{◌≡◌, ◌++◌, Option, false, refl, subst}
 use Rattle.cb_forms.specs.Cuts.{item_readings}
 use Rattle.cb_forms.specs.Cutter.{readings_in}
 use Rattle.cb_forms.specs.Items.{items, over}

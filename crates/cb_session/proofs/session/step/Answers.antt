@@ -15,7 +15,7 @@ pub returns-in-Ok-false : goal.returns-in-Ok-false
 returns-in-Ok-false g c = λ l fed way.
     let same = c.in-Ok-false.ensures.untouched c.in-Ok-false.field-0-test in
     let P : Progress → Type 0 = λ it. (m : Limits) (p : List ℕ) → IsUnderWay m p it c.args.engine.now
-        → Steps g.K.Sink.writes c.args.out.now c.step_on.new.out m p c.args.byte c.step_on.new.cutter c.step_on.new.engine c.step_on.result in
+    → Steps g.K.Sink.writes c.args.out.now c.step_on.new.out m p c.args.byte c.step_on.new.cutter c.step_on.new.engine c.step_on.result in
     subst P same c.step_on.ensures l fed way
 
 pub returns-in-Err : goal.returns-in-Err

@@ -1,4 +1,3 @@
-use Rattle.std.proofs.Common.{◌≡◌, ap, sym, refl, rules}
 use Rattle.cb_forms.specs.Trees.{reading_of}
 use Rattle.cb_session.proofs.ActLaws.{executes-shown}
 use Rattle.cb_session.proofs.engine.Engine.execute.Goals as goal

@@ -1,4 +1,4 @@
-use Rattle.std.proofs.Common.{◌≡◌, [], Err, refl, sym, ap, ◌∙◌, rules}
+use Rattle.std.proofs.Common.{◌≡◌, [], Err, refl, sym, ap, rules}
 use Rattle.std.proofs.lemmas.List.{append-nil}
 use Rattle.cb_io.proofs.Putting.{puts_fine, puts_fine_part, puts_then, puts_as}
 use Rattle.cb_session.specs.Transcripts.{added_at_end}

@@ -1,4 +1,4 @@
-use Rattle.std.proofs.Common.{◌≡◌, [], refl, sym, ap}
+use Rattle.std.proofs.Common.{[], refl, sym, ap}
 use Rattle.std.proofs.lemmas.List.{append-nil}
 use Rattle.cb_io.proofs.Putting.{puts_fine, puts_fine_part, puts_then, puts_as}
 use Rattle.cb_session.specs.Transcripts.{added}

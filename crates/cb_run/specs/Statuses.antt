@@ -1,0 +1,35 @@
+-- How the program ends, by its words and its run.
+use Rattle.std.specs.Prelude.{◌≡◌, ◌≢◌, ◌⊎◌, ℕ, List, Option}
+use Rattle.clap.specs.Words.{IsAmong, Text, fault_of}
+use Rattle.clap.specs.declared.error.kind.ErrorKind.{ErrorKind}
+use Rattle.clap.specs.declared.error.kind.ErrorKind.TheVariants as kind
+use Rattle.cb_io.specs.Histories.{Reads, Writes}
+use Rattle.cb_run.specs.Commands.{limits_app}
+use Rattle.cb_run.specs.RanBy.{RanBy}
+use Rattle.cb_run.specs.declared.outcome.Outcome.{Outcome}
+
+-- The exit status for an error of this kind: memory was refused, help was asked for, or the words are wrong. The options have no
+-- version to ask for.
+pub record IsStatusFor (k : ErrorKind) (status : ℕ) : Type 0 where
+  pub memory : k ≡ kind.OutOfMemory → status ≡ 3
+  pub help : k ≡ kind.DisplayHelp → status ≡ 0
+  pub wrong : k ≢ kind.OutOfMemory → k ≢ kind.DisplayHelp → k ≢ kind.DisplayVersion → status ≡ 2
+
+-- The script was carried out by these words, and the status is that of the run.
+pub record EndedByRun (words : List Text) (status : ℕ) (left left' : Option (List ℕ)) (reads reads' : Reads) (writes writes' : Writes) : Type 0 where
+  pub outcome : Outcome
+  pub ran : RanBy words outcome left left' reads reads' writes writes'
+  pub status_is : status ≡ outcome.status
+
+-- Nothing was read of the script and nothing written: the words have a fault, whose status this is, or memory was refused.
+pub record EndedBefore (words : List Text) (status : ℕ) (left left' : Option (List ℕ)) (reads reads' : Reads) (writes writes' : Writes) : Type 0 where
+  pub left_is : left' ≡ left
+  pub reads_are : reads' ≡ reads
+  pub writes_are : writes' ≡ writes
+  pub status_is : (status ≡ 3) ⊎ ((k : ErrorKind) × IsAmong k (fault_of limits_app words) × IsStatusFor k status)
+
+-- The script was left alone.
+pub record Untouched (left left' : Option (List ℕ)) (reads reads' : Reads) (writes writes' : Writes) : Type 0 where
+  pub left_is : left' ≡ left
+  pub reads_are : reads' ≡ reads
+  pub writes_are : writes' ≡ writes
