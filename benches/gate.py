@@ -15,15 +15,18 @@ import time
 TICKS = os.sysconf("SC_CLK_TCK")
 
 
-def looks():
-    """Yields the process, the folder, the words and the seconds of each `rattle` process."""
+def looks(top):
+    """Yields the process, the folder, the words and the seconds of each `rattle` process of this gate."""
     for pid in filter(str.isdigit, os.listdir("/proc")):
         try:
             words = open(f"/proc/{pid}/cmdline").read().split("\0")
             if not words[0].endswith("/rattle"):
                 continue
+            folder = os.readlink(f"/proc/{pid}/cwd")
+            if not folder.startswith(top) and "rt-edit" not in folder:
+                continue
             stat = open(f"/proc/{pid}/stat").read().rsplit(")", 1)[1].split()
-            yield pid, stat[19], os.readlink(f"/proc/{pid}/cwd"), words, (int(stat[11]) + int(stat[12])) / TICKS
+            yield pid, stat[19], folder, words, (int(stat[11]) + int(stat[12])) / TICKS
         except OSError:
             continue
 
@@ -43,7 +46,7 @@ def main():
     gate = subprocess.Popen(["rt", "ci"])
     seconds, parts = {}, {}
     while gate.poll() is None:
-        for pid, start, folder, words, spent in looks():
+        for pid, start, folder, words, spent in looks(os.getcwd()):
             seconds[pid, start] = spent
             parts[pid, start] = part(folder, words)
         time.sleep(0.2)
