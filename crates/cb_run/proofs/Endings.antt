@@ -103,6 +103,16 @@ begins_of_all_read : (l : Limits) (left left' : Option (List ℕ)) (p wrote : Li
 begins_of_all_read l None left' p wrote gave end h = tt
 begins_of_all_read l (Some s) left' p wrote gave end h = subst (λ it. BeginsWith wrote (transcript l it)) (sym (read_all s p left' gave end)) h
 
+-- a beginning of what is written however the script goes on, where some bytes are unread
+with_more : (l : Limits) (left' : Option (List ℕ)) (p wrote : List ℕ) → ((r : List ℕ) → BeginsWith wrote (transcript l (p ++ r)))
+    → IfSome left' (λ unread. unread ≢ [] → (rest : List ℕ) → BeginsWith wrote (transcript l (p ++ rest)))
+with_more l None p wrote h = tt
+with_more l (Some unread) p wrote h = λ _. h
+
+with_none : (l : Limits) (left' : Option (List ℕ)) (p wrote : List ℕ) → IsAtEnd left' → IfSome left' (λ unread. unread ≢ [] → (rest : List ℕ) → BeginsWith wrote (transcript l (p ++ rest)))
+with_none l None p wrote end = tt
+with_none l (Some unread) p wrote end = λ some. absurd (some end)
+
 begins_then : (a b c : List ℕ) → BeginsWith a b → BeginsWith b c → BeginsWith a c
 begins_then a b c (m, e) (n, f) = (m ++ n, f ∙ (ap (λ it. it ++ n) e ∙ append_assoc a m n))
 
@@ -137,6 +147,7 @@ module _ (l : Limits) (s : SessionState) (left a a' : Option (List ℕ)) (reads 
         gave = all;
         whole_transcript = λ _. of_all l (ended_as status) left a' p (so_far l p).written all (λ rest. ended_transcript l p rest status ended);
         after_stop_of_all = λ h. absurd (ended_not_stopped status.ending h);
+        after_stop_with_more = λ h. absurd (ended_not_stopped status.ending h);
         read_failed = λ h. absurd (ended_not_read_fault status.ending h);
       }
 
@@ -170,6 +181,7 @@ module _ (l : Limits) (s : SessionState) (left a a' : Option (List ℕ)) (reads 
         gave = all;
         whole_transcript = λ h. absurd (stopped_not_ended e h);
         after_stop_of_all = λ _. begins_of_all l left a' p (here ++ some.written) all however;
+        after_stop_with_more = λ _. with_more l a' p (here ++ some.written) however;
         read_failed = λ h. absurd (stopped_not_read_fault e h);
       }
 
@@ -209,6 +221,7 @@ module _ (l : Limits) (s : SessionState) (left a a' : Option (List ℕ)) (reads 
         gave = gave_all;
         whole_transcript = λ _. of_all_read l (ended_as status) left a' s.fed (transcript l s.fed) gave_all end all;
         after_stop_of_all = λ h. absurd (ended_not_stopped status.ending h);
+        after_stop_with_more = λ h. absurd (ended_not_stopped status.ending h);
         read_failed = λ h. absurd (ended_not_read_fault status.ending h);
       }
 
@@ -238,6 +251,7 @@ module _ (l : Limits) (s : SessionState) (left a a' : Option (List ℕ)) (reads 
         gave = gave_all;
         whole_transcript = λ h. absurd (stopped_not_ended e h);
         after_stop_of_all = λ _. begins_of_all_read l left a' s.fed (here ++ some.written) gave_all end begins;
+        after_stop_with_more = λ _. with_none l a' s.fed (here ++ some.written) end;
         read_failed = λ h. absurd (stopped_not_read_fault e h);
       }
 
@@ -262,6 +276,7 @@ module _ (l : Limits) (s : SessionState) (left a : Option (List ℕ)) (reads r r
     gave = before.gave;
     whole_transcript = λ h. absurd h;
     after_stop_of_all = λ h. absurd h;
+    after_stop_with_more = λ h. absurd h;
     read_failed = λ _. failed;
   }
 

@@ -1,5 +1,5 @@
 -- All that is promised of a run, in one record.
-use Rattle.std.specs.Prelude.{◌≡◌, ◌≢◌, ◌<◌, ◌-◌, ◌^◌, ◌++◌, ℕ, List, length, Option, IfSome}
+use Rattle.std.specs.Prelude.{◌≡◌, ◌≢◌, ◌<◌, ◌-◌, ◌^◌, ◌++◌, ℕ, List, [], length, Option, IfSome}
 use Rattle.cb_forms.specs.Laws.{BeginsWith}
 use Rattle.cb_io.specs.Histories.{Reads, Writes}
 use Rattle.cb_io.specs.Moved.{Gave}
@@ -36,8 +36,9 @@ pub record Ran (limits : Limits) (result : Outcome) (left left' : Option (List �
   pub write_failed : result.cause ≡ WriteFault → writes.failures < writes'.failures
   pub no_write_failed : (result.cause ≢ WriteFault) → writes'.failures ≡ writes.failures
   pub status_of_fault : HasFailed result.cause → result.status ≡ 3
-  -- A source that tells its bytes: of all of them, read or not.
+  -- A source that tells its bytes: of all of them, read or not. Where some are unread, it doesn't matter which.
   pub gave : Gave left left' read
   pub whole_transcript : HasEnded result.cause → IfSome left (λ s. IsTranscript limits result s wrote)
   pub after_stop_of_all : HasStopped result.cause → IfSome left (λ s. BeginsWith wrote (transcript limits s))
+  pub after_stop_with_more : HasStopped result.cause → IfSome left' (λ unread. unread ≢ [] → (rest : List ℕ) → BeginsWith wrote (transcript limits (read ++ rest)))
   pub read_failed : result.cause ≡ ReadFault → IfSome left (λ s. length s < 2 ^ 64 - 1 → reads.failures < reads'.failures)
