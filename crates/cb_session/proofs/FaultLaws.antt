@@ -1,5 +1,5 @@
 -- What an item that ends with a fault leaves as it was.
-use Rattle.std.proofs.Common.{◌≡◌, ◌≢◌, pos, negsuc, ◌∙◌, ℕ, Bool, true, false, List, [], ◌∷◌, Option, Some, None, Result, Ok, Err, refl, sym, ap, arith, cond, subst, is_some, ◌⊎◌, inl, inr, zero, suc, if◌then◌else◌}
+use Rattle.std.proofs.Common.{◌≡◌, ◌≢◌, pos, negsuc, ◌∙◌, ℕ, Bool, true, false, List, [], ◌∷◌, Option, Some, None, Result, Ok, Err, refl, sym, ap, arith, cond, subst, is_some, map, ◌⊎◌, inl, inr, zero, suc, if◌then◌else◌}
 use Rattle.std.specs.List.{Contains, list_all}
 use Rattle.std.specs.BTreeMap.{is_at}
 use Rattle.std.specs.Map.{remove_entry}
@@ -12,6 +12,7 @@ use Rattle.cb_session.specs.Requests.{Request, request_of}
 use Rattle.cb_session.specs.Acts.{State, Effect, give_or_fault, stop, become, follow, ◌>>=◌}
 use Rattle.cb_session.specs.Actions.{is_name_in_use, asserted, retracted, without_value, performed, performed_and_shown, shown, acted}
 use Rattle.cb_session.specs.Deffacts.{facts_in}
+use Rattle.cb_session.specs.FactExprs.{fact_by}
 use Rattle.cb_session.specs.Laws.{TakesFactsAlone, EndsWithFault}
 use Rattle.cb_session.specs.Transcripts.{Run, concluded, executed}
 use Rattle.cb_session.specs.WorkingMemory.{Memory, empty_memory, asserted_all, is_retractable, retracted_all, retracted_one, after_retracted, without}
@@ -55,7 +56,7 @@ performed_leaves : (s : State) (request : Request) → ((values : List Value) �
 performed_leaves s (asked.show v) other f h = refl
 performed_leaves s (asked.define_template ts) other f h = template_leaves s (defined s.templates (is_name_in_use s ts) ts) f h
 performed_leaves s (asked.define_deffacts name facts) other f h = absurd (cc)
-performed_leaves s (asked.assert facts) other f h = assert_leaves s (asserted_all s.memory None facts) f h
+performed_leaves s (asked.assert facts) other f h = assert_leaves s (asserted_all s.memory None (map fact_by facts)) f h
 performed_leaves s (asked.retract values) other f h = absurd (other values refl)
 performed_leaves s asked.list_facts other f h = refl
 performed_leaves s (asked.print on values) other f h = refl

@@ -1,4 +1,4 @@
--- The assertion of one fact, and of one list of facts behind another.
+-- The assertion of one fact, and of one list of facts after another.
 use Rattle.std.proofs.Common.{◌≡◌, ◌≤◌, ◌<◌, ◌+◌, ◌++◌, ℕ, true, false, List, [], ◌∷◌, Option, Some, None, refl, sym, ap, ◌∙◌, nat_lt, rules, if◌then◌else◌}
 use Rattle.cb_session.specs.WorkingMemory.{Memory, greatest_index, grown, asserted_beside, asserted_one, after_one, asserted_all}
 use Rattle.cb_session.specs.declared.working_memory.Asserted.{Asserted}
@@ -23,12 +23,11 @@ one-added m fact base absent room =
     let yes : nat_lt m.last greatest_index ≡ true = search rules in
     ap (asserted_beside m fact) (index_of-absent m.facts fact base absent) ∙ ap (λ t. if t then (grown m fact, Some (m.last + 1)) else (m, None)) yes
 
--- the same, where a clone of the fact was added
-pub one-added_clone : (m : Memory) (fact copy : FactValue) (new : IndexedFacts) → IsFactBase m.facts → IsAbsent m.facts fact → m.last < greatest_index → new ≡ with_fact m.facts (m.last + 1) copy → copy ≡ fact
+-- the same, where these are the facts with it
+pub one-added_as : (m : Memory) (fact : FactValue) (new : IndexedFacts) → IsFactBase m.facts → IsAbsent m.facts fact → m.last < greatest_index → new ≡ with_fact m.facts (m.last + 1) fact
     → asserted_one m fact ≡ (record { facts = new; last = m.last + 1 }, Some (m.last + 1))
-one-added_clone m fact copy new base absent room added same =
-    let new_is : with_fact m.facts (m.last + 1) fact ≡ new = ap (with_fact m.facts (m.last + 1)) (sym same) ∙ sym added in
-    one-added m fact base absent room ∙ ap (λ (facts : IndexedFacts). (record { facts = facts; last = m.last + 1 }, Some (m.last + 1))) new_is
+one-added_as m fact new base absent room added =
+    one-added m fact base absent room ∙ ap (λ (facts : IndexedFacts). (record { facts = facts; last = m.last + 1 }, Some (m.last + 1))) (sym added)
 
 -- what follows the assertion of some facts
 abbrev pub then_all : Memory × Asserted → List FactValue → Memory × Asserted

@@ -1,5 +1,5 @@
 -- What the requests of a script do.
-use Rattle.std.specs.Prelude.{◌||◌, ℕ, Bool, true, false, List, [], Option, Some, None, Ok, Err, option_map, if◌then◌else◌}
+use Rattle.std.specs.Prelude.{◌||◌, ℕ, Bool, true, false, List, [], Option, Some, None, Ok, Err, map, option_map, if◌then◌else◌}
 use Rattle.std.specs.List.{list_any, list_all}
 use Rattle.std.specs.Option.{option_map_or}
 use Rattle.std.specs.Str.{bytes_eq}
@@ -8,6 +8,7 @@ use Rattle.cb_forms.specs.Trees.{Reading, Trees}
 use Rattle.cb_forms.specs.declared.fault.Fault.TheVariants.{NoSuchFact, WrongType}
 use Rattle.cb_session.specs.Acts.{State, first_state, Act, give, stop, give_or_fault, write, become, ◌>>=◌}
 use Rattle.cb_session.specs.Deffacts.{with_deffacts, facts_in, is_named_in_deffacts}
+use Rattle.cb_session.specs.FactExprs.{fact_by}
 use Rattle.cb_session.specs.Lines.{value_line, fact_lines}
 use Rattle.cb_session.specs.Printing.{printed}
 use Rattle.cb_session.specs.Requests as request
@@ -52,7 +53,7 @@ performed (request.show v) s = give (Some v) s
 performed (request.define_template ts) s =
     (give_or_fault (defined s.templates (is_name_in_use s ts) ts) >>= (λ templates. become (record s { templates = templates }))) s
 performed (request.define_deffacts name facts) s = become (record s { deffacts = with_deffacts s.deffacts name facts }) s
-performed (request.assert facts) s = asserted (asserted_all s.memory None facts) s
+performed (request.assert facts) s = asserted (asserted_all s.memory None (map fact_by facts)) s
 performed (request.retract values) s = retract values s
 performed request.list_facts s = write (fact_lines s.memory.facts) s
 performed (request.print on values) s = write (printed on values) s

@@ -5,6 +5,7 @@ use Rattle.cb_forms.specs.Trees.{Reading, Trees, no_trees, tree}
 use Rattle.cb_forms.specs.declared.fault.Fault.{Fault}
 use Rattle.cb_session.specs.Acts.{State}
 use Rattle.cb_session.specs.Actions.{acted}
+use Rattle.cb_session.specs.FactExprs.{FactExpr}
 use Rattle.cb_session.specs.FactForms.{headed_fact}
 use Rattle.cb_session.specs.WorkingMemory.{Memory}
 use Rattle.cb_session.specs.declared.act.Ended.TheVariants as ended
@@ -41,5 +42,5 @@ followed_by no_trees us = us
 followed_by (tree t ts) us = tree t (followed_by ts us)
 
 -- where these relations have a template, the list of a relation and these forms is this fact
-abbrev pub IsFact : Templates → List ℕ → Trees → FactValue → Type 0
+abbrev pub IsFact : Templates → List ℕ → Trees → FactExpr → Type 0
 IsFact templates relation ts fact = headed_fact templates (Some (relation, ts)) ≡ Ok fact

@@ -1,5 +1,8 @@
 pub mod Heads
 pub mod Constants
+pub mod FactExprs
+pub mod SlotContents
+pub mod FactContents
 pub mod FactForms
 pub mod Requests
 pub mod Lines

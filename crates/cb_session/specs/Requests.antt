@@ -7,6 +7,7 @@ use Rattle.cb_forms.specs.Trees.{Tree, atom, branch, Trees, no_trees, tree, Read
 use Rattle.cb_forms.specs.declared.fault.Fault.{Fault}
 use Rattle.cb_forms.specs.declared.fault.Fault.TheVariants.{UnknownFunction, WrongArguments, MalformedForm, NotInProfile}
 use Rattle.cb_session.specs.Constants.{token_value, values_of}
+use Rattle.cb_session.specs.FactExprs.{FactExpr}
 use Rattle.cb_session.specs.FactForms.{facts_of}
 use Rattle.cb_session.specs.Heads.{head_of}
 use Rattle.cb_session.specs.declared.print.Channel.{Channel}
@@ -15,7 +16,6 @@ use Rattle.cb_session.specs.declared.command.Command.{Command}
 use Rattle.cb_session.specs.declared.command.Command.TheVariants as program
 use Rattle.cb_session.specs.declared.heads.Head.{Head}
 use Rattle.cb_session.specs.declared.heads.Head.TheVariants as head
-use Rattle.cb_facts.specs.Facts.{FactValue}
 use Rattle.cb_templates.specs.Results.{ok_then}
 use Rattle.cb_templates.specs.Templates.{Templates, without_comment}
 use Rattle.cb_facts.specs.declared.value.Value.{Value}
@@ -24,11 +24,11 @@ use Rattle.cb_facts.specs.declared.value.Value.{Value}
 pub data Request : Type 0 where
   -- to show a value
   show : Value → Request
-  -- to define the template that is written behind `deftemplate`
+  -- to define the template that is written after `deftemplate`
   define_template : Trees → Request
   -- to keep facts under a name for `reset`
-  define_deffacts : List ℕ → List FactValue → Request
-  assert : List FactValue → Request
+  define_deffacts : List ℕ → List FactExpr → Request
+  assert : List FactExpr → Request
   retract : List Value → Request
   list_facts : Request
   -- to print values on a channel

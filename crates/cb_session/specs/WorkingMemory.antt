@@ -28,7 +28,7 @@ index_of ((ix, there) ∷ facts) fact = if fact_eq there fact then Some ix else 
 abbrev pub grown : Memory → FactValue → Memory
 grown m fact = record { facts = with_fact m.facts (m.last + 1) fact; last = m.last + 1 }
 
--- The memory behind the assertion of a fact, and the fact's index: the one that an equal fact had, or the next. There is none
+-- The memory after the assertion of a fact, and the fact's index: the one that an equal fact had, or the next. There is none
 -- where no index is left.
 abbrev pub asserted_beside : Memory → FactValue → Option ℕ → Memory × Option ℕ
 asserted_beside m fact (Some ix) = (m, Some ix)
@@ -42,8 +42,8 @@ abbrev pub after_one : Memory × Option ℕ → (Memory → Option ℕ → Memor
 after_one (m, Some ix) next = next m (Some ix)
 after_one (m, None) next = (m, Exhausted)
 
--- Facts asserted, one after another, where the one before them has the index `last`: the memory behind them, and the index of
--- the one asserted last. Where no index is left, those behind are not asserted.
+-- Facts asserted, one after another, where the one before them has the index `last`: the memory after them, and the index of
+-- the one asserted last. Where no index is left, those after are not asserted.
 abbrev pub asserted_all : Memory → Option ℕ → List FactValue → Memory × Asserted
 asserted_all m last [] = (m, All last)
 asserted_all m last (fact ∷ facts) = after_one (asserted_one m fact) (λ n ix. asserted_all n ix facts)

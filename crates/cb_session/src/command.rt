@@ -1,30 +1,31 @@
 //! What items ask for.
-ghost use Rattle.std.specs.Prelude.{◌≡◌, Ok, Err, IfOk, IfErr};
+ghost use Rattle.std.specs.Prelude.{◌≡◌};
 ghost use Rattle.cb_forms.specs.Members.{head_and_rest, members, symbol_of};
 ghost use Rattle.cb_forms.specs.Trees.{reading_of, tree_of};
 ghost use Rattle.cb_session.specs.Requests.{request_by, assert_request, bare_request, request_of, deffacts_request, form_request, headed_request, named_channel, printout_request, retract_request};
-ghost use Rattle.cb_templates.specs.Results.{Tells};
+ghost use Rattle.cb_templates.specs.Results.{Settles};
 ghost use Rattle.std.specs.Option.{option_and_then};
 
 use crate::constant::{read_constant, read_values};
+use crate::fact_expr::FactExpr;
 use crate::fact_form::read_facts;
 use crate::heads::{Head, read_head};
 use crate::print::Channel;
 use cb_forms::{Fault, Form, Item, split_head};
-use cb_values::{Fact, Name, Refused, Relations, Value, without_comment};
+use cb_values::{Name, Refused, Relations, Value, without_comment};
 use std::alloc::Global;
 
 /// What an item asks for.
-#[derive(Debug, Drop)]
+#[derive(Drop)]
 pub(crate) enum Command<'a> {
     /// To show a value.
     Show(Value),
-    /// To define the template that these forms are, which stand behind `deftemplate`.
+    /// To define the template that these forms are, which follow `deftemplate`.
     DefineTemplate(&'a [Form]),
     /// To keep facts under a name for `reset`.
-    DefineDeffacts(Name, Vec<Fact>),
+    DefineDeffacts(Name, Vec<FactExpr>),
     /// To assert facts, one after another.
-    Assert(Vec<Fact>),
+    Assert(Vec<FactExpr>),
     /// To retract the facts that values say.
     Retract(Vec<Value>),
     /// To list the facts.
@@ -43,8 +44,7 @@ pub(crate) fn read_command<'a>(
     relations: &Relations,
     item: &'a Item,
 ) -> Result<Command<'a>, Refused>
-    ensures ok { IfOk result (λ command. request_of relations.now (reading_of item.now) ≡ Ok (request_by command)) }
-    ensures fault { IfErr result (λ r. Tells r (λ f. request_of relations.now (reading_of item.now) ≡ Err f)) }
+    ensures { Settles request_by result (request_of relations.now (reading_of item.now)) }
 {
     match item {
         Item::Form(form) => read_form(alloc, relations, form),
@@ -57,8 +57,7 @@ fn read_form<'a>(
     relations: &Relations,
     form: &'a Form,
 ) -> Result<Command<'a>, Refused>
-    ensures ok { IfOk result (λ command. form_request relations.now (tree_of form.now) ≡ Ok (request_by command)) }
-    ensures fault { IfErr result (λ r. Tells r (λ f. form_request relations.now (tree_of form.now) ≡ Err f)) }
+    ensures { Settles request_by result (form_request relations.now (tree_of form.now)) }
 {
     match form {
         Form::Atom(token) => Ok(Command::Show(read_constant(alloc, token)?)),
@@ -71,8 +70,8 @@ fn read_list<'a>(
     relations: &Relations,
     forms: &'a [Form],
 ) -> Result<Command<'a>, Refused>
-    ensures ok { IfOk result (λ command. headed_request relations.now (head_and_rest (members forms.now)) ≡ Ok (request_by command)) }
-    ensures fault { IfErr result (λ r. Tells r (λ f. headed_request relations.now (head_and_rest (members forms.now)) ≡ Err f)) }
+    ensures { Settles request_by result
+        (headed_request relations.now (head_and_rest (members forms.now))) }
 {
     let Some((name, args)) = split_head(forms) else {
         return Err(Refused::Fault(Fault::MalformedForm));
@@ -96,8 +95,8 @@ fn read_deffacts<'a>(
     relations: &Relations,
     args: &'a [Form],
 ) -> Result<Command<'a>, Refused>
-    ensures ok { IfOk result (λ command. deffacts_request relations.now (head_and_rest (members args.now)) ≡ Ok (request_by command)) }
-    ensures fault { IfErr result (λ r. Tells r (λ f. deffacts_request relations.now (head_and_rest (members args.now)) ≡ Err f)) }
+    ensures { Settles request_by result
+        (deffacts_request relations.now (head_and_rest (members args.now))) }
 {
     let Some((name, forms)) = split_head(args) else {
         return Err(Refused::Fault(Fault::MalformedForm));
@@ -111,8 +110,7 @@ fn read_assert<'a>(
     relations: &Relations,
     args: &'a [Form],
 ) -> Result<Command<'a>, Refused>
-    ensures ok { IfOk result (λ command. assert_request relations.now (members args.now) ≡ Ok (request_by command)) }
-    ensures fault { IfErr result (λ r. Tells r (λ f. assert_request relations.now (members args.now) ≡ Err f)) }
+    ensures { Settles request_by result (assert_request relations.now (members args.now)) }
 {
     let Some(_) = args.split_first() else {
         return Err(Refused::Fault(Fault::WrongArguments));
@@ -121,8 +119,7 @@ fn read_assert<'a>(
 }
 
 fn read_retract<'a>(alloc: Global, args: &'a [Form]) -> Result<Command<'a>, Refused>
-    ensures ok { IfOk result (λ command. retract_request (members args.now) ≡ Ok (request_by command)) }
-    ensures fault { IfErr result (λ r. Tells r (λ f. retract_request (members args.now) ≡ Err f)) }
+    ensures { Settles request_by result (retract_request (members args.now)) }
 {
     let Some(_) = args.split_first() else {
         return Err(Refused::Fault(Fault::WrongArguments));
@@ -132,8 +129,8 @@ fn read_retract<'a>(alloc: Global, args: &'a [Form]) -> Result<Command<'a>, Refu
 
 /// A command that takes no arguments.
 fn read_bare<'a>(command: Command<'a>, args: &'a [Form]) -> Result<Command<'a>, Refused>
-    ensures ok { IfOk result (λ told. bare_request (request_by command.entry) (members args.now) ≡ Ok (request_by told)) }
-    ensures fault { IfErr result (λ r. Tells r (λ f. bare_request (request_by command.entry) (members args.now) ≡ Err f)) }
+    ensures { Settles request_by result
+        (bare_request (request_by command.entry) (members args.now)) }
 {
     match args.split_first() {
         None => Ok(command),
@@ -142,8 +139,7 @@ fn read_bare<'a>(command: Command<'a>, args: &'a [Form]) -> Result<Command<'a>, 
 }
 
 fn read_printout<'a>(alloc: Global, args: &'a [Form]) -> Result<Command<'a>, Refused>
-    ensures ok { IfOk result (λ command. printout_request (members args.now) ≡ Ok (request_by command)) }
-    ensures fault { IfErr result (λ r. Tells r (λ f. printout_request (members args.now) ≡ Err f)) }
+    ensures { Settles request_by result (printout_request (members args.now)) }
 {
     let Some((first, values)) = args.split_first() else {
         return Err(Refused::Fault(Fault::NotInProfile));

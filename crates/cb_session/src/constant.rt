@@ -1,9 +1,9 @@
 //! Constants where a value is wanted.
-ghost use Rattle.std.specs.Prelude.{◌≡◌, Ok, Err, IfOk, IfErr};
+ghost use Rattle.std.specs.Prelude.{◌≡◌};
 ghost use Rattle.cb_forms.specs.Members.{head_and_rest, members};
 ghost use Rattle.cb_forms.specs.Trees.{tree_of};
 ghost use Rattle.cb_session.specs.Constants.{call_fault, headed_fault, token_fault, token_value, value_of, values_of};
-ghost use Rattle.cb_templates.specs.Results.{Tells};
+ghost use Rattle.cb_templates.specs.Results.{Settles};
 
 use crate::heads::{Head, read_head};
 use cb_forms::{Fault, Form, Token, split_head};
@@ -13,8 +13,7 @@ use std::alloc::Global;
 /// The values of forms, or the first fault.
 #[tactic(auto, using(cb_templates::proofs::Firsts::behind_none, cb_templates::proofs::Firsts::behind_all, cb_templates::proofs::Firsts::behind_one))]
 pub(crate) fn read_values(alloc: Global, forms: &[Form]) -> Result<Vec<Value>, Refused>
-    ensures ok { IfOk result (λ values. values_of (members forms.now) ≡ Ok values.items) }
-    ensures fault { IfErr result (λ r. Tells r (λ f. values_of (members forms.now) ≡ Err f)) }
+    ensures { Settles (λ values. values.items) result (values_of (members forms.now)) }
 {
     let mut values = Vec::new(alloc);
     for form in forms {
@@ -25,8 +24,7 @@ pub(crate) fn read_values(alloc: Global, forms: &[Form]) -> Result<Vec<Value>, R
 
 /// The value of a form, or its fault.
 pub(crate) fn read_value(alloc: Global, form: &Form) -> Result<Value, Refused>
-    ensures ok { IfOk result (λ value. value_of (tree_of form.now) ≡ Ok value) }
-    ensures fault { IfErr result (λ r. Tells r (λ f. value_of (tree_of form.now) ≡ Err f)) }
+    ensures { Settles (λ value. value) result (value_of (tree_of form.now)) }
 {
     match form {
         Form::Atom(token) => read_constant(alloc, token),
@@ -36,8 +34,7 @@ pub(crate) fn read_value(alloc: Global, form: &Form) -> Result<Value, Refused>
 
 /// The value of a token, or its fault.
 pub(crate) fn read_constant(alloc: Global, token: &Token) -> Result<Value, Refused>
-    ensures ok { IfOk result (λ value. token_value token.now ≡ Ok value) }
-    ensures fault { IfErr result (λ r. Tells r (λ f. token_value token.now ≡ Err f)) }
+    ensures { Settles (λ value. value) result (token_value token.now) }
 {
     Value::constant(alloc, token)?.ok_or(Refused::Fault(token_fault(token)))
 }

@@ -3,9 +3,10 @@ ghost use Rattle.std.specs.Prelude.{◌≡◌, [], None, IfOk, OnOk};
 ghost use Rattle.cb_session.specs.Deffacts.{facts_in, is_named_in_deffacts, has_relation, with_deffacts};
 ghost use Rattle.cb_session.specs.WorkingMemory.{asserted_all};
 
+use crate::fact_expr::FactExpr;
 use crate::working_memory::{Asserted, WorkingMemory};
 use cb_forms::NoMemory;
-use cb_values::{Fact, Name};
+use cb_values::Name;
 use indexmap::IndexMap;
 use std::alloc::Global;
 use std::marker::Model;
@@ -13,23 +14,23 @@ use std::marker::Model;
 /// The facts of one `deffacts`.
 ///
 /// Contracts see the list of the facts.
-#[derive(Debug, Drop)]
+#[derive(Drop)]
 pub(crate) struct Deffacts {
-    facts: Vec<Fact>,
+    facts: Vec<FactExpr>,
 }
 
 impl Model for Deffacts {
     ghost use Rattle.std.specs.Prelude.{List};
-    ghost use Rattle.cb_facts.specs.Facts.{FactValue};
+    ghost use Rattle.cb_session.specs.FactExprs.{FactExpr as Expr};
 
-    ghost Value = { List FactValue };
+    ghost Value = { List Expr };
 
     ghost view = { λ g. g.facts.items };
 }
 
 impl Deffacts {
     /// The facts.
-    pub(crate) fn facts(&self) -> &[Fact]
+    pub(crate) fn facts(&self) -> &[FactExpr]
         ensures { result.now ≡ self.now }
     {
         self.facts.as_slice()
@@ -39,7 +40,7 @@ impl Deffacts {
 /// The facts of each `deffacts`, by its name, in the order of their definition.
 ///
 /// Contracts see the list of the pairs of a name and its facts.
-#[derive(Debug, Drop)]
+#[derive(Drop)]
 pub(crate) struct DeffactsTable {
     groups: IndexMap<Name, Deffacts>,
 }
@@ -62,9 +63,9 @@ impl DeffactsTable {
         }
     }
 
-    /// Takes facts under a name, behind the other groups, and for the group that had the name. Growth is refused as
-    /// `NoMemory`.
-    pub(crate) fn define(&mut self, name: Name, facts: Vec<Fact>) -> Result<(), NoMemory>
+    /// Keeps facts under a name, after the other groups, and in place of the group that had the name. Growth is refused
+    /// as `NoMemory`.
+    pub(crate) fn define(&mut self, name: Name, facts: Vec<FactExpr>) -> Result<(), NoMemory>
         ensures { OnOk result (self.new ≡ with_deffacts self.old name facts.items) }
     {
         self.groups.shift_remove(&name);
@@ -100,7 +101,7 @@ impl DeffactsTable {
     }
 }
 
-fn has_relation(relation: &[u8], facts: &[Fact]) -> bool
+fn has_relation(relation: &[u8], facts: &[FactExpr]) -> bool
     ensures { result ≡ has_relation relation.now facts.now }
 {
     facts.iter().any(|fact| fact.relation() == relation)

@@ -15,12 +15,13 @@ ghost use Rattle.cb_session.specs.Went.{Executes, Quietly, Went, stop_extent};
 use crate::act::{Break, Ended};
 use crate::command::{Command, read_command};
 use crate::deffacts::DeffactsTable;
+use crate::fact_expr::FactExpr;
 use crate::line::{fault_line, put, put_fact_lines, put_text, value_line};
 use crate::print::{Channel, put_printed};
 use crate::status::{Status, Stop};
 use crate::working_memory::{Asserted, WorkingMemory, are_retractable};
 use cb_forms::{Cut, Fault, Form, Item, Out, Sink, Token, split_head};
-use cb_values::{Fact, Name, Relations, Value};
+use cb_values::{Name, Relations, Value};
 use std::alloc::Global;
 use std::marker::Model;
 
@@ -205,7 +206,7 @@ impl Engine {
     }
 
     /// Keeps facts under a name for `reset`.
-    fn define_deffacts(&mut self, name: Name, facts: Vec<Fact>) -> Result<Option<Value>, Break>
+    fn define_deffacts(&mut self, name: Name, facts: Vec<FactExpr>) -> Result<Option<Value>, Break>
         ensures { Quietly self.new result (performed (request.define_deffacts name facts.items) self.old) }
     {
         self.deffacts.define(name, facts)?;
@@ -213,7 +214,7 @@ impl Engine {
     }
 
     /// Asserts facts, each before the next. The answer is the address of the last.
-    fn assert(&mut self, facts: &[Fact]) -> Result<Option<Value>, Break>
+    fn assert(&mut self, facts: &[FactExpr]) -> Result<Option<Value>, Break>
         ensures { Quietly self.new result (performed (request.assert facts.now) self.old) }
     {
         match self.memory.assert_all(None, facts)? {

@@ -1,19 +1,17 @@
 //! Facts as they are written.
-ghost use Rattle.std.specs.Prelude.{◌≡◌, [], ◌∷◌, Ok, Err, IfOk, IfErr, option_map};
+ghost use Rattle.std.specs.Prelude.{◌≡◌, [], ◌∷◌, None, Some, MatchOption};
 ghost use Rattle.cb_forms.specs.Members.{call_of, members};
 ghost use Rattle.cb_forms.specs.Trees.{tree_of};
-ghost use Rattle.cb_session.specs.FactForms.{allowed, are_filled, begins_with_list, fact_of, facts_of, field_of, fields_of, headed_fact, is_equals, is_lone, known_slot, named_slot, parts_of, slot_fields_of, slot_given, slots_given};
-ghost use Rattle.cb_templates.specs.Building.{part_values};
-ghost use Rattle.cb_templates.specs.Results.{Tells, and_then};
-ghost use Rattle.cb_templates.specs.Slots.{slot_named};
+ghost use Rattle.cb_session.specs.FactContents.{fact_content};
+ghost use Rattle.cb_session.specs.FactForms.{all_slots, allowed, begins_with_list, content_for, content_of, fact_of, facts_of, field_of, fields_of, given_or_default, is_equals, lone_field_of, named_slot, slot_content_of, slot_fields_of, slot_given, slots_given};
+ghost use Rattle.cb_session.specs.SlotContents.{slot_content};
+ghost use Rattle.cb_templates.specs.Results.{Settles, and_then};
 ghost use Rattle.cb_templates.specs.Templates.{slots_of};
 
 use crate::constant::read_value;
+use crate::fact_expr::{ContentExpr, FactExpr, Filling, SlotExpr};
 use cb_forms::{Fault, Form};
-use cb_values::{
-    Fact, GivenSlot, Name, Parts, Refused, Relations, Slot, Value, build_fact, find_given,
-    find_slot, is_reserved,
-};
+use cb_values::{Name, Refused, Relations, Slot, Value, find_slot, is_reserved};
 use std::alloc::Global;
 
 /// The facts that forms are, by the templates of their relations, or the first fault.
@@ -22,9 +20,8 @@ pub(crate) fn read_facts(
     alloc: Global,
     relations: &Relations,
     forms: &[Form],
-) -> Result<Vec<Fact>, Refused>
-    ensures ok { IfOk result (λ facts. facts_of relations.now (members forms.now) ≡ Ok facts.items) }
-    ensures fault { IfErr result (λ r. Tells r (λ f. facts_of relations.now (members forms.now) ≡ Err f)) }
+) -> Result<Vec<FactExpr>, Refused>
+    ensures { Settles (λ facts. facts.items) result (facts_of relations.now (members forms.now)) }
 {
     let mut facts = Vec::new(alloc);
     for form in forms {
@@ -34,9 +31,8 @@ pub(crate) fn read_facts(
 }
 
 /// The fact that a form is, or its first fault.
-fn read_fact(alloc: Global, relations: &Relations, form: &Form) -> Result<Fact, Refused>
-    ensures ok { IfOk result (λ fact. fact_of relations.now (tree_of form.now) ≡ Ok fact) }
-    ensures fault { IfErr result (λ r. Tells r (λ f. fact_of relations.now (tree_of form.now) ≡ Err f)) }
+fn read_fact(alloc: Global, relations: &Relations, form: &Form) -> Result<FactExpr, Refused>
+    ensures { Settles (λ fact. fact) result (fact_of relations.now (tree_of form.now)) }
 {
     let Some((relation, forms)) = form.call() else {
         return Err(Refused::Fault(Fault::FactDoesNotFit));
@@ -45,31 +41,29 @@ fn read_fact(alloc: Global, relations: &Relations, form: &Form) -> Result<Fact, 
         return Err(Refused::Fault(Fault::FactDoesNotFit));
     }
     let relation = Name::new(alloc, relation)?;
-    let parts = read_parts(alloc, relations, &relation, forms)?;
-    build_fact(alloc, relations, relation, parts)
+    let content = read_content(alloc, relations, &relation, forms)?;
+    Ok(FactExpr::new(relation, content))
 }
 
-/// What a fact is given by the forms behind its relation.
-fn read_parts(
+/// What follows the relation of a fact.
+fn read_content(
     alloc: Global,
     relations: &Relations,
     relation: &Name,
     forms: &[Form],
-) -> Result<Parts, Refused>
-    ensures ok { IfOk result (λ parts. parts_of (slots_of relations.now relation.now) (members forms.now) ≡ Ok (part_values parts)) }
-    ensures fault { IfErr result (λ r. Tells r (λ f. parts_of (slots_of relations.now relation.now) (members forms.now) ≡ Err f)) }
+) -> Result<ContentExpr, Refused>
+    ensures { Settles fact_content result (content_of (slots_of relations.now relation.now) (members forms.now)) }
 {
     match relations.shape(relation) {
-        None => Ok(Parts::Fields(read_fields(alloc, forms)?)),
-        Some(slots) => Ok(Parts::Slots(read_slots(alloc, slots, forms)?)),
+        None => Ok(ContentExpr::Fields(read_fields(alloc, forms)?)),
+        Some(slots) => Ok(ContentExpr::Slots(read_slots(alloc, slots, forms)?)),
     }
 }
 
 /// The fields of an ordered fact, or the first fault.
 #[tactic(auto, using(cb_templates::proofs::Firsts::behind_none, cb_templates::proofs::Firsts::behind_all, cb_templates::proofs::Firsts::behind_one))]
 fn read_fields(alloc: Global, forms: &[Form]) -> Result<Vec<Value>, Refused>
-    ensures ok { IfOk result (λ fields. fields_of (members forms.now) ≡ Ok fields.items) }
-    ensures fault { IfErr result (λ r. Tells r (λ f. fields_of (members forms.now) ≡ Err f)) }
+    ensures { Settles (λ fields. fields.items) result (fields_of (members forms.now)) }
 {
     let mut fields = Vec::new(alloc);
     let mut rest = forms;
@@ -82,8 +76,7 @@ fn read_fields(alloc: Global, forms: &[Form]) -> Result<Vec<Value>, Refused>
 
 /// One field, before the forms that follow it.
 fn read_field(alloc: Global, form: &Form, following: &[Form]) -> Result<Value, Refused>
-    ensures ok { IfOk result (λ field. field_of (tree_of form.now) (members following.now) ≡ Ok field) }
-    ensures fault { IfErr result (λ r. Tells r (λ f. field_of (tree_of form.now) (members following.now) ≡ Err f)) }
+    ensures { Settles (λ field. field) result (field_of (tree_of form.now) (members following.now)) }
 {
     if is_equals(form) && begins_with_list(following) {
         return Err(Refused::Fault(Fault::NotInProfile));
@@ -91,38 +84,26 @@ fn read_field(alloc: Global, form: &Form, following: &[Form]) -> Result<Value, R
     read_value(alloc, form)
 }
 
-/// The slots that a fact gives, of these of its template, or the first fault.
-fn read_slots(alloc: Global, slots: &[Slot], forms: &[Form]) -> Result<Vec<GivenSlot>, Refused>
-    ensures ok { IfOk result (λ given. slots_given slots.now [] (members forms.now) ≡ Ok given.items) }
-    ensures fault { IfErr result (λ r. Tells r (λ f. slots_given slots.now [] (members forms.now) ≡ Err f)) }
+/// All slots of a fact, by what it gives for these of its template, or the first fault.
+fn read_slots(alloc: Global, slots: &[Slot], forms: &[Form]) -> Result<Vec<SlotExpr>, Refused>
+    ensures { Settles (λ given. given.items) result (slots_given slots.now [] (members forms.now)) }
 {
     let mut given = Vec::new(alloc);
     for form in forms {
         let slot = read_slot(alloc, slots, given.as_slice(), form)?;
         given.push(slot)?;
     }
-    if !are_filled(slots, given.as_slice()) {
-        return Err(Refused::Fault(Fault::FactDoesNotFit));
-    }
-    Ok(given)
+    complete(alloc, slots, given.as_slice())
 }
 
-/// Whether each slot is given or has a default.
-fn are_filled(slots: &[Slot], given: &[GivenSlot]) -> bool
-    ensures { result ≡ are_filled slots.now given.now }
-{
-    slots.iter().all(|s| s.default().is_some() || find_given(given, s.name().as_slice()).is_some())
-}
-
-/// One slot that a fact gives, behind those that it has given.
+/// One slot that a fact gives, after those that it has given.
 fn read_slot(
     alloc: Global,
     slots: &[Slot],
-    given: &[GivenSlot],
+    given: &[SlotExpr],
     form: &Form,
-) -> Result<GivenSlot, Refused>
-    ensures ok { IfOk result (λ slot. named_slot slots.now given.now (call_of (tree_of form.now)) ≡ Ok slot) }
-    ensures fault { IfErr result (λ r. Tells r (λ f. named_slot slots.now given.now (call_of (tree_of form.now)) ≡ Err f)) }
+) -> Result<SlotExpr, Refused>
+    ensures { Settles (λ slot. slot) result (named_slot slots.now given.now (call_of (tree_of form.now))) }
 {
     let Some((name, forms)) = form.call() else {
         return Err(Refused::Fault(Fault::FactDoesNotFit));
@@ -137,39 +118,90 @@ fn read_slot(
 fn read_known_slot(
     alloc: Global,
     slot: &Slot,
-    given: &[GivenSlot],
+    given: &[SlotExpr],
     forms: &[Form],
-) -> Result<GivenSlot, Refused>
-    ensures ok { IfOk result (λ g. slot_given given.now slot.now (members forms.now) ≡ Ok g) }
-    ensures fault { IfErr result (λ r. Tells r (λ f. slot_given given.now slot.now (members forms.now) ≡ Err f)) }
+) -> Result<SlotExpr, Refused>
+    ensures { Settles (λ g. g) result (slot_given given.now slot.now (members forms.now)) }
 {
-    if find_given(given, slot.name().as_slice()).is_some() {
+    if find_filling(given, slot.name().as_slice()).is_some() {
         return Err(Refused::Fault(Fault::FactDoesNotFit));
     }
-    if !slot.multi() && !is_lone(forms) {
-        return Err(Refused::Fault(Fault::FactDoesNotFit));
-    }
-    let values = read_slot_fields(alloc, slot, forms)?;
-    Ok(GivenSlot::new(slot.name().clone()?, values))
+    let filling = read_filling(alloc, slot, forms)?;
+    Ok(SlotExpr::new(slot.name().clone()?, filling))
 }
 
-fn is_lone(forms: &[Form]) -> bool
-    ensures { result ≡ is_lone (members forms.now) }
+/// What a slot is given by these forms.
+fn read_filling(alloc: Global, slot: &Slot, forms: &[Form]) -> Result<Filling, Refused>
+    ensures { Settles slot_content result (slot_content_of slot.now (members forms.now)) }
 {
-    let Some((_, rest)) = forms.split_first() else {
-        return false;
+    if slot.multi() {
+        return Ok(Filling::Several(read_slot_fields(alloc, slot, forms)?));
+    }
+    read_lone_field(alloc, slot, forms)
+}
+
+/// The one value of a slot.
+fn read_lone_field(alloc: Global, slot: &Slot, forms: &[Form]) -> Result<Filling, Refused>
+    ensures { Settles slot_content result (lone_field_of slot.now.types (members forms.now)) }
+{
+    let Some((form, following)) = forms.split_first() else {
+        return Err(Refused::Fault(Fault::FactDoesNotFit));
     };
-    match rest.split_first() {
-        None => true,
-        Some(_) => false,
+    if let Some(_) = following.split_first() {
+        return Err(Refused::Fault(Fault::FactDoesNotFit));
+    }
+    Ok(Filling::One(read_slot_field(alloc, slot, form, following)?))
+}
+
+/// What the slot with a name has among these slots.
+fn find_filling<'a>(given: &'a [SlotExpr], name: &[u8]) -> Option<&'a Filling>
+    ensures { MatchOption result (content_for given.now name.now ≡ None)
+        (λ filling. content_for given.now name.now ≡ Some (slot_content filling.now)) }
+{
+    for slot in given {
+        if slot.name().as_slice() == name {
+            return Some(slot.filling());
+        }
+    }
+    None
+}
+
+/// All slots of a template, in its order: what is given for them, or else their defaults.
+#[tactic(auto, using(cb_templates::proofs::Firsts::behind_none, cb_templates::proofs::Firsts::behind_all, cb_templates::proofs::Firsts::behind_one))]
+fn complete(alloc: Global, slots: &[Slot], given: &[SlotExpr]) -> Result<Vec<SlotExpr>, Refused>
+    ensures { Settles (λ all. all.items) result (all_slots slots.now given.now) }
+{
+    let mut all = Vec::new(alloc);
+    for slot in slots {
+        let filling = fill(alloc, slot, given)?;
+        all.push(SlotExpr::new(slot.name().clone()?, filling))?;
+    }
+    Ok(all)
+}
+
+/// What a slot is given, or else its default.
+fn fill(alloc: Global, slot: &Slot, given: &[SlotExpr]) -> Result<Filling, Refused>
+    ensures { Settles slot_content result (given_or_default slot.now (content_for given.now slot.now.name)) }
+{
+    match find_filling(given, slot.name().as_slice()) {
+        Some(filling) => Ok(filling.copy(alloc)?),
+        None => default_of(slot),
+    }
+}
+
+fn default_of(slot: &Slot) -> Result<Filling, Refused>
+    ensures { Settles slot_content result (given_or_default slot.now None) }
+{
+    match slot.default() {
+        Some(value) => Ok(Filling::Default(value.clone()?)),
+        None => Err(Refused::Fault(Fault::FactDoesNotFit)),
     }
 }
 
 /// The values of a slot, each of its types, or the first fault.
 #[tactic(auto, using(cb_templates::proofs::Firsts::behind_none, cb_templates::proofs::Firsts::behind_all, cb_templates::proofs::Firsts::behind_one))]
 fn read_slot_fields(alloc: Global, slot: &Slot, forms: &[Form]) -> Result<Vec<Value>, Refused>
-    ensures ok { IfOk result (λ values. slot_fields_of slot.now.types (members forms.now) ≡ Ok values.items) }
-    ensures fault { IfErr result (λ r. Tells r (λ f. slot_fields_of slot.now.types (members forms.now) ≡ Err f)) }
+    ensures { Settles (λ values. values.items) result (slot_fields_of slot.now.types (members forms.now)) }
 {
     let mut values = Vec::new(alloc);
     let mut rest = forms;
@@ -186,8 +218,8 @@ fn read_slot_field(
     form: &Form,
     following: &[Form],
 ) -> Result<Value, Refused>
-    ensures ok { IfOk result (λ value. and_then (field_of (tree_of form.now) (members following.now)) (allowed slot.now.types) ≡ Ok value) }
-    ensures fault { IfErr result (λ r. Tells r (λ f. and_then (field_of (tree_of form.now) (members following.now)) (allowed slot.now.types) ≡ Err f)) }
+    ensures { Settles (λ value. value) result
+        (and_then (field_of (tree_of form.now) (members following.now)) (allowed slot.now.types)) }
 {
     let value = read_field(alloc, form, following)?;
     if !slot.allows_all(&value)? {

@@ -7,6 +7,7 @@ ghost use Rattle.cb_forms.specs.declared.fault.Fault.{Fault};
 ghost use Rattle.cb_session.specs.Requests as request;
 ghost use Rattle.cb_session.specs.Requests.{request_of};
 ghost use Rattle.cb_session.specs.Acts.{State};
+ghost use Rattle.cb_session.specs.FactExprs.{FactExpr};
 ghost use Rattle.cb_session.specs.Actions.{acted};
 ghost use Rattle.cb_session.specs.Laws.{EndsWithFault, IsFact, Keeps, NoneAfter, TakesFactsAlone, followed_by};
 ghost use Rattle.cb_session.specs.WorkingMemory.{Memory, asserted_all};
@@ -43,7 +44,7 @@ pub fn what_has_ended_counts_alone()
 /// that stand side by side give the same fact the other way round. Which fault comes first may depend on their order.
 pub fn the_slots_of_a_fact_have_no_order()
     ensures { (templates : Templates) (relation : List ℕ) (slots : List SlotShape)
-        (front back : Trees) (t u : Tree) (fact : FactValue)
+        (front back : Trees) (t u : Tree) (fact : FactExpr)
         → slots_of templates relation ≡ Some slots
         → IsFact templates relation (followed_by front (tree t (tree u back))) fact
         → IsFact templates relation (followed_by front (tree u (tree t back))) fact }

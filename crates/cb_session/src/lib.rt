@@ -6,6 +6,7 @@ mod command;
 mod constant;
 mod deffacts;
 mod engine;
+mod fact_expr;
 mod fact_form;
 mod heads;
 pub mod laws;

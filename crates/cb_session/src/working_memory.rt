@@ -1,11 +1,13 @@
 //! The working memory.
-ghost use Rattle.std.specs.Prelude.{◌≡◌, ◌≤◌, [], false, None, Some, IfOk, is_some, if◌then◌else◌};
+ghost use Rattle.std.specs.Prelude.{◌≡◌, ◌≤◌, [], false, None, Some, IfOk, is_some, map, if◌then◌else◌};
 ghost use Rattle.std.specs.List.{list_any, list_all};
 ghost use Rattle.std.specs.Str.{bytes_eq};
 ghost use Rattle.cb_session.specs.Deffacts.{has_relation};
+ghost use Rattle.cb_session.specs.FactExprs.{fact_by};
 ghost use Rattle.cb_session.specs.WorkingMemory.{asserted_all, asserted_one, empty_memory, is_retractable, retracted_all, retracted_one, without};
 ghost use Rattle.cb_facts.specs.FactLists.{fact_at};
 
+use crate::fact_expr::FactExpr;
 use cb_forms::NoMemory;
 use cb_values::{Fact, FactList, Value};
 use std::alloc::Global;
@@ -67,13 +69,13 @@ impl WorkingMemory {
     pub(crate) fn assert_all(
         &mut self,
         last: Option<u64>,
-        facts: &[Fact],
+        facts: &[FactExpr],
     ) -> Result<Asserted, NoMemory>
-        ensures { IfOk result (λ told. asserted_all self.old last facts.now ≡ (self.new, told)) }
+        ensures { IfOk result (λ told. asserted_all self.old last (map fact_by facts.now) ≡ (self.new, told)) }
     {
         let mut last = last;
         for fact in facts {
-            match self.assert_one(fact)? {
+            match self.assert_one(fact.build(self.alloc)?)? {
                 Some(ix) => last = Some(ix),
                 None => return Ok(Asserted::Exhausted),
             }
@@ -82,17 +84,17 @@ impl WorkingMemory {
     }
 
     /// Asserts a fact. Its index is the answer, or `None` where no index is left: then nothing has changed.
-    fn assert_one(&mut self, fact: &Fact) -> Result<Option<u64>, NoMemory>
-        ensures { IfOk result (λ ix. asserted_one self.old fact.now ≡ (self.new, ix)) }
+    fn assert_one(&mut self, fact: Fact) -> Result<Option<u64>, NoMemory>
+        ensures { IfOk result (λ ix. asserted_one self.old fact ≡ (self.new, ix)) }
     {
-        if let Some(ix) = self.facts.find(fact) {
+        if let Some(ix) = self.facts.find(&fact) {
             return Ok(Some(ix));
         }
         if self.last >= GREATEST_INDEX {
             return Ok(None);
         }
         let ix = self.last + 1;
-        self.facts.add(ix, fact.clone()?)?;
+        self.facts.add(ix, fact)?;
         self.last = ix;
         Ok(Some(ix))
     }
@@ -145,7 +147,7 @@ impl WorkingMemory {
         self.facts.remove(ix);
     }
 
-    /// Takes all facts away. Indices go on behind the last.
+    /// Takes all facts away. Indices go on after the last.
     fn drop_facts(&mut self)
         ensures { self.new ≡ record { facts = []; last = self.old.last } }
     {

@@ -1,5 +1,5 @@
 -- Results, each with what was wanted or a fault, where the first fault counts.
-use Rattle.std.specs.Prelude.{List, ◌∷◌, Result, Ok, Err}
+use Rattle.std.specs.Prelude.{◌≡◌, List, ◌∷◌, Result, Ok, Err}
 use Rattle.cb_forms.specs.declared.fault.Fault.{Fault}
 use Rattle.cb_templates.specs.declared.refused.Refused.{Refused}
 use Rattle.cb_templates.specs.declared.refused.Refused.TheVariants as refused
@@ -24,3 +24,8 @@ with_first (Ok x) (Ok xs) = Ok (x ∷ xs)
 abbrev pub Tells : Refused → (Fault → Type 0) → Type 0
 Tells (refused.Fault f) P = P f
 Tells refused.NoMemory P = Unit {0}
+
+-- The call gives what is wanted, shown so, or its fault; being out of memory aside.
+abbrev pub Settles : {T V : Type 0} → (T → V) → Result T Refused → Result V Fault → Type 0
+Settles view (Ok t) wanted = wanted ≡ Ok (view t)
+Settles view (Err r) wanted = Tells r (λ f. wanted ≡ Err f)

@@ -1,5 +1,5 @@
-use Rattle.std.proofs.Common.{◌≡◌, rules}
-use Rattle.cb_session.proofs.MemoryLaws.{one-there, one-refused, one-added_clone}
+use Rattle.std.proofs.Common.{◌≡◌}
+use Rattle.cb_session.proofs.MemoryLaws.{one-there, one-refused, one-added_as}
 use Rattle.cb_session.proofs.working_memory.WorkingMemory.assert_one.Goals as goal
 
 pub returns-in-Some : goal.returns-in-Some
@@ -9,6 +9,4 @@ pub returns-then-self-ge-GREATEST_INDEX : goal.returns-then-self-ge-GREATEST_IND
 returns-then-self-ge-GREATEST_INDEX c = rw (← c.self.view_is) (one-refused _ _ c.self.invariant.base c.in_default.ensures.absent c.if-self-ge-GREATEST_INDEX.true)
 
 pub returns : goal.returns
-returns c =
-    let same : c.in_ok-clone.field-0 ≡ c.args.fact.now = search rules in
-    rw (← c.self.view_is) (one-added_clone _ _ _ _ c.self.invariant.base c.in_default.ensures.absent c.if-self-ge-GREATEST_INDEX.false c.in_ok-add.ensures.ok same)
+returns c = rw (← c.self.view_is) (one-added_as _ _ _ c.self.invariant.base c.in_default.ensures.absent c.if-self-ge-GREATEST_INDEX.false c.in_ok-add.ensures.ok)
