@@ -26,7 +26,8 @@ pub enum Content {
 
 impl Content {
     fn hash_into(&self, hasher: &mut FoldHasher)
-        ensures { hasher.new ≡ fold folding.write hasher.old (content_writes (content_of self.now)) }
+        ensures { hasher.new
+            ≡ fold folding.write hasher.old (content_writes (content_of self.now)) }
     {
         match self {
             Content::Fields(values) => values.as_slice().hash(hasher),
@@ -86,7 +87,8 @@ impl Fact {
     }
 
     fn new(alloc: Global, relation: Name, content: Content) -> Result<Fact, NoMemory>
-        ensures { IfOk result (λ fact. fact ≡ record { relation = relation; content = content_of content }) }
+        ensures { IfOk result
+            (λ fact. fact ≡ record { relation = relation; content = content_of content }) }
     {
         let hash = hash_of(&relation, &content);
         let body = Rc::new(
@@ -117,7 +119,8 @@ impl Fact {
 
 #[tactic(auto, unfolding(crate::specs::Facts::hash_from))]
 fn hash_of(relation: &Name, content: &Content) -> u64
-    ensures { result ≡ hash_of (record { relation = relation.now; content = content_of content.now }) }
+    ensures { result
+        ≡ hash_of (record { relation = relation.now; content = content_of content.now }) }
 {
     let mut hasher = FoldHasher::default();
     hasher.write(relation.as_slice());

@@ -81,7 +81,8 @@ impl FactList {
         requires free { fact_at self.old ix ≡ None }
         requires absent { IsAbsent self.old fact }
         ensures ok { OnOk result (self.new ≡ with_fact self.old ix fact) }
-        ensures changes { OnOk result (ChangesOnly (fact_at self.old) (fact_at self.new) ix (Some fact)) }
+        ensures changes { OnOk result
+            (ChangesOnly (fact_at self.old) (fact_at self.new) ix (Some fact)) }
         ensures len { OnOk result (length self.new ≡ length self.old + 1) }
         ensures base { OnOk result (IsFactBase self.new) }
         ensures err { OnErr result (self.new ≡ self.old) }
@@ -97,7 +98,8 @@ impl FactList {
     pub fn remove(&mut self, ix: u64)
         ensures removed { self.new ≡ without_fact self.old ix }
         ensures changes { ChangesOnly (fact_at self.old) (fact_at self.new) ix None }
-        ensures len { length self.new + (if is_some (fact_at self.old ix) then 1 else 0) ≡ length self.old }
+        ensures len { length self.new + (if is_some (fact_at self.old ix) then 1 else 0)
+            ≡ length self.old }
         ensures base { IsFactBase self.new }
     {
         if let Some(fact) = self.facts.remove(&ix) {

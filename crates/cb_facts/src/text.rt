@@ -53,7 +53,8 @@ pub fn fact_text(alloc: Global, fact: &Fact) -> Result<Vec<u8>, NoMemory>
 }
 
 fn add_content(text: &mut Vec<u8>, content: &Content) -> Result<(), NoMemory>
-    ensures { OnOk result (text.new.items ≡ text.old.items ++ content_bytes (content_of content.now)) }
+    ensures { OnOk result
+        (text.new.items ≡ text.old.items ++ content_bytes (content_of content.now)) }
 {
     match content {
         Content::Fields(values) => add_each(text, values.as_slice()),
@@ -170,7 +171,8 @@ fn add_fields(text: &mut Vec<u8>, fields: &[Single]) -> Result<(), NoMemory>
 }
 
 fn add_joined(text: &mut Vec<u8>, fields: &[Single]) -> Result<(), NoMemory>
-    ensures { OnOk result (text.new.items ≡ text.old.items ++ join_by quoted_single (codes " ") fields.now) }
+    ensures { OnOk result
+        (text.new.items ≡ text.old.items ++ join_by quoted_single (codes " ") fields.now) }
 {
     let Some((first, others)) = fields.split_first() else {
         return Ok(());
@@ -180,7 +182,8 @@ fn add_joined(text: &mut Vec<u8>, fields: &[Single]) -> Result<(), NoMemory>
 }
 
 fn add_singles(text: &mut Vec<u8>, singles: &[Single]) -> Result<(), NoMemory>
-    ensures { OnOk result (text.new.items ≡ text.old.items ++ flat_map (λ single. codes " " ++ quoted_single single) singles.now) }
+    ensures { OnOk result (text.new.items
+        ≡ text.old.items ++ flat_map (λ single. codes " " ++ quoted_single single) singles.now) }
 {
     for single in singles {
         text.push(b' ')?;

@@ -84,10 +84,14 @@ impl Sink for MemSink {
         // When it answers an error, how many bytes it takes, and what it is then. All that the trait
         // ensures follows.
         ensures fails { IsErr result ↔ IsDue self.old.fails_in }
-        ensures moved { IfOk result (λ n. n ≡ min (length bytes.now) (min self.old.chunk self.old.room)) }
-        ensures written { IfOk result (λ n. 0 < n → self.new ≡ store_after_write self.old bytes.now n) }
-        ensures stuck { IfOk result (λ n. n ≡ 0 → 0 < length bytes.now → self.new ≡ store_after_fault self.old) }
-        ensures empty { IfOk result (λ n. bytes.now ≡ [] → self.new ≡ store_after_write self.old [] n) }
+        ensures moved { IfOk result
+            (λ n. n ≡ min (length bytes.now) (min self.old.chunk self.old.room)) }
+        ensures written { IfOk result
+            (λ n. 0 < n → self.new ≡ store_after_write self.old bytes.now n) }
+        ensures stuck { IfOk result
+            (λ n. n ≡ 0 → 0 < length bytes.now → self.new ≡ store_after_fault self.old) }
+        ensures empty { IfOk result
+            (λ n. bytes.now ≡ [] → self.new ≡ store_after_write self.old [] n) }
         ensures fault { OnErr result (self.new ≡ store_after_fault self.old) }
     {
         if self.countdown.call() {

@@ -41,7 +41,8 @@ impl<'a> MemSource<'a> {
     /// fails; with `None`, and with `Some(0)`, none does.
     pub fn new(bytes: &'a [u8], chunk: usize, fail_at: Option<u64>) -> MemSource<'a>
         requires { 0 < chunk }
-        ensures { result ≡ record { left = bytes.now; chunk = chunk; fails_in = fail_at; reads = no_reads } }
+        ensures { result
+            ≡ record { left = bytes.now; chunk = chunk; fails_in = fail_at; reads = no_reads } }
     {
         MemSource {
             left: bytes,
@@ -61,7 +62,8 @@ impl Source for MemSource<'_> {
     /// the chosen read alone.
     fn read(&mut self, buf: &mut [u8]) -> Result<usize, ReadFault>
         ensures within { IfOk result (λ n. n ≤ length buf.old) }
-        ensures gave { IfOk result (λ n. Gave (Some self.old.left) (Some self.new.left) (take n buf.new)) }
+        ensures gave { IfOk result
+            (λ n. Gave (Some self.old.left) (Some self.new.left) (take n buf.new)) }
         ensures end { IfOk result (λ n. n ≡ 0 → 0 < length buf.old → IsAtEnd (Some self.new.left)) }
         ensures noted { IfOk result
             (λ n. self.new.reads ≡ after_read self.old.reads (length buf.old) n (take n buf.new)) }

@@ -59,7 +59,8 @@ impl<K: Sink> Out<K> {
     /// A `WriteFault` comes where the sink failed during this call, and at each call after one that
     /// answered a fault. The sink then has a beginning of what was put, and gets no byte more.
     pub fn put(&mut self, bytes: &[u8]) -> Result<(), WriteFault>
-        ensures puts { self.old.fault ≡ false → Puts K.writes self.old self.new (write_extent result) bytes.now }
+        ensures puts { self.old.fault ≡ false
+            → Puts K.writes self.old self.new (write_extent result) bytes.now }
         ensures err_after { OnErr result (self.new.fault ≡ true) }
 
         // After a fault.
@@ -88,7 +89,8 @@ impl<K: Sink> Out<K> {
     /// A `WriteFault` comes where the sink failed during this call, and at each call after one that
     /// answered a fault. The sink then has a beginning of what was put, and gets no byte more.
     pub fn flush(&mut self) -> Result<(), WriteFault>
-        ensures puts { self.old.fault ≡ false → Puts K.writes self.old self.new (write_extent result) [] }
+        ensures puts { self.old.fault ≡ false
+            → Puts K.writes self.old self.new (write_extent result) [] }
         ensures ok_pending { OnOk result (self.new.pending ≡ []) }
         ensures err_after { OnErr result (self.new.fault ≡ true) }
 
@@ -132,8 +134,10 @@ fn check(fault: bool) -> Result<(), WriteFault>
 fn write_all<K: Sink>(sink: &mut K, bytes: &[u8]) -> Result<(), WriteFault>
     ensures ok { OnOk result ((K.writes sink.new).bytes ≡ (K.writes sink.old).bytes ++ bytes.now) }
     ensures counts { OnOk result ((K.writes sink.new).failures ≡ (K.writes sink.old).failures) }
-    ensures err { OnErr result (PassedSome (K.writes sink.old).bytes (K.writes sink.new).bytes bytes.now) }
-    ensures err_counts { OnErr result ((K.writes sink.old).failures < (K.writes sink.new).failures) }
+    ensures err { OnErr result
+        (PassedSome (K.writes sink.old).bytes (K.writes sink.new).bytes bytes.now) }
+    ensures err_counts { OnErr result
+        ((K.writes sink.old).failures < (K.writes sink.new).failures) }
 {
     let mut done = 0;
     while done < bytes.len() {

@@ -3,7 +3,7 @@ ghost use Rattle.std.specs.Prelude.{◌≡◌};
 ghost use Rattle.cb_forms.specs.Members.{head_and_rest, members};
 ghost use Rattle.cb_forms.specs.Trees.{tree_of};
 ghost use Rattle.cb_session.specs.Constants.{call_fault, headed_fault, token_fault, token_value, value_of, values_of};
-ghost use Rattle.cb_templates.specs.Results.{Settles};
+ghost use Rattle.cb_templates.specs.Results.{Returns, Settles};
 
 use crate::heads::{Head, read_head};
 use cb_forms::{Fault, Form, Token, split_head};
@@ -24,7 +24,7 @@ pub(crate) fn read_values(alloc: Global, forms: &[Form]) -> Result<Vec<Value>, R
 
 /// The value of a form, or its fault.
 pub(crate) fn read_value(alloc: Global, form: &Form) -> Result<Value, Refused>
-    ensures { Settles (λ value. value) result (value_of (tree_of form.now)) }
+    ensures { Returns result (value_of (tree_of form.now)) }
 {
     match form {
         Form::Atom(token) => read_constant(alloc, token),
@@ -34,7 +34,7 @@ pub(crate) fn read_value(alloc: Global, form: &Form) -> Result<Value, Refused>
 
 /// The value of a token, or its fault.
 pub(crate) fn read_constant(alloc: Global, token: &Token) -> Result<Value, Refused>
-    ensures { Settles (λ value. value) result (token_value token.now) }
+    ensures { Returns result (token_value token.now) }
 {
     Value::constant(alloc, token)?.ok_or(Refused::Fault(token_fault(token)))
 }

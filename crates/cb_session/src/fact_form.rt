@@ -5,7 +5,7 @@ ghost use Rattle.cb_forms.specs.Trees.{tree_of};
 ghost use Rattle.cb_session.specs.FactContents.{fact_content};
 ghost use Rattle.cb_session.specs.FactForms.{all_slots, allowed, begins_with_list, content_for, content_of, fact_of, facts_of, field_of, fields_of, given_or_default, is_equals, lone_field_of, named_slot, slot_content_of, slot_fields_of, slot_given, slots_given};
 ghost use Rattle.cb_session.specs.SlotContents.{slot_content};
-ghost use Rattle.cb_templates.specs.Results.{Settles, and_then};
+ghost use Rattle.cb_templates.specs.Results.{Returns, Settles, and_then};
 ghost use Rattle.cb_templates.specs.Templates.{slots_of};
 
 use crate::constant::read_value;
@@ -32,7 +32,7 @@ pub(crate) fn read_facts(
 
 /// The fact that a form is, or its first fault.
 fn read_fact(alloc: Global, relations: &Relations, form: &Form) -> Result<FactExpr, Refused>
-    ensures { Settles (λ fact. fact) result (fact_of relations.now (tree_of form.now)) }
+    ensures { Returns result (fact_of relations.now (tree_of form.now)) }
 {
     let Some((relation, forms)) = form.call() else {
         return Err(Refused::Fault(Fault::FactDoesNotFit));
@@ -76,7 +76,7 @@ fn read_fields(alloc: Global, forms: &[Form]) -> Result<Vec<Value>, Refused>
 
 /// One field, before the forms that follow it.
 fn read_field(alloc: Global, form: &Form, following: &[Form]) -> Result<Value, Refused>
-    ensures { Settles (λ field. field) result (field_of (tree_of form.now) (members following.now)) }
+    ensures { Returns result (field_of (tree_of form.now) (members following.now)) }
 {
     if is_equals(form) && begins_with_list(following) {
         return Err(Refused::Fault(Fault::NotInProfile));
@@ -103,7 +103,7 @@ fn read_slot(
     given: &[SlotExpr],
     form: &Form,
 ) -> Result<SlotExpr, Refused>
-    ensures { Settles (λ slot. slot) result (named_slot slots.now given.now (call_of (tree_of form.now))) }
+    ensures { Returns result (named_slot slots.now given.now (call_of (tree_of form.now))) }
 {
     let Some((name, forms)) = form.call() else {
         return Err(Refused::Fault(Fault::FactDoesNotFit));
@@ -121,7 +121,7 @@ fn read_known_slot(
     given: &[SlotExpr],
     forms: &[Form],
 ) -> Result<SlotExpr, Refused>
-    ensures { Settles (λ g. g) result (slot_given given.now slot.now (members forms.now)) }
+    ensures { Returns result (slot_given given.now slot.now (members forms.now)) }
 {
     if find_filling(given, slot.name().as_slice()).is_some() {
         return Err(Refused::Fault(Fault::FactDoesNotFit));
@@ -218,7 +218,7 @@ fn read_slot_field(
     form: &Form,
     following: &[Form],
 ) -> Result<Value, Refused>
-    ensures { Settles (λ value. value) result
+    ensures { Returns result
         (and_then (field_of (tree_of form.now) (members following.now)) (allowed slot.now.types)) }
 {
     let value = read_field(alloc, form, following)?;

@@ -20,7 +20,7 @@ with_first (Err f) others = Err f
 with_first (Ok x) (Err f) = Err f
 with_first (Ok x) (Ok xs) = Ok (x ∷ xs)
 
--- a refusal that is a fault, and not want of memory, is one such as this
+-- a refusal that is a fault, and not out of memory, is one such as this
 abbrev pub Tells : Refused → (Fault → Type 0) → Type 0
 Tells (refused.Fault f) P = P f
 Tells refused.NoMemory P = Unit {0}
@@ -29,3 +29,7 @@ Tells refused.NoMemory P = Unit {0}
 abbrev pub Settles : {T V : Type 0} → (T → V) → Result T Refused → Result V Fault → Type 0
 Settles view (Ok t) wanted = wanted ≡ Ok (view t)
 Settles view (Err r) wanted = Tells r (λ f. wanted ≡ Err f)
+
+-- the call returns what is wanted, or its fault; being out of memory aside
+abbrev pub Returns : {T : Type 0} → Result T Refused → Result T Fault → Type 0
+Returns result wanted = Settles (λ t. t) result wanted

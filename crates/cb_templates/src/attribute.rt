@@ -2,7 +2,7 @@
 ghost use Rattle.std.specs.Prelude.{◌≡◌, None, Ok, Err, IfOk, IfErr};
 ghost use Rattle.cb_forms.specs.Members.{call_of, head_and_rest, members, symbol_of};
 ghost use Rattle.cb_forms.specs.Trees.{tree_of};
-ghost use Rattle.cb_templates.specs.Results.{Tells};
+ghost use Rattle.cb_templates.specs.Results.{Returns, Settles};
 ghost use Rattle.cb_templates.specs.SlotForms.{attribute_by, attributes_behind, default_constant, default_constants, default_of, is_variable, is_variable_form, is_variable_token, multi_default, no_call, no_attributes, no_constant, one_default, some_types, type_by, types_in, types_of};
 
 use crate::refused::Refused;
@@ -38,8 +38,7 @@ pub(crate) fn read_attributes(
     is_multi: bool,
     forms: &[Form],
 ) -> Result<Attributes, Refused>
-    ensures ok { IfOk result (λ a. attributes_behind is_multi no_attributes (members forms.now) ≡ Ok a) }
-    ensures fault { IfErr result (λ r. Tells r (λ f. attributes_behind is_multi no_attributes (members forms.now) ≡ Err f)) }
+    ensures { Returns result (attributes_behind is_multi no_attributes (members forms.now)) }
 {
     let mut attributes = Attributes {
         types: None,
@@ -58,8 +57,7 @@ fn with_attribute(
     attributes: Attributes,
     form: &Form,
 ) -> Result<Attributes, Refused>
-    ensures ok { IfOk result (λ a. attribute_by is_multi attributes (call_of (tree_of form.now)) ≡ Ok a) }
-    ensures fault { IfErr result (λ r. Tells r (λ f. attribute_by is_multi attributes (call_of (tree_of form.now)) ≡ Err f)) }
+    ensures { Returns result (attribute_by is_multi attributes (call_of (tree_of form.now))) }
 {
     let Some((name, forms)) = form.call() else {
         return Err(Refused::Fault(Fault::MalformedForm));
@@ -89,8 +87,7 @@ fn with_attribute(
 
 /// What `type` says, by the forms behind it.
 fn read_types(alloc: Global, forms: &[Form]) -> Result<Types, Refused>
-    ensures ok { IfOk result (λ types. types_of (members forms.now) ≡ Ok types) }
-    ensures fault { IfErr result (λ r. Tells r (λ f. types_of (members forms.now) ≡ Err f)) }
+    ensures { Returns result (types_of (members forms.now)) }
 {
     if is_variable(b"VARIABLE", forms) {
         return Ok(Types::any());
@@ -103,8 +100,7 @@ fn read_types(alloc: Global, forms: &[Form]) -> Result<Types, Refused>
 
 #[tactic(auto, using(crate::proofs::Firsts::behind_none, crate::proofs::Firsts::behind_all, crate::proofs::Firsts::behind_one))]
 fn read_type_names(alloc: Global, forms: &[Form]) -> Result<Vec<SlotType>, Refused>
-    ensures ok { IfOk result (λ types. types_in (members forms.now) ≡ Ok types.items) }
-    ensures fault { IfErr result (λ r. Tells r (λ f. types_in (members forms.now) ≡ Err f)) }
+    ensures { Settles (λ types. types.items) result (types_in (members forms.now)) }
 {
     let mut types = Vec::new(alloc);
     for form in forms {
@@ -114,8 +110,7 @@ fn read_type_names(alloc: Global, forms: &[Form]) -> Result<Vec<SlotType>, Refus
 }
 
 fn read_type(form: &Form) -> Result<SlotType, Refused>
-    ensures ok { IfOk result (λ t. type_by (symbol_of (tree_of form.now)) ≡ Ok t) }
-    ensures fault { IfErr result (λ r. Tells r (λ f. type_by (symbol_of (tree_of form.now)) ≡ Err f)) }
+    ensures { Returns result (type_by (symbol_of (tree_of form.now))) }
 {
     let Some(name) = form.symbol() else {
         return Err(Refused::Fault(Fault::MalformedForm));
@@ -128,8 +123,7 @@ fn read_type(form: &Form) -> Result<SlotType, Refused>
 
 /// What `default` says, by the forms behind it.
 fn read_default(alloc: Global, is_multi: bool, forms: &[Form]) -> Result<SlotDefault, Refused>
-    ensures ok { IfOk result (λ d. default_of is_multi (members forms.now) ≡ Ok d) }
-    ensures fault { IfErr result (λ r. Tells r (λ f. default_of is_multi (members forms.now) ≡ Err f)) }
+    ensures { Returns result (default_of is_multi (members forms.now)) }
 {
     if is_variable(b"NONE", forms) {
         return Ok(SlotDefault::Required);
@@ -145,8 +139,7 @@ fn read_default(alloc: Global, is_multi: bool, forms: &[Form]) -> Result<SlotDef
 }
 
 fn read_one_default(alloc: Global, forms: &[Form]) -> Result<SlotDefault, Refused>
-    ensures ok { IfOk result (λ d. one_default (members forms.now) ≡ Ok d) }
-    ensures fault { IfErr result (λ r. Tells r (λ f. one_default (members forms.now) ≡ Err f)) }
+    ensures { Returns result (one_default (members forms.now)) }
 {
     let Some((form, rest)) = forms.split_first() else {
         return Err(Refused::Fault(Fault::MalformedForm));
@@ -158,8 +151,7 @@ fn read_one_default(alloc: Global, forms: &[Form]) -> Result<SlotDefault, Refuse
 }
 
 fn read_multi_default(alloc: Global, forms: &[Form]) -> Result<SlotDefault, Refused>
-    ensures ok { IfOk result (λ d. multi_default (members forms.now) ≡ Ok d) }
-    ensures fault { IfErr result (λ r. Tells r (λ f. multi_default (members forms.now) ≡ Err f)) }
+    ensures { Returns result (multi_default (members forms.now)) }
 {
     let values = read_constants(alloc, forms)?;
     let fields = splice(alloc, values.as_slice())?;
@@ -168,8 +160,7 @@ fn read_multi_default(alloc: Global, forms: &[Form]) -> Result<SlotDefault, Refu
 
 #[tactic(auto, using(crate::proofs::Firsts::behind_none, crate::proofs::Firsts::behind_all, crate::proofs::Firsts::behind_one))]
 fn read_constants(alloc: Global, forms: &[Form]) -> Result<Vec<Value>, Refused>
-    ensures ok { IfOk result (λ values. default_constants (members forms.now) ≡ Ok values.items) }
-    ensures fault { IfErr result (λ r. Tells r (λ f. default_constants (members forms.now) ≡ Err f)) }
+    ensures { Settles (λ values. values.items) result (default_constants (members forms.now)) }
 {
     let mut values = Vec::new(alloc);
     for form in forms {
@@ -179,8 +170,7 @@ fn read_constants(alloc: Global, forms: &[Form]) -> Result<Vec<Value>, Refused>
 }
 
 fn read_constant(alloc: Global, form: &Form) -> Result<Value, Refused>
-    ensures ok { IfOk result (λ value. default_constant (tree_of form.now) ≡ Ok value) }
-    ensures fault { IfErr result (λ r. Tells r (λ f. default_constant (tree_of form.now) ≡ Err f)) }
+    ensures { Returns result (default_constant (tree_of form.now)) }
 {
     match form {
         Form::Atom(token) => match Value::constant(alloc, token)? {

@@ -4,7 +4,7 @@ ghost use Rattle.std.specs.List.{list_all};
 ghost use Rattle.cb_facts.specs.Facts.{ordered_fact};
 ghost use Rattle.cb_facts.specs.Values.{spliced, value_of_field};
 ghost use Rattle.cb_templates.specs.Building.{are_distinct, built, filled, fits, given_for, is_one, one_value, part_values, slot_value, slots_built, takes};
-ghost use Rattle.cb_templates.specs.Results.{Tells};
+ghost use Rattle.cb_templates.specs.Results.{Returns, Settles};
 ghost use Rattle.cb_templates.specs.Slots.{slot_named};
 
 use crate::parts::{GivenSlot, Parts, find_given};
@@ -30,8 +30,7 @@ pub fn build_fact(
     relation: Name,
     parts: Parts,
 ) -> Result<Fact, Refused>
-    ensures ok { IfOk result (λ fact. built relations.now relation (part_values parts) ≡ Ok fact) }
-    ensures fault { IfErr result (λ r. Tells r (λ f. built relations.now relation (part_values parts) ≡ Err f)) }
+    ensures { Returns result (built relations.now relation (part_values parts)) }
 {
     match relations.shape(&relation) {
         None => match parts {
@@ -46,7 +45,8 @@ pub fn build_fact(
 }
 
 fn build_ordered(alloc: Global, relation: Name, values: Vec<Value>) -> Result<Fact, NoMemory>
-    ensures { IfOk result (λ fact. fact ≡ ordered_fact relation (map value_of_field (spliced values.items))) }
+    ensures { IfOk result
+        (λ fact. fact ≡ ordered_fact relation (map value_of_field (spliced values.items))) }
 {
     let fields = splice_values(alloc, values)?;
     Fact::ordered(alloc, relation, fields)
@@ -58,8 +58,7 @@ fn build_slots(
     slots: &[Slot],
     given: &[GivenSlot],
 ) -> Result<Fact, Refused>
-    ensures ok { IfOk result (λ fact. slots_built relation slots.now given.now ≡ Ok fact) }
-    ensures fault { IfErr result (λ r. Tells r (λ f. slots_built relation slots.now given.now ≡ Err f)) }
+    ensures { Returns result (slots_built relation slots.now given.now) }
 {
     if !fits(slots, given) {
         return Err(Refused::Fault(Fault::FactDoesNotFit));
@@ -133,8 +132,7 @@ fn is_one(values: &[Value]) -> bool
 /// The slots of a template, each with its value.
 #[tactic(auto, using(crate::proofs::Firsts::behind_none, crate::proofs::Firsts::behind_all, crate::proofs::Firsts::behind_one))]
 fn fill(alloc: Global, slots: &[Slot], given: &[GivenSlot]) -> Result<Vec<(Name, Value)>, Refused>
-    ensures ok { IfOk result (λ content. filled slots.now given.now ≡ Ok content.items) }
-    ensures fault { IfErr result (λ r. Tells r (λ f. filled slots.now given.now ≡ Err f)) }
+    ensures { Settles (λ content. content.items) result (filled slots.now given.now) }
 {
     let mut content = Vec::new(alloc);
     for slot in slots {
@@ -146,8 +144,7 @@ fn fill(alloc: Global, slots: &[Slot], given: &[GivenSlot]) -> Result<Vec<(Name,
 
 /// The value of a slot.
 fn slot_value(alloc: Global, slot: &Slot, given: &[GivenSlot]) -> Result<Value, Refused>
-    ensures ok { IfOk result (λ value. slot_value slot.now (given_for given.now slot.now.name) ≡ Ok value) }
-    ensures fault { IfErr result (λ r. Tells r (λ f. slot_value slot.now (given_for given.now slot.now.name) ≡ Err f)) }
+    ensures { Returns result (slot_value slot.now (given_for given.now slot.now.name)) }
 {
     match find_given(given, slot.name().as_slice()) {
         None => default_value(slot),
@@ -162,8 +159,7 @@ fn slot_value(alloc: Global, slot: &Slot, given: &[GivenSlot]) -> Result<Value, 
 }
 
 fn default_value(slot: &Slot) -> Result<Value, Refused>
-    ensures ok { IfOk result (λ value. slot_value slot.now None ≡ Ok value) }
-    ensures fault { IfErr result (λ r. Tells r (λ f. slot_value slot.now None ≡ Err f)) }
+    ensures { Returns result (slot_value slot.now None) }
 {
     match slot.default() {
         Some(value) => Ok(value.clone()?),
@@ -172,8 +168,7 @@ fn default_value(slot: &Slot) -> Result<Value, Refused>
 }
 
 fn one_value(values: &[Value]) -> Result<Value, Refused>
-    ensures ok { IfOk result (λ value. one_value values.now ≡ Ok value) }
-    ensures fault { IfErr result (λ r. Tells r (λ f. one_value values.now ≡ Err f)) }
+    ensures { Returns result (one_value values.now) }
 {
     let Some((value, rest)) = values.split_first() else {
         return Err(Refused::Fault(Fault::FactDoesNotFit));

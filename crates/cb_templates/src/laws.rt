@@ -13,16 +13,22 @@ ghost use Rattle.cb_templates.specs.declared.attribute.Attributes.{Attributes};
 
 /// No two slots of a template have one name.
 pub fn the_slots_of_a_template_differ()
-    ensures { (forms : Trees) (slots : List SlotShape) → slots_behind [] forms ≡ Ok slots → IsDistinct bytes_eq (names slots) }
+    ensures { (forms : Trees) (slots : List SlotShape) → slots_behind [] forms ≡ Ok slots
+        → IsDistinct bytes_eq (names slots) }
 {}
 
 /// The attributes of a slot may stand in any order: where none is at fault, two that stand one behind the other say the same
 /// the other way round. Which fault comes first may depend on their order.
 pub fn the_attributes_of_a_slot_have_no_order()
-    ensures { (is_multi : Bool) (before all : Attributes) (t u : Tree) (forms : Trees) → attributes_behind is_multi before (tree t (tree u forms)) ≡ Ok all → attributes_behind is_multi before (tree u (tree t forms)) ≡ Ok all }
+    ensures { (is_multi : Bool) (before all : Attributes) (t u : Tree) (forms : Trees)
+        → attributes_behind is_multi before (tree t (tree u forms)) ≡ Ok all
+        → attributes_behind is_multi before (tree u (tree t forms)) ≡ Ok all }
 {}
 
 /// A fact of a template has the slots of the template and no others, in the template's order, whatever it is given.
 pub fn a_fact_has_the_slots_of_its_template()
-    ensures { (templates : Templates) (relation : List ℕ) (parts : PartValues) (slots : List SlotShape) (fact : FactValue) → slots_of templates relation ≡ Some slots → built templates relation parts ≡ Ok fact → content_names fact.content ≡ names slots }
+    ensures { (templates : Templates) (relation : List ℕ) (parts : PartValues)
+        (slots : List SlotShape) (fact : FactValue)
+        → slots_of templates relation ≡ Some slots → built templates relation parts ≡ Ok fact
+        → content_names fact.content ≡ names slots }
 {}

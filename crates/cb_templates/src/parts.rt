@@ -49,7 +49,8 @@ pub enum Parts {
 
 /// The values that are given for the slot with a name.
 pub fn find_given<'a>(given: &'a [GivenSlot], name: &[u8]) -> Option<&'a [Value]>
-    ensures { MatchOption result (given_for given.now name.now ≡ None) (λ values. given_for given.now name.now ≡ Some values.now) }
+    ensures { MatchOption result (given_for given.now name.now ≡ None)
+        (λ values. given_for given.now name.now ≡ Some values.now) }
 {
     for slot in given {
         if slot.name.as_slice() == name {

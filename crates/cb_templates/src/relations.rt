@@ -1,7 +1,7 @@
 //! The relations that have a template.
 ghost use Rattle.std.specs.Prelude.{◌≡◌, [], None, Some, Ok, Err, MatchOption, IfErr, IfOk, OnOk, OnErr};
 ghost use Rattle.cb_forms.specs.Members.{head_and_rest, members};
-ghost use Rattle.cb_templates.specs.Results.{Tells};
+ghost use Rattle.cb_templates.specs.Results.{Returns, Settles};
 ghost use Rattle.cb_templates.specs.Templates.{defined, named_template, slots_behind, slots_of, template_of};
 
 use crate::comment::without_comment;
@@ -65,8 +65,7 @@ impl Relations {
     /// relation is in use, and then those of each slot: CB08, CB14 and, behind its last attribute, CB10. Whatever it refuses,
     /// nothing has changed.
     pub fn define_template(&mut self, form: &[Form], in_use: bool) -> Result<(), Refused>
-        ensures ok { OnOk result (defined self.old in_use (members form.now) ≡ Ok self.new) }
-        ensures fault { IfErr result (λ r. Tells r (λ f. defined self.old in_use (members form.now) ≡ Err f)) }
+        ensures done { Settles (λ _. self.new) result (defined self.old in_use (members form.now)) }
         ensures err { OnErr result (self.new ≡ self.old) }
     {
         let (name, template) = read_template(self.alloc, form, in_use)?;
@@ -76,7 +75,8 @@ impl Relations {
 
     /// The slots of a relation's template, or `None` where the relation has none.
     pub fn shape(&self, relation: &Name) -> Option<&[Slot]>
-        ensures { MatchOption result (slots_of self.now relation.now ≡ None) (λ slots. slots_of self.now relation.now ≡ Some slots.now) }
+        ensures { MatchOption result (slots_of self.now relation.now ≡ None)
+            (λ slots. slots_of self.now relation.now ≡ Some slots.now) }
     {
         let template = self.templates.get(relation)?;
         Some(template.slots.as_slice())
@@ -84,8 +84,7 @@ impl Relations {
 }
 
 fn read_template(alloc: Global, forms: &[Form], in_use: bool) -> Result<(Name, Template), Refused>
-    ensures ok { IfOk result (λ t. template_of in_use (members forms.now) ≡ Ok t) }
-    ensures fault { IfErr result (λ r. Tells r (λ f. template_of in_use (members forms.now) ≡ Err f)) }
+    ensures { Returns result (template_of in_use (members forms.now)) }
 {
     let Some((name, forms)) = split_head(forms) else {
         return Err(Refused::Fault(Fault::MalformedForm));
@@ -101,8 +100,7 @@ fn read_template(alloc: Global, forms: &[Form], in_use: bool) -> Result<(Name, T
 }
 
 fn read_slots(alloc: Global, forms: &[Form]) -> Result<Vec<Slot>, Refused>
-    ensures ok { IfOk result (λ slots. slots_behind [] (members forms.now) ≡ Ok slots.items) }
-    ensures fault { IfErr result (λ r. Tells r (λ f. slots_behind [] (members forms.now) ≡ Err f)) }
+    ensures { Settles (λ slots. slots.items) result (slots_behind [] (members forms.now)) }
 {
     let mut slots = Vec::new(alloc);
     for form in forms {

@@ -116,7 +116,8 @@ impl Model for Slot {
 impl Slot {
     /// A slot.
     pub(crate) fn new(name: Name, is_multi: bool, types: Types, default: Option<Value>) -> Slot
-        ensures { result ≡ record { name = name; is_multi = is_multi; types = types; default = default } }
+        ensures { result
+            ≡ record { name = name; is_multi = is_multi; types = types; default = default } }
     {
         Slot {
             name,
@@ -149,7 +150,8 @@ impl Slot {
 
     /// Its value in a fact that doesn't give it, or `None` where each fact must.
     pub fn default(&self) -> Option<&Value>
-        ensures { MatchOption result (self.now.default ≡ None) (λ v. self.now.default ≡ Some v.now) }
+        ensures { MatchOption result (self.now.default ≡ None)
+            (λ v. self.now.default ≡ Some v.now) }
     {
         self.default.as_ref()
     }
@@ -172,7 +174,8 @@ impl Slot {
 
 /// The slot with a name, if there is one.
 pub fn find_slot<'a>(slots: &'a [Slot], name: &[u8]) -> Option<&'a Slot>
-    ensures { MatchOption result (slot_named slots.now name.now ≡ None) (λ s. slot_named slots.now name.now ≡ Some s.now) }
+    ensures { MatchOption result (slot_named slots.now name.now ≡ None)
+        (λ s. slot_named slots.now name.now ≡ Some s.now) }
 {
     for slot in slots {
         if slot.name.as_slice() == name {

@@ -2,7 +2,7 @@
 ghost use Rattle.std.specs.Prelude.{◌≡◌, [], Ok, Err, IfOk, IfErr};
 ghost use Rattle.cb_forms.specs.Members.{call_of, head_and_rest, members};
 ghost use Rattle.cb_forms.specs.Trees.{tree_of};
-ghost use Rattle.cb_templates.specs.Results.{Tells};
+ghost use Rattle.cb_templates.specs.Results.{Returns};
 ghost use Rattle.cb_templates.specs.SlotForms.{derived, derived_one, finished, named_slot, slot_by, slot_with};
 
 use crate::attribute::{Attributes, SlotDefault, read_attributes};
@@ -15,8 +15,7 @@ use std::alloc::Global;
 
 /// The slot that a form is, behind the slots of the template so far, or its first fault.
 pub(crate) fn read_slot(alloc: Global, slots: &[Slot], form: &Form) -> Result<Slot, Refused>
-    ensures ok { IfOk result (λ slot. slot_by slots.now (call_of (tree_of form.now)) ≡ Ok slot) }
-    ensures fault { IfErr result (λ r. Tells r (λ f. slot_by slots.now (call_of (tree_of form.now)) ≡ Err f)) }
+    ensures { Returns result (slot_by slots.now (call_of (tree_of form.now))) }
 {
     let Some((head, forms)) = form.call() else {
         return Err(Refused::Fault(Fault::MalformedForm));
@@ -37,8 +36,7 @@ fn read_named(
     is_multi: bool,
     forms: &[Form],
 ) -> Result<Slot, Refused>
-    ensures ok { IfOk result (λ slot. named_slot slots.now is_multi (head_and_rest (members forms.now)) ≡ Ok slot) }
-    ensures fault { IfErr result (λ r. Tells r (λ f. named_slot slots.now is_multi (head_and_rest (members forms.now)) ≡ Err f)) }
+    ensures { Returns result (named_slot slots.now is_multi (head_and_rest (members forms.now))) }
 {
     let Some((name, forms)) = split_head(forms) else {
         return Err(Refused::Fault(Fault::MalformedForm));
@@ -57,8 +55,7 @@ fn finish(
     is_multi: bool,
     attributes: Attributes,
 ) -> Result<Slot, Refused>
-    ensures ok { IfOk result (λ slot. finished name.now is_multi attributes ≡ Ok slot) }
-    ensures fault { IfErr result (λ r. Tells r (λ f. finished name.now is_multi attributes ≡ Err f)) }
+    ensures { Returns result (finished name.now is_multi attributes) }
 {
     let Attributes { types, default } = attributes;
     let name = Name::new(alloc, name)?;
@@ -76,8 +73,7 @@ fn slot_with(
     types: Types,
     default: Option<SlotDefault>,
 ) -> Result<Slot, Refused>
-    ensures ok { IfOk result (λ slot. slot_with name is_multi types default ≡ Ok slot) }
-    ensures fault { IfErr result (λ r. Tells r (λ f. slot_with name is_multi types default ≡ Err f)) }
+    ensures { Returns result (slot_with name is_multi types default) }
 {
     match default {
         None | Some(SlotDefault::Derived) => {
