@@ -88,7 +88,8 @@ impl DeffactsTable {
     /// Asserts all facts of the groups, in order.
     #[tactic(auto, using(crate::proofs::MemoryLaws::all_append))]
     pub(crate) fn assert_into(&self, memory: &mut WorkingMemory) -> Result<Asserted, NoMemory>
-        ensures { IfOk result (λ told. asserted_all memory.old None (facts_in self.now) ≡ (memory.new, told)) }
+        ensures { IfOk result
+            (λ told. asserted_all memory.old None (facts_in self.now) ≡ (memory.new, told)) }
     {
         let mut last = None;
         for (_, group) in self.groups.iter() {

@@ -96,7 +96,8 @@ impl Engine {
         out: &mut Out<K>,
     ) -> Result<Option<Status>, Stop>
         requires { out.old.fault ≡ false }
-        ensures { Executes K.writes out.old out.new self.new result (executed self.old (reading_of item.now)) }
+        ensures { Executes K.writes out.old out.new self.new result
+            (executed self.old (reading_of item.now)) }
     {
         match item_symbol(item) {
             Some(name) => show_symbol(name, out),
@@ -110,7 +111,8 @@ impl Engine {
         out: &mut Out<K>,
     ) -> Result<Option<Status>, Stop>
         requires { out.old.fault ≡ false }
-        ensures { Executes K.writes out.old out.new self.new result (executed self.old (reading_of item.now)) }
+        ensures { Executes K.writes out.old out.new self.new result
+            (executed self.old (reading_of item.now)) }
     {
         match self.act(item, out) {
             Ok(()) => Ok(None),
@@ -137,7 +139,8 @@ impl Engine {
     /// Reads the request that an item is, does it, and puts its value on a line.
     fn act<K: Sink>(&mut self, item: &Item, out: &mut Out<K>) -> Result<(), Break>
         requires { out.old.fault ≡ false }
-        ensures { Went K.writes out.old out.new self.new result (acted (reading_of item.now) self.old) }
+        ensures { Went K.writes out.old out.new self.new result
+            (acted (reading_of item.now) self.old) }
     {
         match read_command(self.alloc, &self.relations, item) {
             Ok(command) => self.perform_and_show(command, out),
@@ -151,7 +154,8 @@ impl Engine {
         out: &mut Out<K>,
     ) -> Result<(), Break>
         requires { out.old.fault ≡ false }
-        ensures { Went K.writes out.old out.new self.new result (performed_and_shown (request_by command.entry) self.old) }
+        ensures { Went K.writes out.old out.new self.new result
+            (performed_and_shown (request_by command.entry) self.old) }
     {
         let value = self.perform(command, out)?;
         show(self.alloc, value, out)?;
@@ -165,7 +169,8 @@ impl Engine {
         out: &mut Out<K>,
     ) -> Result<Option<Value>, Break>
         requires { out.old.fault ≡ false }
-        ensures { Went K.writes out.old out.new self.new result (performed (request_by command.entry) self.old) }
+        ensures { Went K.writes out.old out.new self.new result
+            (performed (request_by command.entry) self.old) }
     {
         match command {
             Command::Show(value) => Ok(Some(value)),
@@ -182,7 +187,8 @@ impl Engine {
 
     /// Defines the template that forms are.
     fn define_template(&mut self, forms: &[Form]) -> Result<Option<Value>, Break>
-        ensures { Quietly self.new result (performed (request.define_template (members forms.now)) self.old) }
+        ensures { Quietly self.new result
+            (performed (request.define_template (members forms.now)) self.old) }
     {
         let in_use = self.is_name_in_use(forms);
         self.relations.define_template(forms, in_use)?;
@@ -207,7 +213,8 @@ impl Engine {
 
     /// Keeps facts under a name for `reset`.
     fn define_deffacts(&mut self, name: Name, facts: Vec<FactExpr>) -> Result<Option<Value>, Break>
-        ensures { Quietly self.new result (performed (request.define_deffacts name facts.items) self.old) }
+        ensures { Quietly self.new result
+            (performed (request.define_deffacts name facts.items) self.old) }
     {
         self.deffacts.define(name, facts)?;
         Ok(None)
@@ -239,7 +246,8 @@ impl Engine {
     /// Puts the lines of all facts.
     fn list_facts<K: Sink>(&mut self, out: &mut Out<K>) -> Result<Option<Value>, Break>
         requires { out.old.fault ≡ false }
-        ensures { Went K.writes out.old out.new self.new result (performed request.list_facts self.old) }
+        ensures { Went K.writes out.old out.new self.new result
+            (performed request.list_facts self.old) }
     {
         put_fact_lines(self.alloc, self.memory.facts(), out)?;
         Ok(None)
@@ -253,7 +261,8 @@ impl Engine {
         out: &mut Out<K>,
     ) -> Result<Option<Value>, Break>
         requires { out.old.fault ≡ false }
-        ensures { Went K.writes out.old out.new self.new result (performed (request.print channel values.now) self.old) }
+        ensures { Went K.writes out.old out.new self.new result
+            (performed (request.print channel values.now) self.old) }
     {
         put_printed(self.alloc, channel, values, out)?;
         Ok(None)
@@ -296,7 +305,8 @@ fn item_symbol(item: &Item) -> Option<&[u8]>
 fn show_symbol<K: Sink>(name: &[u8], out: &mut Out<K>) -> Result<Option<Status>, Stop>
     requires { out.old.fault ≡ false }
     ensures status { IfOk result (λ status. status ≡ None) }
-    ensures puts { Puts K.writes out.old out.new (stop_extent result) (value_line (Value.Symbol name.now)) }
+    ensures puts { Puts K.writes out.old out.new (stop_extent result)
+        (value_line (Value.Symbol name.now)) }
 {
     put(name, out)?;
     put(b"\n", out)?;

@@ -145,14 +145,16 @@ impl FactExpr {
 }
 
 fn build_ordered(alloc: Global, relation: Name, values: &[Value]) -> Result<Fact, NoMemory>
-    ensures { IfOk result (λ fact. fact ≡ ordered_fact relation (map value_of_field (spliced values.now))) }
+    ensures { IfOk result
+        (λ fact. fact ≡ ordered_fact relation (map value_of_field (spliced values.now))) }
 {
     let values = copy_all(alloc, values)?;
     Fact::ordered(alloc, relation, splice_values(alloc, values)?)
 }
 
 fn build_slots(alloc: Global, relation: Name, slots: &[SlotExpr]) -> Result<Fact, NoMemory>
-    ensures { IfOk result (λ fact. fact ≡ template_fact relation (map (λ s. (s.0, slot_value s.1)) slots.now)) }
+    ensures { IfOk result
+        (λ fact. fact ≡ template_fact relation (map (λ s. (s.0, slot_value s.1)) slots.now)) }
 {
     let mut content = Vec::new(alloc);
     for slot in slots {

@@ -52,7 +52,8 @@ fn read_content(
     relation: &Name,
     forms: &[Form],
 ) -> Result<ContentExpr, Refused>
-    ensures { Settles fact_content result (content_of (slots_of relations.now relation.now) (members forms.now)) }
+    ensures { Settles fact_content result
+        (content_of (slots_of relations.now relation.now) (members forms.now)) }
 {
     match relations.shape(relation) {
         None => Ok(ContentExpr::Fields(read_fields(alloc, forms)?)),
@@ -181,7 +182,8 @@ fn complete(alloc: Global, slots: &[Slot], given: &[SlotExpr]) -> Result<Vec<Slo
 
 /// What a slot is given, or else its default.
 fn fill(alloc: Global, slot: &Slot, given: &[SlotExpr]) -> Result<Filling, Refused>
-    ensures { Settles slot_content result (given_or_default slot.now (content_for given.now slot.now.name)) }
+    ensures { Settles slot_content result
+        (given_or_default slot.now (content_for given.now slot.now.name)) }
 {
     match find_filling(given, slot.name().as_slice()) {
         Some(filling) => Ok(filling.copy(alloc)?),
@@ -201,7 +203,8 @@ fn default_of(slot: &Slot) -> Result<Filling, Refused>
 /// The values of a slot, each of its types, or the first fault.
 #[tactic(auto, using(cb_templates::proofs::Firsts::behind_none, cb_templates::proofs::Firsts::behind_all, cb_templates::proofs::Firsts::behind_one))]
 fn read_slot_fields(alloc: Global, slot: &Slot, forms: &[Form]) -> Result<Vec<Value>, Refused>
-    ensures { Settles (λ values. values.items) result (slot_fields_of slot.now.types (members forms.now)) }
+    ensures { Settles (λ values. values.items) result
+        (slot_fields_of slot.now.types (members forms.now)) }
 {
     let mut values = Vec::new(alloc);
     let mut rest = forms;

@@ -75,7 +75,8 @@ pub(crate) fn put_text<K: Sink>(
     out: &mut Out<K>,
 ) -> Result<(), Stop>
     requires { out.old.fault ≡ false }
-    ensures { (bytes : List ℕ) → IfOk text (λ t. t.items ≡ bytes) → Puts K.writes out.old out.new (stop_extent result) bytes }
+    ensures { (bytes : List ℕ) → IfOk text (λ t. t.items ≡ bytes)
+        → Puts K.writes out.old out.new (stop_extent result) bytes }
 {
     match text {
         Ok(text) => put(text.as_slice(), out),

@@ -38,7 +38,8 @@ pub(crate) fn put_printed<K: Sink>(
 
 fn put_values<K: Sink>(alloc: Global, values: &[Value], out: &mut Out<K>) -> Result<(), Stop>
     requires { out.old.fault ≡ false }
-    ensures { Puts K.writes out.old out.new (stop_extent result) (flat_map printed_value values.now) }
+    ensures { Puts K.writes out.old out.new (stop_extent result)
+        (flat_map printed_value values.now) }
 {
     for value in values {
         put_value(alloc, value, out)?;

@@ -64,7 +64,8 @@ impl Session {
         requires { self.old.stop ≡ None → IsReady out.old }
         // The script goes on.
         ensures puts { self.old.stop ≡ None → self.old.status ≡ None
-            → Puts K.writes out.old out.new (stop_extent result) (added self.old.limits self.old.fed bytes.now) }
+            → Puts K.writes out.old out.new (stop_extent result)
+            (added self.old.limits self.old.fed bytes.now) }
         ensures fed { OnOk result (self.old.status ≡ None
             → self.new ≡ session_after self.old.limits (self.old.fed ++ bytes.now)
             (so_far self.old.limits (self.old.fed ++ bytes.now)).status) }
@@ -103,7 +104,8 @@ impl Session {
         requires goes { self.old.status ≡ (so_far self.old.limits self.old.fed).status }
         requires ready { IsReady out.old }
         ensures fed { HasTaken self.old bytes.now self.new result }
-        ensures puts { Puts K.writes out.old out.new (stop_extent result) (added self.old.limits self.old.fed bytes.now) }
+        ensures puts { Puts K.writes out.old out.new (stop_extent result)
+            (added self.old.limits self.old.fed bytes.now) }
         ensures ready { OnOk result (IsReady out.new) }
         ensures halted { result ≡ Err Stop.NoMemory → IsReady out.new }
     {
@@ -119,7 +121,8 @@ impl Session {
         requires goes { self.old.status ≡ (so_far self.old.limits self.old.fed).status }
         requires fine { out.old.fault ≡ false }
         ensures fed { HasTaken self.old bytes.now self.new result }
-        ensures puts { Puts K.writes out.old out.new (stop_extent result) (added self.old.limits self.old.fed bytes.now) }
+        ensures puts { Puts K.writes out.old out.new (stop_extent result)
+            (added self.old.limits self.old.fed bytes.now) }
     {
         for byte in bytes {
             self.take(*byte, out)?;
@@ -133,7 +136,8 @@ impl Session {
         requires goes { self.old.status ≡ (so_far self.old.limits self.old.fed).status }
         requires fine { out.old.fault ≡ false }
         ensures fed { HasTaken self.old (byte ∷ []) self.new result }
-        ensures puts { Puts K.writes out.old out.new (stop_extent result) (added self.old.limits self.old.fed (byte ∷ [])) }
+        ensures puts { Puts K.writes out.old out.new (stop_extent result)
+            (added self.old.limits self.old.fed (byte ∷ [])) }
     {
         if self.status.is_some() {
             self.fed = self.fed.and(&byte);
@@ -155,7 +159,8 @@ impl Session {
         requires { self.old.stop ≡ None → IsReady out.old }
         // The script ends.
         ensures puts { self.old.stop ≡ None → self.old.status ≡ None
-            → Puts K.writes out.old out.new (stop_extent result) (added_at_end self.old.limits self.old.fed) }
+            → Puts K.writes out.old out.new (stop_extent result)
+            (added_at_end self.old.limits self.old.fed) }
         ensures ended_now { IfOk result (λ status. self.old.status ≡ None
             → self.new ≡ session_after self.old.limits self.old.fed (Some status)) }
         ensures status { IfOk result (λ status. self.old.status ≡ None
@@ -192,9 +197,11 @@ impl Session {
         requires on { self.old.stop ≡ None }
         requires goes { self.old.status ≡ None }
         requires ready { IsReady out.old }
-        ensures ended { IfOk result (λ status. self.new ≡ session_after self.old.limits self.old.fed (Some status)) }
+        ensures ended { IfOk result
+            (λ status. self.new ≡ session_after self.old.limits self.old.fed (Some status)) }
         ensures status { IfOk result (λ status. status ≡ status_of self.old.limits self.old.fed) }
-        ensures puts { Puts K.writes out.old out.new (stop_extent result) (added_at_end self.old.limits self.old.fed) }
+        ensures puts { Puts K.writes out.old out.new (stop_extent result)
+            (added_at_end self.old.limits self.old.fed) }
         ensures ready { OnOk result (IsReady out.new) }
         ensures halted { result ≡ Err Stop.NoMemory → IsReady out.new }
     {
@@ -211,9 +218,11 @@ impl Session {
         requires on { self.old.stop ≡ None }
         requires goes { self.old.status ≡ None }
         requires fine { out.old.fault ≡ false }
-        ensures ended { IfOk result (λ status. self.new ≡ session_after self.old.limits self.old.fed (Some status)) }
+        ensures ended { IfOk result
+            (λ status. self.new ≡ session_after self.old.limits self.old.fed (Some status)) }
         ensures status { IfOk result (λ status. status ≡ status_of self.old.limits self.old.fed) }
-        ensures puts { Puts K.writes out.old out.new (stop_extent result) (added_at_end self.old.limits self.old.fed) }
+        ensures puts { Puts K.writes out.old out.new (stop_extent result)
+            (added_at_end self.old.limits self.old.fed) }
     {
         self.stop = Some(Stop::NoMemory);
         let status = execute_last(&mut self.cutter, &mut self.engine, out)?;
@@ -225,7 +234,8 @@ impl Session {
 
     /// The bytes of the item that is open, none after the script has ended. After a `Stop` they may be any.
     pub fn held(&self) -> &[u8]
-        ensures rest { self.now.stop ≡ None → self.now.status ≡ None → result.now ≡ rest self.now.fed }
+        ensures rest { self.now.stop ≡ None → self.now.status ≡ None
+            → result.now ≡ rest self.now.fed }
         ensures ended { self.now.stop ≡ None → IsSome self.now.status → result.now ≡ [] }
         ensures within { self.now.stop ≡ None → length result.now ≤ self.now.limits.max_form }
     {
@@ -314,7 +324,8 @@ fn flush<K: Sink>(out: &mut Out<K>) -> Result<(), Stop>
 /// The stop, after all that was put is written; a write fault where that fails.
 fn halt<K: Sink>(stop: Stop, out: &mut Out<K>) -> Stop
     requires { stop ≡ Stop.NoMemory → out.old.fault ≡ false }
-    ensures puts { (o : OutState K) (bytes : List ℕ) → Puts K.writes o out.old (extent_at stop) bytes
+    ensures puts { (o : OutState K) (bytes : List ℕ)
+        → Puts K.writes o out.old (extent_at stop) bytes
         → Puts K.writes o out.new (extent_at result) bytes }
     ensures ready { result ≡ Stop.NoMemory → IsReady out.new }
 {

@@ -71,7 +71,8 @@ impl WorkingMemory {
         last: Option<u64>,
         facts: &[FactExpr],
     ) -> Result<Asserted, NoMemory>
-        ensures { IfOk result (λ told. asserted_all self.old last (map fact_by facts.now) ≡ (self.new, told)) }
+        ensures { IfOk result
+            (λ told. asserted_all self.old last (map fact_by facts.now) ≡ (self.new, told)) }
     {
         let mut last = last;
         for fact in facts {
@@ -156,7 +157,8 @@ impl WorkingMemory {
 
     /// Whether a fact names a relation. It looks at each fact.
     pub(crate) fn mentions(&self, relation: &[u8]) -> bool
-        ensures { result ≡ list_any (λ entry. bytes_eq entry.1.relation relation.now) self.now.facts }
+        ensures { result ≡ list_any
+            (λ entry. bytes_eq entry.1.relation relation.now) self.now.facts }
     {
         for (_, fact) in self.facts.iter() {
             if fact.relation() == relation {
