@@ -5,6 +5,7 @@
 #![tactic(auto)]
 
 mod fact;
+mod fact_expr;
 mod fact_list;
 mod many;
 mod name;
@@ -15,6 +16,7 @@ mod value;
 mod words;
 
 pub use fact::{Content, Fact};
+pub use fact_expr::{ContentExpr, FactExpr, Filling, SlotExpr};
 pub use fact_list::FactList;
 pub use many::Many;
 pub use name::Name;

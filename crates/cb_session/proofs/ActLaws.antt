@@ -15,7 +15,7 @@ use Rattle.cb_io.proofs.Putting.{puts_none, puts_then, puts_nothing, puts_less, 
 use Rattle.cb_session.specs.Acts.{State, Effect, Act, after_writing, follow, give_or_fault}
 use Rattle.cb_session.specs.Actions.{acted, performed, performed_and_shown, shown, shown_line}
 use Rattle.cb_session.specs.Lines.{fault_line, exhausted_line, too_long_line, value_line}
-use Rattle.cb_session.specs.Requests.{Request, request_of}
+use Rattle.cb_requests.specs.Requests.{Request, request_of}
 use Rattle.cb_session.specs.Scripts.{from, cut_run}
 use Rattle.cb_session.specs.Transcripts.{Run, joined, after_status, concluded, executed, limit_status}
 use Rattle.cb_session.proofs.RunLaws.{grows-status}

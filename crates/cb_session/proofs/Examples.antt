@@ -9,9 +9,9 @@ use Rattle.cb_forms.specs.Words.{token_of}
 use Rattle.cb_forms.specs.declared.token.Token.TheVariants as token
 use Rattle.cb_session.specs.Actions.{acted}
 use Rattle.cb_session.specs.Acts.{State, first_state}
-use Rattle.cb_session.specs.Heads.{is_refused}
+use Rattle.cb_requests.specs.Heads.{is_refused}
 use Rattle.cb_session.specs.Transcripts.{begun, after_all, complete, executed, limit_status, so_far, status_of, transcript}
-use Rattle.cb_session.specs.WorkingMemory.{greatest_index}
+use Rattle.cb_working_memory.specs.WorkingMemory.{greatest_index}
 use Rattle.cb_session.specs.declared.limits.Limits.{Limits}
 use Rattle.cb_session.specs.declared.status.Ending.TheVariants.{Done}
 use Rattle.cb_templates.specs.Reserved.{is_reserved}

@@ -7,21 +7,21 @@ use Rattle.std.specs.Ordering.{nat_cmp}
 use Rattle.cb_forms.specs.Trees.{Reading}
 use Rattle.cb_forms.specs.declared.fault.Fault.{Fault}
 use Rattle.cb_forms.specs.declared.fault.Fault.TheVariants.{WrongType}
-use Rattle.cb_session.specs.Requests as asked
-use Rattle.cb_session.specs.Requests.{Request, request_of}
+use Rattle.cb_requests.specs.Requests as asked
+use Rattle.cb_requests.specs.Requests.{Request, request_of}
 use Rattle.cb_session.specs.Acts.{State, Effect, give_or_fault, stop, become, follow, ◌>>=◌}
 use Rattle.cb_session.specs.Actions.{is_name_in_use, asserted, retracted, without_value, performed, performed_and_shown, shown, acted}
-use Rattle.cb_session.specs.Deffacts.{facts_in}
-use Rattle.cb_session.specs.FactExprs.{fact_by}
+use Rattle.cb_working_memory.specs.Deffacts.{facts_in}
+use Rattle.cb_facts.specs.FactExprs.{fact_by}
 use Rattle.cb_session.specs.Laws.{TakesFactsAlone, EndsWithFault}
 use Rattle.cb_session.specs.Transcripts.{Run, concluded, executed}
-use Rattle.cb_session.specs.WorkingMemory.{Memory, empty_memory, asserted_all, is_retractable, retracted_all, retracted_one, after_retracted, without}
+use Rattle.cb_working_memory.specs.WorkingMemory.{Memory, empty_memory, asserted_all, is_retractable, retracted_all, retracted_one, after_retracted, without}
 use Rattle.cb_session.specs.declared.act.Ended.{Ended}
 use Rattle.cb_session.specs.declared.act.Ended.TheVariants as ended
-use Rattle.cb_session.specs.declared.print.Channel.{Channel}
-use Rattle.cb_session.specs.declared.working_memory.Asserted.{Asserted}
-use Rattle.cb_session.specs.declared.working_memory.Asserted.TheVariants.{All, Exhausted}
-use Rattle.cb_session.proofs.IndexLaws.{contains_there}
+use Rattle.cb_requests.specs.declared.channel.Channel.{Channel}
+use Rattle.cb_working_memory.specs.declared.working_memory.Asserted.{Asserted}
+use Rattle.cb_working_memory.specs.declared.working_memory.Asserted.TheVariants.{All, Exhausted}
+use Rattle.cb_working_memory.proofs.IndexLaws.{contains_there}
 use Rattle.cb_facts.specs.FactLists.{IndexedFacts, fact_at}
 use Rattle.cb_facts.specs.Facts.{FactValue}
 use Rattle.cb_templates.specs.Templates.{Templates, defined}

@@ -1,10 +1,5 @@
 mod LineLaws
-mod DeffactsLaws
-mod MemoryLaws
-mod IndexLaws
-mod KeepLaws
 mod FaultLaws
-mod GivenLaws
 pub mod RunLaws
 pub mod ScriptLaws
 mod ActLaws

@@ -7,16 +7,16 @@ use Rattle.cb_forms.specs.Members.{head_and_rest}
 use Rattle.cb_forms.specs.Trees.{Reading, Trees}
 use Rattle.cb_forms.specs.declared.fault.Fault.TheVariants.{NoSuchFact, WrongType}
 use Rattle.cb_session.specs.Acts.{State, first_state, Act, give, stop, give_or_fault, write, become, ◌>>=◌}
-use Rattle.cb_session.specs.Deffacts.{with_deffacts, facts_in, is_named_in_deffacts}
-use Rattle.cb_session.specs.FactExprs.{fact_by}
+use Rattle.cb_working_memory.specs.Deffacts.{with_deffacts, facts_in, is_named_in_deffacts}
+use Rattle.cb_facts.specs.FactExprs.{fact_by}
 use Rattle.cb_session.specs.Lines.{value_line, fact_lines}
 use Rattle.cb_session.specs.Printing.{printed}
-use Rattle.cb_session.specs.Requests as request
-use Rattle.cb_session.specs.Requests.{Request, request_of}
-use Rattle.cb_session.specs.WorkingMemory.{Memory, empty_memory, asserted_all, is_retractable, retracted_all}
+use Rattle.cb_requests.specs.Requests as request
+use Rattle.cb_requests.specs.Requests.{Request, request_of}
+use Rattle.cb_working_memory.specs.WorkingMemory.{Memory, empty_memory, asserted_all, is_retractable, retracted_all}
 use Rattle.cb_session.specs.declared.act.Ended.TheVariants as ended
-use Rattle.cb_session.specs.declared.working_memory.Asserted.{Asserted}
-use Rattle.cb_session.specs.declared.working_memory.Asserted.TheVariants.{All, Exhausted}
+use Rattle.cb_working_memory.specs.declared.working_memory.Asserted.{Asserted}
+use Rattle.cb_working_memory.specs.declared.working_memory.Asserted.TheVariants.{All, Exhausted}
 use Rattle.cb_templates.specs.Templates.{defined}
 use Rattle.cb_facts.specs.declared.value.Value.{Value}
 use Rattle.cb_facts.specs.declared.value.Value.TheVariants as value

@@ -1,8 +1,8 @@
 -- Acts: what is done to the state and what is written, one act after another.
 use Rattle.std.specs.Prelude.{ℕ, Bool, false, List, [], ◌++◌, Option, None, Result, Ok, Err}
 use Rattle.cb_forms.specs.declared.fault.Fault.{Fault}
-use Rattle.cb_session.specs.Deffacts.{DeffactsTable}
-use Rattle.cb_session.specs.WorkingMemory.{Memory, empty_memory}
+use Rattle.cb_working_memory.specs.Deffacts.{DeffactsTable}
+use Rattle.cb_working_memory.specs.WorkingMemory.{Memory, empty_memory}
 use Rattle.cb_session.specs.declared.act.Ended.{Ended}
 use Rattle.cb_session.specs.declared.act.Ended.TheVariants as ended
 use Rattle.cb_templates.specs.Templates.{Templates}

@@ -3,8 +3,8 @@ use Rattle.std.specs.Prelude.{ℕ, List, [], ◌∷◌, Option, Some, None, code
 use Rattle.std.specs.List.{flat_map}
 use Rattle.std.specs.Option.{option_map_or}
 use Rattle.std.specs.Str.{bytes_eq}
-use Rattle.cb_session.specs.declared.print.Channel.{Channel}
-use Rattle.cb_session.specs.declared.print.Channel.TheVariants.{Output, Nowhere}
+use Rattle.cb_requests.specs.declared.channel.Channel.{Channel}
+use Rattle.cb_requests.specs.declared.channel.Channel.TheVariants.{Output, Nowhere}
 use Rattle.cb_facts.specs.Texts.{plain_bytes}
 use Rattle.cb_facts.specs.declared.value.Value.{Value}
 use Rattle.cb_facts.specs.declared.value.Value.TheVariants as value

@@ -7,18 +7,10 @@ ghost use Rattle.cb_session.specs.Went.{stop_extent};
 
 use crate::line::{put, put_text};
 use crate::status::Stop;
+use cb_facts::{Value, plain_text};
 use cb_forms::{Out, Sink};
-use cb_values::{Value, plain_text};
+use cb_requests::Channel;
 use std::alloc::Global;
-
-/// Where printed values go.
-#[derive(Clone, Copy, Debug, PartialEq, Eq)]
-pub(crate) enum Channel {
-    /// To the transcript: `t` and `stdout`.
-    Output,
-    /// Nowhere: `nil`.
-    Nowhere,
-}
 
 /// Prints values on a channel, one after another. Growth is refused as `NoMemory`.
 pub(crate) fn put_printed<K: Sink>(

@@ -1,6 +1,6 @@
 use Rattle.std.proofs.Common.{◌≡◌, Ok, Err, refl, ap, rules}
 use Rattle.cb_forms.specs.Trees.{reading_of}
-use Rattle.cb_session.specs.Requests.{request_by, request_of}
+use Rattle.cb_requests.specs.Requests.{request_by, request_of}
 use Rattle.cb_templates.specs.Results.{Tells}
 use Rattle.cb_session.proofs.ActLaws.{went_as, went_refused, acted-request}
 use Rattle.cb_session.proofs.engine.Engine.act.Goals as goal

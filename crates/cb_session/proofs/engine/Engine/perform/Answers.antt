@@ -1,8 +1,8 @@
 use Rattle.std.proofs.Common.{refl, ap, sym, ◌∙◌}
 use Rattle.cb_io.proofs.Putting.{puts_none}
 use Rattle.cb_session.specs.Actions.{performed}
-use Rattle.cb_session.specs.Requests as request
-use Rattle.cb_session.specs.Requests.{request_by}
+use Rattle.cb_requests.specs.Requests as request
+use Rattle.cb_requests.specs.Requests.{request_by}
 use Rattle.cb_session.proofs.ActLaws.{went_as, went_quietly}
 use Rattle.cb_session.proofs.engine.Engine.perform.Goals as goal
 

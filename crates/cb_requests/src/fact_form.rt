@@ -1,0 +1,259 @@
+//! Facts as they are written.
+ghost use Rattle.std.specs.Prelude.{◌≡◌, [], ◌∷◌, None, Some, MatchOption};
+ghost use Rattle.cb_forms.specs.Members.{call_of, members};
+ghost use Rattle.cb_forms.specs.Trees.{tree_of};
+ghost use Rattle.cb_facts.specs.FactContents.{fact_content};
+ghost use Rattle.cb_requests.specs.FactForms.{all_slots, allowed, begins_with_list, content_for, content_of, fact_of, facts_of, field_of, fields_of, given_or_default, is_equals, lone_field_of, named_slot, slot_content_of, slot_fields_of, slot_given, slots_given};
+ghost use Rattle.cb_facts.specs.SlotContents.{slot_content};
+ghost use Rattle.cb_templates.specs.Results.{Returns, Settles, and_then};
+ghost use Rattle.cb_templates.specs.Templates.{slots_of};
+
+use crate::constant::read_value;
+use cb_facts::{ContentExpr, FactExpr, Filling, Name, SlotExpr, Value};
+use cb_forms::{Fault, Form};
+use cb_templates::{Refused, Relations, Slot, find_slot, is_reserved};
+use std::alloc::Global;
+
+/// The facts that forms are, by the templates of their relations, or the first fault.
+#[tactic(auto, using(cb_templates::proofs::Firsts::behind_none, cb_templates::proofs::Firsts::behind_all, cb_templates::proofs::Firsts::behind_one))]
+pub(crate) fn read_facts(
+    alloc: Global,
+    relations: &Relations,
+    forms: &[Form],
+) -> Result<Vec<FactExpr>, Refused>
+    ensures { Settles (λ facts. facts.items) result (facts_of relations.now (members forms.now)) }
+{
+    let mut facts = Vec::new(alloc);
+    for form in forms {
+        facts.push(read_fact(alloc, relations, form)?)?;
+    }
+    Ok(facts)
+}
+
+/// The fact that a form is, or its first fault.
+fn read_fact(alloc: Global, relations: &Relations, form: &Form) -> Result<FactExpr, Refused>
+    ensures { Returns result (fact_of relations.now (tree_of form.now)) }
+{
+    let Some((relation, forms)) = form.call() else {
+        return Err(Refused::Fault(Fault::FactDoesNotFit));
+    };
+    if is_reserved(relation) {
+        return Err(Refused::Fault(Fault::FactDoesNotFit));
+    }
+    let relation = Name::new(alloc, relation)?;
+    let content = read_content(alloc, relations, &relation, forms)?;
+    Ok(FactExpr::new(relation, content))
+}
+
+/// What follows the relation of a fact.
+fn read_content(
+    alloc: Global,
+    relations: &Relations,
+    relation: &Name,
+    forms: &[Form],
+) -> Result<ContentExpr, Refused>
+    ensures { Settles fact_content result
+        (content_of (slots_of relations.now relation.now) (members forms.now)) }
+{
+    match relations.shape(relation) {
+        None => Ok(ContentExpr::Fields(read_fields(alloc, forms)?)),
+        Some(slots) => Ok(ContentExpr::Slots(read_slots(alloc, slots, forms)?)),
+    }
+}
+
+/// The fields of an ordered fact, or the first fault.
+#[tactic(auto, using(cb_templates::proofs::Firsts::behind_none, cb_templates::proofs::Firsts::behind_all, cb_templates::proofs::Firsts::behind_one))]
+fn read_fields(alloc: Global, forms: &[Form]) -> Result<Vec<Value>, Refused>
+    ensures { Settles (λ fields. fields.items) result (fields_of (members forms.now)) }
+{
+    let mut fields = Vec::new(alloc);
+    let mut rest = forms;
+    while let Some((first, following)) = rest.split_first() {
+        fields.push(read_field(alloc, first, following)?)?;
+        rest = following;
+    }
+    Ok(fields)
+}
+
+/// One field, before the forms that follow it.
+fn read_field(alloc: Global, form: &Form, following: &[Form]) -> Result<Value, Refused>
+    ensures { Returns result (field_of (tree_of form.now) (members following.now)) }
+{
+    if is_equals(form) && begins_with_list(following) {
+        return Err(Refused::Fault(Fault::NotInProfile));
+    }
+    read_value(alloc, form)
+}
+
+/// All slots of a fact, by what it gives for these of its template, or the first fault.
+fn read_slots(alloc: Global, slots: &[Slot], forms: &[Form]) -> Result<Vec<SlotExpr>, Refused>
+    ensures { Settles (λ given. given.items) result (slots_given slots.now [] (members forms.now)) }
+{
+    let mut given = Vec::new(alloc);
+    for form in forms {
+        let slot = read_slot(alloc, slots, given.as_slice(), form)?;
+        given.push(slot)?;
+    }
+    complete(alloc, slots, given.as_slice())
+}
+
+/// One slot that a fact gives, after those that it has given.
+fn read_slot(
+    alloc: Global,
+    slots: &[Slot],
+    given: &[SlotExpr],
+    form: &Form,
+) -> Result<SlotExpr, Refused>
+    ensures { Returns result (named_slot slots.now given.now (call_of (tree_of form.now))) }
+{
+    let Some((name, forms)) = form.call() else {
+        return Err(Refused::Fault(Fault::FactDoesNotFit));
+    };
+    let Some(slot) = find_slot(slots, name) else {
+        return Err(Refused::Fault(Fault::FactDoesNotFit));
+    };
+    read_known_slot(alloc, slot, given, forms)
+}
+
+/// The same of a slot that the template has.
+fn read_known_slot(
+    alloc: Global,
+    slot: &Slot,
+    given: &[SlotExpr],
+    forms: &[Form],
+) -> Result<SlotExpr, Refused>
+    ensures { Returns result (slot_given given.now slot.now (members forms.now)) }
+{
+    if find_filling(given, slot.name().as_slice()).is_some() {
+        return Err(Refused::Fault(Fault::FactDoesNotFit));
+    }
+    let filling = read_filling(alloc, slot, forms)?;
+    Ok(SlotExpr::new(slot.name().clone()?, filling))
+}
+
+/// What a slot is given by these forms.
+fn read_filling(alloc: Global, slot: &Slot, forms: &[Form]) -> Result<Filling, Refused>
+    ensures { Settles slot_content result (slot_content_of slot.now (members forms.now)) }
+{
+    if slot.multi() {
+        return Ok(Filling::Several(read_slot_fields(alloc, slot, forms)?));
+    }
+    read_lone_field(alloc, slot, forms)
+}
+
+/// The one value of a slot.
+fn read_lone_field(alloc: Global, slot: &Slot, forms: &[Form]) -> Result<Filling, Refused>
+    ensures { Settles slot_content result (lone_field_of slot.now.types (members forms.now)) }
+{
+    let Some((form, following)) = forms.split_first() else {
+        return Err(Refused::Fault(Fault::FactDoesNotFit));
+    };
+    if let Some(_) = following.split_first() {
+        return Err(Refused::Fault(Fault::FactDoesNotFit));
+    }
+    Ok(Filling::One(read_slot_field(alloc, slot, form, following)?))
+}
+
+/// What the slot with a name has among these slots.
+fn find_filling<'a>(given: &'a [SlotExpr], name: &[u8]) -> Option<&'a Filling>
+    ensures { MatchOption result (content_for given.now name.now ≡ None)
+        (λ filling. content_for given.now name.now ≡ Some (slot_content filling.now)) }
+{
+    for slot in given {
+        if slot.name().as_slice() == name {
+            return Some(slot.filling());
+        }
+    }
+    None
+}
+
+/// All slots of a template, in its order: what is given for them, or else their defaults.
+#[tactic(auto, using(cb_templates::proofs::Firsts::behind_none, cb_templates::proofs::Firsts::behind_all, cb_templates::proofs::Firsts::behind_one))]
+fn complete(alloc: Global, slots: &[Slot], given: &[SlotExpr]) -> Result<Vec<SlotExpr>, Refused>
+    ensures { Settles (λ all. all.items) result (all_slots slots.now given.now) }
+{
+    let mut all = Vec::new(alloc);
+    for slot in slots {
+        let filling = fill(alloc, slot, given)?;
+        all.push(SlotExpr::new(slot.name().clone()?, filling))?;
+    }
+    Ok(all)
+}
+
+/// What a slot is given, or else its default.
+fn fill(alloc: Global, slot: &Slot, given: &[SlotExpr]) -> Result<Filling, Refused>
+    ensures { Settles slot_content result
+        (given_or_default slot.now (content_for given.now slot.now.name)) }
+{
+    match find_filling(given, slot.name().as_slice()) {
+        Some(filling) => Ok(filling.copy(alloc)?),
+        None => default_of(slot),
+    }
+}
+
+fn default_of(slot: &Slot) -> Result<Filling, Refused>
+    ensures { Settles slot_content result (given_or_default slot.now None) }
+{
+    match slot.default() {
+        Some(value) => Ok(Filling::Default(value.clone()?)),
+        None => Err(Refused::Fault(Fault::FactDoesNotFit)),
+    }
+}
+
+/// The values of a slot, each of its types, or the first fault.
+#[tactic(auto, using(cb_templates::proofs::Firsts::behind_none, cb_templates::proofs::Firsts::behind_all, cb_templates::proofs::Firsts::behind_one))]
+fn read_slot_fields(alloc: Global, slot: &Slot, forms: &[Form]) -> Result<Vec<Value>, Refused>
+    ensures { Settles (λ values. values.items) result
+        (slot_fields_of slot.now.types (members forms.now)) }
+{
+    let mut values = Vec::new(alloc);
+    let mut rest = forms;
+    while let Some((first, following)) = rest.split_first() {
+        values.push(read_slot_field(alloc, slot, first, following)?)?;
+        rest = following;
+    }
+    Ok(values)
+}
+
+fn read_slot_field(
+    alloc: Global,
+    slot: &Slot,
+    form: &Form,
+    following: &[Form],
+) -> Result<Value, Refused>
+    ensures { Returns result
+        (and_then (field_of (tree_of form.now) (members following.now)) (allowed slot.now.types)) }
+{
+    let value = read_field(alloc, form, following)?;
+    if !slot.allows_all(&value)? {
+        return Err(Refused::Fault(Fault::ValueNotAllowed));
+    }
+    Ok(value)
+}
+
+fn is_equals(form: &Form) -> bool
+    ensures { result ≡ is_equals (tree_of form.now) }
+{
+    match form.symbol() {
+        Some(name) => name == b"=".as_slice(),
+        None => false,
+    }
+}
+
+fn begins_with_list(forms: &[Form]) -> bool
+    ensures { result ≡ begins_with_list (members forms.now) }
+{
+    match forms.first() {
+        Some(form) => is_list(form),
+        None => false,
+    }
+}
+
+fn is_list(form: &Form) -> bool
+    ensures { result ≡ begins_with_list (members (form.now ∷ [])) }
+{
+    match form {
+        Form::Atom(_) => false,
+        Form::List(_) => true,
+    }
+}

@@ -1,7 +1,0 @@
-use Rattle.std.proofs.Common.{◌≡◌, [], drop}
-use Rattle.cb_forms.specs.Members.{members}
-use Rattle.cb_session.specs.FactForms.{slots_given}
-use Rattle.cb_session.proofs.fact_form.read_slots.Given as goal
-
-abbrev pub invariant-loop-form : goal.invariant-loop-form
-invariant-loop-form l = slots_given l.slots l.given.items (members (drop l.form-index l.forms)) ≡ slots_given l.slots [] (members l.forms)

@@ -1,5 +1,0 @@
-use Rattle.cb_session.proofs.KeepLaws.{keeps_all}
-use Rattle.cb_session.proofs.laws.what_is_asserted_keeps_the_others.Goals as goal
-
-pub returns : goal.returns
-returns c = λ m last facts none. keeps_all facts m last none

@@ -1,0 +1,61 @@
+-- What is asserted takes nothing away: the facts that are there keep their indices, and a new fact has an index that none had.
+use Rattle.std.proofs.Common.{◌≡◌, ◌≢◌, ◌≤◌, ◌+◌, ◌∙◌, ℕ, Bool, true, false, List, [], ◌∷◌, Option, Some, None, Ordering, Less, Equal, Greater, refl, sym, ap, arith, nat_lt, cond, if◌then◌else◌}
+use Rattle.std.specs.BTreeMap.{is_at}
+use Rattle.std.specs.Ordering.{is_eq, nat_cmp, match_ordering}
+use Rattle.cb_working_memory.specs.Laws.{NoneAfter, Keeps}
+use Rattle.cb_working_memory.specs.WorkingMemory.{Memory, greatest_index, grown, asserted_beside, asserted_one, after_one, asserted_all, index_of}
+use Rattle.cb_facts.proofs.FactListLaws.{is_at-Decides, false-from_not}
+use Rattle.cb_facts.specs.FactLists.{IndexedFacts, fact_at, with_fact}
+use Rattle.cb_facts.specs.Facts.{FactValue}
+
+not_at : (q i : ℕ) → q ≢ i → is_at (nat_cmp q) i ≡ false
+not_at q i apart = false-from_not (is_at (nat_cmp q) i) (λ e. apart ((is_at-Decides q i).0 e))
+
+-- elsewhere a fact more changes no look-up
+elsewhere_by : (facts : IndexedFacts) (ix i q : ℕ) (fact there : FactValue) (o : Ordering) → nat_cmp ix i ≡ o → q ≢ ix → fact_at (with_fact facts ix fact) q ≡ fact_at facts q
+    → fact_at (match_ordering o ((ix, fact) ∷ (i, there) ∷ facts) ((i, fact) ∷ facts) ((i, there) ∷ with_fact facts ix fact)) q ≡ fact_at ((i, there) ∷ facts) q
+elsewhere_by facts ix i q fact there Less e apart more = ap (λ t. cond t (Some fact) (fact_at ((i, there) ∷ facts) q)) (not_at q ix apart)
+elsewhere_by facts ix i q fact there Equal e apart more =
+    let same : ix ≡ i = (is_at-Decides ix i).0 (ap is_eq e) in
+    let no : is_at (nat_cmp q) i ≡ false = not_at q i (λ h. apart (h ∙ sym same)) in
+    ap (λ t. cond t (Some fact) (fact_at facts q)) no ∙ sym (ap (λ t. cond t (Some there) (fact_at facts q)) no)
+elsewhere_by facts ix i q fact there Greater e apart more = ap (cond (is_at (nat_cmp q) i) (Some there)) more
+
+elsewhere : (facts : IndexedFacts) (ix q : ℕ) (fact : FactValue) → q ≢ ix → fact_at (with_fact facts ix fact) q ≡ fact_at facts q
+elsewhere [] ix q fact apart = ap (λ t. cond t (Some fact) None) (not_at q ix apart)
+elsewhere ((i, there) ∷ facts) ix q fact apart = elsewhere_by facts ix i q fact there (nat_cmp ix i) refl apart (elsewhere facts ix q fact apart)
+
+itself : (m : Memory) → NoneAfter m → Keeps m m
+itself m none = record { rises = omega arith; same = λ ix upto. refl; none_after = none }
+
+one_more : (m : Memory) (fact : FactValue) → NoneAfter m → Keeps m (grown m fact)
+one_more m fact none = record {
+  rises = omega arith;
+  same = λ ix upto. elsewhere m.facts (m.last + 1) ix fact (λ e. omega arith);
+  none_after = λ ix above. elsewhere m.facts (m.last + 1) ix fact (λ e. omega arith) ∙ none ix (omega arith);
+}
+
+one_if : (m : Memory) (fact : FactValue) (room : Bool) → NoneAfter m → Keeps m (if◌then◌else◌ {A = Memory × Option ℕ} room (grown m fact, Some (m.last + 1)) (m, None)).0
+one_if m fact true none = one_more m fact none
+one_if m fact false none = itself m none
+
+one : (m : Memory) (fact : FactValue) (at : Option ℕ) → NoneAfter m → Keeps m (asserted_beside m fact at).0
+one m fact (Some ix) none = itself m none
+one m fact None none = one_if m fact (nat_lt m.last greatest_index) none
+
+joined : (m n o : Memory) → Keeps m n → Keeps n o → Keeps m o
+joined m n o first second = record {
+  rises = let a : m.last ≤ n.last = first.rises in let b : n.last ≤ o.last = second.rises in omega arith;
+  same = λ ix upto. let a : m.last ≤ n.last = first.rises in second.same ix (omega arith) ∙ first.same ix upto;
+  none_after = second.none_after;
+}
+
+after : (m : Memory) (o : Memory × Option ℕ) (facts : List FactValue) → Keeps m o.0
+    → ((n : Memory) (ix : Option ℕ) → NoneAfter n → Keeps n (asserted_all n ix facts).0) → Keeps m (after_one o (λ n ix. asserted_all n ix facts)).0
+after m (n, Some ix) facts first more = joined m n (asserted_all n (Some ix) facts).0 first (more n (Some ix) first.none_after)
+after m (n, None) facts first more = first
+
+-- An assertion changes nothing up to the last index.
+pub keeps_all : (facts : List FactValue) (m : Memory) (last : Option ℕ) → NoneAfter m → Keeps m (asserted_all m last facts).0
+keeps_all [] m last none = itself m none
+keeps_all (fact ∷ facts) m last none = after m (asserted_one m fact) facts (one m fact (index_of m.facts fact) none) (λ n ix none_after. keeps_all facts n ix none_after)

@@ -1,0 +1,4 @@
+mod DeffactsLaws
+pub mod IndexLaws
+mod KeepLaws
+mod MemoryLaws

@@ -1,0 +1,4 @@
+pub mod Deffacts
+pub mod Laws
+pub mod WorkingMemories
+pub mod WorkingMemory

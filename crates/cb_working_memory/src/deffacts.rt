@@ -1,0 +1,108 @@
+//! The facts that `deffacts` keeps for `reset`.
+ghost use Rattle.std.specs.Prelude.{◌≡◌, [], None, IfOk, OnOk};
+ghost use Rattle.cb_working_memory.specs.Deffacts.{facts_in, is_named_in_deffacts, has_relation, with_deffacts};
+ghost use Rattle.cb_working_memory.specs.WorkingMemory.{asserted_all};
+
+use crate::working_memory::{Asserted, WorkingMemory};
+use cb_facts::{FactExpr, Name};
+use cb_forms::NoMemory;
+use indexmap::IndexMap;
+use std::alloc::Global;
+use std::marker::Model;
+
+/// The facts of one `deffacts`.
+///
+/// Contracts see the list of the facts.
+#[derive(Drop)]
+pub struct Deffacts {
+    facts: Vec<FactExpr>,
+}
+
+impl Model for Deffacts {
+    ghost use Rattle.std.specs.Prelude.{List};
+    ghost use Rattle.cb_facts.specs.FactExprs.{FactExpr as Expr};
+
+    ghost Value = { List Expr };
+
+    ghost view = { λ g. g.facts.items };
+}
+
+impl Deffacts {
+    /// The facts.
+    pub fn facts(&self) -> &[FactExpr]
+        ensures { result.now ≡ self.now }
+    {
+        self.facts.as_slice()
+    }
+}
+
+/// The facts of each `deffacts`, by its name, in the order of their definition.
+///
+/// Contracts see the list of the pairs of a name and its facts.
+#[derive(Drop)]
+pub struct DeffactsTable {
+    groups: IndexMap<Name, Deffacts>,
+}
+
+impl Model for DeffactsTable {
+    ghost use Rattle.cb_working_memory.specs.Deffacts.{DeffactsTable as Table};
+
+    ghost Value = { Table };
+
+    ghost view = { λ g. g.groups.entries };
+}
+
+impl DeffactsTable {
+    /// No groups. It takes no memory yet.
+    pub fn new(alloc: Global) -> DeffactsTable
+        ensures { result ≡ [] }
+    {
+        DeffactsTable {
+            groups: IndexMap::new(alloc),
+        }
+    }
+
+    /// Keeps facts under a name, after the other groups, and in place of the group that had the name. Growth is refused
+    /// as `NoMemory`.
+    pub fn define(&mut self, name: Name, facts: Vec<FactExpr>) -> Result<(), NoMemory>
+        ensures { OnOk result (self.new ≡ with_deffacts self.old name facts.items) }
+    {
+        self.groups.shift_remove(&name);
+        self.groups.insert(name, Deffacts { facts })?;
+        Ok(())
+    }
+
+    /// Whether a fact of a group names a relation. It looks at each fact.
+    pub fn mentions(&self, relation: &[u8]) -> bool
+        ensures { result ≡ is_named_in_deffacts relation.now self.now }
+    {
+        for (_, group) in self.groups.iter() {
+            if has_relation(relation, group.facts()) {
+                return true;
+            }
+        }
+        false
+    }
+
+    /// Asserts all facts of the groups, in order.
+    #[tactic(auto, using(crate::proofs::MemoryLaws::all_append))]
+    pub fn assert_into(&self, memory: &mut WorkingMemory) -> Result<Asserted, NoMemory>
+        ensures { IfOk result
+            (λ told. asserted_all memory.old None (facts_in self.now) ≡ (memory.new, told)) }
+    {
+        let mut last = None;
+        for (_, group) in self.groups.iter() {
+            match memory.assert_all(last, group.facts())? {
+                Asserted::All(ix) => last = ix,
+                Asserted::Exhausted => return Ok(Asserted::Exhausted),
+            }
+        }
+        Ok(Asserted::All(last))
+    }
+}
+
+fn has_relation(relation: &[u8], facts: &[FactExpr]) -> bool
+    ensures { result ≡ has_relation relation.now facts.now }
+{
+    facts.iter().any(|fact| fact.relation() == relation)
+}

@@ -1,0 +1,9 @@
+//! The working memory, and the facts that each `deffacts` keeps for it.
+#![tactic(auto)]
+
+mod deffacts;
+pub mod laws;
+mod working_memory;
+
+pub use deffacts::DeffactsTable;
+pub use working_memory::{Asserted, WorkingMemory, are_retractable};

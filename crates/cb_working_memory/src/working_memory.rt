@@ -1,0 +1,186 @@
+//! The working memory.
+ghost use Rattle.std.specs.Prelude.{◌≡◌, ◌≤◌, [], false, None, Some, IfOk, is_some, map, if◌then◌else◌};
+ghost use Rattle.std.specs.List.{list_any, list_all};
+ghost use Rattle.std.specs.Str.{bytes_eq};
+ghost use Rattle.cb_working_memory.specs.Deffacts.{has_relation};
+ghost use Rattle.cb_facts.specs.FactExprs.{fact_by};
+ghost use Rattle.cb_working_memory.specs.WorkingMemory.{asserted_all, asserted_one, empty_memory, is_retractable, retracted_all, retracted_one, without};
+ghost use Rattle.cb_facts.specs.FactLists.{fact_at};
+
+use cb_facts::{Fact, FactExpr, FactList, Value};
+use cb_forms::NoMemory;
+use std::alloc::Global;
+use std::marker::Model;
+
+/// The greatest index that a fact may have.
+const GREATEST_INDEX: u64 = 9_223_372_036_854_775_807;
+
+/// What came of asserting facts, one after another.
+#[derive(Clone, Copy, Debug, PartialEq, Eq)]
+pub enum Asserted {
+    /// All were asserted, the last under this index; there is none where there was no fact.
+    All(Option<u64>),
+    /// No index was left.
+    Exhausted,
+}
+
+/// The facts that are there, by their indices, and the index that was given last.
+///
+/// After `NoMemory` it may be any.
+#[derive(Drop)]
+pub struct WorkingMemory {
+    alloc: Global,
+    facts: FactList,
+    last: u64,
+}
+
+impl Model for WorkingMemory {
+    ghost use Rattle.cb_working_memory.specs.WorkingMemory.{Memory};
+    ghost use Rattle.cb_working_memory.specs.WorkingMemories.{IsLastOf};
+
+    ghost Value = { Memory };
+
+    ghost view = { λ m. record { facts = m.facts; last = m.last } };
+
+    ghost invariant = { λ m. IsLastOf m.facts m.last };
+}
+
+impl WorkingMemory {
+    /// No facts, and the next index is 1.
+    pub fn new(alloc: Global) -> WorkingMemory
+        ensures { result ≡ empty_memory }
+    {
+        WorkingMemory {
+            alloc,
+            facts: FactList::new(alloc),
+            last: 0,
+        }
+    }
+
+    /// The facts.
+    pub fn facts(&self) -> &FactList
+        ensures { result.now ≡ self.now.facts }
+    {
+        &self.facts
+    }
+
+    /// Asserts facts, one after another; the one before them has the index `last`, if there is one.
+    pub fn assert_all(
+        &mut self,
+        last: Option<u64>,
+        facts: &[FactExpr],
+    ) -> Result<Asserted, NoMemory>
+        ensures { IfOk result
+            (λ told. asserted_all self.old last (map fact_by facts.now) ≡ (self.new, told)) }
+    {
+        let mut last = last;
+        for fact in facts {
+            match self.assert_one(fact.build(self.alloc)?)? {
+                Some(ix) => last = Some(ix),
+                None => return Ok(Asserted::Exhausted),
+            }
+        }
+        Ok(Asserted::All(last))
+    }
+
+    /// Asserts a fact. Its index is the answer, or `None` where no index is left: then nothing has changed.
+    fn assert_one(&mut self, fact: Fact) -> Result<Option<u64>, NoMemory>
+        ensures { IfOk result (λ ix. asserted_one self.old fact ≡ (self.new, ix)) }
+    {
+        if let Some(ix) = self.facts.find(&fact) {
+            return Ok(Some(ix));
+        }
+        if self.last >= GREATEST_INDEX {
+            return Ok(None);
+        }
+        let ix = self.last + 1;
+        self.facts.add(ix, fact)?;
+        self.last = ix;
+        Ok(Some(ix))
+    }
+
+    /// Retracts what values say, one after another, up to an index that no fact has. The answer says whether there was none
+    /// such.
+    pub fn retract_all(&mut self, values: &[Value]) -> bool
+        ensures { retracted_all self.old values.now ≡ (self.new, result) }
+    {
+        for value in values {
+            if !self.retract_one(value) {
+                return false;
+            }
+        }
+        true
+    }
+
+    /// Retracts what a value says. The answer is false, and nothing has changed, where it is an index that no fact has.
+    fn retract_one(&mut self, value: &Value) -> bool
+        ensures gone { retracted_one self.old value.now ≡ (if result then Some self.new else None) }
+        ensures still { result ≡ false → self.new ≡ self.old }
+    {
+        match value {
+            Value::Fact(ix) => self.drop_fact(*ix),
+            Value::Int(number) => match u64::try_from(*number) {
+                Ok(ix) => return self.retract_index(ix),
+                Err(_) => return false,
+            },
+            _ => self.drop_facts(),
+        }
+        true
+    }
+
+    /// Retracts the fact with an index. The answer is false, and nothing has changed, where there is none.
+    fn retract_index(&mut self, ix: u64) -> bool
+        ensures there { result ≡ is_some (fact_at self.old.facts ix) }
+        ensures gone { self.new ≡ (if result then without self.old ix else self.old) }
+    {
+        if self.facts.get(ix).is_none() {
+            return false;
+        }
+        self.drop_fact(ix);
+        true
+    }
+
+    /// Takes the fact with an index away, if there is one.
+    fn drop_fact(&mut self, ix: u64)
+        ensures { self.new ≡ without self.old ix }
+    {
+        self.facts.remove(ix);
+    }
+
+    /// Takes all facts away. Indices go on after the last.
+    fn drop_facts(&mut self)
+        ensures { self.new ≡ record { facts = []; last = self.old.last } }
+    {
+        self.facts = FactList::new(self.alloc);
+    }
+
+    /// Whether a fact names a relation. It looks at each fact.
+    pub fn mentions(&self, relation: &[u8]) -> bool
+        ensures { result ≡ list_any
+            (λ entry. bytes_eq entry.1.relation relation.now) self.now.facts }
+    {
+        for (_, fact) in self.facts.iter() {
+            if fact.relation() == relation {
+                return true;
+            }
+        }
+        false
+    }
+}
+
+/// Whether values say which facts to retract.
+pub fn are_retractable(values: &[Value]) -> bool
+    ensures { result ≡ list_all is_retractable values.now }
+{
+    values.iter().all(is_retractable)
+}
+
+fn is_retractable(value: &Value) -> bool
+    ensures { result ≡ is_retractable value.now }
+{
+    match value {
+        Value::Fact(_) | Value::Int(_) => true,
+        Value::Symbol(name) => name.as_slice() == b"*".as_slice(),
+        _ => false,
+    }
+}
