@@ -15,8 +15,8 @@ use Rattle.cb_facts.specs.declared.value.Value.{Value}
 use Rattle.cb_templates.specs.Building.{Given, PartValues, field_values, slot_values, filled, fits, given_for, slot_value, slots_built, built_by, built}
 use Rattle.cb_templates.specs.Results.{and_then, ok_then, with_first}
 use Rattle.cb_templates.specs.SlotForms.{attributes_behind, finished, named_slot, no_attributes, slot_by, slot_with}
-use Rattle.cb_templates.specs.Slots.{SlotShape, Types, allows_all, slot_named}
-use Rattle.cb_templates.specs.Laws.{content_names, names}
+use Rattle.cb_templates.specs.Slots.{SlotShape, Types, allows_all, names, slot_named}
+use Rattle.cb_templates.specs.Laws.{content_names}
 use Rattle.cb_templates.specs.Templates.{Templates, slots_behind, slots_of}
 use Rattle.cb_templates.specs.declared.attribute.Attributes.{Attributes}
 use Rattle.cb_templates.specs.declared.attribute.SlotDefault.{SlotDefault}

@@ -34,6 +34,10 @@ abbrev pub given_for : Given → List ℕ → Option (List Value)
 given_for [] name = None
 given_for (g ∷ given) name = if bytes_eq g.0 name then Some g.1 else given_for given name
 
+-- the names of the slots that are given, in order
+abbrev pub given_names : Given → List (List ℕ)
+given_names given = map (λ g. g.0) given
+
 -- no slot is given twice
 abbrev pub are_distinct : Given → Bool
 are_distinct [] = true

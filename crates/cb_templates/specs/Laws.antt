@@ -2,11 +2,6 @@
 use Rattle.std.specs.Prelude.{ℕ, List, [], map}
 use Rattle.cb_facts.specs.Facts as content
 use Rattle.cb_facts.specs.Facts.{FactContent}
-use Rattle.cb_templates.specs.Slots.{SlotShape}
-
--- the names of slots, in order
-abbrev pub names : List SlotShape → List (List ℕ)
-names slots = map (λ s. s.name) slots
 
 -- the names of the slots of a fact, in order; an ordered fact has none
 abbrev pub content_names : FactContent → List (List ℕ)

@@ -1,5 +1,6 @@
 pub mod Building
 pub mod Laws
+pub mod Places
 pub mod Reserved
 pub mod Results
 pub mod SlotForms

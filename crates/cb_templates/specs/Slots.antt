@@ -1,5 +1,5 @@
 -- The slots of a template.
-use Rattle.std.specs.Prelude.{◌||◌, ℕ, Bool, true, false, List, [], ◌∷◌, Option, Some, None, if◌then◌else◌}
+use Rattle.std.specs.Prelude.{◌||◌, ℕ, Bool, true, false, List, [], ◌∷◌, Option, Some, None, map, if◌then◌else◌}
 use Rattle.std.specs.List.{list_any, list_all}
 use Rattle.std.specs.Str.{bytes_eq}
 use Rattle.cb_facts.specs.Values.{fields_in}
@@ -55,6 +55,10 @@ pub record SlotShape : Type 0 where
   pub is_multi : Bool
   pub types : Types
   pub default : Option Value
+
+-- the names of slots, in order
+abbrev pub names : List SlotShape → List (List ℕ)
+names slots = map (λ s. s.name) slots
 
 -- the slot with the name
 abbrev pub slot_named : List SlotShape → List ℕ → Option SlotShape

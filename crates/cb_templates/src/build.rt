@@ -3,14 +3,15 @@ ghost use Rattle.std.specs.Prelude.{◌≡◌, None, Ok, Err, IfOk, IfErr, is_so
 ghost use Rattle.std.specs.List.{list_all};
 ghost use Rattle.cb_facts.specs.Facts.{ordered_fact};
 ghost use Rattle.cb_facts.specs.Values.{spliced, value_of_field};
-ghost use Rattle.cb_templates.specs.Building.{are_distinct, built, filled, fits, given_for, is_one, one_value, part_values, slot_value, slots_built, takes};
+ghost use Rattle.cb_templates.specs.Building.{built, filled, fits, given_for, is_one, one_value, part_values, slot_value, slots_built, takes};
 ghost use Rattle.cb_templates.specs.Results.{Returns, Settles};
 ghost use Rattle.cb_templates.specs.Slots.{slot_named};
 
-use crate::parts::{GivenSlot, Parts, find_given};
+use crate::parts::{GivenSlot, GivenSlots, Parts};
 use crate::refused::Refused;
 use crate::relations::Relations;
-use crate::slot::{Slot, find_slot};
+use crate::slot::Slot;
+use crate::template::Template;
 use cb_facts::{Fact, Many, Name, Value, is_multifield, splice, splice_values};
 use cb_forms::{Fault, NoMemory};
 use std::alloc::Global;
@@ -32,14 +33,14 @@ pub fn build_fact(
 ) -> Result<Fact, Refused>
     ensures { Returns result (built relations.now relation (part_values parts)) }
 {
-    match relations.shape(&relation) {
+    match relations.template(&relation) {
         None => match parts {
             Parts::Fields(values) => Ok(build_ordered(alloc, relation, values)?),
             Parts::Slots(_) => Err(Refused::Fault(Fault::FactDoesNotFit)),
         },
-        Some(slots) => match parts {
+        Some(template) => match parts {
             Parts::Fields(_) => Err(Refused::Fault(Fault::FactDoesNotFit)),
-            Parts::Slots(given) => build_slots(alloc, relation, slots, given.as_slice()),
+            Parts::Slots(given) => build_listed(alloc, relation, template, given),
         },
     }
 }
@@ -52,66 +53,67 @@ fn build_ordered(alloc: Global, relation: Name, values: Vec<Value>) -> Result<Fa
     Fact::ordered(alloc, relation, fields)
 }
 
-fn build_slots(
+fn build_listed(
     alloc: Global,
     relation: Name,
-    slots: &[Slot],
-    given: &[GivenSlot],
+    template: &Template,
+    given: Vec<GivenSlot>,
 ) -> Result<Fact, Refused>
-    ensures { Returns result (slots_built relation slots.now given.now) }
+    ensures { Returns result (slots_built relation template.now given.items) }
 {
-    if !fits(slots, given) {
+    let given = GivenSlots::from_vec(alloc, given)?;
+    build_slots(alloc, relation, template, &given)
+}
+
+/// The fact of a relation that has this template, with these slots, as [`build_fact`] makes it and with its faults.
+pub fn build_slots(
+    alloc: Global,
+    relation: Name,
+    template: &Template,
+    given: &GivenSlots,
+) -> Result<Fact, Refused>
+    ensures { Returns result (slots_built relation template.now given.now) }
+{
+    if !fits(template, given) {
         return Err(Refused::Fault(Fault::FactDoesNotFit));
     }
-    let content = fill(alloc, slots, given)?;
+    let content = fill(alloc, template.slots(), given)?;
     Ok(Fact::with_slots(alloc, relation, content)?)
 }
 
-/// Whether what is given fits the slots.
-fn fits(slots: &[Slot], given: &[GivenSlot]) -> bool
-    ensures { result ≡ fits slots.now given.now }
+/// Whether what is given fits the template.
+fn fits(template: &Template, given: &GivenSlots) -> bool
+    ensures { result ≡ fits template.now given.now }
 {
-    are_known(slots, given) && are_distinct(given) && can_take(slots, given)
+    are_known(template, given.as_slice())
+        && given.are_distinct()
+        && can_take(template.slots(), given)
 }
 
 /// Whether only slots are given that are there.
-fn are_known(slots: &[Slot], given: &[GivenSlot]) -> bool
-    ensures { result ≡ list_all (λ g. is_some (slot_named slots.now g.0)) given.now }
+fn are_known(template: &Template, given: &[GivenSlot]) -> bool
+    ensures { result ≡ list_all (λ g. is_some (slot_named template.now g.0)) given.now }
 {
-    given.iter().all(|g| is_known(slots, g.name().as_slice()))
+    given.iter().all(|g| is_known(template, g.name()))
 }
 
-fn is_known(slots: &[Slot], name: &[u8]) -> bool
-    ensures { result ≡ is_some (slot_named slots.now name.now) }
+fn is_known(template: &Template, name: &Name) -> bool
+    ensures { result ≡ is_some (slot_named template.now name.now) }
 {
-    find_slot(slots, name).is_some()
-}
-
-/// Whether no slot is given twice.
-fn are_distinct(given: &[GivenSlot]) -> bool
-    ensures { result ≡ are_distinct given.now }
-{
-    let mut rest = given;
-    while let Some((first, following)) = rest.split_first() {
-        if find_given(following, first.name().as_slice()).is_some() {
-            return false;
-        }
-        rest = following;
-    }
-    true
+    template.find(name).is_some()
 }
 
 /// Whether each slot can take what it is given.
-fn can_take(slots: &[Slot], given: &[GivenSlot]) -> bool
+fn can_take(slots: &[Slot], given: &GivenSlots) -> bool
     ensures { result ≡ list_all (λ s. takes s (given_for given.now s.name)) slots.now }
 {
     slots.iter().all(|slot| takes(slot, given))
 }
 
-fn takes(slot: &Slot, given: &[GivenSlot]) -> bool
+fn takes(slot: &Slot, given: &GivenSlots) -> bool
     ensures { result ≡ takes slot.now (given_for given.now slot.now.name) }
 {
-    match find_given(given, slot.name().as_slice()) {
+    match given.find(slot.name()) {
         None => slot.default().is_some(),
         Some(values) => slot.multi() || is_one(values),
     }
@@ -131,7 +133,7 @@ fn is_one(values: &[Value]) -> bool
 
 /// The slots of a template, each with its value.
 #[tactic(auto, using(crate::proofs::Firsts::behind_none, crate::proofs::Firsts::behind_all, crate::proofs::Firsts::behind_one))]
-fn fill(alloc: Global, slots: &[Slot], given: &[GivenSlot]) -> Result<Vec<(Name, Value)>, Refused>
+fn fill(alloc: Global, slots: &[Slot], given: &GivenSlots) -> Result<Vec<(Name, Value)>, Refused>
     ensures { Settles (λ content. content.items) result (filled slots.now given.now) }
 {
     let mut content = Vec::new(alloc);
@@ -143,10 +145,10 @@ fn fill(alloc: Global, slots: &[Slot], given: &[GivenSlot]) -> Result<Vec<(Name,
 }
 
 /// The value of a slot.
-fn slot_value(alloc: Global, slot: &Slot, given: &[GivenSlot]) -> Result<Value, Refused>
+fn slot_value(alloc: Global, slot: &Slot, given: &GivenSlots) -> Result<Value, Refused>
     ensures { Returns result (slot_value slot.now (given_for given.now slot.now.name)) }
 {
-    match find_given(given, slot.name().as_slice()) {
+    match given.find(slot.name()) {
         None => default_value(slot),
         Some(values) => {
             if slot.multi() {

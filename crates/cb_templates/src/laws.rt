@@ -5,9 +5,9 @@ ghost use Rattle.std.specs.Str.{bytes_eq};
 ghost use Rattle.cb_forms.specs.Trees.{Tree, Trees, tree};
 ghost use Rattle.cb_facts.specs.Facts.{FactValue};
 ghost use Rattle.cb_templates.specs.Building.{PartValues, built};
-ghost use Rattle.cb_templates.specs.Laws.{content_names, names};
+ghost use Rattle.cb_templates.specs.Laws.{content_names};
 ghost use Rattle.cb_templates.specs.SlotForms.{attributes_behind};
-ghost use Rattle.cb_templates.specs.Slots.{SlotShape};
+ghost use Rattle.cb_templates.specs.Slots.{SlotShape, names};
 ghost use Rattle.cb_templates.specs.Templates.{Templates, slots_behind, slots_of};
 ghost use Rattle.cb_templates.specs.declared.attribute.Attributes.{Attributes};
 

@@ -9,26 +9,12 @@ use crate::refused::Refused;
 use crate::reserved::is_reserved;
 use crate::slot::Slot;
 use crate::slot_form::read_slot;
+use crate::template::Template;
 use cb_facts::Name;
 use cb_forms::{Fault, Form, split_head};
 use indexmap::IndexMap;
 use std::alloc::Global;
 use std::marker::Model;
-
-/// The slots of a template, in their order.
-#[derive(Debug, Drop)]
-struct Template {
-    slots: Vec<Slot>,
-}
-
-impl Model for Template {
-    ghost use Rattle.std.specs.Prelude.{List};
-    ghost use Rattle.cb_templates.specs.Slots.{SlotShape};
-
-    ghost Value = { List SlotShape };
-
-    ghost view = { λ t. t.slots.items };
-}
 
 /// The relations that have a template, each with its slots (`docs/LANGUAGE.md`, "Templates").
 ///
@@ -73,13 +59,21 @@ impl Relations {
         Ok(())
     }
 
+    /// A relation's template, or `None` where the relation has none.
+    pub fn template(&self, relation: &Name) -> Option<&Template>
+        ensures { MatchOption result (slots_of self.now relation.now ≡ None)
+            (λ template. slots_of self.now relation.now ≡ Some template.now) }
+    {
+        self.templates.get(relation)
+    }
+
     /// The slots of a relation's template, or `None` where the relation has none.
     pub fn shape(&self, relation: &Name) -> Option<&[Slot]>
         ensures { MatchOption result (slots_of self.now relation.now ≡ None)
             (λ slots. slots_of self.now relation.now ≡ Some slots.now) }
     {
-        let template = self.templates.get(relation)?;
-        Some(template.slots.as_slice())
+        let template = self.template(relation)?;
+        Some(template.slots())
     }
 }
 
@@ -95,17 +89,17 @@ fn read_template(alloc: Global, forms: &[Form], in_use: bool) -> Result<(Name, T
     if in_use {
         return Err(Refused::Fault(Fault::TemplateInUse));
     }
-    let slots = read_slots(alloc, without_comment(forms))?;
-    Ok((Name::new(alloc, name)?, Template { slots }))
+    let template = read_slots(alloc, without_comment(forms))?;
+    Ok((Name::new(alloc, name)?, template))
 }
 
-fn read_slots(alloc: Global, forms: &[Form]) -> Result<Vec<Slot>, Refused>
-    ensures { Settles (λ slots. slots.items) result (slots_behind [] (members forms.now)) }
+fn read_slots(alloc: Global, forms: &[Form]) -> Result<Template, Refused>
+    ensures { Returns result (slots_behind [] (members forms.now)) }
 {
-    let mut slots = Vec::new(alloc);
+    let mut template = Template::new(alloc);
     for form in forms {
-        let slot = read_slot(alloc, slots.as_slice(), form)?;
-        slots.push(slot)?;
+        let slot = read_slot(alloc, &template, form)?;
+        template.push(slot)?;
     }
-    Ok(slots)
+    Ok(template)
 }

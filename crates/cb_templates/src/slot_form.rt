@@ -7,24 +7,25 @@ ghost use Rattle.cb_templates.specs.SlotForms.{derived, derived_one, finished, n
 
 use crate::attribute::{Attributes, SlotDefault, read_attributes};
 use crate::refused::Refused;
-use crate::slot::{Slot, Types, find_slot};
+use crate::slot::{Slot, Types};
 use crate::slot_type::SlotType;
+use crate::template::Template;
 use cb_facts::{Many, Name, Value};
 use cb_forms::{Fault, Form, NoMemory, split_head};
 use std::alloc::Global;
 
-/// The slot that a form is, behind the slots of the template so far, or its first fault.
-pub(crate) fn read_slot(alloc: Global, slots: &[Slot], form: &Form) -> Result<Slot, Refused>
-    ensures { Returns result (slot_by slots.now (call_of (tree_of form.now))) }
+/// The slot that a form is, after the slots of the template so far, or its first fault.
+pub(crate) fn read_slot(alloc: Global, template: &Template, form: &Form) -> Result<Slot, Refused>
+    ensures { Returns result (slot_by template.now (call_of (tree_of form.now))) }
 {
     let Some((head, forms)) = form.call() else {
         return Err(Refused::Fault(Fault::MalformedForm));
     };
     if head == b"slot".as_slice() {
-        return read_named(alloc, slots, false, forms);
+        return read_named(alloc, template, false, forms);
     }
     if head == b"multislot".as_slice() {
-        return read_named(alloc, slots, true, forms);
+        return read_named(alloc, template, true, forms);
     }
     Err(Refused::Fault(Fault::MalformedForm))
 }
@@ -32,16 +33,17 @@ pub(crate) fn read_slot(alloc: Global, slots: &[Slot], form: &Form) -> Result<Sl
 /// The slot that the forms behind `slot` or `multislot` make.
 fn read_named(
     alloc: Global,
-    slots: &[Slot],
+    template: &Template,
     is_multi: bool,
     forms: &[Form],
 ) -> Result<Slot, Refused>
-    ensures { Returns result (named_slot slots.now is_multi (head_and_rest (members forms.now))) }
+    ensures { Returns result (named_slot template.now is_multi (head_and_rest (members forms.now))) }
 {
     let Some((name, forms)) = split_head(forms) else {
         return Err(Refused::Fault(Fault::MalformedForm));
     };
-    if find_slot(slots, name).is_some() {
+    let name = Name::new(alloc, name)?;
+    if template.find(&name).is_some() {
         return Err(Refused::Fault(Fault::MalformedForm));
     }
     let attributes = read_attributes(alloc, is_multi, forms)?;
@@ -51,14 +53,13 @@ fn read_named(
 /// The slot with these attributes.
 fn finish(
     alloc: Global,
-    name: &[u8],
+    name: Name,
     is_multi: bool,
     attributes: Attributes,
 ) -> Result<Slot, Refused>
-    ensures { Returns result (finished name.now is_multi attributes) }
+    ensures { Returns result (finished name is_multi attributes) }
 {
     let Attributes { types, default } = attributes;
-    let name = Name::new(alloc, name)?;
     match types {
         Some(types) => slot_with(alloc, name, is_multi, types, default),
         None => slot_with(alloc, name, is_multi, Types::any(), default),

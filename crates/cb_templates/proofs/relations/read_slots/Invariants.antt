@@ -5,4 +5,4 @@ use Rattle.cb_templates.specs.Templates.{slots_behind}
 use Rattle.cb_templates.proofs.relations.read_slots.Given as goal
 
 abbrev pub invariant-loop-form : goal.invariant-loop-form
-invariant-loop-form l = slots_behind l.slots.items (members (drop l.form-index l.forms)) ≡ slots_behind [] (members l.forms)
+invariant-loop-form l = slots_behind l.template (members (drop l.form-index l.forms)) ≡ slots_behind [] (members l.forms)

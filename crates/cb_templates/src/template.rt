@@ -1,0 +1,71 @@
+//! A template: its slots.
+ghost use Rattle.std.specs.Prelude.{◌≡◌, ◌++◌, ◌∷◌, [], None, Some, MatchOption, OnOk, OnErr};
+ghost use Rattle.cb_templates.specs.Slots.{slot_named};
+
+use crate::places::Places;
+use crate::slot::Slot;
+use cb_facts::Name;
+use cb_forms::NoMemory;
+use std::alloc::Global;
+use std::marker::Model;
+
+/// A template: its slots in their order, each found by its name in logarithmic time, whatever the names are
+/// (`docs/LANGUAGE.md`, "Templates").
+///
+/// Contracts see the list of its slots.
+#[derive(Debug, Drop)]
+pub struct Template {
+    slots: Vec<Slot>,
+    places: Places,
+}
+
+impl Model for Template {
+    ghost use Rattle.std.specs.Prelude.{◌≡◌, List};
+    ghost use Rattle.cb_templates.specs.Slots.{SlotShape, names};
+
+    ghost Value = { List SlotShape };
+
+    ghost view = { λ t. t.slots.items };
+
+    ghost invariant = { λ t. t.places ≡ names t.slots.items };
+}
+
+impl Template {
+    /// Without slots. It takes no memory yet.
+    pub(crate) fn new(alloc: Global) -> Template
+        ensures { result ≡ [] }
+    {
+        Template {
+            slots: Vec::new(alloc),
+            places: Places::new(alloc),
+        }
+    }
+
+    /// Its slots, in their order.
+    pub fn slots(&self) -> &[Slot]
+        ensures { result.now ≡ self.now }
+    {
+        self.slots.as_slice()
+    }
+
+    /// The slot with a name, if there is one.
+    #[tactic(auto, using(crate::proofs::PlaceLaws::slot_by_place))]
+    pub fn find(&self, name: &Name) -> Option<&Slot>
+        ensures { MatchOption result (slot_named self.now name.now ≡ None)
+            (λ s. slot_named self.now name.now ≡ Some s.now) }
+    {
+        let place = self.places.find(name)?;
+        self.slots.get(place)
+    }
+
+    /// Adds a slot behind the others. Growth is refused as `NoMemory`, and then nothing has changed.
+    pub(crate) fn push(&mut self, slot: Slot) -> Result<(), NoMemory>
+        ensures ok { OnOk result (self.new ≡ self.old ++ slot ∷ []) }
+        ensures err { OnErr result (self.new ≡ self.old) }
+    {
+        self.slots.reserve(1)?;
+        self.places.push(slot.name(), self.slots.len())?;
+        self.slots.push(slot)?;
+        Ok(())
+    }
+}
