@@ -1,5 +1,5 @@
 -- Facts as they are written, or what is wrong with them.
-use Rattle.std.specs.Prelude.{◌&&◌, ℕ, Bool, true, false, List, [], ◌∷◌, ◌++◌, Option, Some, None, Result, Ok, Err, codes, is_some, option_map, if◌then◌else◌}
+use Rattle.std.specs.Prelude.{◌&&◌, ℕ, Bool, true, false, List, [], ◌∷◌, ◌++◌, Option, Some, None, Result, Ok, Err, codes, is_some, map, option_map, if◌then◌else◌}
 use Rattle.std.specs.Option.{ok_or, option_map_or}
 use Rattle.std.specs.Str.{bytes_eq}
 use Rattle.cb_forms.specs.Members.{call_of, symbol_of}
@@ -50,6 +50,10 @@ lone_field_of types ts = Err FactDoesNotFit
 -- what a slot is given by these forms: a multislot any number of values, another slot one
 abbrev pub slot_content_of : SlotShape → Trees → Result SlotContent Fault
 slot_content_of s ts = if s.is_multi then ok_then several (slot_fields_of s.types ts) else lone_field_of s.types ts
+
+-- the names of slots, in order
+abbrev pub slot_names : NamedSlots → List (List ℕ)
+slot_names given = map (λ g. g.0) given
 
 -- what the slot with the name has among these slots
 abbrev pub content_for : NamedSlots → List ℕ → Option SlotContent

@@ -1,5 +1,5 @@
 //! Facts as they are written.
-ghost use Rattle.std.specs.Prelude.{◌≡◌, [], ◌∷◌, None, Some, MatchOption};
+ghost use Rattle.std.specs.Prelude.{◌≡◌, [], ◌∷◌, None};
 ghost use Rattle.cb_forms.specs.Members.{call_of, members};
 ghost use Rattle.cb_forms.specs.Trees.{tree_of};
 ghost use Rattle.cb_facts.specs.FactContents.{fact_content};
@@ -9,9 +9,10 @@ ghost use Rattle.cb_templates.specs.Results.{Returns, Settles, and_then};
 ghost use Rattle.cb_templates.specs.Templates.{slots_of};
 
 use crate::constant::read_value;
+use crate::slot_exprs::SlotExprs;
 use cb_facts::{ContentExpr, FactExpr, Filling, Name, SlotExpr, Value};
 use cb_forms::{Fault, Form};
-use cb_templates::{Refused, Relations, Slot, find_slot, is_reserved};
+use cb_templates::{Refused, Relations, Slot, Template, is_reserved};
 use std::alloc::Global;
 
 /// The facts that forms are, by the templates of their relations, or the first fault.
@@ -55,9 +56,9 @@ fn read_content(
     ensures { Settles fact_content result
         (content_of (slots_of relations.now relation.now) (members forms.now)) }
 {
-    match relations.shape(relation) {
+    match relations.template(relation) {
         None => Ok(ContentExpr::Fields(read_fields(alloc, forms)?)),
-        Some(slots) => Ok(ContentExpr::Slots(read_slots(alloc, slots, forms)?)),
+        Some(template) => Ok(ContentExpr::Slots(read_slots(alloc, template, forms)?)),
     }
 }
 
@@ -86,30 +87,31 @@ fn read_field(alloc: Global, form: &Form, following: &[Form]) -> Result<Value, R
 }
 
 /// All slots of a fact, by what it gives for these of its template, or the first fault.
-fn read_slots(alloc: Global, slots: &[Slot], forms: &[Form]) -> Result<Vec<SlotExpr>, Refused>
-    ensures { Settles (λ given. given.items) result (slots_given slots.now [] (members forms.now)) }
+fn read_slots(alloc: Global, template: &Template, forms: &[Form]) -> Result<Vec<SlotExpr>, Refused>
+    ensures { Settles (λ given. given.items) result
+        (slots_given template.now [] (members forms.now)) }
 {
-    let mut given = Vec::new(alloc);
+    let mut given = SlotExprs::new(alloc);
     for form in forms {
-        let slot = read_slot(alloc, slots, given.as_slice(), form)?;
+        let slot = read_slot(alloc, template, &given, form)?;
         given.push(slot)?;
     }
-    complete(alloc, slots, given.as_slice())
+    complete(alloc, template.slots(), &given)
 }
 
 /// One slot that a fact gives, after those that it has given.
 fn read_slot(
     alloc: Global,
-    slots: &[Slot],
-    given: &[SlotExpr],
+    template: &Template,
+    given: &SlotExprs,
     form: &Form,
 ) -> Result<SlotExpr, Refused>
-    ensures { Returns result (named_slot slots.now given.now (call_of (tree_of form.now))) }
+    ensures { Returns result (named_slot template.now given.now (call_of (tree_of form.now))) }
 {
     let Some((name, forms)) = form.call() else {
         return Err(Refused::Fault(Fault::FactDoesNotFit));
     };
-    let Some(slot) = find_slot(slots, name) else {
+    let Some(slot) = template.find(&Name::new(alloc, name)?) else {
         return Err(Refused::Fault(Fault::FactDoesNotFit));
     };
     read_known_slot(alloc, slot, given, forms)
@@ -119,12 +121,12 @@ fn read_slot(
 fn read_known_slot(
     alloc: Global,
     slot: &Slot,
-    given: &[SlotExpr],
+    given: &SlotExprs,
     forms: &[Form],
 ) -> Result<SlotExpr, Refused>
     ensures { Returns result (slot_given given.now slot.now (members forms.now)) }
 {
-    if find_filling(given, slot.name().as_slice()).is_some() {
+    if given.find(slot.name()).is_some() {
         return Err(Refused::Fault(Fault::FactDoesNotFit));
     }
     let filling = read_filling(alloc, slot, forms)?;
@@ -154,22 +156,9 @@ fn read_lone_field(alloc: Global, slot: &Slot, forms: &[Form]) -> Result<Filling
     Ok(Filling::One(read_slot_field(alloc, slot, form, following)?))
 }
 
-/// What the slot with a name has among these slots.
-fn find_filling<'a>(given: &'a [SlotExpr], name: &[u8]) -> Option<&'a Filling>
-    ensures { MatchOption result (content_for given.now name.now ≡ None)
-        (λ filling. content_for given.now name.now ≡ Some (slot_content filling.now)) }
-{
-    for slot in given {
-        if slot.name().as_slice() == name {
-            return Some(slot.filling());
-        }
-    }
-    None
-}
-
 /// All slots of a template, in its order: what is given for them, or else their defaults.
 #[tactic(auto, using(cb_templates::proofs::Firsts::behind_none, cb_templates::proofs::Firsts::behind_all, cb_templates::proofs::Firsts::behind_one))]
-fn complete(alloc: Global, slots: &[Slot], given: &[SlotExpr]) -> Result<Vec<SlotExpr>, Refused>
+fn complete(alloc: Global, slots: &[Slot], given: &SlotExprs) -> Result<Vec<SlotExpr>, Refused>
     ensures { Settles (λ all. all.items) result (all_slots slots.now given.now) }
 {
     let mut all = Vec::new(alloc);
@@ -181,11 +170,11 @@ fn complete(alloc: Global, slots: &[Slot], given: &[SlotExpr]) -> Result<Vec<Slo
 }
 
 /// What a slot is given, or else its default.
-fn fill(alloc: Global, slot: &Slot, given: &[SlotExpr]) -> Result<Filling, Refused>
+fn fill(alloc: Global, slot: &Slot, given: &SlotExprs) -> Result<Filling, Refused>
     ensures { Settles slot_content result
         (given_or_default slot.now (content_for given.now slot.now.name)) }
 {
-    match find_filling(given, slot.name().as_slice()) {
+    match given.find(slot.name()) {
         Some(filling) => Ok(filling.copy(alloc)?),
         None => default_of(slot),
     }

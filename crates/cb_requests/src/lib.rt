@@ -7,6 +7,7 @@ mod constant;
 mod fact_form;
 mod heads;
 pub mod laws;
+mod slot_exprs;
 
 pub use channel::Channel;
 pub use command::{Command, read_command};

@@ -1,4 +1,4 @@
 pub mod AttributeLaws
 pub mod Firsts
-mod PlaceLaws
+pub mod PlaceLaws
 pub mod SlotLaws

@@ -20,6 +20,7 @@ mod template;
 pub use build::{build_fact, build_slots};
 pub use comment::without_comment;
 pub use parts::{GivenSlot, GivenSlots, Parts, find_given};
+pub use places::Places;
 pub use refused::Refused;
 pub use relations::Relations;
 pub use reserved::is_reserved;

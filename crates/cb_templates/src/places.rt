@@ -14,7 +14,7 @@ use std::marker::Model;
 ///
 /// Contracts see the list of the names.
 #[derive(Drop)]
-pub(crate) struct Places {
+pub struct Places {
     firsts: BTreeMap<Name, usize>,
     names: Trace<Name>,
 }
@@ -32,7 +32,7 @@ impl Model for Places {
 
 impl Places {
     /// Of no names. It takes no memory yet.
-    pub(crate) fn new(alloc: Global) -> Places
+    pub fn new(alloc: Global) -> Places
         ensures { result ≡ [] }
     {
         Places {
@@ -42,7 +42,7 @@ impl Places {
     }
 
     /// The first place of a name, or `None` where the name is not in the list.
-    pub(crate) fn find(&self, name: &Name) -> Option<usize>
+    pub fn find(&self, name: &Name) -> Option<usize>
         ensures { result ≡ place_in self.now name.now }
     {
         self.firsts.get(name).copied()
@@ -50,7 +50,7 @@ impl Places {
 
     /// Notes one name more, at the end of the list, and returns whether it is new there. Growth is refused as `NoMemory`,
     /// and then nothing has changed.
-    pub(crate) fn push(&mut self, name: &Name, place: usize) -> Result<bool, NoMemory>
+    pub fn push(&mut self, name: &Name, place: usize) -> Result<bool, NoMemory>
         requires { place ≡ length self.old }
         ensures new { IfOk result (λ is_new. is_new ≡ not (is_some (place_in self.old name.now))) }
         ensures ok { OnOk result (self.new ≡ self.old ++ name.now ∷ []) }
