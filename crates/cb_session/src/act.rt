@@ -6,7 +6,7 @@ ghost use Rattle.cb_session.specs.declared.status.Stop.TheVariants as stop;
 
 use crate::status::Stop;
 use cb_forms::{Fault, NoMemory};
-use cb_values::Refused;
+use cb_templates::Refused;
 
 /// How an item ends before it is done.
 #[derive(Clone, Copy, Debug, PartialEq, Eq)]

@@ -10,8 +10,9 @@ use crate::constant::{read_constant, read_values};
 use crate::fact_form::read_facts;
 use crate::heads::{Head, read_head};
 use crate::print::Channel;
+use cb_facts::{Fact, Name, Value};
 use cb_forms::{Fault, Form, Item, split_head};
-use cb_values::{Fact, Name, Refused, Relations, Value, without_comment};
+use cb_templates::{Refused, Relations, without_comment};
 use std::alloc::Global;
 
 /// What an item asks for.

@@ -6,8 +6,9 @@ ghost use Rattle.cb_session.specs.Constants.{call_fault, headed_fault, token_fau
 ghost use Rattle.cb_templates.specs.Results.{Tells};
 
 use crate::heads::{Head, read_head};
+use cb_facts::Value;
 use cb_forms::{Fault, Form, Token, split_head};
-use cb_values::{Refused, Value};
+use cb_templates::Refused;
 use std::alloc::Global;
 
 /// The values of forms, or the first fault.

@@ -4,8 +4,8 @@ ghost use Rattle.cb_session.specs.Deffacts.{facts_in, is_named_in_deffacts, has_
 ghost use Rattle.cb_session.specs.WorkingMemory.{asserted_all};
 
 use crate::working_memory::{Asserted, WorkingMemory};
+use cb_facts::{Fact, Name};
 use cb_forms::NoMemory;
-use cb_values::{Fact, Name};
 use indexmap::IndexMap;
 use std::alloc::Global;
 use std::marker::Model;

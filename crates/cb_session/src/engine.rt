@@ -19,8 +19,9 @@ use crate::line::{fault_line, put, put_fact_lines, put_text, value_line};
 use crate::print::{Channel, put_printed};
 use crate::status::{Status, Stop};
 use crate::working_memory::{Asserted, WorkingMemory, are_retractable};
+use cb_facts::{Fact, Name, Value};
 use cb_forms::{Cut, Fault, Form, Item, Out, Sink, Token, split_head};
-use cb_values::{Fact, Name, Relations, Value};
+use cb_templates::Relations;
 use std::alloc::Global;
 use std::marker::Model;
 

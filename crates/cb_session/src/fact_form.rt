@@ -9,10 +9,10 @@ ghost use Rattle.cb_templates.specs.Slots.{slot_named};
 ghost use Rattle.cb_templates.specs.Templates.{slots_of};
 
 use crate::constant::read_value;
+use cb_facts::{Fact, Name, Value};
 use cb_forms::{Fault, Form};
-use cb_values::{
-    Fact, GivenSlot, Name, Parts, Refused, Relations, Slot, Value, build_fact, find_given,
-    find_slot, is_reserved,
+use cb_templates::{
+    GivenSlot, Parts, Refused, Relations, Slot, build_fact, find_given, find_slot, is_reserved,
 };
 use std::alloc::Global;
 

@@ -2,7 +2,7 @@
 ghost use Rattle.std.specs.Prelude.{◌≡◌};
 ghost use Rattle.cb_session.specs.Heads.{head_of, is_refused};
 
-use cb_values::is_among;
+use cb_facts::is_among;
 
 /// What the symbol that a list begins with names (`docs/LANGUAGE.md`, "Commands").
 #[derive(Clone, Copy, Debug, PartialEq, Eq)]

@@ -6,8 +6,8 @@ ghost use Rattle.cb_session.specs.Lines.{fact_line, fact_lines, fault_line, left
 ghost use Rattle.cb_session.specs.Went.{stop_extent};
 
 use crate::status::Stop;
+use cb_facts::{Fact, FactList, Value, fact_text, quoted_text};
 use cb_forms::{Fault, NoMemory, Out, Sink};
-use cb_values::{Fact, FactList, Value, fact_text, quoted_text};
 use itoa::Buffer;
 use std::alloc::Global;
 

@@ -7,8 +7,8 @@ ghost use Rattle.cb_session.specs.Went.{stop_extent};
 
 use crate::line::{put, put_text};
 use crate::status::Stop;
+use cb_facts::{Value, plain_text};
 use cb_forms::{Out, Sink};
-use cb_values::{Value, plain_text};
 use std::alloc::Global;
 
 /// Where printed values go.

@@ -6,8 +6,8 @@ ghost use Rattle.cb_session.specs.Deffacts.{has_relation};
 ghost use Rattle.cb_session.specs.WorkingMemory.{asserted_all, asserted_one, empty_memory, is_retractable, retracted_all, retracted_one, without};
 ghost use Rattle.cb_facts.specs.FactLists.{fact_at};
 
+use cb_facts::{Fact, FactList, Value};
 use cb_forms::NoMemory;
-use cb_values::{Fact, FactList, Value};
 use std::alloc::Global;
 use std::marker::Model;
 
