@@ -81,11 +81,15 @@ const TEMPLATE: &str =
 
 const TASK: &str = "(task (slot state) (slot title) (multislot parts) (multislot notes))";
 
+/// What is shown of a fact that is given so.
+fn shown(alloc: Global, templates: &str, given: &Given) -> Result<Vec<u8>, NoMemory> {
+    shown_fact(alloc, fact(alloc, templates, given))
+}
+
 /// The first row that is shown otherwise.
 fn wrong_fact(alloc: Global) -> Result<Option<&'static str>, NoMemory> {
     for (templates, given, text) in &FACTS {
-        let fact = fact(alloc, templates, given);
-        if shown_fact(alloc, fact)?.as_slice() != text.as_bytes() {
+        if shown(alloc, templates, given)?.as_slice() != text.as_bytes() {
             return Ok(Some(text));
         }
     }
