@@ -3,8 +3,8 @@ use Rattle.std.specs.Prelude.{◌≡◌, ℕ, List, Option, codes}
 use Rattle.clap.specs.Words.{Text}
 use Rattle.cb_io.specs.Histories.{Reads, Writes}
 use Rattle.cb_run.specs.Commands.{limit_of}
-use Rattle.cb_run.specs.Ran.{Ran}
-use Rattle.cb_run.specs.declared.outcome.Outcome.{Outcome}
+use Rattle.cb_script.specs.Ran.{Ran}
+use Rattle.cb_script.specs.declared.outcome.Outcome.{Outcome}
 use Rattle.cb_session.specs.declared.limits.Limits.{Limits}
 
 -- each limit is the number that its option has among the words, or the default

@@ -6,7 +6,7 @@ use Rattle.clap.specs.declared.error.kind.ErrorKind.TheVariants as kind
 use Rattle.cb_io.specs.Histories.{Reads, Writes}
 use Rattle.cb_run.specs.Commands.{limits_app}
 use Rattle.cb_run.specs.RanBy.{RanBy}
-use Rattle.cb_run.specs.declared.outcome.Outcome.{Outcome}
+use Rattle.cb_script.specs.declared.outcome.Outcome.{Outcome}
 
 -- The exit status for an error of this kind: memory was refused, help was asked for, or the words are wrong. The options have no
 -- version to ask for.

@@ -1,17 +1,13 @@
-//! The program but for its `main`: the words, and a whole script from a source to a sink.
+//! The program but for its `main`: its words, and the script as they ask. How a script is carried out stands in
+//! `cb_script`, and this crate passes that on.
 #![tactic(auto)]
 
 mod arguments;
-mod outcome;
 mod program;
 mod reports;
-mod script;
-mod standard;
 mod words;
 
 pub use arguments::run_program;
-pub use outcome::{Cause, Outcome};
+pub use cb_script::{Cause, Outcome, StandardInput, StandardOutput, run};
 pub use program::carry_out;
-pub use script::run;
-pub use standard::{StandardInput, StandardOutput};
 pub use words::read_words;

@@ -5,10 +5,9 @@ ghost use Rattle.cb_io.specs.Output.{IsReady};
 ghost use Rattle.cb_run.specs.Commands.{limits_app};
 ghost use Rattle.cb_run.specs.RanBy.{RanBy};
 
-use crate::outcome::Outcome;
-use crate::script::run;
 use crate::words::read_words;
 use cb_forms::{Out, Sink, Source};
+use cb_script::{Outcome, run};
 use clap::Error;
 use clap::error::ErrorKind;
 use std::alloc::Global;

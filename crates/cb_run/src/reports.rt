@@ -3,7 +3,7 @@ ghost use Rattle.std.specs.Prelude.{◌≡◌};
 ghost use Rattle.clap.specs.Words.{kind_of};
 ghost use Rattle.cb_run.specs.Statuses.{IsStatusFor};
 
-use crate::outcome::{Cause, Outcome};
+use cb_script::{Cause, Outcome};
 use clap::Error;
 use clap::error::ErrorKind;
 use std::io::{Eprint, Print};

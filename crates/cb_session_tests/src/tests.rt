@@ -57,13 +57,11 @@ const FAULTY: Status = Status {
     ending: Ending::Done,
 };
 
-fn limits() -> Limits {
-    Limits {
-        max_form: 64,
-        max_firings: 0,
-        max_turns: 0,
-    }
-}
+const LIMITS: Limits = Limits {
+    max_form: 64,
+    max_firings: 0,
+    max_turns: 0,
+};
 
 /// The first of these scripts that doesn't go so.
 fn first_wrong(alloc: Global, rows: &[Row]) -> Option<usize> {
@@ -74,7 +72,7 @@ fn first_wrong(alloc: Global, rows: &[Row]) -> Option<usize> {
 fn goes(alloc: Global, row: &Row) -> bool {
     match MemSink::new(alloc, 1000, 1000, None) {
         Ok(sink) => {
-            let mut session = Session::new(alloc, limits());
+            let mut session = Session::new(alloc, LIMITS);
             writes(&mut session, &mut Out::new(sink), row)
         }
         Err(_) => false,

@@ -13,7 +13,7 @@ use cb_forms::{Fault, Form, Token, split_head};
 use std::alloc::Global;
 
 /// What a `default` attribute says.
-#[derive(Debug, Drop)]
+#[derive(Drop)]
 pub(crate) enum SlotDefault {
     /// `?NONE`: each fact must give the slot.
     Required,
@@ -24,7 +24,7 @@ pub(crate) enum SlotDefault {
 }
 
 /// The attributes of a slot that are given.
-#[derive(Debug, Drop)]
+#[derive(Drop)]
 pub(crate) struct Attributes {
     /// What `type` says.
     pub(crate) types: Option<Types>,

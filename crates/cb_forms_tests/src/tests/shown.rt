@@ -109,18 +109,17 @@ impl Shown {
         }
     }
 
+    fn add_two(&mut self, first: &Item, second: &Item) -> Result<(), NoMemory> {
+        self.add_item(first)?;
+        self.add_item(second)
+    }
+
     /// The items that a byte gave.
     pub(crate) fn add_cut(&mut self, cut: &Cut) -> Result<(), NoMemory> {
-        let (first, second) = items_of(cut);
-        self.add_some(first)?;
-        self.add_some(second)
-    }
-}
-
-fn items_of(cut: &Cut) -> (Option<&Item>, Option<&Item>) {
-    match cut {
-        Cut::More | Cut::TooLong => (None, None),
-        Cut::Item(item) => (Some(item), None),
-        Cut::TwoItems(first, second) => (Some(first), Some(second)),
+        match cut {
+            Cut::More | Cut::TooLong => Ok(()),
+            Cut::Item(item) => self.add_item(item),
+            Cut::TwoItems(first, second) => self.add_two(first, second),
+        }
     }
 }

@@ -1,6 +1,6 @@
 //! At which byte an item is given, and which bytes need a whole step.
 use super::shown::Shown;
-use cb_forms::{Cut, Cutter, NoMemory};
+use cb_forms::{Cutter, NoMemory};
 use std::alloc::Global;
 
 /// A text, and what is shown of each of its bytes.
@@ -28,12 +28,29 @@ const TAKEN: [Row; 7] = [
     (b"))()", b"  t "),
 ];
 
-/// One more byte, which `step_within` is offered first.
-fn take(cutter: &mut Cutter, byte: u8) -> Result<Cut, NoMemory> {
-    if cutter.step_within(byte)? {
-        return Ok(Cut::More);
+/// Whether `step_within` takes one more byte.
+fn is_within(cutter: &mut Cutter, byte: u8) -> Result<bool, NoMemory> {
+    cutter.step_within(byte)
+}
+
+/// Shows what one more byte gives.
+fn show_step(shown: &mut Shown, cutter: &mut Cutter, byte: u8) -> Result<(), NoMemory> {
+    let cut = cutter.step(byte)?;
+    shown.add_cut(&cut)
+}
+
+/// The same, where `step_within` is offered the byte first.
+fn show_within(shown: &mut Shown, cutter: &mut Cutter, byte: u8) -> Result<(), NoMemory> {
+    if is_within(cutter, byte)? {
+        return Ok(());
     }
-    cutter.step(byte)
+    show_step(shown, cutter, byte)
+}
+
+/// Shows what the end gives.
+fn show_end(shown: &mut Shown, cutter: &mut Cutter) -> Result<(), NoMemory> {
+    let item = cutter.end()?;
+    shown.add_some(item.as_ref())
 }
 
 /// What each byte and the end give.
@@ -41,10 +58,10 @@ fn given(alloc: Global, cutter: &mut Cutter, text: &[u8]) -> Result<Shown, NoMem
     let mut shown = Shown::new(alloc);
     for byte in text {
         shown.add(b".")?;
-        shown.add_cut(&cutter.step(*byte)?)?;
+        show_step(&mut shown, cutter, *byte)?;
     }
     shown.add(b".")?;
-    shown.add_some(cutter.end()?.as_ref())?;
+    show_end(&mut shown, cutter)?;
     Ok(shown)
 }
 
@@ -53,10 +70,10 @@ fn given_within(alloc: Global, cutter: &mut Cutter, text: &[u8]) -> Result<Shown
     let mut shown = Shown::new(alloc);
     for byte in text {
         shown.add(b".")?;
-        shown.add_cut(&take(cutter, *byte)?)?;
+        show_within(&mut shown, cutter, *byte)?;
     }
     shown.add(b".")?;
-    shown.add_some(cutter.end()?.as_ref())?;
+    show_end(&mut shown, cutter)?;
     Ok(shown)
 }
 
@@ -79,17 +96,21 @@ fn gives_items_as_they_end(rt: HostRuntime) -> Result<(), NoMemory> {
     Ok(())
 }
 
+/// A `t` where one more byte is taken, else a blank.
+fn mark(cutter: &mut Cutter, byte: u8) -> Result<u8, NoMemory> {
+    if is_within(cutter, byte)? {
+        return Ok(b't');
+    }
+    cutter.step(byte)?;
+    Ok(b' ')
+}
+
 /// Which bytes of a text are taken.
 fn taken(alloc: Global, text: &[u8]) -> Result<Vec<u8>, NoMemory> {
     let mut cutter = Cutter::new(alloc, 100);
     let mut taken = Vec::new(alloc);
     for byte in text {
-        if cutter.step_within(*byte)? {
-            taken.push(b't')?;
-        } else {
-            cutter.step(*byte)?;
-            taken.push(b' ')?;
-        }
+        taken.push(mark(&mut cutter, *byte)?)?;
     }
     Ok(taken)
 }

@@ -185,7 +185,7 @@ fn first_wrong_talk(alloc: Global, talks: &[Talk]) -> Option<usize> {
 fn is_answered(alloc: Global, talk: &Talk) -> bool {
     match MemSink::new(alloc, 1000, 1000, talk.fail_at) {
         Ok(sink) => {
-            let mut session = Session::new(alloc, limits());
+            let mut session = Session::new(alloc, LIMITS);
             all_go(&mut session, &mut Out::new(sink), talk.turns)
         }
         Err(_) => false,

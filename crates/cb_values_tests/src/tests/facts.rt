@@ -5,73 +5,64 @@ use cb_values::{Fact, Refused};
 use std::alloc::Global;
 
 /// Templates, what a fact is given by its relation's name, and the fact's text or the number of its fault.
-const FACTS: [(&str, Given, &str); 28] = [
-    ("", Given::Fields("p"), "(p)"),
-    ("", Given::Fields("p ()"), "(p)"),
-    ("", Given::Fields("p 1 x \"y\""), "(p 1 x \"y\")"),
+type Row = (&'static str, &'static str, &'static str);
+
+/// Facts that are given fields.
+const BY_FIELDS: [Row; 7] = [
+    ("", "p", "(p)"),
+    ("", "p ()", "(p)"),
+    ("", "p 1 x \"y\"", "(p 1 x \"y\")"),
+    ("", "item a \"b c\" 12", "(item a \"b c\" 12)"),
+    ("", "p 1 (2 x) () \"y\" (3)", "(p 1 2 x \"y\" 3)"),
     (
         "",
-        Given::Fields("item a \"b c\" 12"),
-        "(item a \"b c\" 12)",
-    ),
-    (
-        "",
-        Given::Fields("p 1 (2 x) () \"y\" (3)"),
-        "(p 1 2 x \"y\" 3)",
-    ),
-    (
-        "",
-        Given::Fields("p 9223372036854775807 -9223372036854775808"),
+        "p 9223372036854775807 -9223372036854775808",
         "(p 9223372036854775807 -9223372036854775808)",
     ),
+    ("(t)", "t", "!09"),
+];
+
+/// Facts that are given slots.
+const BY_SLOTS: [Row; 21] = [
+    (TEMPLATE, "t (r b)", "(t (a 1) (m x 2) (r b) (n))"),
     (
         TEMPLATE,
-        Given::Slots("t (r b)"),
-        "(t (a 1) (m x 2) (r b) (n))",
-    ),
-    (
-        TEMPLATE,
-        Given::Slots("t (a 4) (m 5 6) (r b) (n 7)"),
+        "t (a 4) (m 5 6) (r b) (n 7)",
         "(t (a 4) (m 5 6) (r b) (n 7))",
     ),
     (
         TEMPLATE,
-        Given::Slots("t (n \"7\") (r b) (m) (a 4)"),
+        "t (n \"7\") (r b) (m) (a 4)",
         "(t (a 4) (m) (r b) (n \"7\"))",
     ),
     (
         TEMPLATE,
-        Given::Slots("t (m 1 (2 3) () 4) (r b)"),
+        "t (m 1 (2 3) () 4) (r b)",
         "(t (a 1) (m 1 2 3 4) (r b) (n))",
     ),
     (
         TEMPLATE,
-        Given::Slots("t (r b) (n (1 2))"),
+        "t (r b) (n (1 2))",
         "(t (a 1) (m x 2) (r b) (n 1 2))",
     ),
-    (TEMPLATE, Given::Slots("t"), "!09"),
-    (TEMPLATE, Given::Slots("t (a 1)"), "!09"),
-    (TEMPLATE, Given::Slots("t (r b) (s 1)"), "!09"),
-    (TEMPLATE, Given::Slots("t (r b) (a 1) (r b)"), "!09"),
-    (TEMPLATE, Given::Slots("t (r b c)"), "!09"),
-    (TEMPLATE, Given::Slots("t (r)"), "!09"),
-    (TEMPLATE, Given::Slots("t (r (b)) (s 1)"), "!09"),
-    (TEMPLATE, Given::Slots("t (a (b)) (r)"), "!09"),
-    (TEMPLATE, Given::Slots("t (r (b))"), "!22"),
-    (TEMPLATE, Given::Slots("t (r ()) (a 1)"), "!22"),
-    (TEMPLATE, Given::Slots("p (r b)"), "!09"),
-    (TEMPLATE, Given::Slots("p"), "!09"),
-    ("(t)", Given::Fields("t"), "!09"),
-    ("(t)", Given::Slots("t"), "(t)"),
-    (
-        "(t (slot a)) (t (slot b))",
-        Given::Slots("t (b 2)"),
-        "(t (b 2))",
-    ),
-    ("(t (slot a)) (t (slot b))", Given::Slots("t (a 2)"), "!09"),
+    (TEMPLATE, "t", "!09"),
+    (TEMPLATE, "t (a 1)", "!09"),
+    (TEMPLATE, "t (r b) (s 1)", "!09"),
+    (TEMPLATE, "t (r b) (a 1) (r b)", "!09"),
+    (TEMPLATE, "t (r b c)", "!09"),
+    (TEMPLATE, "t (r)", "!09"),
+    (TEMPLATE, "t (r (b)) (s 1)", "!09"),
+    (TEMPLATE, "t (a (b)) (r)", "!09"),
+    (TEMPLATE, "t (r (b))", "!22"),
+    (TEMPLATE, "t (r ()) (a 1)", "!22"),
+    (TEMPLATE, "p (r b)", "!09"),
+    (TEMPLATE, "p", "!09"),
+    ("(t)", "t", "(t)"),
+    ("(t (slot a)) (t (slot b))", "t (b 2)", "(t (b 2))"),
+    ("(t (slot a)) (t (slot b))", "t (a 2)", "!09"),
     (
         TASK,
-        Given::Slots("task (state open) (title \"a b\") (parts x \"y z\") (notes)"),
+        "task (state open) (title \"a b\") (parts x \"y z\") (notes)",
         "(task (state open) (title \"a b\") (parts x \"y z\") (notes))",
     ),
 ];
@@ -81,20 +72,43 @@ const TEMPLATE: &str =
 
 const TASK: &str = "(task (slot state) (slot title) (multislot parts) (multislot notes))";
 
+/// What is given by this text.
+fn given(text: &'static str, by_slots: bool) -> Given {
+    if by_slots {
+        return Given::Slots(text);
+    }
+    Given::Fields(text)
+}
+
+/// What is shown of a fact that is given so.
+fn shown(alloc: Global, templates: &str, given: &Given) -> Result<Vec<u8>, NoMemory> {
+    shown_fact(alloc, fact(alloc, templates, given))
+}
+
 /// The first row that is shown otherwise.
-fn wrong_fact(alloc: Global) -> Result<Option<&'static str>, NoMemory> {
-    for (templates, given, text) in &FACTS {
-        let fact = fact(alloc, templates, given);
-        if shown_fact(alloc, fact)?.as_slice() != text.as_bytes() {
-            return Ok(Some(text));
+fn wrong_fact(
+    alloc: Global,
+    rows: &[Row],
+    by_slots: bool,
+) -> Result<Option<&'static str>, NoMemory> {
+    for (templates, text, want) in rows {
+        if shown(alloc, templates, &given(text, by_slots))?.as_slice() != want.as_bytes() {
+            return Ok(Some(want));
         }
     }
     Ok(None)
 }
 
 #[test]
-fn builds_facts(rt: HostRuntime) -> Result<(), NoMemory> {
-    let wrong = wrong_fact(rt.alloc())?;
+fn builds_facts_of_fields(rt: HostRuntime) -> Result<(), NoMemory> {
+    let wrong = wrong_fact(rt.alloc(), &BY_FIELDS, false)?;
+    assert!(rt; wrong.is_none(), "{wrong:?}");
+    Ok(())
+}
+
+#[test]
+fn builds_facts_of_slots(rt: HostRuntime) -> Result<(), NoMemory> {
+    let wrong = wrong_fact(rt.alloc(), &BY_SLOTS, true)?;
     assert!(rt; wrong.is_none(), "{wrong:?}");
     Ok(())
 }

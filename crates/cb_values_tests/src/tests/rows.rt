@@ -19,10 +19,15 @@ pub(crate) enum Row {
     Many(&'static [Field]),
 }
 
+/// The name with these bytes.
+fn named(alloc: Global, text: &str) -> Result<Name, NoMemory> {
+    Name::new(alloc, text.as_bytes())
+}
+
 pub(crate) fn single(alloc: Global, field: &Field) -> Result<Single, NoMemory> {
     Ok(match field {
-        Field::Symbol(text) => Single::Symbol(Name::new(alloc, text.as_bytes())?),
-        Field::Str(text) => Single::Str(Name::new(alloc, text.as_bytes())?),
+        Field::Symbol(text) => Single::Symbol(named(alloc, text)?),
+        Field::Str(text) => Single::Str(named(alloc, text)?),
         Field::Int(number) => Single::Int(*number),
         Field::Address(ix) => Single::Fact(*ix),
     })
@@ -37,25 +42,40 @@ pub(crate) fn many(alloc: Global, fields: &[Field]) -> Result<Many, NoMemory> {
 }
 
 pub(crate) fn value(alloc: Global, row: &Row) -> Result<Value, NoMemory> {
-    Ok(match row {
-        Row::One(Field::Symbol(text)) => Value::Symbol(Name::new(alloc, text.as_bytes())?),
-        Row::One(Field::Str(text)) => Value::Str(Name::new(alloc, text.as_bytes())?),
-        Row::One(Field::Int(number)) => Value::Int(*number),
-        Row::One(Field::Address(ix)) => Value::Fact(*ix),
-        Row::Many(fields) => Value::Multi(many(alloc, fields)?),
+    match row {
+        Row::One(field) => one(alloc, field),
+        Row::Many(fields) => Ok(Value::Multi(many(alloc, fields)?)),
+    }
+}
+
+/// The value of one field.
+fn one(alloc: Global, field: &Field) -> Result<Value, NoMemory> {
+    Ok(match field {
+        Field::Symbol(text) => Value::Symbol(named(alloc, text)?),
+        Field::Str(text) => Value::Str(named(alloc, text)?),
+        Field::Int(number) => Value::Int(*number),
+        Field::Address(ix) => Value::Fact(*ix),
     })
 }
 
 /// The forms of a text.
 pub(crate) fn forms(alloc: Global, text: &str) -> Result<Vec<Form>, Refused> {
     let mut forms = Vec::new(alloc);
-    for item in read_items(alloc, text.as_bytes())? {
-        match item {
-            Item::Form(form) => forms.push(form)?,
-            Item::Bad(fault) => return Err(Refused::Fault(fault)),
-        }
+    for item in items(alloc, text)? {
+        forms.push(form(item)?)?;
     }
     Ok(forms)
+}
+
+fn items(alloc: Global, text: &str) -> Result<Vec<Item>, NoMemory> {
+    read_items(alloc, text.as_bytes())
+}
+
+fn form(item: Item) -> Result<Form, Refused> {
+    match item {
+        Item::Form(form) => Ok(form),
+        Item::Bad(fault) => Err(Refused::Fault(fault)),
+    }
 }
 
 /// The constant that a form is.

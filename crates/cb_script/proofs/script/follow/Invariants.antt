@@ -1,7 +1,7 @@
 use Rattle.std.proofs.Common.{◌≡◌, ◌≤◌, length}
 use Rattle.cb_io.specs.Output.{IsReady}
-use Rattle.cb_run.proofs.Following.{Following}
-use Rattle.cb_run.proofs.script.follow.Given as goal
+use Rattle.cb_script.proofs.Following.{Following}
+use Rattle.cb_script.proofs.script.follow.Given as goal
 
 abbrev pub invariant-loop-turn : goal.invariant-loop-turn
 invariant-loop-turn g l = record {

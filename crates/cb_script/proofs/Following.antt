@@ -11,7 +11,7 @@ use Rattle.cb_session.specs.declared.status.Flow.TheVariants.{GoOn, Ended}
 use Rattle.cb_session.specs.declared.status.Status.{Status}
 use Rattle.cb_session.proofs.RunLaws.{so_far-none}
 use Rattle.cb_session.proofs.ScriptLaws.{added-grown}
-use Rattle.cb_run.proofs.Moves.{gave_then, gave_none, WroteAll}
+use Rattle.cb_script.proofs.Moves.{gave_then, gave_none, WroteAll}
 
 -- The session has been fed all that was read, its script goes on, and all that is written so far was written.
 pub record Following (limits : Limits) (s : SessionState) (left left' : Option (List ℕ)) (reads reads' : Reads) (writes writes' : Writes) : Type 0 where

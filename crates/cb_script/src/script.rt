@@ -1,7 +1,7 @@
 //! A whole script, from a source to a sink.
 ghost use Rattle.std.specs.Prelude.{◌≡◌};
 ghost use Rattle.cb_io.specs.Output.{IsReady};
-ghost use Rattle.cb_run.specs.Ran.{Ran};
+ghost use Rattle.cb_script.specs.Ran.{Ran};
 ghost use Rattle.cb_session.specs.Sessions.{fresh_session};
 
 use crate::outcome::{Cause, Outcome};

@@ -3,10 +3,10 @@ use Rattle.std.specs.Prelude.{◌≡◌, ◌≢◌, ◌<◌, ◌-◌, ◌^◌, �
 use Rattle.cb_forms.specs.Laws.{BeginsWith}
 use Rattle.cb_io.specs.Histories.{Reads, Writes}
 use Rattle.cb_io.specs.Moved.{Gave}
-use Rattle.cb_run.specs.Outcomes.{ended_as, HasEnded, HasStopped, HasFailed}
-use Rattle.cb_run.specs.Runs.{IsPrompt}
-use Rattle.cb_run.specs.declared.outcome.Cause.TheVariants.{Done, ReadFault, WriteFault}
-use Rattle.cb_run.specs.declared.outcome.Outcome.{Outcome}
+use Rattle.cb_script.specs.Outcomes.{ended_as, HasEnded, HasStopped, HasFailed}
+use Rattle.cb_script.specs.Runs.{IsPrompt}
+use Rattle.cb_script.specs.declared.outcome.Cause.TheVariants.{Done, ReadFault, WriteFault}
+use Rattle.cb_script.specs.declared.outcome.Outcome.{Outcome}
 use Rattle.cb_session.specs.Transcripts.{so_far, transcript, status_of}
 use Rattle.cb_session.specs.declared.limits.Limits.{Limits}
 

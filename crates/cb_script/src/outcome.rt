@@ -1,6 +1,6 @@
 //! How a run of the program ended.
 ghost use Rattle.std.specs.Prelude.{◌≡◌};
-ghost use Rattle.cb_run.specs.Outcomes.{line_of, ended_as, stopped_as, failed_as};
+ghost use Rattle.cb_script.specs.Outcomes.{line_of, ended_as, stopped_as, failed_as};
 
 use cb_session::{Ending, Status, Stop};
 

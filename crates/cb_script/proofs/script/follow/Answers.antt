@@ -1,10 +1,10 @@
-use Rattle.cb_run.proofs.script.follow.Goals as goal
+use Rattle.cb_script.proofs.script.follow.Goals as goal
 use Rattle.std.proofs.Common.{ap, arith, rules, ◌∙◌, refl, ◌≡◌, ◌≢◌, ◌≤◌, ◌+◌, ◌++◌, length, [], take, Err}
 use Rattle.std.proofs.lemmas.List.{length-take}
 use Rattle.cb_io.specs.Moved.{Gave}
-use Rattle.cb_run.proofs.Following.{GaveMore, ended_more, following_none, following_on, turns_on}
-use Rattle.cb_run.proofs.Moves.{wrote-all, wrote-begun}
-use Rattle.cb_run.proofs.Endings.{ran_ended, ran_stopped, ran_finished, ran_unfinished, ran_unread, ran_endless}
+use Rattle.cb_script.proofs.Following.{GaveMore, ended_more, following_none, following_on, turns_on}
+use Rattle.cb_script.proofs.Moves.{wrote-all, wrote-begun}
+use Rattle.cb_script.proofs.Endings.{ran_ended, ran_stopped, ran_finished, ran_unfinished, ran_unread, ran_endless}
 
 pub loop-turn-init : goal.loop-turn-init
 loop-turn-init g c = record {

@@ -17,12 +17,12 @@ use Rattle.cb_session.specs.declared.status.Stop.{Stop}
 use Rattle.cb_session.specs.declared.status.Stop.TheVariants as stop
 use Rattle.cb_session.proofs.RunLaws.{so_far-ended, so_far-grows, so_far-early}
 use Rattle.cb_session.proofs.ScriptLaws.{added-grown, end-grown}
-use Rattle.cb_run.specs.Outcomes.{cause_of, ended_as, stopped_as, failed_as, HasEnded, HasStopped, HasFailed}
-use Rattle.cb_run.specs.Ran.{IsTranscript, Ran}
-use Rattle.cb_run.specs.declared.outcome.Cause.TheVariants.{Done, ReadFault, WriteFault}
-use Rattle.cb_run.specs.declared.outcome.Outcome.{Outcome}
-use Rattle.cb_run.proofs.Moves.{gave_then, read_all, WroteAll, WroteBegun}
-use Rattle.cb_run.proofs.Following.{Following, GaveMore, wrote_more, read_more, flow_some}
+use Rattle.cb_script.specs.Outcomes.{cause_of, ended_as, stopped_as, failed_as, HasEnded, HasStopped, HasFailed}
+use Rattle.cb_script.specs.Ran.{IsTranscript, Ran}
+use Rattle.cb_script.specs.declared.outcome.Cause.TheVariants.{Done, ReadFault, WriteFault}
+use Rattle.cb_script.specs.declared.outcome.Outcome.{Outcome}
+use Rattle.cb_script.proofs.Moves.{gave_then, read_all, WroteAll, WroteBegun}
+use Rattle.cb_script.proofs.Following.{Following, GaveMore, wrote_more, read_more, flow_some}
 
 -- what has ended has not failed
 ended_not_failed : (e : Ending) → HasFailed (cause_of e) → ⊥

@@ -5,9 +5,9 @@ use Rattle.cb_session.specs.declared.status.Ending.TheVariants as ending
 use Rattle.cb_session.specs.declared.status.Status.{Status}
 use Rattle.cb_session.specs.declared.status.Stop.{Stop}
 use Rattle.cb_session.specs.declared.status.Stop.TheVariants as stop
-use Rattle.cb_run.specs.declared.outcome.Cause.{Cause}
-use Rattle.cb_run.specs.declared.outcome.Cause.TheVariants.{Done, Exit, Limit, ReadFault, WriteFault, NoMemory}
-use Rattle.cb_run.specs.declared.outcome.Outcome.{Outcome}
+use Rattle.cb_script.specs.declared.outcome.Cause.{Cause}
+use Rattle.cb_script.specs.declared.outcome.Cause.TheVariants.{Done, Exit, Limit, ReadFault, WriteFault, NoMemory}
+use Rattle.cb_script.specs.declared.outcome.Outcome.{Outcome}
 
 -- the cause that a script's own ending is
 abbrev pub cause_of : Ending → Cause

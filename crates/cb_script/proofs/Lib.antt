@@ -1,0 +1,3 @@
+pub mod Endings
+pub mod Following
+pub mod Moves
