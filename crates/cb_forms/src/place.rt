@@ -1,7 +1,9 @@
 //! Where a byte stands in a part of a script.
-ghost use Rattle.std.specs.Prelude.{◌≡◌, ◌<◌, ◌||◌, ◌&&◌, nat_lt, is_ok};
-ghost use Rattle.cb_forms.specs.Places.{mode_takes, fresh_mode, next_mode, mode_is_open, next_depth, fresh_depth};
+ghost use Rattle.std.specs.Prelude.{◌≡◌, ◌<◌, ◌≤◌, ◌+◌, ◌||◌, ◌&&◌, true, nat_lt, is_ok, length, take, IfSome};
+ghost use Rattle.cb_forms.specs.Places.{IsOpenStep, StaysOpen, mode_takes, fresh_mode, next_mode, mode_is_open};
+ghost use Rattle.cb_forms.specs.Places.{next_depth, fresh_depth};
 
+use crate::byte_kinds::{is_blank, is_line_end};
 use crate::mode::Mode;
 
 /// The place behind the last byte of a part, a part being an item, or a blank or comment between items.
@@ -54,6 +56,51 @@ impl Place {
             mode: self.mode.after(byte),
             depth,
         }
+    }
+
+    /// The place behind one more byte, where an item that is open here goes on with it and stays open.
+    fn open_after(self, byte: u8) -> Option<Place>
+        requires { self.depth < usize.MAX }
+        ensures { IfSome result (λ next. IsOpenStep self.mode self.depth byte next.mode next.depth) }
+    {
+        if self.stays(byte) {
+            return Some(self);
+        }
+        if !self.takes(byte) {
+            return None;
+        }
+        let next = self.after(byte);
+        if next.is_open() { Some(next) } else { None }
+    }
+
+    /// Whether the byte plainly leaves an item that is open here as it is: open, and at this place.
+    fn stays(self, byte: u8) -> bool
+        ensures { result ≡ true → IsOpenStep self.mode self.depth byte self.mode self.depth }
+    {
+        match self.mode {
+            Mode::Ended => self.depth > 0 && is_blank(byte),
+            Mode::Comment => self.depth > 0 && !is_line_end(byte),
+            mode => mode.stays(byte),
+        }
+    }
+
+    /// How many of the first of these bytes an item that is open here goes on with and stays open, and the place behind
+    /// the last of them.
+    pub(crate) fn open_run(self, bytes: &[u8]) -> (usize, Place)
+        requires { self.depth + length bytes.now ≤ usize.MAX }
+        ensures within { result.0 ≤ length bytes.now }
+        ensures stays { StaysOpen self.mode self.depth (take result.0 bytes.now) result.1.mode result.1.depth }
+    {
+        let mut place = self;
+        let mut end = 0;
+        while end < bytes.len() {
+            let Some(next) = place.open_after(bytes[end]) else {
+                break;
+            };
+            place = next;
+            end += 1;
+        }
+        (end, place)
     }
 
     /// Whether an item is open here.
