@@ -1,12 +1,13 @@
 -- What a run of bytes that completes nothing leaves of a text and of its last part.
 use Rattle.std.proofs.Common.{◌≡◌, ◌||◌, ◌<◌, ◌≤◌, ℕ, ◌+◌, ◌-◌, Bool, true, false, not, List, [], ◌∷◌, ◌++◌, length, get_or, take, drop, nat_lt, refl, sym, ap, ◌∙◌, subst, append_assoc, inl, inr, ◌&&◌, arith, if◌then◌else◌}
-use Rattle.std.proofs.lemmas.Bool.{false≢true, true≢false, cases_Bool, le-ltb, or_parts}
-use Rattle.std.proofs.lemmas.List.{append-nil, length_push, length-append, nil_from_length, take-append-drop, take-take, drop-take}
+use Rattle.std.proofs.lemmas.Bool.{false≢true, true≢false, cases_Bool, cases_eq, ne_eqb, le-ltb, or_parts}
+use Rattle.std.proofs.lemmas.List.{append-nil, length_push, length-append, nil_from_length}
+use Rattle.cb_forms.specs.Bytes.{is_line_end}
 use Rattle.cb_forms.specs.Cuts.{opened_readings, open_bytes, part_with, readings_before}
 use Rattle.cb_forms.specs.Cutter.{IsInStep}
 use Rattle.cb_forms.specs.Items.{part_takes, is_gap, readings_of, is_open, ended_readings, whole, is_longer, over}
 use Rattle.cb_forms.specs.OpenParts.{IsKept, Reaches, part_behind, CompletesNone, HasPassed}
-use Rattle.cb_forms.specs.Places.{mode_takes, fresh_mode, continued_mode, next_mode, mode_is_open, next_depth, fresh_depth, IsOpenStep, StaysOpen, IsPlaceIn}
+use Rattle.cb_forms.specs.Places.{mode_takes, fresh_mode, continued_mode, next_mode, mode_is_open, next_depth, fresh_depth, StaysIn, IsOpenStep, StaysOpen, IsPlaceIn}
 use Rattle.cb_forms.specs.Trees.{Reading}
 use Rattle.cb_forms.specs.declared.cut.Cut.TheVariants as cut
 use Rattle.cb_forms.specs.declared.mode.Mode.{Mode}
@@ -16,6 +17,7 @@ use Rattle.cb_forms.proofs.CutterLaws.{whole-push}
 use Rattle.cb_forms.proofs.OpenPartLaws.{depth-next, kept-open, open_bytes-open, open-no_gap, reaches-gap, reaches-item, depth-fresh}
 use Rattle.cb_forms.proofs.PartLaws.{tail, tail-push, over-push}
 use Rattle.cb_forms.proofs.PlaceLaws.{place-takes, place-open, place-push, place-fresh}
+use Rattle.cb_forms.proofs.Splits.{take-both}
 use Rattle.cb_forms.proofs.WithinLaws.{begins, ended-open, stays-comment}
 
 -- an item that stays open, with one more byte
@@ -24,6 +26,16 @@ stays-push m d [] last deep b next deeper at goes =
     let here : IsOpenStep m d b next deeper = rw (← at.0, ← at.1) goes in
     (record { takes = here.takes; mode_is = refl; depth_is = refl; opens = rw (← here.mode_is, ← here.depth_is) here.opens }, (here.mode_is, here.depth_is))
 stays-push m d (c ∷ cs) last deep b next deeper at goes = (at.0, stays-push (next_mode m c) (next_depth m d c) cs last deep b next deeper at.1 goes)
+
+-- and with a run of bytes more
+pub stays-append : (m : Mode) (d : ℕ) (bs cs : List ℕ) (last : Mode) (deep : ℕ) (end : Mode) (lower : ℕ) → StaysOpen m d bs last deep → StaysOpen last deep cs end lower → StaysOpen m d (bs ++ cs) end lower
+stays-append m d [] cs last deep end lower at goes = rw (← at.0, ← at.1) goes
+stays-append m d (b ∷ bs) cs last deep end lower at goes = (at.0, stays-append (next_mode m b) (next_depth m d b) bs cs last deep end lower at.1 goes)
+
+-- a piece that waits for the same, with one more byte
+pub stays_in-push : (m : Mode) (bs : List ℕ) (b : ℕ) → StaysIn m bs → mode_takes m b ≡ true → continued_mode m b ≡ m → StaysIn m (bs ++ b ∷ [])
+stays_in-push m [] b at takes same = (takes, same, tt)
+stays_in-push m (c ∷ cs) b at takes same = (at.0, at.1, stays_in-push m cs b at.2 takes same)
 
 -- what completes nothing, in two runs
 pub behind-append : (w xs ys : List ℕ) → part_behind w (xs ++ ys) ≡ part_behind (part_behind w xs) ys
@@ -178,21 +190,32 @@ none-mode part kept none =
 pub none-takes : (part : OpenPart) (b : ℕ) → IsKept part → part.bytes.items ≡ [] → part_takes part.spelled.items b ≡ mode_takes part.place.mode b
 none-takes part b kept none = place-takes part.spelled.items part.place.mode part.place.depth b kept.place_is ∙ ap (λ d. nat_lt 0 d || mode_takes part.place.mode b) (none-deep part kept none)
 
-comment-stays : (m : Mode) (b : ℕ) → mode_is_open m ≡ false → mode_takes m b ≡ true → continued_mode m b ≡ m
-comment-stays Ended b shut takes = absurd (false≢true takes)
-comment-stays Comment b shut takes = refl
-comment-stays Word b shut takes = absurd (true≢false shut)
-comment-stays Quoted b shut takes = absurd (true≢false shut)
-comment-stays Escaped b shut takes = absurd (true≢false shut)
-
 -- a comment goes on
-pub passed-comment : (limit b : ℕ) (old new : OpenPart) → IsKept old → old.bytes.items ≡ [] → mode_takes old.place.mode b ≡ true → new.bytes.items ≡ old.bytes.items → new.place.mode ≡ old.place.mode → new.place.depth ≡ old.place.depth → new.spelled.items ≡ old.spelled.items ++ b ∷ [] → HasPassed limit old.spelled.items (b ∷ []) new
-passed-comment limit b old new kept none goes bytes mode depth spelled = passed-one limit old.spelled.items b new (stays-comment limit b old new kept goes (comment-stays old.place.mode b (none-mode old kept none) goes) none (bytes ∙ none) mode depth spelled)
+pub passed-comment : (limit b : ℕ) (old new : OpenPart) → IsKept old → old.bytes.items ≡ [] → old.place.mode ≡ Comment → is_line_end b ≡ false → new.bytes.items ≡ old.bytes.items → new.place.mode ≡ old.place.mode → new.place.depth ≡ old.place.depth → new.spelled.items ≡ old.spelled.items ++ b ∷ [] → HasPassed limit old.spelled.items (b ∷ []) new
+passed-comment limit b old new kept none is inside bytes mode depth spelled =
+    let goes : mode_takes old.place.mode b ≡ true = ap (λ m. mode_takes m b) is ∙ ap not inside in
+    let same : continued_mode old.place.mode b ≡ old.place.mode = ap (λ m. continued_mode m b) is ∙ sym is in
+    passed-one limit old.spelled.items b new (stays-comment limit b old new kept goes same none (bytes ∙ none) mode depth spelled)
+
+-- a mode in which no item is open, and no comment takes the byte
+mode-fresh : (m : Mode) (b : ℕ) → mode_is_open m ≡ false → (m ≡ Comment → is_line_end b ≡ true) → mode_takes m b ≡ false
+mode-fresh Ended b shut out = refl
+mode-fresh Comment b shut out = ap not (out refl)
+mode-fresh Word b shut out = absurd (true≢false shut)
+mode-fresh Quoted b shut out = absurd (true≢false shut)
+mode-fresh Escaped b shut out = absurd (true≢false shut)
+
+gap-depth : (b : ℕ) → is_gap (b ∷ []) ≡ true → 0 ≡ fresh_depth b
+gap-depth b gap = elim (cases_eq b 40) as (λ _. 0 ≡ fresh_depth b) [
+  | inl e ↦ absurd (false≢true (sym (ap (λ it. is_gap (it ∷ [])) e) ∙ gap))
+  | inr e ↦ rw (ne_eqb b 40 e) refl
+]
 
 -- a blank, or a comment that begins
-pub passed-gap : (limit b : ℕ) (old new : OpenPart) → IsKept old → old.bytes.items ≡ [] → mode_takes old.place.mode b ≡ false → is_gap (b ∷ []) ≡ true → new.bytes.items ≡ old.bytes.items → new.place.mode ≡ fresh_mode b → new.place.depth ≡ fresh_depth b → new.spelled.items ≡ b ∷ [] → HasPassed limit old.spelled.items (b ∷ []) new
-passed-gap limit b old new kept none fresh gap bytes mode depth spelled =
-    passed-one limit old.spelled.items b new (begins limit old.spelled.items b new (none-takes old b kept none ∙ fresh) (none-shut old kept none) (reaches-gap limit b [] cut.More new gap mode depth spelled (bytes ∙ none) refl refl))
+pub passed-gap : (limit b : ℕ) (old new : OpenPart) → IsKept old → old.bytes.items ≡ [] → (old.place.mode ≡ Comment → is_line_end b ≡ true) → is_gap (b ∷ []) ≡ true → new.bytes.items ≡ old.bytes.items → new.place.mode ≡ fresh_mode b → new.place.depth ≡ 0 → new.spelled.items ≡ b ∷ [] → HasPassed limit old.spelled.items (b ∷ []) new
+passed-gap limit b old new kept none out gap bytes mode depth spelled =
+    let fresh = mode-fresh old.place.mode b (none-mode old kept none) out in
+    passed-one limit old.spelled.items b new (begins limit old.spelled.items b new (none-takes old b kept none ∙ fresh) (none-shut old kept none) (reaches-gap limit b [] cut.More new gap mode (depth ∙ gap-depth b gap) spelled (bytes ∙ none) refl refl))
 
 -- the first byte of an item that stays open
 pub passed-first : (limit b : ℕ) (old new : OpenPart) → IsKept old → old.bytes.items ≡ [] → mode_takes old.place.mode b ≡ false → 1 ≤ limit → new.bytes.items ≡ old.bytes.items ++ b ∷ [] → new.place.mode ≡ fresh_mode b → new.place.depth ≡ fresh_depth b → new.spelled.items ≡ b ∷ [] → (nat_lt 0 new.place.depth || mode_is_open new.place.mode) ≡ true → HasPassed limit old.spelled.items (b ∷ []) new
@@ -205,10 +228,13 @@ passed-first limit b old new kept none fresh room bytes mode depth spelled opens
     let D : ℕ → Type 0 = λ d. d ≤ 1 in
     passed-one limit old.spelled.items b new (begins limit old.spelled.items b new (none-takes old b kept none ∙ fresh) (none-shut old kept none) (reaches-item limit (b ∷ []) [] [] cut.More new (open-no_gap (b ∷ []) is) room at spelled kept_now (subst D (sym depth) (depth-fresh b)) refl refl (sym (ended-open (b ∷ []) is))))
 
--- the first bytes of a text in two runs
-pub take-both : (i n : ℕ) (s : List ℕ) → take (i + n) s ≡ take i s ++ take n (drop i s)
-take-both i n s = sym (take-append-drop i (take (i + n) s)) ∙ (ap (λ l. l ++ drop i (take (i + n) s)) (take-take i (i + n) s (omega arith)) ∙ ap (λ l. take i s ++ l) (drop-take i n s))
-
+-- the first byte of a text, and those behind it
 pub take-first : (n : ℕ) (s : List ℕ) → 1 ≤ length s → take (1 + n) s ≡ (get_or s 0 0 ∷ []) ++ take n (drop 1 s)
 take-first n [] = λ h. absurd (omega arith)
 take-first n (b ∷ bs) = λ h. take-both 1 n (b ∷ bs)
+
+-- the bytes that leave an open item as it is, behind those that it has gone on with
+pub stays-still : (s rest : List ℕ) (i n : ℕ) (m : Mode) (d : ℕ) (last : Mode) (deep : ℕ) → StaysOpen m d (take i s) last deep → rest ≡ drop i s → StaysOpen last deep (take n rest) last deep → StaysOpen m d (take (i + n) s) last deep
+stays-still s rest i n m d last deep at is still =
+    let P : List ℕ → Type 0 = λ it. StaysOpen last deep (take n it) last deep in
+    rw (take-both i n s) (stays-append m d (take i s) (take n (drop i s)) last deep last deep at (subst P is still))

@@ -1,5 +1,5 @@
 -- Where a byte stands in a part: what the piece around it waits for, and how many lists are open.
-use Rattle.std.specs.Prelude.{◌≡◌, ◌==◌, ◌||◌, ℕ, ◌+◌, ◌-◌, Bool, true, false, not, List, [], ◌∷◌, nat_lt, if◌then◌else◌}
+use Rattle.std.specs.Prelude.{◌≡◌, ◌==◌, ◌||◌, ℕ, ◌+◌, ◌-◌, Bool, true, false, not, List, [], ◌∷◌, ⊤, nat_lt, if◌then◌else◌}
 use Rattle.cb_forms.specs.Bytes.{is_line_end, is_single, is_delimiter, begins_with}
 use Rattle.cb_forms.specs.Items.{openings, closings, last_part}
 use Rattle.cb_forms.specs.Pieces.{pieces}
@@ -59,6 +59,11 @@ next_depth m d b = if mode_takes m b then d else (if b == 40 then d + 1 else (if
 
 abbrev pub fresh_depth : ℕ → ℕ
 fresh_depth b = if b == 40 then 1 else 0
+
+-- a piece goes on with these bytes, and waits for the same behind each of them
+abbrev pub StaysIn : Mode → List ℕ → Type 0
+StaysIn m [] = ⊤
+StaysIn m (b ∷ bs) = (mode_takes m b ≡ true) × (continued_mode m b ≡ m) × StaysIn m bs
 
 -- An item that is open at a place goes on with the byte, and is open behind it, at the next place.
 pub record IsOpenStep (mode : Mode) (depth b : ℕ) (next : Mode) (deeper : ℕ) : Type 0 where

@@ -1,9 +1,9 @@
 //! The part that a script so far ends with.
-ghost use Rattle.std.specs.Prelude.{◌≡◌, ◌||◌, ◌≤◌, ◌<◌, ℕ, nat_lt, List, [], ◌∷◌, ◌++◌, true, false, length, take, IfOk, OnOk, if◌then◌else◌};
+ghost use Rattle.std.specs.Prelude.{◌≡◌, ◌||◌, ◌≤◌, ◌<◌, ℕ, nat_lt, List, [], ◌∷◌, ◌++◌, true, false, length, take, IfOk, IfSome, OnOk, if◌then◌else◌};
 ghost use Rattle.cb_forms.specs.Cuts.{item_readings, opened_readings, open_bytes, part_with, readings_before};
-ghost use Rattle.cb_forms.specs.Items.{part_takes, readings_of, ended_readings};
+ghost use Rattle.cb_forms.specs.Items.{is_gap, part_takes, readings_of, ended_readings};
 ghost use Rattle.cb_forms.specs.OpenParts.{HasPassed, IsKept, Reaches};
-ghost use Rattle.cb_forms.specs.Places.{continued_mode, mode_is_open, mode_takes, IsPlaceIn};
+ghost use Rattle.cb_forms.specs.Places.{continued_mode, fresh_mode, mode_is_open, mode_takes, IsPlaceIn};
 
 use crate::byte_kinds::is_blank;
 use crate::cut::Cut;
@@ -103,15 +103,14 @@ impl OpenPart {
         ensures untouched { result ≡ false → self.new ≡ self.old }
         ensures none { self.new.bytes.items ≡ [] }
     {
-        if self.place.mode.takes(byte) {
-            // a comment goes on
+        if self.place.mode.is_comment_with(byte) {
             self.spelled = self.spelled.and(&byte);
             return true;
         }
-        if !is_blank(byte) && byte != b';' {
+        let Some(mode) = gap_mode(byte) else {
             return false;
-        }
-        self.place = Place::fresh(byte);
+        };
+        self.place = Place { mode, depth: 0 };
         self.spelled = Trace::new().and(&byte);
         true
     }
@@ -294,6 +293,19 @@ fn take_open(alloc: Global, bytes: &mut Vec<u8>, place: Place) -> Result<Option<
     };
     bytes.clear();
     Ok(item)
+}
+
+/// The mode of a blank, or of a comment that the byte begins; `None` of any other byte.
+fn gap_mode(byte: u8) -> Option<Mode>
+    ensures { IfSome result (λ mode. (is_gap (byte ∷ []) ≡ true) × (mode ≡ fresh_mode byte)) }
+{
+    if is_blank(byte) {
+        Some(Mode::Ended)
+    } else if byte == b';' {
+        Some(Mode::Comment)
+    } else {
+        None
+    }
 }
 
 /// These bytes, with a run of bytes behind them.

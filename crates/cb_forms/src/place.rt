@@ -1,5 +1,5 @@
 //! Where a byte stands in a part of a script.
-ghost use Rattle.std.specs.Prelude.{◌≡◌, ◌<◌, ◌≤◌, ◌+◌, ◌||◌, ◌&&◌, true, nat_lt, is_ok, length, take, IfSome};
+ghost use Rattle.std.specs.Prelude.{◌≡◌, ◌<◌, ◌≤◌, ◌+◌, ◌||◌, ◌&&◌, true, nat_lt, is_ok, length, take};
 ghost use Rattle.cb_forms.specs.Places.{IsOpenStep, StaysOpen, mode_takes, fresh_mode, next_mode, mode_is_open};
 ghost use Rattle.cb_forms.specs.Places.{next_depth, fresh_depth};
 
@@ -58,19 +58,13 @@ impl Place {
         }
     }
 
-    /// The place behind one more byte, where an item that is open here goes on with it and stays open.
-    fn open_after(self, byte: u8) -> Option<Place>
+    /// Whether an item that is open here goes on with the byte and stays open.
+    fn stays_open(self, byte: u8) -> bool
         requires { self.depth < usize.MAX }
-        ensures { IfSome result (λ next. IsOpenStep self.mode self.depth byte next.mode next.depth) }
+        ensures { result ≡ true
+            → IsOpenStep self.mode self.depth byte (next_mode self.mode byte) (next_depth self.mode self.depth byte) }
     {
-        if self.stays(byte) {
-            return Some(self);
-        }
-        if !self.takes(byte) {
-            return None;
-        }
-        let next = self.after(byte);
-        if next.is_open() { Some(next) } else { None }
+        self.takes(byte) && self.after(byte).is_open()
     }
 
     /// Whether the byte plainly leaves an item that is open here as it is: open, and at this place.
@@ -84,6 +78,18 @@ impl Place {
         }
     }
 
+    /// How many of the first of these bytes plainly leave an item that is open here as it is.
+    fn still_run(self, bytes: &[u8]) -> usize
+        ensures within { result ≤ length bytes.now }
+        ensures stays { StaysOpen self.mode self.depth (take result bytes.now) self.mode self.depth }
+    {
+        let mut end = 0;
+        while end < bytes.len() && self.stays(bytes[end]) {
+            end += 1;
+        }
+        end
+    }
+
     /// How many of the first of these bytes an item that is open here goes on with and stays open, and the place behind
     /// the last of them.
     pub(crate) fn open_run(self, bytes: &[u8]) -> (usize, Place)
@@ -94,10 +100,12 @@ impl Place {
         let mut place = self;
         let mut end = 0;
         while end < bytes.len() {
-            let Some(next) = place.open_after(bytes[end]) else {
+            let (_, rest) = bytes.split_at(end);
+            end += place.still_run(rest);
+            if end == bytes.len() || !place.stays_open(bytes[end]) {
                 break;
-            };
-            place = next;
+            }
+            place = place.after(bytes[end]);
             end += 1;
         }
         (end, place)

@@ -1,5 +1,6 @@
 use Rattle.std.proofs.Common.{◌+◌, ◌++◌, take, sym, ap, ◌∙◌}
-use Rattle.cb_forms.proofs.RunLaws.{passed-both, take-both}
+use Rattle.cb_forms.proofs.RunLaws.{passed-both}
+use Rattle.cb_forms.proofs.Splits.{take-both}
 use Rattle.cb_forms.proofs.open_part.OpenPart.step_run.Goals as goal
 
 pub open-requires-clause-kept : goal.open-requires-clause-kept
