@@ -58,15 +58,6 @@ impl Place {
         }
     }
 
-    /// Whether an item that is open here goes on with the byte and stays open.
-    fn stays_open(self, byte: u8) -> bool
-        requires { self.depth < usize.MAX }
-        ensures { result ≡ true
-            → IsOpenStep self.mode self.depth byte (next_mode self.mode byte) (next_depth self.mode self.depth byte) }
-    {
-        self.takes(byte) && self.after(byte).is_open()
-    }
-
     /// Whether the byte plainly leaves an item that is open here as it is: open, and at this place.
     fn stays(self, byte: u8) -> bool
         ensures { result ≡ true → IsOpenStep self.mode self.depth byte self.mode self.depth }
@@ -102,10 +93,14 @@ impl Place {
         while end < bytes.len() {
             let (_, rest) = bytes.split_at(end);
             end += place.still_run(rest);
-            if end == bytes.len() || !place.stays_open(bytes[end]) {
+            if end == bytes.len() || !place.takes(bytes[end]) {
                 break;
             }
-            place = place.after(bytes[end]);
+            let next = place.after(bytes[end]);
+            if !next.is_open() {
+                break;
+            }
+            place = next;
             end += 1;
         }
         (end, place)
