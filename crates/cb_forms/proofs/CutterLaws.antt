@@ -13,7 +13,7 @@ use Rattle.cb_forms.proofs.OpenPartLaws.{open-no_gap}
 use Rattle.cb_forms.proofs.PartLaws.{tail, tail-push, items-split, whole-taken, whole-fresh, over-split, over-push, over-kept}
 
 -- what has ended with one more byte
-whole-push : (p : List ℕ) (b : ℕ) → whole (p ++ b ∷ []) ≡ whole p ++ (readings_before (tail p) b ++ ended_readings (part_with (tail p) b))
+pub whole-push : (p : List ℕ) (b : ℕ) → whole (p ++ b ∷ []) ≡ whole p ++ (readings_before (tail p) b ++ ended_readings (part_with (tail p) b))
 whole-push p b =
     let P : Bool → Type 0 = λ t. part_takes (tail p) b ≡ t → whole (p ++ b ∷ []) ≡ whole p ++ ((if t then [] else opened_readings (tail p)) ++ ended_readings (if t then tail p ++ b ∷ [] else b ∷ [])) in
     let cases : (t : Bool) → P t = λ t. elim t as P [

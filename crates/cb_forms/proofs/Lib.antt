@@ -15,6 +15,7 @@ pub mod PieceLaws
 pub mod PlaceLaws
 pub mod ReaderLaws
 pub mod ReadingLaws
+mod RunLaws
 pub mod SpellingLaws
 pub mod Splits
 pub mod TextLaws

@@ -1,14 +1,16 @@
 -- Reading a text piece by piece.
-use Rattle.std.proofs.Common.{◌≡◌, ◌==◌, ◌<◌, ◌≤◌, ℕ, ◌+◌, Bool, true, false, List, [], ◌∷◌, length, get_or, take, drop, refl, sym, ap, ◌∙◌, arith, if◌then◌else◌}
-use Rattle.std.proofs.lemmas.Bool.{ne_eqb}
-use Rattle.std.proofs.lemmas.List.{drop_more, take_more}
+use Rattle.std.proofs.Common.{◌≡◌, ◌==◌, ◌<◌, ◌≤◌, ℕ, ◌+◌, Bool, true, false, List, [], ◌∷◌, ◌++◌, length, get_or, take, drop, refl, sym, ap, ◌∙◌, subst, append_assoc, inl, inr, arith, if◌then◌else◌}
+use Rattle.std.proofs.lemmas.Bool.{false≢true, cases_eq, ne_eqb}
+use Rattle.std.proofs.lemmas.List.{append-nil, drop_more, take_more, take-append-drop, drop-drop}
+use Rattle.cb_forms.specs.Bytes.{is_blank}
 use Rattle.cb_forms.specs.Cutting.{cut_from}
-use Rattle.cb_forms.specs.Pieces.{piece_takes, pieces}
-use Rattle.cb_forms.specs.Places.{mode_of, mode_takes, fresh_mode, continued_mode, next_mode}
+use Rattle.cb_forms.specs.Pieces.{piece_takes, pieces, lexeme_of}
+use Rattle.cb_forms.specs.Places.{StaysIn, mode_of, mode_takes, fresh_mode, continued_mode, next_mode}
 use Rattle.cb_forms.specs.Strings.{is_unclosed, is_unclosed_escaped}
+use Rattle.cb_forms.specs.declared.lexeme.Lexeme.TheVariants.{Gap}
 use Rattle.cb_forms.specs.declared.mode.Mode.{Mode}
 use Rattle.cb_forms.proofs.Modes.{piece-takes, mode-push}
-use Rattle.cb_forms.proofs.Splits.{split-more, split-all, split-end}
+use Rattle.cb_forms.proofs.Splits.{take-both, split-more, split-all, split-end}
 
 -- the piece at the front of a text, as far as the first i bytes tell
 pub record IsPieceSoFar (s : List ℕ) (i : ℕ) (mode : Mode) : Type 0 where
@@ -37,6 +39,43 @@ unfolding pieces
 piece-end s i m lt so_far h =
     let takes : piece_takes (take i s) (get_or s i 0) ≡ false = piece-takes (take i s) (get_or s i 0) ∙ (ap (λ it. mode_takes it (get_or s i 0)) (sym so_far.mode_is) ∙ h) in
     sym so_far.cut_is ∙ split-end piece_takes s i lt takes
+
+piece-stays : (w run rest : List ℕ) (m : Mode) → m ≡ mode_of w → StaysIn m run → (m ≡ mode_of (w ++ run)) × (cut_from piece_takes w (run ++ rest) ≡ cut_from piece_takes (w ++ run) rest)
+piece-stays w [] rest m is stays = (is ∙ ap mode_of (sym (append-nil w)), ap (λ v. cut_from piece_takes v rest) (sym (append-nil w)))
+piece-stays w (b ∷ bs) rest m is stays =
+    let takes : piece_takes w b ≡ true = piece-takes w b ∙ (ap (λ it. mode_takes it b) (sym is) ∙ stays.0) in
+    let same : m ≡ mode_of (w ++ b ∷ []) = sym stays.1 ∙ (ap (λ it. continued_mode it b) is ∙ sym (mode-push w b takes)) in
+    let more = piece-stays (w ++ b ∷ []) bs rest m same stays.2 in
+    let all : (w ++ b ∷ []) ++ bs ≡ w ++ b ∷ bs = append_assoc w (b ∷ []) bs in
+    let one : cut_from piece_takes w (b ∷ bs ++ rest) ≡ cut_from piece_takes (w ++ b ∷ []) (bs ++ rest) = ap (λ t. if t then cut_from piece_takes (w ++ b ∷ []) (bs ++ rest) else w ∷ cut_from piece_takes (b ∷ []) (bs ++ rest)) takes in
+    (more.0 ∙ ap mode_of all, one ∙ (more.1 ∙ ap (λ v. cut_from piece_takes v rest) all))
+
+-- the piece goes on with a run of bytes, and waits for the same
+pub piece-run : (s rest : List ℕ) (i n : ℕ) (m : Mode) → rest ≡ drop i s → IsPieceSoFar s i m → StaysIn m (take n rest) → IsPieceSoFar s (i + n) m
+piece-run s rest i n m is so_far stays =
+    let P : List ℕ → Type 0 = λ it. StaysIn m (take n it) in
+    let run = take n (drop i s) in
+    let more = piece-stays (take i s) run (drop (i + n) s) m so_far.mode_is (subst P is stays) in
+    let left : run ++ drop (i + n) s ≡ drop i s = ap (λ it. run ++ it) (sym (drop-drop n i s)) ∙ take-append-drop n (drop i s) in record {
+      mode_is = more.0 ∙ ap mode_of (sym (take-both i n s));
+      cut_is = ap (λ v. cut_from piece_takes v (drop (i + n) s)) (take-both i n s) ∙ (sym more.1 ∙ (ap (cut_from piece_takes (take i s)) left ∙ so_far.cut_is));
+    }
+
+not_blank : (b k : ℕ) → is_blank b ≡ true → is_blank k ≡ false → (b == k) ≡ false
+not_blank b k blank other = elim (cases_eq b k) as (λ _. (b == k) ≡ false) [
+  | inl e ↦ absurd (false≢true (sym other ∙ (ap is_blank (sym e) ∙ blank)))
+  | inr e ↦ ne_eqb b k e
+]
+
+blank-alone : (b c : ℕ) → is_blank b ≡ true → piece_takes (b ∷ []) c ≡ false
+blank-alone b c blank = rw (not_blank b 59 blank refl, not_blank b 34 blank refl, blank) refl
+
+-- a blank is a piece of its own
+pub blank-first : (s : List ℕ) → 0 < length s → is_blank (get_or s 0 0) ≡ true → (pieces s ≡ (get_or s 0 0 ∷ []) ∷ pieces (drop 1 s)) × (Gap ≡ lexeme_of (get_or s 0 0 ∷ []))
+unfolding pieces
+blank-first [] some blank = absurd (omega arith)
+blank-first (b ∷ []) some blank = (refl, rw blank refl)
+blank-first (b ∷ c ∷ cs) some blank = (ap (λ t. if t then cut_from piece_takes (b ∷ c ∷ []) cs else (b ∷ []) ∷ cut_from piece_takes (c ∷ []) cs) (blank-alone b c blank), rw blank refl)
 
 -- whether the rest of a string holds no closing quote, behind a backslash or not
 abbrev pub unclosed_from : Bool → List ℕ → Bool

@@ -21,7 +21,7 @@ goes_on limit w b part takes goes =
     subst P (sym takes) goes
 
 -- the byte begins a part, and no item was open
-begins : (limit : ℕ) (w : List ℕ) (b : ℕ) (part : OpenPart) → part_takes w b ≡ false → is_open w ≡ false → Reaches limit (b ∷ []) [] cut.More part → Reaches limit (part_with w b) (readings_before w b) cut.More part
+pub begins : (limit : ℕ) (w : List ℕ) (b : ℕ) (part : OpenPart) → part_takes w b ≡ false → is_open w ≡ false → Reaches limit (b ∷ []) [] cut.More part → Reaches limit (part_with w b) (readings_before w b) cut.More part
 begins limit w b part takes shut goes =
     let P : Bool → Type 0 = λ t. Reaches limit (if t then w ++ b ∷ [] else b ∷ []) (if t then [] else opened_readings w) cut.More part in
     let Q : List Reading → Type 0 = λ it. Reaches limit (b ∷ []) it cut.More part in
@@ -29,7 +29,7 @@ begins limit w b part takes shut goes =
     subst P (sym takes) (subst Q (sym none) goes)
 
 -- nothing is said by an item that is open
-ended-open : (w : List ℕ) → is_open w ≡ true → ended_readings w ≡ []
+pub ended-open : (w : List ℕ) → is_open w ≡ true → ended_readings w ≡ []
 ended-open w h = ap (λ t. if t then [] else readings_of w) h
 
 stay-takes : (part : OpenPart) (b : ℕ) → IsKept part → mode_takes part.place.mode b ≡ true → part_takes part.spelled.items b ≡ true

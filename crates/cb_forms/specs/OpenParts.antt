@@ -1,6 +1,6 @@
 -- What is kept of the part that a text so far ends with.
-use Rattle.std.specs.Prelude.{◌≡◌, ◌≤◌, ℕ, true, false, List, [], ◌++◌, length}
-use Rattle.cb_forms.specs.Cuts.{cut_readings, is_too_long, open_bytes}
+use Rattle.std.specs.Prelude.{◌≡◌, ◌≤◌, ℕ, true, false, List, [], ◌∷◌, ◌++◌, ⊤, length}
+use Rattle.cb_forms.specs.Cuts.{cut_readings, is_too_long, open_bytes, part_with, readings_before}
 use Rattle.cb_forms.specs.Items.{ended_readings, is_longer}
 use Rattle.cb_forms.specs.Places.{IsPlaceIn}
 use Rattle.cb_forms.specs.Trees.{Reading}
@@ -20,3 +20,21 @@ pub record Reaches (limit : ℕ) (w : List ℕ) (before : List Reading) (given :
   pub items : is_too_long given ≡ false → cut_readings given ≡ before ++ ended_readings w
   pub spelled : is_too_long given ≡ false → part.spelled.items ≡ w
   pub kept : is_too_long given ≡ false → IsKept part
+
+-- the part that a text ends with, with these bytes more
+abbrev pub part_behind : List ℕ → List ℕ → List ℕ
+part_behind w [] = w
+part_behind w (b ∷ bs) = part_behind (part_with w b) bs
+
+-- Where a text ends with the part w, no item ends before or with one of these bytes, and none gets too long.
+abbrev pub CompletesNone : ℕ → List ℕ → List ℕ → Type 0
+CompletesNone limit w [] = ⊤
+CompletesNone limit w (b ∷ bs) =
+    (readings_before w b ++ ended_readings (part_with w b) ≡ []) × (is_longer limit (part_with w b) ≡ false)
+    × CompletesNone limit (part_with w b) bs
+
+-- A run of bytes that completes nothing has been added to a text that ended with the part w.
+pub record HasPassed (limit : ℕ) (w run : List ℕ) (part : OpenPart) : Type 0 where
+  pub completes : CompletesNone limit w run
+  pub spelled : part.spelled.items ≡ part_behind w run
+  pub kept : IsKept part

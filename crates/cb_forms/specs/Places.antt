@@ -1,5 +1,5 @@
 -- Where a byte stands in a part: what the piece around it waits for, and how many lists are open.
-use Rattle.std.specs.Prelude.{◌≡◌, ◌==◌, ℕ, ◌+◌, ◌-◌, Bool, true, false, not, List, [], ◌∷◌, if◌then◌else◌}
+use Rattle.std.specs.Prelude.{◌≡◌, ◌==◌, ◌||◌, ℕ, ◌+◌, ◌-◌, Bool, true, false, not, List, [], ◌∷◌, ⊤, nat_lt, if◌then◌else◌}
 use Rattle.cb_forms.specs.Bytes.{is_line_end, is_single, is_delimiter, begins_with}
 use Rattle.cb_forms.specs.Items.{openings, closings, last_part}
 use Rattle.cb_forms.specs.Pieces.{pieces}
@@ -59,6 +59,24 @@ next_depth m d b = if mode_takes m b then d else (if b == 40 then d + 1 else (if
 
 abbrev pub fresh_depth : ℕ → ℕ
 fresh_depth b = if b == 40 then 1 else 0
+
+-- a piece goes on with these bytes, and waits for the same behind each of them
+abbrev pub StaysIn : Mode → List ℕ → Type 0
+StaysIn m [] = ⊤
+StaysIn m (b ∷ bs) = (mode_takes m b ≡ true) × (continued_mode m b ≡ m) × StaysIn m bs
+
+-- An item that is open at a place goes on with the byte, and is open behind it, at the next place.
+pub record IsOpenStep (mode : Mode) (depth b : ℕ) (next : Mode) (deeper : ℕ) : Type 0 where
+  pub takes : (nat_lt 0 depth || mode_takes mode b) ≡ true
+  pub mode_is : next ≡ next_mode mode b
+  pub depth_is : deeper ≡ next_depth mode depth b
+  pub opens : (nat_lt 0 deeper || mode_is_open next) ≡ true
+
+-- the same with these bytes, one after another, up to the last place
+abbrev pub StaysOpen : Mode → ℕ → List ℕ → Mode → ℕ → Type 0
+StaysOpen m d [] last deep = (last ≡ m) × (deep ≡ d)
+StaysOpen m d (b ∷ bs) last deep =
+    IsOpenStep m d b (next_mode m b) (next_depth m d b) × StaysOpen (next_mode m b) (next_depth m d b) bs last deep
 
 -- the mode of a part's last piece
 unfoldable pub mode_in : List ℕ → Mode

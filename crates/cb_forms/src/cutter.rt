@@ -1,12 +1,12 @@
 //! Cutting a script into items while its bytes come.
-ghost use Rattle.std.specs.Prelude.{◌≡◌, ◌≤◌, List, [], ◌∷◌, ◌++◌, true, false, None, IfOk, OnOk, OnErr, IsErr, length};
+ghost use Rattle.std.specs.Prelude.{◌≡◌, ◌≤◌, ◌<◌, List, [], ◌∷◌, ◌++◌, true, false, None, Ok, IfOk, OnOk, OnErr, IsErr, length, take};
 ghost use Rattle.cb_forms.specs.Cuts.{item_readings, cut_items, is_too_long};
 ghost use Rattle.cb_forms.specs.Cutter.{readings_in};
 ghost use Rattle.cb_forms.specs.Items.{items, whole, rest, over};
 
 use crate::cut::Cut;
 use crate::form::Item;
-use crate::open_part::OpenPart;
+use crate::open_part::{OpenPart, with_run};
 use cb_io::{NoMemory, Trace};
 use std::alloc::Global;
 use std::marker::Model;
@@ -127,6 +127,38 @@ impl Cutter {
         self.stepped = self.stepped.and(&byte);
         self.failed = false;
         Ok(true)
+    }
+
+    /// Takes the longest beginning of these bytes that plainly completes nothing, and says how many bytes that is: then
+    /// `step` takes the next one. In a list that stays open it is every byte up to the limit; outside lists it is blanks,
+    /// comments, and the inside of a word or a string. A byte costs a few instructions, and none is looked at twice.
+    ///
+    /// Growth is refused as `NoMemory`, and then so is every later call.
+    pub fn step_run(&mut self, bytes: &[u8]) -> Result<usize, NoMemory>
+        ensures limit { self.new.limit ≡ self.old.limit }
+        ensures within { IfOk result (λ n. n ≤ length bytes.now) }
+        ensures stepped { IfOk result (λ n. self.new.stepped ≡ self.old.stepped ++ take n bytes.now) }
+        ensures given { OnOk result (self.new.given ≡ self.old.given) }
+        // Nothing has ended in the run.
+        ensures items { IfOk result (λ n. 0 < n → readings_in self.new.given ≡ whole self.new.stepped) }
+        ensures fits { IfOk result (λ n. 0 < n → over self.new.limit self.new.stepped ≡ false) }
+        ensures untouched { result ≡ Ok 0 → self.new ≡ self.old }
+        ensures ok { OnOk result (self.new.failed ≡ false) }
+        ensures err { OnErr result (self.new.failed ≡ true) }
+        ensures once { self.old.failed ≡ true → IsErr result }
+    {
+        if self.failed {
+            return Err(NoMemory);
+        }
+        if self.over {
+            return Ok(0);
+        }
+        self.failed = true;
+        let taken = self.part.step_run(self.limit, bytes)?;
+        let (run, _) = bytes.split_at(taken);
+        self.stepped = with_run(&self.stepped, run);
+        self.failed = false;
+        Ok(taken)
     }
 
     /// Ends the text: gives the item that is open there, if there is one. Then the cutter is as new, but after a

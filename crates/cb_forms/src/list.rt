@@ -1,11 +1,12 @@
 //! Reading a list that is closed.
-ghost use Rattle.std.specs.Prelude.{◌≡◌, true, false, IfOk};
+ghost use Rattle.std.specs.Prelude.{◌≡◌, ◌<◌, true, false, length, drop, IfOk};
 ghost use Rattle.cb_forms.specs.Bytes.{begins_with};
 ghost use Rattle.cb_forms.specs.Items.{is_open_list};
 ghost use Rattle.cb_forms.specs.Lists.{list_reading};
 ghost use Rattle.cb_forms.specs.Pieces.{lexemes};
 ghost use Rattle.cb_forms.specs.Trees.{reading_of};
 
+use crate::byte_kinds::is_blank;
 use crate::fault::Fault;
 use crate::form::{Form, Item};
 use crate::lexeme::Lexeme;
@@ -26,6 +27,10 @@ pub(crate) fn read_list(alloc: Global, list: &[u8]) -> Result<Item, NoMemory>
     let mut nest = Nest::new(alloc);
     let (_, mut rest) = list.split_at(1);
     while !rest.is_empty() {
+        if is_blank(rest[0]) {
+            rest = behind_first(rest);
+            continue;
+        }
         let (piece, more) = split_piece(rest);
         rest = more;
         match read_piece(alloc, piece)? {
@@ -45,4 +50,13 @@ pub(crate) fn read_list(alloc: Global, list: &[u8]) -> Result<Item, NoMemory>
     }
     // A list whose matching `)` is its last byte never comes here.
     Ok(Item::Bad(Fault::FormNotClosed))
+}
+
+/// The bytes behind the first one.
+fn behind_first(text: &[u8]) -> &[u8]
+    requires { 0 < length text.now }
+    ensures { result.now ≡ drop 1 text.now }
+{
+    let (_, more) = text.split_at(1);
+    more
 }

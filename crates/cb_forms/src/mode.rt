@@ -1,6 +1,7 @@
 //! What a piece of a script is waiting for.
-ghost use Rattle.std.specs.Prelude.{◌≡◌, true};
-ghost use Rattle.cb_forms.specs.Places.{mode_takes, fresh_mode, continued_mode, next_mode, mode_is_open};
+ghost use Rattle.std.specs.Prelude.{◌≡◌, ◌≤◌, true, false, length, take};
+ghost use Rattle.cb_forms.specs.Bytes.{is_line_end};
+ghost use Rattle.cb_forms.specs.Places.{StaysIn, mode_takes, fresh_mode, continued_mode, next_mode, mode_is_open};
 
 use crate::byte_kinds::{is_delimiter, is_line_end, is_single};
 
@@ -48,22 +49,35 @@ impl Mode {
     pub(crate) fn after(self, byte: u8) -> Mode
         ensures { result ≡ next_mode self byte }
     {
-        if self.takes(byte) {
-            self.continued(byte)
-        } else {
-            Mode::fresh(byte)
+        match self {
+            Mode::Quoted => Mode::in_string(byte),
+            Mode::Escaped => Mode::Quoted,
+            _ if self.takes(byte) => self,
+            _ => Mode::fresh(byte),
         }
     }
 
-    fn continued(self, byte: u8) -> Mode
-        ensures { result ≡ continued_mode self byte }
+    /// The mode behind a byte of a string that no backslash stands before.
+    fn in_string(byte: u8) -> Mode
+        ensures { result ≡ continued_mode Mode.Quoted byte }
     {
-        match (self, byte) {
-            (Mode::Quoted, b'"') => Mode::Ended,
-            (Mode::Quoted, b'\\') => Mode::Escaped,
-            (Mode::Escaped, _) => Mode::Quoted,
-            _ => self,
+        match byte {
+            b'"' => Mode::Ended,
+            b'\\' => Mode::Escaped,
+            _ => Mode::Quoted,
         }
+    }
+
+    /// How many of the first of these bytes the piece plainly goes on with, and waits for the same as before.
+    pub(crate) fn run(self, bytes: &[u8]) -> usize
+        ensures within { result ≤ length bytes.now }
+        ensures stays { StaysIn self (take result bytes.now) }
+    {
+        let mut end = 0;
+        while end < bytes.len() && self.stays(bytes[end]) {
+            end += 1;
+        }
+        end
     }
 
     /// Whether the piece goes on with the byte, and waits for the same as before.
@@ -75,6 +89,17 @@ impl Mode {
             Mode::Comment => !is_line_end(byte),
             Mode::Quoted => byte != b'"' && byte != b'\\',
             Mode::Ended | Mode::Escaped => false,
+        }
+    }
+
+    /// Whether it is a comment, and the comment goes on with the byte.
+    pub(crate) fn is_comment_with(self, byte: u8) -> bool
+        ensures yes { result ≡ true → (self ≡ Mode.Comment) × (is_line_end byte ≡ false) }
+        ensures no { result ≡ false → self ≡ Mode.Comment → is_line_end byte ≡ true }
+    {
+        match self {
+            Mode::Comment => !is_line_end(byte),
+            Mode::Ended | Mode::Word | Mode::Quoted | Mode::Escaped => false,
         }
     }
 

@@ -1,9 +1,9 @@
 //! The part that a script so far ends with.
-ghost use Rattle.std.specs.Prelude.{◌≡◌, ◌||◌, ◌≤◌, nat_lt, List, [], ◌∷◌, ◌++◌, true, false, IfOk, OnOk, if◌then◌else◌};
+ghost use Rattle.std.specs.Prelude.{◌≡◌, ◌||◌, ◌≤◌, ◌<◌, ℕ, nat_lt, List, [], ◌∷◌, ◌++◌, true, false, length, take, IfOk, IfSome, OnOk, if◌then◌else◌};
 ghost use Rattle.cb_forms.specs.Cuts.{item_readings, opened_readings, open_bytes, part_with, readings_before};
-ghost use Rattle.cb_forms.specs.Items.{part_takes, readings_of, ended_readings};
-ghost use Rattle.cb_forms.specs.OpenParts.{IsKept, Reaches};
-ghost use Rattle.cb_forms.specs.Places.{continued_mode, mode_is_open, mode_takes, IsPlaceIn};
+ghost use Rattle.cb_forms.specs.Items.{is_gap, part_takes, readings_of, ended_readings};
+ghost use Rattle.cb_forms.specs.OpenParts.{HasPassed, IsKept, Reaches};
+ghost use Rattle.cb_forms.specs.Places.{continued_mode, fresh_mode, mode_is_open, mode_takes, IsPlaceIn};
 
 use crate::byte_kinds::is_blank;
 use crate::cut::Cut;
@@ -63,6 +63,109 @@ impl OpenPart {
         } else {
             Ok(false)
         }
+    }
+
+    /// Takes the longest beginning of these bytes that plainly completes nothing, and says how many bytes that is.
+    pub(crate) fn step_run(&mut self, limit: usize, bytes: &[u8]) -> Result<usize, NoMemory>
+        requires { IsKept self.old }
+        ensures within { IfOk result (λ n. n ≤ length bytes.now) }
+        ensures passed { IfOk result (λ n. HasPassed limit self.old.spelled.items (take n bytes.now) self.new) }
+    {
+        if !self.bytes.is_empty() {
+            return self.stay_open(limit, bytes);
+        }
+        let gaps = self.pass_gaps(bytes);
+        let (_, rest) = bytes.split_at(gaps);
+        let more = self.open(limit, rest)?;
+        Ok(gaps + more)
+    }
+
+    /// Takes the blanks and comments that these bytes begin with, where no item is open.
+    fn pass_gaps(&mut self, bytes: &[u8]) -> usize
+        requires kept { IsKept self.old }
+        requires none { self.old.bytes.items ≡ [] }
+        ensures within { result ≤ length bytes.now }
+        ensures passed { (limit : ℕ) → HasPassed limit self.old.spelled.items (take result bytes.now) self.new }
+        ensures none { self.new.bytes.items ≡ [] }
+    {
+        let mut end = 0;
+        while end < bytes.len() && self.pass_gap(bytes[end]) {
+            end += 1;
+        }
+        end
+    }
+
+    /// Takes a byte of a blank or a comment, where no item is open, and says whether it is one.
+    fn pass_gap(&mut self, byte: u8) -> bool
+        requires kept { IsKept self.old }
+        requires none { self.old.bytes.items ≡ [] }
+        ensures passed { result ≡ true → (limit : ℕ) → HasPassed limit self.old.spelled.items (byte ∷ []) self.new }
+        ensures untouched { result ≡ false → self.new ≡ self.old }
+        ensures none { self.new.bytes.items ≡ [] }
+    {
+        if self.place.mode.is_comment_with(byte) {
+            self.spelled = self.spelled.and(&byte);
+            return true;
+        }
+        let Some(mode) = gap_mode(byte) else {
+            return false;
+        };
+        self.place = Place { mode, depth: 0 };
+        self.spelled = Trace::new().and(&byte);
+        true
+    }
+
+    /// Begins an item with the first of these bytes, where none is open, and goes on while it stays open.
+    fn open(&mut self, limit: usize, bytes: &[u8]) -> Result<usize, NoMemory>
+        requires kept { IsKept self.old }
+        requires none { self.old.bytes.items ≡ [] }
+        ensures within { IfOk result (λ n. n ≤ length bytes.now) }
+        ensures passed { IfOk result (λ n. HasPassed limit self.old.spelled.items (take n bytes.now) self.new) }
+    {
+        let [first, rest @ ..] = bytes else {
+            return Ok(0);
+        };
+        if !self.begin_item(limit, *first)? {
+            return Ok(0);
+        }
+        let more = self.stay_open(limit, rest)?;
+        Ok(1 + more)
+    }
+
+    /// Begins an item where none is open, if its first byte leaves it open, and says whether it did.
+    fn begin_item(&mut self, limit: usize, byte: u8) -> Result<bool, NoMemory>
+        requires kept { IsKept self.old }
+        requires none { self.old.bytes.items ≡ [] }
+        ensures passed { IfOk result (λ is_begun. is_begun ≡ true
+            → HasPassed limit self.old.spelled.items (byte ∷ []) self.new) }
+        ensures some { IfOk result (λ is_begun. is_begun ≡ true → 0 < length self.new.bytes.items) }
+        ensures untouched { IfOk result (λ is_begun. is_begun ≡ false → self.new ≡ self.old) }
+    {
+        let place = Place::fresh(byte);
+        if limit == 0 || self.place.mode.takes(byte) || !place.is_open() {
+            return Ok(false);
+        }
+        self.bytes.push(byte)?;
+        self.place = place;
+        self.spelled = Trace::new().and(&byte);
+        Ok(true)
+    }
+
+    /// Goes on with the first of these bytes, while the item that is open stays open and within the limit.
+    fn stay_open(&mut self, limit: usize, bytes: &[u8]) -> Result<usize, NoMemory>
+        requires kept { IsKept self.old }
+        requires some { 0 < length self.old.bytes.items }
+        ensures within { IfOk result (λ n. n ≤ length bytes.now) }
+        ensures passed { IfOk result (λ n. HasPassed limit self.old.spelled.items (take n bytes.now) self.new) }
+    {
+        let room = limit.saturating_sub(self.bytes.len()).min(bytes.len());
+        let (inside, _) = bytes.split_at(room);
+        let (end, place) = self.place.open_run(inside);
+        let (run, _) = inside.split_at(end);
+        self.bytes.extend_from_slice(run)?;
+        self.place = place;
+        self.spelled = with_run(&self.spelled, run);
+        Ok(end)
     }
 
     /// Goes on with a byte that leaves the place as it is.
@@ -190,4 +293,28 @@ fn take_open(alloc: Global, bytes: &mut Vec<u8>, place: Place) -> Result<Option<
     };
     bytes.clear();
     Ok(item)
+}
+
+/// The mode of a blank, or of a comment that the byte begins; `None` of any other byte.
+fn gap_mode(byte: u8) -> Option<Mode>
+    ensures { IfSome result (λ mode. (is_gap (byte ∷ []) ≡ true) × (mode ≡ fresh_mode byte)) }
+{
+    if is_blank(byte) {
+        Some(Mode::Ended)
+    } else if byte == b';' {
+        Some(Mode::Comment)
+    } else {
+        None
+    }
+}
+
+/// These bytes, with a run of bytes behind them.
+pub(crate) fn with_run(before: &Trace<u8>, run: &[u8]) -> Trace<u8>
+    ensures { result.items ≡ before.now.items ++ run.now }
+{
+    let mut all = before.again();
+    for byte in run {
+        all = all.and(byte);
+    }
+    all
 }

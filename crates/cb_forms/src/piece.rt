@@ -21,7 +21,12 @@ pub(crate) fn split_piece(text: &[u8]) -> (&[u8], &[u8])
 {
     let mut mode = Mode::fresh(text[0]);
     let mut end = 1;
-    while end < text.len() && mode.takes(text[end]) {
+    while end < text.len() {
+        let (_, rest) = text.split_at(end);
+        end += mode.run(rest);
+        if end == text.len() || !mode.takes(text[end]) {
+            break;
+        }
         mode = mode.after(text[end]);
         end += 1;
     }

@@ -1,7 +1,9 @@
 //! Where a byte stands in a part of a script.
-ghost use Rattle.std.specs.Prelude.{◌≡◌, ◌<◌, ◌||◌, ◌&&◌, nat_lt, is_ok};
-ghost use Rattle.cb_forms.specs.Places.{mode_takes, fresh_mode, next_mode, mode_is_open, next_depth, fresh_depth};
+ghost use Rattle.std.specs.Prelude.{◌≡◌, ◌<◌, ◌≤◌, ◌+◌, ◌||◌, ◌&&◌, true, nat_lt, is_ok, length, take};
+ghost use Rattle.cb_forms.specs.Places.{IsOpenStep, StaysOpen, mode_takes, fresh_mode, next_mode, mode_is_open};
+ghost use Rattle.cb_forms.specs.Places.{next_depth, fresh_depth};
 
+use crate::byte_kinds::{is_blank, is_line_end};
 use crate::mode::Mode;
 
 /// The place behind the last byte of a part, a part being an item, or a blank or comment between items.
@@ -54,6 +56,54 @@ impl Place {
             mode: self.mode.after(byte),
             depth,
         }
+    }
+
+    /// Whether the byte plainly leaves an item that is open here as it is: open, and at this place.
+    fn stays(self, byte: u8) -> bool
+        ensures { result ≡ true → IsOpenStep self.mode self.depth byte self.mode self.depth }
+    {
+        match self.mode {
+            Mode::Ended => self.depth > 0 && is_blank(byte),
+            Mode::Comment => self.depth > 0 && !is_line_end(byte),
+            mode => mode.stays(byte),
+        }
+    }
+
+    /// How many of the first of these bytes plainly leave an item that is open here as it is.
+    fn still_run(self, bytes: &[u8]) -> usize
+        ensures within { result ≤ length bytes.now }
+        ensures stays { StaysOpen self.mode self.depth (take result bytes.now) self.mode self.depth }
+    {
+        let mut end = 0;
+        while end < bytes.len() && self.stays(bytes[end]) {
+            end += 1;
+        }
+        end
+    }
+
+    /// How many of the first of these bytes an item that is open here goes on with and stays open, and the place behind
+    /// the last of them.
+    pub(crate) fn open_run(self, bytes: &[u8]) -> (usize, Place)
+        requires { self.depth + length bytes.now ≤ usize.MAX }
+        ensures within { result.0 ≤ length bytes.now }
+        ensures stays { StaysOpen self.mode self.depth (take result.0 bytes.now) result.1.mode result.1.depth }
+    {
+        let mut place = self;
+        let mut end = 0;
+        while end < bytes.len() {
+            let (_, rest) = bytes.split_at(end);
+            end += place.still_run(rest);
+            if end == bytes.len() || !place.takes(bytes[end]) {
+                break;
+            }
+            let next = place.after(bytes[end]);
+            if !next.is_open() {
+                break;
+            }
+            place = next;
+            end += 1;
+        }
+        (end, place)
     }
 
     /// Whether an item is open here.

@@ -1,8 +1,9 @@
-use Rattle.std.proofs.Common.{ℕ, List, [], ◌∷◌, length, refl, sym, ◌∙◌, subst, arith}
-use Rattle.std.proofs.lemmas.Bool.{eqb-true}
+use Rattle.std.proofs.Common.{ℕ, List, [], ◌∷◌, length, get_or, drop, refl, sym, ◌∙◌, subst, arith}
+use Rattle.std.proofs.lemmas.Bool.{eqb-true, eqb-false}
 use Rattle.cb_forms.specs.Nests.{frames_of}
 use Rattle.cb_forms.specs.Trees.{Tree, trees_in}
-use Rattle.cb_forms.proofs.ListLaws.{IsListSoFar, list-begin, list-open, list-close, list-never}
+use Rattle.cb_forms.proofs.ListLaws.{IsListSoFar, list-begin, list-gap, list-open, list-close, list-never}
+use Rattle.cb_forms.proofs.PieceLaws.{blank-first}
 use Rattle.cb_forms.proofs.NestLaws.{frames_in, frames-some}
 use Rattle.cb_forms.proofs.list.read_list.Goals as goal
 
@@ -11,6 +12,14 @@ loop-rest-init c =
     let P : List (List Tree) → Type 0 = λ frames. IsListSoFar c.args.list.now frames c.split_at.result.1.now in
     let Q : List ℕ → Type 0 = λ rest. IsListSoFar c.args.list.now ([] ∷ []) rest in
     subst P (sym c.new-nest.ensures) (subst Q (sym c.split_at.ensures.back) (list-begin c.args.list.now c.requires.opened c.requires.closed))
+
+pub loop-rest-preserved-then-is_blank : goal.loop-rest-preserved-then-is_blank
+loop-rest-preserved-then-is_blank c =
+    let s = c.loop-rest.rest.now in
+    let P : List ℕ → Type 0 = λ more. IsListSoFar c.args.list.now (frames_of c.loop-rest.nest) more in
+    let some = eqb-false (length s) 0 (sym c.is_empty.ensures ∙ c.loop-rest-test.true) in
+    let first = blank-first s (omega (arith, some)) (sym c.is_blank.ensures ∙ c.if-is_blank.true) in
+    subst P (sym c.behind_first-rest.ensures) (list-gap c.args.list.now (frames_of c.loop-rest.nest) s (get_or s 0 0 ∷ []) (drop 1 s) c.loop-rest.invariant first.0 first.1)
 
 pub loop-rest-preserved-in-Continue-branch-3 : goal.loop-rest-preserved-in-Continue-branch-3
 loop-rest-preserved-in-Continue-branch-3 c =

@@ -1,0 +1,13 @@
+use Rattle.std.proofs.Common.{◌≤◌, ◌+◌, ◌-◌, length, take}
+use Rattle.cb_forms.specs.Places.{StaysOpen}
+use Rattle.cb_forms.proofs.place.Place.open_run.Given as goal
+
+abbrev pub invariant-loop-end : goal.invariant-loop-end
+invariant-loop-end l = record {
+  within : l.end ≤ length l.bytes;
+  deep : l.place.depth ≤ l.fn.self.depth + l.end;
+  stays : StaysOpen l.fn.self.mode l.fn.self.depth (take l.end l.bytes) l.place.mode l.place.depth;
+}
+
+abbrev pub decreases-loop-end : goal.decreases-loop-end
+decreases-loop-end l = length l.bytes - l.end
