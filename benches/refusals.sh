@@ -1,6 +1,6 @@
 #!/bin/sh
 # Refuses each growth of memory in turn in the built program: the first alone, the second alone, and so on; and then each with
-# all behind it. A refused run must end with status 3, say that it is out of memory, and have written a beginning of the
+# all after it. A refused run must end with status 3, say that it is out of memory, and have written a beginning of the
 # transcript that it writes with ample memory. Where one growth alone is refused, it may also be asked for again and be had,
 # as the room for the program's words: then the run must be the same as with ample memory.
 # Run it from anywhere, with a C compiler and the GNU C library:
@@ -12,7 +12,7 @@ set -eu
 
 . "$(dirname "$0")/built.sh"
 
-# Counts the calls of malloc, calloc and realloc, and refuses that of the number REFUSE, and with REFUSE_ALL each behind it. It
+# Counts the calls of malloc, calloc and realloc, and refuses that of the number REFUSE, and with REFUSE_ALL each after it. It
 # makes the file REFUSED when it refuses one.
 cat >"$place/refusing.c" <<'END'
 #include <errno.h>
@@ -80,7 +80,7 @@ END
 
 # Says why the run is wrong, and ends.
 wrong() {
-    echo "wrong: $1, where the growth $n is refused${REFUSE_ALL:+ with all behind it}, in"
+    echo "wrong: $1, where the growth $n is refused${REFUSE_ALL:+ with all after it}, in"
     cat "$place/script"
     exit 1
 }
@@ -132,6 +132,6 @@ while IFS= read -r script; do
     count=$((count + 1))
     total=$((total + alone - again + n))
     asked_again=$((asked_again + again))
-    echo "script $count: $alone growths refused alone, of which $again were had after all, and $n with all behind"
+    echo "script $count: $alone growths refused alone, of which $again were had after all, and $n with all after"
 done <"$place/scripts"
 echo "$count scripts: $total runs ended with status 3 and a beginning of the transcript, and $asked_again went on"

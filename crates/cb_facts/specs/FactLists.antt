@@ -6,7 +6,7 @@ use Rattle.std.specs.Map.{keys_of, lookup, remove_entry}
 use Rattle.std.specs.Ordering.{nat_cmp}
 use Rattle.cb_facts.specs.Facts.{FactValue}
 
--- each fact behind its index
+-- each fact after its index
 abbrev pub IndexedFacts : Type 0
 IndexedFacts = List (ℕ × FactValue)
 

@@ -11,7 +11,7 @@ use Rattle.cb_facts.specs.declared.fact.Content.{Content}
 use Rattle.cb_facts.specs.declared.fact.Content.TheVariants as content
 use Rattle.cb_facts.specs.declared.value.Value.{Value}
 
--- what stands in a fact behind its relation: of an ordered fact its fields, of a template's fact the names and values of
+-- what stands in a fact after its relation: of an ordered fact its fields, of a template's fact the names and values of
 -- its slots
 pub data FactContent : Type 0 where
   fields : List Value → FactContent

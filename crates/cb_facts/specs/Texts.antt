@@ -8,7 +8,7 @@ use Rattle.cb_facts.specs.declared.single.Single.TheVariants as single
 use Rattle.cb_facts.specs.declared.value.Value.{Value}
 use Rattle.cb_facts.specs.declared.value.Value.TheVariants as value
 
--- a byte of a string as it stands between quotes: a quote and a backslash stand behind a backslash
+-- a byte of a string as it stands between quotes: a quote and a backslash stand after a backslash
 abbrev pub escaped_byte : ℕ → List ℕ
 escaped_byte b = if b == 34 || b == 92 then 92 ∷ b ∷ [] else b ∷ []
 
@@ -47,7 +47,7 @@ plain_bytes (value.Int n) = signed_decimal n
 plain_bytes (value.Fact ix) = address_bytes ix
 plain_bytes (value.Multi singles) = fields_bytes singles
 
--- each field of a slot behind a blank: of a multifield its fields, of any other value the value
+-- each field of a slot after a blank: of a multifield its fields, of any other value the value
 abbrev pub slot_fields : Value → List ℕ
 slot_fields (value.Symbol bytes) = codes " " ++ quoted_bytes (value.Symbol bytes)
 slot_fields (value.Str bytes) = codes " " ++ quoted_bytes (value.Str bytes)
@@ -55,11 +55,11 @@ slot_fields (value.Int n) = codes " " ++ quoted_bytes (value.Int n)
 slot_fields (value.Fact ix) = codes " " ++ quoted_bytes (value.Fact ix)
 slot_fields (value.Multi singles) = flat_map (λ s. codes " " ++ quoted_single s) singles
 
--- a slot: its name and its fields, in parentheses behind a blank
+-- a slot: its name and its fields, in parentheses after a blank
 abbrev pub slot_bytes : List ℕ × Value → List ℕ
 slot_bytes s = codes " (" ++ (s.0 ++ (slot_fields s.1 ++ codes ")"))
 
--- each field of an ordered fact behind a blank, and each slot of a template's fact
+-- each field of an ordered fact after a blank, and each slot of a template's fact
 abbrev pub content_bytes : FactContent → List ℕ
 content_bytes (fields vs) = flat_map (λ v. codes " " ++ quoted_bytes v) vs
 content_bytes (slots ss) = flat_map slot_bytes ss

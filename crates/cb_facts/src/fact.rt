@@ -15,7 +15,7 @@ use std::hash::{FoldHasher, Hash, Hasher};
 use std::marker::Model;
 use std::rc::Rc;
 
-/// What stands in a fact behind its relation.
+/// What stands in a fact after its relation.
 #[derive(Debug, PartialEq, Eq, Drop)]
 pub enum Content {
     /// The fields of an ordered fact, in their order.
@@ -109,7 +109,7 @@ impl Fact {
         self.body.relation.as_slice()
     }
 
-    /// What stands behind the relation.
+    /// What stands after the relation.
     pub fn content(&self) -> &Content
         ensures { content_of result.now ≡ self.now.content }
     {

@@ -7,7 +7,7 @@ ghost use Rattle.cb_facts.specs.FactExprs.{fact_by, slot_value};
 ghost use Rattle.cb_facts.specs.SlotContents.{slot_content};
 
 use crate::fact::Fact;
-use crate::many::Many;
+use crate::multifield::Multifield;
 use crate::name::Name;
 use crate::splicing::{splice, splice_values};
 use crate::value::Value;
@@ -46,7 +46,7 @@ impl Filling {
             Filling::Default(value) | Filling::One(value) => Ok(value.clone()?),
             Filling::Several(values) => {
                 let fields = splice(alloc, values.as_slice())?;
-                Ok(Value::Multi(Many::from_vec(fields)?))
+                Ok(Value::Multi(Multifield::from_vec(fields)?))
             }
         }
     }

@@ -7,7 +7,7 @@
 mod fact;
 mod fact_expr;
 mod fact_list;
-mod many;
+mod multifield;
 mod name;
 mod single;
 mod splicing;
@@ -18,7 +18,7 @@ mod words;
 pub use fact::{Content, Fact};
 pub use fact_expr::{ContentExpr, FactExpr, Filling, SlotExpr};
 pub use fact_list::FactList;
-pub use many::Many;
+pub use multifield::Multifield;
 pub use name::Name;
 pub use single::Single;
 pub use splicing::{is_multifield, splice, splice_values};

@@ -48,7 +48,7 @@ fn values_of(alloc: Global, fields: &[Single]) -> Result<Vec<Value>, NoMemory>
     Ok(values)
 }
 
-/// The fields of a value behind those that are there.
+/// The fields of a value after those that are there.
 fn add_fields(fields: &mut Vec<Single>, value: &Value) -> Result<(), NoMemory>
     ensures { OnOk result (fields.new.items ≡ fields.old.items ++ fields_in value.now) }
 {
@@ -57,7 +57,7 @@ fn add_fields(fields: &mut Vec<Single>, value: &Value) -> Result<(), NoMemory>
         Value::Str(bytes) => fields.push(Single::Str(bytes.clone()?))?,
         Value::Int(number) => fields.push(Single::Int(*number))?,
         Value::Fact(ix) => fields.push(Single::Fact(*ix))?,
-        Value::Multi(many) => add_each(fields, many.as_slice())?,
+        Value::Multi(more) => add_each(fields, more.as_slice())?,
     }
     Ok(())
 }

@@ -13,7 +13,7 @@ use cb_forms::NoMemory;
 use itoa::Buffer;
 use std::alloc::Global;
 
-/// The text that a value is printed with: the bytes of a symbol and of a string, an integer's decimal digits behind a `-`
+/// The text that a value is printed with: the bytes of a symbol and of a string, an integer's decimal digits after a `-`
 /// where it is negative, `<Fact-N>` for the address of the fact with index N, and a multifield's fields, each by its
 /// quoted text, with a blank between each two, in parentheses. Growth is refused as `NoMemory`.
 pub fn plain_text(alloc: Global, value: &Value) -> Result<Vec<u8>, NoMemory>
@@ -37,9 +37,9 @@ pub fn quoted_text(alloc: Global, value: &Value) -> Result<Vec<u8>, NoMemory>
     Ok(text)
 }
 
-/// The text that a fact is shown with: its relation and what stands behind it, in parentheses. Each field of an ordered
-/// fact stands by its quoted text behind a blank. Each slot of a template's fact stands in parentheses behind a blank: its
-/// name and its value by its quoted text behind a blank, or of a multifield each field so, without further parentheses.
+/// The text that a fact is shown with: its relation and what stands after it, in parentheses. Each field of an ordered
+/// fact stands by its quoted text after a blank. Each slot of a template's fact stands in parentheses after a blank: its
+/// name and its value by its quoted text after a blank, or of a multifield each field so, without further parentheses.
 /// Growth is refused as `NoMemory`.
 pub fn fact_text(alloc: Global, fact: &Fact) -> Result<Vec<u8>, NoMemory>
     ensures { IfOk result (λ text. text.items ≡ fact_bytes fact.now) }

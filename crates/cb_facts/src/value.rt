@@ -2,7 +2,7 @@
 ghost use Rattle.std.specs.Prelude.{◌≡◌, IfOk};
 ghost use Rattle.cb_facts.specs.Values.{constant_of};
 
-use crate::many::Many;
+use crate::multifield::Multifield;
 use crate::name::Name;
 use cb_forms::{NoMemory, Token};
 use std::alloc::Global;
@@ -21,7 +21,7 @@ pub enum Value {
     /// A fact's address, by the fact's index.
     Fact(u64),
     /// None or more fields.
-    Multi(Many),
+    Multi(Multifield),
 }
 
 impl Value {

@@ -50,7 +50,7 @@ in_step-push limit p p' b given given' cut part part' is_over is_over' fits was 
       kept = goes.kept;
     })
 
--- one more byte behind an item that is too long
+-- one more byte after an item that is too long
 pub in_step-over : (limit : ℕ) (p p' : List ℕ) (b : ℕ) (given : List Reading) (part : OpenPart) (is_over : Bool) → is_over ≡ true → IsInStep limit p given part is_over → p' ≡ p ++ b ∷ [] → IsInStep limit p' given part is_over
 in_step-over limit p p' b given part is_over e was next = rw next (record {
   over_is = e ∙ sym (over-kept limit p b (sym was.over_is ∙ e));

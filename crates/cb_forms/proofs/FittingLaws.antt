@@ -23,7 +23,7 @@ module _ (limit : ℕ) where
     | false ↦ ap (λ t. if t then [] else w ∷ fitting_parts limit ((b ∷ []) ∷ [])) h
   ]
 
-  -- behind an item that is too long nothing counts
+  -- after an item that is too long nothing counts
   kept-pushed : (ws : List (List ℕ)) (b : ℕ) → list_any (is_longer limit) ws ≡ true → fitting_parts limit (pushed part_takes ws b) ≡ fitting_parts limit ws
   kept-pushed [] b = λ h. absurd (false≢true h)
   kept-pushed (w ∷ []) b = λ h.
@@ -63,7 +63,7 @@ fitting-kept_push : (limit : ℕ) (p : List ℕ) (b : ℕ) → over limit p ≡ 
 unfolding fitting over
 fitting-kept_push limit p b long = ap (flat_map readings_of) (ap (fitting_parts limit) (parts-push p b) ∙ kept-pushed limit (parts p) b long)
 
--- behind an item that is too long nothing counts
+-- after an item that is too long nothing counts
 pub fitting-kept : (limit : ℕ) (p r : List ℕ) → over limit p ≡ true → fitting limit (p ++ r) ≡ fitting limit p
 fitting-kept limit p [] long = ap (fitting limit) (append-nil p)
 fitting-kept limit p (b ∷ r) long =

@@ -19,24 +19,24 @@ module _ (takes : List ℕ → ℕ → Bool) (none : (b : ℕ) → takes [] b �
     | false ↦ refl
   ]
 
-  last_part-behind : (w v : List ℕ) (ws : List (List ℕ)) (b : ℕ) → last_part (w ∷ pushed takes (v ∷ ws) b) ≡ last_part (pushed takes (v ∷ ws) b)
-  last_part-behind w v [] b = elim (takes v b) as (λ t. last_part (w ∷ (if t then (v ++ b ∷ []) ∷ [] else v ∷ (b ∷ []) ∷ [])) ≡ last_part (if t then (v ++ b ∷ []) ∷ [] else v ∷ (b ∷ []) ∷ [])) [
+  last_part-after : (w v : List ℕ) (ws : List (List ℕ)) (b : ℕ) → last_part (w ∷ pushed takes (v ∷ ws) b) ≡ last_part (pushed takes (v ∷ ws) b)
+  last_part-after w v [] b = elim (takes v b) as (λ t. last_part (w ∷ (if t then (v ++ b ∷ []) ∷ [] else v ∷ (b ∷ []) ∷ [])) ≡ last_part (if t then (v ++ b ∷ []) ∷ [] else v ∷ (b ∷ []) ∷ [])) [
     | true ↦ refl
     | false ↦ refl
   ]
-  last_part-behind w v (u ∷ us) b = refl
+  last_part-after w v (u ∷ us) b = refl
 
   pub last_part-pushed : (ws : List (List ℕ)) (b : ℕ) → last_part (pushed takes ws b) ≡ grown (last_part ws) b
   last_part-pushed [] b = rw (none b) refl
   last_part-pushed (w ∷ []) b = last_part-onto w b
-  last_part-pushed (w ∷ v ∷ ws) b = last_part-behind w v ws b ∙ last_part-pushed (v ∷ ws) b
+  last_part-pushed (w ∷ v ∷ ws) b = last_part-after w v ws b ∙ last_part-pushed (v ∷ ws) b
 
-  but_last-behind : (w v : List ℕ) (ws : List (List ℕ)) (b : ℕ) → but_last (w ∷ pushed takes (v ∷ ws) b) ≡ w ∷ but_last (pushed takes (v ∷ ws) b)
-  but_last-behind w v [] b = elim (takes v b) as (λ t. but_last (w ∷ (if t then (v ++ b ∷ []) ∷ [] else v ∷ (b ∷ []) ∷ [])) ≡ w ∷ but_last (if t then (v ++ b ∷ []) ∷ [] else v ∷ (b ∷ []) ∷ [])) [
+  but_last-after : (w v : List ℕ) (ws : List (List ℕ)) (b : ℕ) → but_last (w ∷ pushed takes (v ∷ ws) b) ≡ w ∷ but_last (pushed takes (v ∷ ws) b)
+  but_last-after w v [] b = elim (takes v b) as (λ t. but_last (w ∷ (if t then (v ++ b ∷ []) ∷ [] else v ∷ (b ∷ []) ∷ [])) ≡ w ∷ but_last (if t then (v ++ b ∷ []) ∷ [] else v ∷ (b ∷ []) ∷ [])) [
     | true ↦ refl
     | false ↦ refl
   ]
-  but_last-behind w v (u ∷ us) b = refl
+  but_last-after w v (u ∷ us) b = refl
 
   but_last-if : (w : List ℕ) (ws vs : List (List ℕ)) (t : Bool) → (w ∷ (if t then ws else vs)) ≡ (if t then w ∷ ws else w ∷ vs)
   but_last-if w ws vs true = refl
@@ -49,7 +49,7 @@ module _ (takes : List ℕ → ℕ → Bool) (none : (b : ℕ) → takes [] b �
     | false ↦ refl
   ]
   but_last-pushed (w ∷ v ∷ ws) b =
-      but_last-behind w v ws b ∙ (ap (λ more. w ∷ more) (but_last-pushed (v ∷ ws) b) ∙ but_last-if w (but_last (v ∷ ws)) (v ∷ ws) (takes (last_part (v ∷ ws)) b))
+      but_last-after w v ws b ∙ (ap (λ more. w ∷ more) (but_last-pushed (v ∷ ws) b) ∙ but_last-if w (but_last (v ∷ ws)) (v ∷ ws) (takes (last_part (v ∷ ws)) b))
 
   begins_with-push : (c : ℕ) (w : List ℕ) (b : ℕ) → takes w b ≡ true → begins_with c (w ++ b ∷ []) ≡ begins_with c w
   begins_with-push c [] b h = absurd (false≢true (sym (none b) ∙ h))

@@ -17,7 +17,7 @@ pub closed_up-append : (fs gs levels : List (List Tree)) → closed_up (fs ++ gs
 closed_up-append [] gs levels = refl
 closed_up-append (ts ∷ fs) gs levels = ap (listed ts) (closed_up-append fs gs levels)
 
--- a tree that stands first behind those of a list is one of its trees
+-- a tree that stands first after those of a list is one of its trees
 pub listed-put_first : (ts : List Tree) (t : Tree) (levels : List (List Tree)) → listed (ts ++ t ∷ []) levels ≡ listed ts (put_first t levels)
 listed-put_first ts t [] = refl
 listed-put_first ts t (us ∷ levels) = ap (λ all. put_first (branch (trees_of all)) levels) (append_assoc ts (t ∷ []) us)

@@ -27,11 +27,11 @@ All-digit d ds true e h more =
     All-cons (λ b. IsTrue (is_digit b)) d ds here (more h)
 All-digit d ds false e h more = absurd (search rules)
 
--- A text with no byte behind its digits has digits alone.
+-- A text with no byte after its digits has digits alone.
 pub All-digits : (ds : List ℕ) → IsTrue (spec.is_empty (spec.after_digits ds)) → All (λ b. IsTrue (is_digit b)) ds
 All-digits [] h = All-nil (λ b. IsTrue (is_digit b))
 All-digits (d ∷ ds) h = All-digit d ds (is_digit d) refl h (All-digits ds)
 
--- an integer has digits alone behind its sign
+-- an integer has digits alone after its sign
 pub All-integer : (w : List ℕ) → IsTrue (spec.is_integer w) → All (λ b. IsTrue (is_digit b)) (spec.without_sign w)
 All-integer w h = All-digits (spec.without_sign w) (search rules)

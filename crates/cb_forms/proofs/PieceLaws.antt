@@ -77,7 +77,7 @@ blank-first [] some blank = absurd (omega arith)
 blank-first (b ∷ []) some blank = (refl, rw blank refl)
 blank-first (b ∷ c ∷ cs) some blank = (ap (λ t. if t then cut_from piece_takes (b ∷ c ∷ []) cs else (b ∷ []) ∷ cut_from piece_takes (c ∷ []) cs) (blank-alone b c blank), rw blank refl)
 
--- whether the rest of a string holds no closing quote, behind a backslash or not
+-- whether the rest of a string holds no closing quote, after a backslash or not
 abbrev pub unclosed_from : Bool → List ℕ → Bool
 unclosed_from escaped s = if escaped then is_unclosed_escaped s else is_unclosed s
 

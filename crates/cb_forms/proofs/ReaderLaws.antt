@@ -53,7 +53,7 @@ unfolding items parts
 items-none [] h = refl
 items-none (b ∷ bs) h = absurd (omega arith)
 
--- the items of a text are what its first part says, and those behind it
+-- the items of a text are what its first part says, and those after it
 items-cut : (s w more : List ℕ) → parts s ≡ w ∷ parts more → items s ≡ readings_of w ++ items more
 unfolding items
 items-cut s w more h = ap (flat_map readings_of) h

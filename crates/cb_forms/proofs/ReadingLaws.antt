@@ -6,7 +6,7 @@ use Rattle.std.specs.List.{flat_map}
 use Rattle.cb_forms.specs.Cuts.{opened_readings}
 use Rattle.cb_forms.specs.Cutting.{AreCut, joined}
 use Rattle.cb_forms.specs.Items.{part_takes, parts, readings_of, items, ArePartsOf, Reads, but_last, last_part, is_open, ended_readings, whole, rest, is_longer, over}
-use Rattle.cb_forms.specs.Laws.{BeginsWith, OpensBehind, without_gaps}
+use Rattle.cb_forms.specs.Laws.{BeginsWith, OpensAfter, without_gaps}
 use Rattle.cb_forms.specs.Lists.{put_first, listed, levels_of, first_tree, written, written_all}
 use Rattle.cb_forms.specs.Trees.{Tree, atom, branch, Trees, no_trees, tree, trees_of, Reading}
 use Rattle.cb_forms.specs.declared.lexeme.Lexeme.{Lexeme}
@@ -80,9 +80,9 @@ unfolding items parts
 items-joined qs h = ap (flat_map readings_of) (cut-joined part_takes qs h)
 
 -- the parts of a text but the last one say what has ended before it
-front-behind : (p : List ℕ) (ws : List (List ℕ)) → joined ws ≡ p → AreCut part_takes ws → (p ≡ joined (but_last ws) ++ last_part ws) × (items (joined (but_last ws)) ≡ flat_map readings_of (but_last ws))
-front-behind p [] together each = (sym together, items-joined [] tt)
-front-behind p (w ∷ ws) together each =
+front-after : (p : List ℕ) (ws : List (List ℕ)) → joined ws ≡ p → AreCut part_takes ws → (p ≡ joined (but_last ws) ++ last_part ws) × (items (joined (but_last ws)) ≡ flat_map readings_of (but_last ws))
+front-after p [] together each = (sym together, items-joined [] tt)
+front-after p (w ∷ ws) together each =
     let P : List (List ℕ) → Type 0 = λ it. AreCut part_takes it in
     let split = split-last w ws in (
       sym together ∙ (ap joined split ∙ joined-front (but_last (w ∷ ws)) (last_part (w ∷ ws))),
@@ -93,15 +93,15 @@ parts-are : (p : List ℕ) → (joined (parts p) ≡ p) × AreCut part_takes (pa
 unfolding parts
 parts-are p = (joined-cut part_takes p, are_cut-cut part_takes p)
 
--- the open item stands behind those that have ended
-pub rest-behind : (p : List ℕ) → (before : List ℕ) × OpensBehind p before
+-- the open item stands after those that have ended
+pub rest-after : (p : List ℕ) → (before : List ℕ) × OpensAfter p before
 unfolding rest whole
-rest-behind p =
+rest-after p =
     let w = tail p in
     let are = parts-are p in
     elim (cases_Bool (is_open w)) [
       | inl e ↦
-          let front = front-behind p (parts p) are.0 are.1 in (
+          let front = front-after p (parts p) are.0 are.1 in (
             joined (but_last (parts p)),
             record {
               together = front.0 ∙ sym (ap (λ t. joined (but_last (parts p)) ++ (if t then w else [])) e);

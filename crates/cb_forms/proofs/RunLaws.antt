@@ -6,7 +6,7 @@ use Rattle.cb_forms.specs.Bytes.{is_line_end}
 use Rattle.cb_forms.specs.Cuts.{opened_readings, open_bytes, part_with, readings_before}
 use Rattle.cb_forms.specs.Cutter.{IsInStep}
 use Rattle.cb_forms.specs.Items.{part_takes, is_gap, readings_of, is_open, ended_readings, whole, is_longer, over}
-use Rattle.cb_forms.specs.OpenParts.{IsKept, Reaches, part_behind, CompletesNone, HasPassed}
+use Rattle.cb_forms.specs.OpenParts.{IsKept, Reaches, part_after, CompletesNone, HasPassed}
 use Rattle.cb_forms.specs.Places.{mode_takes, fresh_mode, continued_mode, next_mode, mode_is_open, next_depth, fresh_depth, StaysIn, IsOpenStep, StaysOpen, IsPlaceIn}
 use Rattle.cb_forms.specs.Trees.{Reading}
 use Rattle.cb_forms.specs.declared.cut.Cut.TheVariants as cut
@@ -38,21 +38,21 @@ stays_in-push m [] b at takes same = (takes, same, tt)
 stays_in-push m (c ∷ cs) b at takes same = (at.0, at.1, stays_in-push m cs b at.2 takes same)
 
 -- what completes nothing, in two runs
-pub behind-append : (w xs ys : List ℕ) → part_behind w (xs ++ ys) ≡ part_behind (part_behind w xs) ys
-behind-append w [] ys = refl
-behind-append w (x ∷ xs) ys = behind-append (part_with w x) xs ys
+pub after-append : (w xs ys : List ℕ) → part_after w (xs ++ ys) ≡ part_after (part_after w xs) ys
+after-append w [] ys = refl
+after-append w (x ∷ xs) ys = after-append (part_with w x) xs ys
 
-pub completes-append : (limit : ℕ) (w xs ys : List ℕ) → CompletesNone limit w xs → CompletesNone limit (part_behind w xs) ys → CompletesNone limit w (xs ++ ys)
+pub completes-append : (limit : ℕ) (w xs ys : List ℕ) → CompletesNone limit w xs → CompletesNone limit (part_after w xs) ys → CompletesNone limit w (xs ++ ys)
 completes-append limit w [] ys first second = second
 completes-append limit w (x ∷ xs) ys first second = (first.0, first.1, completes-append limit (part_with w x) xs ys first.2 second)
 
--- one run behind another
+-- one run after another
 pub passed-both : (limit : ℕ) (w xs ys both : List ℕ) (old new : OpenPart) → HasPassed limit w xs old → HasPassed limit old.spelled.items ys new → both ≡ xs ++ ys → HasPassed limit w both new
 passed-both limit w xs ys both old new first second is =
     let P : List ℕ → Type 0 = λ v. CompletesNone limit v ys in
     rw is (record {
       completes = completes-append limit w xs ys first.completes (subst P first.spelled second.completes);
-      spelled = second.spelled ∙ (ap (λ v. part_behind v ys) first.spelled ∙ sym (behind-append w xs ys));
+      spelled = second.spelled ∙ (ap (λ v. part_after v ys) first.spelled ∙ sym (after-append w xs ys));
       kept = second.kept;
     })
 
@@ -68,51 +68,51 @@ passed-one limit w b part goes = record {
   kept = goes.kept refl;
 }
 
--- a text behind which a run completes nothing
-pub record IsSameBehind (limit : ℕ) (p run : List ℕ) : Type 0 where
+-- a text after which a run completes nothing
+pub record IsSameAfter (limit : ℕ) (p run : List ℕ) : Type 0 where
   pub whole_is : whole (p ++ run) ≡ whole p
   pub fits : over limit (p ++ run) ≡ false
-  pub tail_is : tail (p ++ run) ≡ part_behind (tail p) run
+  pub tail_is : tail (p ++ run) ≡ part_after (tail p) run
 
-pub behind-run : (limit : ℕ) (p run : List ℕ) → over limit p ≡ false → CompletesNone limit (tail p) run → IsSameBehind limit p run
-behind-run limit p [] fits h = record {
+pub after-run : (limit : ℕ) (p run : List ℕ) → over limit p ≡ false → CompletesNone limit (tail p) run → IsSameAfter limit p run
+after-run limit p [] fits h = record {
   whole_is = ap whole (append-nil p);
   fits = ap (over limit) (append-nil p) ∙ fits;
   tail_is = ap tail (append-nil p);
 }
-behind-run limit p (b ∷ bs) fits h =
+after-run limit p (b ∷ bs) fits h =
     let here : over limit (p ++ b ∷ []) ≡ false = over-push limit p b fits ∙ h.1 in
     let says : whole (p ++ b ∷ []) ≡ whole p = whole-push p b ∙ (ap (λ more. whole p ++ more) h.0 ∙ append-nil (whole p)) in
     let P : List ℕ → Type 0 = λ w. CompletesNone limit w bs in
-    let more = behind-run limit (p ++ b ∷ []) bs here (subst P (sym (tail-push p b)) h.2) in
+    let more = after-run limit (p ++ b ∷ []) bs here (subst P (sym (tail-push p b)) h.2) in
     let same : (p ++ b ∷ []) ++ bs ≡ p ++ b ∷ bs = append_assoc p (b ∷ []) bs in record {
       whole_is = ap whole (sym same) ∙ (more.whole_is ∙ says);
       fits = ap (over limit) (sym same) ∙ more.fits;
-      tail_is = ap tail (sym same) ∙ (more.tail_is ∙ ap (λ w. part_behind w bs) (tail-push p b));
+      tail_is = ap tail (sym same) ∙ (more.tail_is ∙ ap (λ w. part_after w bs) (tail-push p b));
     }
 
--- a cutter behind a run that completes nothing
+-- a cutter after a run that completes nothing
 pub in_step-run : (limit : ℕ) (p p' run : List ℕ) (given : List Reading) (part part' : OpenPart) (is_over : Bool) → is_over ≡ false → IsInStep limit p given part is_over → HasPassed limit part.spelled.items run part' → p' ≡ p ++ run → IsInStep limit p' given part' is_over
 in_step-run limit p p' run given part part' is_over fits was goes next =
     let P : List ℕ → Type 0 = λ w. CompletesNone limit w run in
     let same = was.spelled fits in
-    let behind = behind-run limit p run (sym was.over_is ∙ fits) (subst P same goes.completes) in
+    let after = after-run limit p run (sym was.over_is ∙ fits) (subst P same goes.completes) in
     rw next (record {
-      over_is = fits ∙ sym behind.fits;
+      over_is = fits ∙ sym after.fits;
       cleared = λ h. absurd (false≢true (sym fits ∙ h));
-      given_is = λ h. was.given_is h ∙ sym behind.whole_is;
-      spelled = λ _. goes.spelled ∙ (ap (λ w. part_behind w run) same ∙ sym behind.tail_is);
+      given_is = λ h. was.given_is h ∙ sym after.whole_is;
+      spelled = λ _. goes.spelled ∙ (ap (λ w. part_after w run) same ∙ sym after.tail_is);
       kept = λ _. goes.kept;
     })
 
 -- an open item with a run of bytes more, through all of which it stays open
-pub record IsOpenBehind (limit : ℕ) (w run : List ℕ) (mode : Mode) (depth : ℕ) : Type 0 where
+pub record IsOpenAfter (limit : ℕ) (w run : List ℕ) (mode : Mode) (depth : ℕ) : Type 0 where
   pub completes : CompletesNone limit w run
-  pub part_is : part_behind w run ≡ w ++ run
+  pub part_is : part_after w run ≡ w ++ run
   pub place_is : IsPlaceIn (w ++ run) mode depth
   pub opens : is_open (w ++ run) ≡ true
 
-pub open-run : (limit : ℕ) (w : List ℕ) (m : Mode) (d : ℕ) (run : List ℕ) (last : Mode) (deep : ℕ) → IsPlaceIn w m d → is_open w ≡ true → StaysOpen m d run last deep → length run ≤ limit - length w → IsOpenBehind limit w run last deep
+pub open-run : (limit : ℕ) (w : List ℕ) (m : Mode) (d : ℕ) (run : List ℕ) (last : Mode) (deep : ℕ) → IsPlaceIn w m d → is_open w ≡ true → StaysOpen m d run last deep → length run ≤ limit - length w → IsOpenAfter limit w run last deep
 open-run limit w m d [] last deep at opens stays short =
     let same = append-nil w in record {
       completes = tt;
@@ -136,7 +136,7 @@ open-run limit w m d (b ∷ bs) last deep at opens stays short =
     let P : List ℕ → Type 0 = λ v. CompletesNone limit v bs in
     let Q : List ℕ → Type 0 = λ v. IsPlaceIn v last deep in record {
       completes = (ap (λ rs. rs ++ ended_readings (part_with w b)) before ∙ ended, short_enough, subst P (sym with) more.completes);
-      part_is = ap (λ v. part_behind v bs) with ∙ (more.part_is ∙ same);
+      part_is = ap (λ v. part_after v bs) with ∙ (more.part_is ∙ same);
       place_is = subst Q same more.place_is;
       opens = ap is_open (sym same) ∙ more.opens;
     }
@@ -154,17 +154,17 @@ passed-open limit run old new kept some short stays bytes spelled =
     let w = old.spelled.items in
     let open_is = kept-open w old.bytes.items kept.bytes_are some in
     let same = ap length open_is.1 in
-    let behind = open-run limit w old.place.mode old.place.depth run new.place.mode new.place.depth kept.place_is open_is.0 stays (omega (arith, short, same)) in
+    let after = open-run limit w old.place.mode old.place.depth run new.place.mode new.place.depth kept.place_is open_is.0 stays (omega (arith, short, same)) in
     let all : new.bytes.items ≡ w ++ run = bytes ∙ ap (λ it. it ++ run) open_is.1 in
     let P : List ℕ → Type 0 = λ v. IsPlaceIn v new.place.mode new.place.depth in
     let deep = open-deep old.place.mode old.place.depth run new.place.mode new.place.depth stays in
     let was = kept.depth_fits in
     let long : length new.bytes.items ≡ length old.bytes.items + length run = ap length bytes ∙ length-append old.bytes.items run in record {
-      completes = behind.completes;
-      spelled = spelled ∙ sym behind.part_is;
+      completes = after.completes;
+      spelled = spelled ∙ sym after.part_is;
       kept = record {
-        place_is = subst P (sym spelled) behind.place_is;
-        bytes_are = all ∙ (sym (open_bytes-open (w ++ run) behind.opens) ∙ ap open_bytes (sym spelled));
+        place_is = subst P (sym spelled) after.place_is;
+        bytes_are = all ∙ (sym (open_bytes-open (w ++ run) after.opens) ∙ ap open_bytes (sym spelled));
         depth_fits = omega arith;
       };
     }
@@ -228,12 +228,12 @@ passed-first limit b old new kept none fresh room bytes mode depth spelled opens
     let D : ℕ → Type 0 = λ d. d ≤ 1 in
     passed-one limit old.spelled.items b new (begins limit old.spelled.items b new (none-takes old b kept none ∙ fresh) (none-shut old kept none) (reaches-item limit (b ∷ []) [] [] cut.More new (open-no_gap (b ∷ []) is) room at spelled kept_now (subst D (sym depth) (depth-fresh b)) refl refl (sym (ended-open (b ∷ []) is))))
 
--- the first byte of a text, and those behind it
+-- the first byte of a text, and those after it
 pub take-first : (n : ℕ) (s : List ℕ) → 1 ≤ length s → take (1 + n) s ≡ (get_or s 0 0 ∷ []) ++ take n (drop 1 s)
 take-first n [] = λ h. absurd (omega arith)
 take-first n (b ∷ bs) = λ h. take-both 1 n (b ∷ bs)
 
--- the bytes that leave an open item as it is, behind those that it has gone on with
+-- the bytes that leave an open item as it is, after those that it has gone on with
 pub stays-still : (s rest : List ℕ) (i n : ℕ) (m : Mode) (d : ℕ) (last : Mode) (deep : ℕ) → StaysOpen m d (take i s) last deep → rest ≡ drop i s → StaysOpen last deep (take n rest) last deep → StaysOpen m d (take (i + n) s) last deep
 stays-still s rest i n m d last deep at is still =
     let P : List ℕ → Type 0 = λ it. StaysOpen last deep (take n it) last deep in

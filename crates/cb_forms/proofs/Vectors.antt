@@ -139,7 +139,7 @@ symbols-read : map (λ row. token_of row.0) symbols ≡ map (λ row. row.1) symb
 unfolding token_of
 symbols-read = refl
 
--- what stands behind an opening quote, the content, and whether no closing quote stands there
+-- what stands after an opening quote, the content, and whether no closing quote stands there
 abbrev strings : List (List ℕ × (List ℕ × Bool))
 strings =
     (codes "ab\"", (codes "ab", false)) ∷

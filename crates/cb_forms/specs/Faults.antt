@@ -3,7 +3,7 @@ use Rattle.std.specs.Prelude.{ℕ, List, codes}
 use Rattle.cb_forms.specs.declared.fault.Fault.{Fault}
 use Rattle.cb_forms.specs.declared.fault.Fault.TheVariants.{FormNotClosed, UnmatchedParenthesis, NestingTooDeep, IntegerOutOfRange, FloatNotSupported, UnknownFunction, WrongArguments, MalformedForm, FactDoesNotFit, ValueNotAllowed, UnboundVariable, UnknownGlobal, NotOnLeftSide, NotInProfile, TooManyBranches, BadSalience, WrongType, IntegerOverflow, DivisionByZero, NoSuchFact, NoSuchRule, OneValueWanted, TemplateInUse}
 
--- the number behind `CB`
+-- the number after `CB`
 abbrev pub number_of : Fault → ℕ
 number_of FormNotClosed = 1
 number_of UnmatchedParenthesis = 2
@@ -29,7 +29,7 @@ number_of NoSuchRule = 21
 number_of OneValueWanted = 22
 number_of TemplateInUse = 23
 
--- the text behind the number
+-- the text after the number
 abbrev pub text_of : Fault → List ℕ
 text_of FormNotClosed = codes "form not closed"
 text_of UnmatchedParenthesis = codes "unmatched closing parenthesis"

@@ -9,8 +9,8 @@ use Rattle.cb_forms.specs.declared.lexeme.Lexeme.TheVariants.{Gap, Opening, Clos
 abbrev pub BeginsWith : {X : Type 0} → List X → List X → Type 0
 BeginsWith {X} front all = (more : List X) × (all ≡ front ++ more)
 
--- the text is these bytes, which say what has ended in it, and behind them those that are open
-pub record OpensBehind (p before : List ℕ) : Type 0 where
+-- the text is these bytes, which say what has ended in it, and after them those that are open
+pub record OpensAfter (p before : List ℕ) : Type 0 where
   pub together : p ≡ before ++ rest p
   pub ended : items before ≡ whole p
 

@@ -25,7 +25,7 @@ abbrev pub put_first : Tree → List (List Tree) → List (List Tree)
 put_first t [] = (t ∷ []) ∷ []
 put_first t (ts ∷ levels) = (t ∷ ts) ∷ levels
 
--- The first level is the inside of a list, behind the trees ts that the list has already. The list stands in front of the
+-- The first level is the inside of a list, after the trees ts that the list has already. The list stands in front of the
 -- next level.
 abbrev pub listed : List Tree → List (List Tree) → List (List Tree)
 listed ts [] = put_first (branch (trees_of ts)) []

@@ -7,7 +7,7 @@ use Rattle.cb_forms.specs.Trees.{Reading}
 use Rattle.cb_forms.specs.declared.cut.Cut.{Cut}
 use Rattle.cb_forms.specs.declared.open_part.OpenPart.{OpenPart}
 
--- the bytes of the part where it is an open item, and the place behind its last byte
+-- the bytes of the part where it is an open item, and the place after its last byte
 pub record IsKept (part : OpenPart) : Type 0 where
   pub place_is : IsPlaceIn part.spelled.items part.place.mode part.place.depth
   pub bytes_are : part.bytes.items ≡ open_bytes part.spelled.items
@@ -22,9 +22,9 @@ pub record Reaches (limit : ℕ) (w : List ℕ) (before : List Reading) (given :
   pub kept : is_too_long given ≡ false → IsKept part
 
 -- the part that a text ends with, with these bytes more
-abbrev pub part_behind : List ℕ → List ℕ → List ℕ
-part_behind w [] = w
-part_behind w (b ∷ bs) = part_behind (part_with w b) bs
+abbrev pub part_after : List ℕ → List ℕ → List ℕ
+part_after w [] = w
+part_after w (b ∷ bs) = part_after (part_with w b) bs
 
 -- Where a text ends with the part w, no item ends before or with one of these bytes, and none gets too long.
 abbrev pub CompletesNone : ℕ → List ℕ → List ℕ → Type 0
@@ -36,5 +36,5 @@ CompletesNone limit w (b ∷ bs) =
 -- A run of bytes that completes nothing has been added to a text that ended with the part w.
 pub record HasPassed (limit : ℕ) (w run : List ℕ) (part : OpenPart) : Type 0 where
   pub completes : CompletesNone limit w run
-  pub spelled : part.spelled.items ≡ part_behind w run
+  pub spelled : part.spelled.items ≡ part_after w run
   pub kept : IsKept part

@@ -21,7 +21,7 @@ piece_takes (c ∷ cs) b =
 unfoldable pub pieces : List ℕ → List (List ℕ)
 pieces s = cut piece_takes s
 
--- a string, by the bytes behind its opening quote: without a closing one it is open
+-- a string, by the bytes after its opening quote: without a closing one it is open
 abbrev pub string_token : List ℕ → Result Token Fault
 string_token cs = if is_unclosed cs then Err FormNotClosed else Ok (Str (content_of cs))
 

@@ -6,7 +6,7 @@ use Rattle.cb_forms.specs.Pieces.{pieces}
 use Rattle.cb_forms.specs.declared.mode.Mode.{Mode}
 use Rattle.cb_forms.specs.declared.mode.Mode.TheVariants.{Ended, Comment, Word, Quoted, Escaped}
 
--- a string, by the bytes behind its opening quote
+-- a string, by the bytes after its opening quote
 abbrev mutual
   pub quoted_mode : List ℕ → Mode
   quoted_mode [] = Quoted
@@ -41,7 +41,7 @@ continued_mode Word b = Word
 continued_mode Quoted b = if b == 34 then Ended else (if b == 92 then Escaped else Quoted)
 continued_mode Escaped b = Quoted
 
--- the mode behind one more byte, of the same piece or of the next
+-- the mode after one more byte, of the same piece or of the next
 abbrev pub next_mode : Mode → ℕ → Mode
 next_mode m b = if mode_takes m b then continued_mode m b else fresh_mode b
 
@@ -53,19 +53,19 @@ mode_is_open Word = true
 mode_is_open Quoted = true
 mode_is_open Escaped = true
 
--- how many lists are open behind one more byte
+-- how many lists are open after one more byte
 abbrev pub next_depth : Mode → ℕ → ℕ → ℕ
 next_depth m d b = if mode_takes m b then d else (if b == 40 then d + 1 else (if b == 41 then d - 1 else d))
 
 abbrev pub fresh_depth : ℕ → ℕ
 fresh_depth b = if b == 40 then 1 else 0
 
--- a piece goes on with these bytes, and waits for the same behind each of them
+-- a piece goes on with these bytes, and waits for the same after each of them
 abbrev pub StaysIn : Mode → List ℕ → Type 0
 StaysIn m [] = ⊤
 StaysIn m (b ∷ bs) = (mode_takes m b ≡ true) × (continued_mode m b ≡ m) × StaysIn m bs
 
--- An item that is open at a place goes on with the byte, and is open behind it, at the next place.
+-- An item that is open at a place goes on with the byte, and is open after it, at the next place.
 pub record IsOpenStep (mode : Mode) (depth b : ℕ) (next : Mode) (deeper : ℕ) : Type 0 where
   pub takes : (nat_lt 0 depth || mode_takes mode b) ≡ true
   pub mode_is : next ≡ next_mode mode b

@@ -2,7 +2,7 @@
 use Rattle.std.specs.Prelude.{◌==◌, ℕ, Bool, true, false, List, [], ◌∷◌, if◌then◌else◌}
 use Rattle.cb_forms.specs.Bytes.{backslash, quote}
 
--- The bytes behind an opening quote hold no closing one. A byte behind a backslash closes nothing.
+-- The bytes after an opening quote hold no closing one. A byte after a backslash closes nothing.
 abbrev mutual
   pub is_unclosed : List ℕ → Bool
   is_unclosed [] = true
@@ -12,7 +12,7 @@ abbrev mutual
   is_unclosed_escaped [] = true
   is_unclosed_escaped (b ∷ bs) = is_unclosed bs
 
--- what the bytes behind an opening quote say up to the closing one: a backslash gives the byte behind it
+-- what the bytes after an opening quote say up to the closing one: a backslash gives the byte after it
 abbrev mutual
   pub content_of : List ℕ → List ℕ
   content_of [] = []

@@ -15,7 +15,7 @@ abbrev pub begins_with_digit : List ℕ → Bool
 begins_with_digit [] = false
 begins_with_digit (b ∷ bs) = is_digit b
 
--- what stands behind the digits that a text begins with
+-- what stands after the digits that a text begins with
 abbrev pub after_digits : List ℕ → List ℕ
 after_digits [] = []
 after_digits (b ∷ bs) = if is_digit b then after_digits bs else b ∷ bs

@@ -7,7 +7,7 @@ ghost use Rattle.cb_forms.specs.Items.{items, whole, rest, over};
 use crate::cut::Cut;
 use crate::form::Item;
 use crate::open_part::{OpenPart, with_run};
-use cb_io::{NoMemory, Trace};
+use cb_io::{History, NoMemory};
 use std::alloc::Global;
 use std::marker::Model;
 
@@ -26,8 +26,8 @@ pub struct Cutter {
     part: OpenPart,
     over: bool,
     failed: bool,
-    stepped: Trace<u8>,
-    given: Trace<Item>,
+    stepped: History<u8>,
+    given: History<Item>,
 }
 
 impl Model for Cutter {
@@ -59,8 +59,8 @@ impl Cutter {
             part: OpenPart::new(alloc),
             over: false,
             failed: false,
-            stepped: Trace::new(),
-            given: Trace::new(),
+            stepped: History::new(),
+            given: History::new(),
         }
     }
 
@@ -182,8 +182,8 @@ impl Cutter {
         }
         self.failed = true;
         let item = self.part.finish(self.alloc)?;
-        self.stepped = Trace::new();
-        self.given = Trace::new();
+        self.stepped = History::new();
+        self.given = History::new();
         self.failed = false;
         Ok(item)
     }
@@ -207,7 +207,7 @@ impl Cutter {
 }
 
 /// The items given, with those of one more step.
-fn noted(given: &Trace<Item>, cut: &Cut) -> Trace<Item>
+fn noted(given: &History<Item>, cut: &Cut) -> History<Item>
     ensures { result.items ≡ given.now.items ++ cut_items cut.now }
 {
     match cut {

@@ -58,7 +58,7 @@ pub enum Fault {
 impl Fault {
     ghost use Rattle.cb_forms.specs.Faults.{number_of, text_of};
 
-    /// The number that the fault line shows behind `CB`, from 1 to 23.
+    /// The number that the fault line shows after `CB`, from 1 to 23.
     pub fn number(self) -> u8
         ensures { result ≡ number_of self }
     {

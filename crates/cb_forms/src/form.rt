@@ -26,7 +26,7 @@ impl Form {
         }
     }
 
-    /// The symbol that a list begins with, and the members behind it; `None` of an atom and of a list that begins with
+    /// The symbol that a list begins with, and the members after it; `None` of an atom and of a list that begins with
     /// anything else or is empty.
     pub fn call(&self) -> Option<(&[u8], &[Form])>
         ensures { MatchOption result (call_of (tree_of self.now) ≡ None) (λ call. call_of (tree_of self.now) ≡ Some (call.0.now, members call.1.now)) }
@@ -38,7 +38,7 @@ impl Form {
     }
 }
 
-/// The symbol that forms begin with, and the forms behind it; `None` where they begin with anything else or are none.
+/// The symbol that forms begin with, and the forms after it; `None` where they begin with anything else or are none.
 pub fn split_head(forms: &[Form]) -> Option<(&[u8], &[Form])>
     ensures { MatchOption result (head_and_rest (members forms.now) ≡ None) (λ split. head_and_rest (members forms.now) ≡ Some (split.0.now, members split.1.now)) }
 {

@@ -2,7 +2,7 @@
 ghost use Rattle.std.specs.Prelude.{◌≡◌, ◌<◌, ◌≤◌, ℕ, true, false, List, ◌++◌, Ok, Err, length, map};
 ghost use Rattle.std.specs.List.{flat_map, All};
 ghost use Rattle.cb_forms.specs.Items.{items, Reads, whole, rest, over, fitting};
-ghost use Rattle.cb_forms.specs.Laws.{BeginsWith, OpensBehind, without_gaps, depth_of};
+ghost use Rattle.cb_forms.specs.Laws.{BeginsWith, OpensAfter, without_gaps, depth_of};
 ghost use Rattle.cb_forms.specs.Lists.{levels_of, list_reading, put_first, written};
 ghost use Rattle.cb_forms.specs.Pieces.{lexemes};
 ghost use Rattle.cb_forms.specs.Trees.{Tree, Reading};
@@ -26,7 +26,7 @@ pub fn too_long_stays()
     ensures { (limit : ℕ) (p r : List ℕ) → over limit p ≡ true → over limit (p ++ r) ≡ true }
 {}
 
-/// Behind an item that is longer than the limit nothing counts, and where there is none all items fit. What has ended
+/// After an item that is longer than the limit nothing counts, and where there is none all items fit. What has ended
 /// before there is one is among those that fit.
 pub fn what_fits_is_settled()
     ensures settled { (limit : ℕ) (p r : List ℕ) → over limit p ≡ true → fitting limit (p ++ r) ≡ fitting limit p }
@@ -34,14 +34,14 @@ pub fn what_fits_is_settled()
     ensures ended { (limit : ℕ) (p r : List ℕ) → over limit p ≡ false → BeginsWith (whole p) (fitting limit (p ++ r)) }
 {}
 
-/// What is open of a text stands at its end, behind the items that have ended. Unless an item is too long, it has no
+/// What is open of a text stands at its end, after the items that have ended. Unless an item is too long, it has no
 /// more bytes than the limit.
 pub fn what_is_open_fits()
     ensures fits { (limit : ℕ) (p : List ℕ) → over limit p ≡ false → length (rest p) ≤ limit }
-    ensures behind { (p : List ℕ) → (before : List ℕ) × OpensBehind p before }
+    ensures after { (p : List ℕ) → (before : List ℕ) × OpensAfter p before }
 {}
 
-/// A form is the tree that is written, whatever stands behind it and whichever blanks and comments stand in it, unless
+/// A form is the tree that is written, whatever stands after it and whichever blanks and comments stand in it, unless
 /// its lists nest more than 200 deep. No two trees are written alike.
 pub fn a_form_is_as_it_is_written()
     ensures first { (t : Tree) (ls : List Lexeme) → levels_of (written t ++ ls) ≡ put_first t (levels_of ls) }

@@ -27,7 +27,7 @@ mod token;
 mod word;
 
 pub use byte_string::ByteString;
-pub use cb_io::{MemSink, MemSource, NoMemory, Out, ReadFault, Sink, Source, Trace, WriteFault};
+pub use cb_io::{History, MemSink, MemSource, NoMemory, Out, ReadFault, Sink, Source, WriteFault};
 pub use cut::Cut;
 pub use cutter::Cutter;
 pub use fault::Fault;

@@ -28,7 +28,7 @@ pub(crate) fn read_list(alloc: Global, list: &[u8]) -> Result<Item, NoMemory>
     let (_, mut rest) = list.split_at(1);
     while !rest.is_empty() {
         if is_blank(rest[0]) {
-            rest = behind_first(rest);
+            rest = after_first(rest);
             continue;
         }
         let (piece, more) = split_piece(rest);
@@ -52,8 +52,8 @@ pub(crate) fn read_list(alloc: Global, list: &[u8]) -> Result<Item, NoMemory>
     Ok(Item::Bad(Fault::FormNotClosed))
 }
 
-/// The bytes behind the first one.
-fn behind_first(text: &[u8]) -> &[u8]
+/// The bytes after the first one.
+fn after_first(text: &[u8]) -> &[u8]
     requires { 0 < length text.now }
     ensures { result.now ≡ drop 1 text.now }
 {

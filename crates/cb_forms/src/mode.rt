@@ -45,7 +45,7 @@ impl Mode {
         }
     }
 
-    /// The mode behind one more byte, in the same piece or in the next.
+    /// The mode after one more byte, in the same piece or in the next.
     pub(crate) fn after(self, byte: u8) -> Mode
         ensures { result ≡ next_mode self byte }
     {
@@ -57,7 +57,7 @@ impl Mode {
         }
     }
 
-    /// The mode behind a byte of a string that no backslash stands before.
+    /// The mode after a byte of a string that no backslash stands before.
     fn in_string(byte: u8) -> Mode
         ensures { result ≡ continued_mode Mode.Quoted byte }
     {

@@ -59,7 +59,7 @@ fn begins_with_digit(text: &[u8]) -> bool
     matches!(text, [b'0'..=b'9', ..])
 }
 
-/// What stands behind the digits that a text begins with.
+/// What stands after the digits that a text begins with.
 fn after_digits(text: &[u8]) -> &[u8]
     ensures { result.now ≡ spec.after_digits text.now }
 {

@@ -12,16 +12,16 @@ use crate::form::Item;
 use crate::mode::Mode;
 use crate::part::read_part;
 use crate::place::Place;
-use cb_io::{NoMemory, Trace};
+use cb_io::{History, NoMemory};
 use std::alloc::Global;
 
-/// A part that may go on: its bytes where it is an item, and the place behind its last byte.
+/// A part that may go on: its bytes where it is an item, and the place after its last byte.
 #[derive(Drop)]
 pub(crate) struct OpenPart {
     pub(crate) bytes: Vec<u8>,
     pub(crate) place: Place,
     /// All its bytes, those of a comment too.
-    pub(crate) spelled: Trace<u8>,
+    pub(crate) spelled: History<u8>,
 }
 
 impl OpenPart {
@@ -33,7 +33,7 @@ impl OpenPart {
         OpenPart {
             bytes: Vec::new(alloc),
             place: Place::START,
-            spelled: Trace::new(),
+            spelled: History::new(),
         }
     }
 
@@ -111,7 +111,7 @@ impl OpenPart {
             return false;
         };
         self.place = Place { mode, depth: 0 };
-        self.spelled = Trace::new().and(&byte);
+        self.spelled = History::new().and(&byte);
         true
     }
 
@@ -147,7 +147,7 @@ impl OpenPart {
         }
         self.bytes.push(byte)?;
         self.place = place;
-        self.spelled = Trace::new().and(&byte);
+        self.spelled = History::new().and(&byte);
         Ok(true)
     }
 
@@ -189,7 +189,7 @@ impl OpenPart {
         Ok(true)
     }
 
-    /// Begins a part behind one that has ended, where the byte alone is no item.
+    /// Begins a part after one that has ended, where the byte alone is no item.
     fn begin_open(&mut self, limit: usize, byte: u8) -> Result<bool, NoMemory>
         requires kept { IsKept self.old }
         requires ended { self.old.place.mode ≡ Mode.Ended }
@@ -200,7 +200,7 @@ impl OpenPart {
         let place = Place::fresh(byte);
         if is_blank(byte) || byte == b';' {
             self.place = place;
-            self.spelled = Trace::new().and(&byte);
+            self.spelled = History::new().and(&byte);
             return Ok(true);
         }
         if limit == 0 || !place.is_open() {
@@ -208,7 +208,7 @@ impl OpenPart {
         }
         self.bytes.push(byte)?;
         self.place = place;
-        self.spelled = Trace::new().and(&byte);
+        self.spelled = History::new().and(&byte);
         Ok(true)
     }
 
@@ -238,7 +238,7 @@ impl OpenPart {
     {
         let first = take_open(alloc, &mut self.bytes, self.place)?;
         self.place = Place::fresh(byte);
-        self.spelled = Trace::new().and(&byte);
+        self.spelled = History::new().and(&byte);
         if is_blank(byte) || byte == b';' {
             return Ok(Cut::of(first, None));
         }
@@ -259,7 +259,7 @@ impl OpenPart {
     {
         let item = take_open(alloc, &mut self.bytes, self.place)?;
         self.place = Place::START;
-        self.spelled = Trace::new();
+        self.spelled = History::new();
         Ok(item)
     }
 }
@@ -308,8 +308,8 @@ fn gap_mode(byte: u8) -> Option<Mode>
     }
 }
 
-/// These bytes, with a run of bytes behind them.
-pub(crate) fn with_run(before: &Trace<u8>, run: &[u8]) -> Trace<u8>
+/// These bytes, with a run of bytes after them.
+pub(crate) fn with_run(before: &History<u8>, run: &[u8]) -> History<u8>
     ensures { result.items ≡ before.now.items ++ run.now }
 {
     let mut all = before.again();

@@ -13,7 +13,7 @@ use crate::word::read_word;
 use cb_io::NoMemory;
 use std::alloc::Global;
 
-/// The first piece of a text, and what stands behind it.
+/// The first piece of a text, and what stands after it.
 pub(crate) fn split_piece(text: &[u8]) -> (&[u8], &[u8])
     requires { 0 < length text.now }
     ensures cut { pieces text.now ≡ result.0.now ∷ pieces result.1.now }
@@ -53,7 +53,7 @@ pub(crate) fn read_piece(alloc: Global, piece: &[u8]) -> Result<Lexeme, NoMemory
     }
 }
 
-/// A string, by the bytes behind its opening quote.
+/// A string, by the bytes after its opening quote.
 fn read_string(alloc: Global, body: &[u8]) -> Result<Lexeme, NoMemory>
     ensures { IfOk result (λ lexeme. lexeme ≡ Lexeme.Atom (string_token body.now)) }
 {
@@ -63,7 +63,7 @@ fn read_string(alloc: Global, body: &[u8]) -> Result<Lexeme, NoMemory>
     Ok(Lexeme::Atom(Ok(Token::Str(read_content(alloc, body)?))))
 }
 
-/// Whether no closing quote stands in the bytes behind an opening one.
+/// Whether no closing quote stands in the bytes after an opening one.
 fn is_unclosed(body: &[u8]) -> bool
     ensures { result ≡ is_unclosed body.now }
 {

@@ -6,7 +6,7 @@ ghost use Rattle.cb_forms.specs.Places.{next_depth, fresh_depth};
 use crate::byte_kinds::{is_blank, is_line_end};
 use crate::mode::Mode;
 
-/// The place behind the last byte of a part, a part being an item, or a blank or comment between items.
+/// The place after the last byte of a part, a part being an item, or a blank or comment between items.
 #[derive(Clone, Copy, Debug, PartialEq, Eq)]
 pub(crate) struct Place {
     /// What the last piece waits for.
@@ -40,7 +40,7 @@ impl Place {
         self.depth > 0 || self.mode.takes(byte)
     }
 
-    /// The place behind one more byte of the part.
+    /// The place after one more byte of the part.
     pub(crate) fn after(self, byte: u8) -> Place
         requires { self.depth < usize.MAX }
         ensures mode { result.mode ≡ next_mode self.mode byte }
@@ -81,7 +81,7 @@ impl Place {
         end
     }
 
-    /// How many of the first of these bytes an item that is open here goes on with and stays open, and the place behind
+    /// How many of the first of these bytes an item that is open here goes on with and stays open, and the place after
     /// the last of them.
     pub(crate) fn open_run(self, bytes: &[u8]) -> (usize, Place)
         requires { self.depth + length bytes.now ≤ usize.MAX }

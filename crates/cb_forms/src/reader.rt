@@ -27,7 +27,7 @@ pub fn read_items(alloc: Global, text: &[u8]) -> Result<Vec<Item>, NoMemory>
     Ok(read)
 }
 
-/// The first part of a text, what stands behind it, and the place at the part's end.
+/// The first part of a text, what stands after it, and the place at the part's end.
 fn split_part(text: &[u8]) -> (&[u8], &[u8], Place)
     requires { 0 < length text.now }
     ensures cut { parts text.now ≡ result.0.now ∷ parts result.1.now }

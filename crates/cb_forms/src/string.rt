@@ -6,8 +6,8 @@ use crate::byte_string::ByteString;
 use cb_io::NoMemory;
 use std::alloc::Global;
 
-/// What the bytes behind an opening quote say up to the closing one, which need not be there: a backslash gives the
-/// byte behind it.
+/// What the bytes after an opening quote say up to the closing one, which need not be there: a backslash gives the
+/// byte after it.
 pub(crate) fn read_content(alloc: Global, body: &[u8]) -> Result<ByteString, NoMemory>
     ensures { IfOk result (λ s. s ≡ content_of body.now) }
 {

@@ -1,4 +1,4 @@
--- What the walks of `Trace` share: a struct of one field, where that field is a struct of none. Assumes `Logic`.
+-- What the walks of `History` share: a struct of one field, where that field is a struct of none. Assumes `Logic`.
 use Rattle.std.proofs.Common.{List, [], ◌∷◌, refl}
 use seplogic.Ra.Ura.{Ura}
 use mir.Val.{Val, vstruct, vcons, vnil}

@@ -10,7 +10,7 @@ pub record Store : Type 0 where
   pub fails_in : Option ℕ
   pub failures : ℕ
 
--- the store behind a write that took the first n of these bytes
+-- the store after a write that took the first n of these bytes
 abbrev pub store_after_write : Store → List ℕ → ℕ → Store
 store_after_write s bytes n = record {
   bytes = s.bytes ++ take n bytes;
@@ -20,7 +20,7 @@ store_after_write s bytes n = record {
   failures = s.failures;
 }
 
--- the store behind a write that took nothing and counts as a failure
+-- the store after a write that took nothing and counts as a failure
 abbrev pub store_after_fault : Store → Store
 store_after_fault s = record {
   bytes = s.bytes;

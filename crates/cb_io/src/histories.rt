@@ -2,7 +2,7 @@
 ghost use Rattle.std.specs.Prelude.{◌≡◌, ◌++◌, length};
 ghost use Rattle.cb_io.specs.Histories.{after_read, after_read_fault, after_write, after_write_fault, no_reads, no_writes};
 
-use crate::trace::Trace;
+use crate::history::History;
 use std::marker::Model;
 
 /// What the reads of a source gave, for contracts alone: it takes no bytes at run time.
@@ -11,9 +11,9 @@ use std::marker::Model;
 /// here after it was made says by that which bytes a script had.
 #[derive(Drop)]
 pub struct ReadHistory {
-    bytes: Trace<u8>,
-    ends: Trace<()>,
-    failures: Trace<()>,
+    bytes: History<u8>,
+    ends: History<()>,
+    failures: History<()>,
 }
 
 impl Model for ReadHistory {
@@ -35,9 +35,9 @@ impl ReadHistory {
         ensures { result ≡ no_reads }
     {
         ReadHistory {
-            bytes: Trace::new(),
-            ends: Trace::new(),
-            failures: Trace::new(),
+            bytes: History::new(),
+            ends: History::new(),
+            failures: History::new(),
         }
     }
 
@@ -64,8 +64,8 @@ impl ReadHistory {
 /// Contracts see the bytes, and how many writes failed.
 #[derive(Drop)]
 pub struct WriteHistory {
-    bytes: Trace<u8>,
-    failures: Trace<()>,
+    bytes: History<u8>,
+    failures: History<()>,
 }
 
 impl Model for WriteHistory {
@@ -83,8 +83,8 @@ impl WriteHistory {
         ensures { result ≡ no_writes }
     {
         WriteHistory {
-            bytes: Trace::new(),
-            failures: Trace::new(),
+            bytes: History::new(),
+            failures: History::new(),
         }
     }
 
@@ -107,7 +107,7 @@ impl WriteHistory {
 }
 
 /// These bytes, after those of the history.
-pub fn with_all(history: &Trace<u8>, bytes: &[u8]) -> Trace<u8>
+pub fn with_all(history: &History<u8>, bytes: &[u8]) -> History<u8>
     ensures { result.items ≡ history.now.items ++ bytes.now }
 {
     let mut all = history.again();

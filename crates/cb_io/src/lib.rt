@@ -6,19 +6,19 @@
 
 mod countdown;
 mod histories;
+mod history;
 mod mem_sink;
 mod mem_source;
 mod no_memory;
 mod output;
 mod sink;
 mod source;
-mod trace;
 
 pub use histories::{ReadHistory, WriteHistory, with_all};
+pub use history::History;
 pub use mem_sink::MemSink;
 pub use mem_source::MemSource;
 pub use no_memory::NoMemory;
 pub use output::Out;
 pub use sink::{Sink, WriteFault};
 pub use source::{ReadFault, Source};
-pub use trace::Trace;

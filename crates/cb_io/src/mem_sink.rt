@@ -4,9 +4,9 @@ ghost use Rattle.cb_io.specs.Countdown.{IsDue};
 ghost use Rattle.cb_io.specs.MemSink.{store_after_write, store_after_fault};
 
 use crate::countdown::Countdown;
+use crate::history::History;
 use crate::no_memory::NoMemory;
 use crate::sink::{Sink, WriteFault};
-use crate::trace::Trace;
 use std::alloc::Global;
 use std::marker::Model;
 
@@ -18,7 +18,7 @@ pub struct MemSink {
     room: usize,
     chunk: usize,
     countdown: Countdown,
-    failed: Trace<()>,
+    failed: History<()>,
 }
 
 impl Model for MemSink {
@@ -63,7 +63,7 @@ impl MemSink {
             room,
             chunk,
             countdown: Countdown::new(fail_at),
-            failed: Trace::new(),
+            failed: History::new(),
         })
     }
 

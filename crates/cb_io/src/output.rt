@@ -53,7 +53,7 @@ impl<K: Sink> Out<K> {
         &self.sink
     }
 
-    /// Puts all of these bytes behind those that are pending, and writes some beginning of the whole,
+    /// Puts all of these bytes after those that are pending, and writes some beginning of the whole,
     /// which may be all of it or nothing.
     ///
     /// A `WriteFault` comes where the sink failed during this call, and at each call after one that
@@ -111,7 +111,7 @@ impl<K: Sink> Out<K> {
     }
 }
 
-/// Puts these bytes behind the first `used` ones of the block.
+/// Puts these bytes after the first `used` ones of the block.
 fn keep(block: &mut [u8; BLOCK], used: usize, bytes: &[u8])
     requires { used + length bytes.now ≤ 4096 }
     ensures { take (used + length bytes.now) block.new ≡ take used block.old ++ bytes.now }

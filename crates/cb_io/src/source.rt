@@ -19,7 +19,7 @@ pub trait Source {
     ghost reads: { Self → Reads };
 
     /// Reads the next bytes into the buffer's front, and answers how many: at most the buffer's length,
-    /// and often fewer. What stands in the buffer behind them is left open.
+    /// and often fewer. What stands in the buffer after them is left open.
     ///
     /// 0 for a buffer that isn't empty is the end of the bytes.
     ///

@@ -12,7 +12,7 @@ use cb_templates::Refused;
 use std::alloc::Global;
 
 /// The values of forms, or the first fault.
-#[tactic(auto, using(cb_templates::proofs::Firsts::behind_none, cb_templates::proofs::Firsts::behind_all, cb_templates::proofs::Firsts::behind_one))]
+#[tactic(auto, using(cb_templates::proofs::Firsts::after_none, cb_templates::proofs::Firsts::after_all, cb_templates::proofs::Firsts::after_one))]
 pub(crate) fn read_values(alloc: Global, forms: &[Form]) -> Result<Vec<Value>, Refused>
     ensures { Settles (λ values. values.items) result (values_of (members forms.now)) }
 {

@@ -16,7 +16,7 @@ use cb_templates::{Refused, Relations, Slot, Template, is_reserved};
 use std::alloc::Global;
 
 /// The facts that forms are, by the templates of their relations, or the first fault.
-#[tactic(auto, using(cb_templates::proofs::Firsts::behind_none, cb_templates::proofs::Firsts::behind_all, cb_templates::proofs::Firsts::behind_one))]
+#[tactic(auto, using(cb_templates::proofs::Firsts::after_none, cb_templates::proofs::Firsts::after_all, cb_templates::proofs::Firsts::after_one))]
 pub(crate) fn read_facts(
     alloc: Global,
     relations: &Relations,
@@ -63,7 +63,7 @@ fn read_content(
 }
 
 /// The fields of an ordered fact, or the first fault.
-#[tactic(auto, using(cb_templates::proofs::Firsts::behind_none, cb_templates::proofs::Firsts::behind_all, cb_templates::proofs::Firsts::behind_one))]
+#[tactic(auto, using(cb_templates::proofs::Firsts::after_none, cb_templates::proofs::Firsts::after_all, cb_templates::proofs::Firsts::after_one))]
 fn read_fields(alloc: Global, forms: &[Form]) -> Result<Vec<Value>, Refused>
     ensures { Settles (λ fields. fields.items) result (fields_of (members forms.now)) }
 {
@@ -157,7 +157,7 @@ fn read_lone_field(alloc: Global, slot: &Slot, forms: &[Form]) -> Result<Filling
 }
 
 /// All slots of a template, in its order: what is given for them, or else their defaults.
-#[tactic(auto, using(cb_templates::proofs::Firsts::behind_none, cb_templates::proofs::Firsts::behind_all, cb_templates::proofs::Firsts::behind_one))]
+#[tactic(auto, using(cb_templates::proofs::Firsts::after_none, cb_templates::proofs::Firsts::after_all, cb_templates::proofs::Firsts::after_one))]
 fn complete(alloc: Global, slots: &[Slot], given: &SlotExprs) -> Result<Vec<SlotExpr>, Refused>
     ensures { Settles (λ all. all.items) result (all_slots slots.now given.now) }
 {
@@ -190,7 +190,7 @@ fn default_of(slot: &Slot) -> Result<Filling, Refused>
 }
 
 /// The values of a slot, each of its types, or the first fault.
-#[tactic(auto, using(cb_templates::proofs::Firsts::behind_none, cb_templates::proofs::Firsts::behind_all, cb_templates::proofs::Firsts::behind_one))]
+#[tactic(auto, using(cb_templates::proofs::Firsts::after_none, cb_templates::proofs::Firsts::after_all, cb_templates::proofs::Firsts::after_one))]
 fn read_slot_fields(alloc: Global, slot: &Slot, forms: &[Form]) -> Result<Vec<Value>, Refused>
     ensures { Settles (λ values. values.items) result
         (slot_fields_of slot.now.types (members forms.now)) }

@@ -10,7 +10,7 @@ ghost use Rattle.cb_session.specs.Went.{extent_at, stop_extent};
 use crate::engine::Engine;
 use crate::limits::Limits;
 use crate::status::{Ending, Flow, Status, Stop};
-use cb_forms::{Cutter, Out, Sink, Trace};
+use cb_forms::{Cutter, History, Out, Sink};
 use std::alloc::Global;
 use std::marker::Model;
 
@@ -25,7 +25,7 @@ pub struct Session {
     engine: Engine,
     status: Option<Status>,
     stop: Option<Stop>,
-    fed: Trace<u8>,
+    fed: History<u8>,
 }
 
 impl Model for Session {
@@ -51,7 +51,7 @@ impl Session {
             engine: Engine::new(alloc),
             status: None,
             stop: None,
-            fed: Trace::new(),
+            fed: History::new(),
         }
     }
 

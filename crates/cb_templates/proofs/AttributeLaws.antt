@@ -7,7 +7,7 @@ use Rattle.cb_forms.specs.declared.fault.Fault.{Fault}
 use Rattle.cb_forms.specs.declared.fault.Fault.TheVariants.{MalformedForm, NotInProfile}
 use Rattle.cb_templates.proofs.Firsts.{follows}
 use Rattle.cb_templates.specs.Results.{and_then, ok_then}
-use Rattle.cb_templates.specs.SlotForms.{attribute_by, attributes_behind, default_of, types_of, with_default, with_types}
+use Rattle.cb_templates.specs.SlotForms.{attribute_by, attributes_after, default_of, types_of, with_default, with_types}
 use Rattle.cb_templates.specs.Slots.{Types}
 use Rattle.cb_templates.specs.declared.attribute.Attributes.{Attributes}
 use Rattle.cb_templates.specs.declared.attribute.SlotDefault.{SlotDefault}
@@ -79,11 +79,11 @@ still : {Y Z : Type 0} (r s : Result Y Fault) (g : Y → Result Z Fault) (z : Z)
 still (Ok y) s g z same h = ap (λ t. and_then t g) (same y refl) ∙ h
 still (Err e) s g z same h = absurd (cc)
 
-pub in_any_order : (m : Bool) (a b : Attributes) (t u : Tree) (forms : Trees) → attributes_behind m a (tree t (tree u forms)) ≡ Ok b → attributes_behind m a (tree u (tree t forms)) ≡ Ok b
+pub in_any_order : (m : Bool) (a b : Attributes) (t u : Tree) (forms : Trees) → attributes_after m a (tree t (tree u forms)) ≡ Ok b → attributes_after m a (tree u (tree t forms)) ≡ Ok b
 in_any_order m a b t u forms h =
     let c : Option (List ℕ × Trees) = call_of t in
     let d : Option (List ℕ × Trees) = call_of u in
-    let more : Attributes → Result Attributes Fault = λ x. attributes_behind m x forms in
+    let more : Attributes → Result Attributes Fault = λ x. attributes_after m x forms in
     follows (attribute_by m a d) (λ x. attribute_by m x c) more
     ∙ still (and_then (attribute_by m a c) (λ x. attribute_by m x d)) (and_then (attribute_by m a d) (λ x. attribute_by m x c)) more b (swap m a c d)
     (sym (follows (attribute_by m a c) (λ x. attribute_by m x d) more) ∙ h)

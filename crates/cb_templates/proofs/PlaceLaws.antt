@@ -23,17 +23,17 @@ or_none : (o : Option ℕ) → option_or o None ≡ o
 or_none (Some i) = refl
 or_none None = refl
 
-behind : (t u : Bool) (p : Option ℕ) (i : ℕ) (r : Option ℕ) → r ≡ option_or p (if_is u i)
+after : (t u : Bool) (p : Option ℕ) (i : ℕ) (r : Option ℕ) → r ≡ option_or p (if_is u i)
     → (if t then Some 0 else option_map suc r) ≡ option_or (if t then Some 0 else option_map suc p) (if_is u (suc i))
-behind true u p i r e = refl
-behind false u (Some k) i r e = ap (option_map suc) e
-behind false true None i r e = ap (option_map suc) e
-behind false false None i r e = ap (option_map suc) e
+after true u p i r e = refl
+after false u (Some k) i r e = ap (option_map suc) e
+after false true None i r e = ap (option_map suc) e
+after false false None i r e = ap (option_map suc) e
 
 -- the first place of a name among names and one more
 pub place_in-push : (names : List (List ℕ)) (name q : List ℕ) → place_in (names ++ name ∷ []) q ≡ option_or (place_in names q) (if_is (bytes_eq name q) (length names))
 place_in-push [] name q = refl
-place_in-push (n ∷ names) name q = behind (bytes_eq n q) (bytes_eq name q) (place_in names q) (length names) (place_in (names ++ name ∷ []) q) (place_in-push names name q)
+place_in-push (n ∷ names) name q = after (bytes_eq n q) (bytes_eq name q) (place_in names q) (length names) (place_in (names ++ name ∷ []) q) (place_in-push names name q)
 
 -- a map that has the places of names, and one more place noted
 pub has_places-push : (old new : BTreeMap (List ℕ) ℕ) (names : List (List ℕ)) (name : List ℕ) (place : ℕ)
@@ -136,10 +136,10 @@ split false true true b = refl
 split false true false b = refl
 
 -- no slot is given twice among slots and one more
-pub distinct_behind : (given : Given) (g : GivenValues) → are_distinct (given ++ g ∷ []) ≡ (are_distinct given && not (is_some (given_for given g.0)))
-distinct_behind [] g = refl
-distinct_behind (h ∷ given) g =
-    ap₂ (λ (t u : Bool). not t && u) (given-push given g h.0) (distinct_behind given g)
+pub distinct_after : (given : Given) (g : GivenValues) → are_distinct (given ++ g ∷ []) ≡ (are_distinct given && not (is_some (given_for given g.0)))
+distinct_after [] g = refl
+distinct_after (h ∷ given) g =
+    ap₂ (λ (t u : Bool). not t && u) (given-push given g h.0) (distinct_after given g)
     ∙ split (is_some (given_for given h.0)) (are_distinct given) (bytes_eq g.0 h.0) (is_some (given_for given g.0))
     ∙ ap (λ t. (not (is_some (given_for given h.0)) && are_distinct given) && not t)
     (ap (λ t. t || is_some (given_for given g.0)) ((IsEquivalence.symm nat_list_eq_equiv) g.0 h.0) ∙ sym (one_of (bytes_eq h.0 g.0) h.1 (given_for given g.0)))
@@ -165,12 +165,12 @@ pub values_at : (given : Given) (name : List ℕ) (place : ℕ) (r : Option (Bor
 values_at given name place r at h =
     given_by_place given name ∙ ap (λ p. values_of (option_and_then (slice_get given) p)) at ∙ ap values_of (sym (lent_at given place r h))
 
-pub names_behind : (given : Given) (g : GivenValues) → given_names given ++ g.0 ∷ [] ≡ given_names (given ++ g ∷ [])
-names_behind [] g = refl
-names_behind (h ∷ given) g = ap (λ ns. h.0 ∷ ns) (names_behind given g)
+pub names_after : (given : Given) (g : GivenValues) → given_names given ++ g.0 ∷ [] ≡ given_names (given ++ g ∷ [])
+names_after [] g = refl
+names_after (h ∷ given) g = ap (λ ns. h.0 ∷ ns) (names_after given g)
 
 -- the same by a list of the names
 pub distinct_still : (given : Given) (g : GivenValues) (places : List (List ℕ)) (distinct is_new : Bool) → places ≡ given_names given → distinct ≡ are_distinct given
     → is_new ≡ not (is_some (place_in places g.0)) → (distinct && is_new) ≡ are_distinct (given ++ g ∷ [])
 distinct_still given g places distinct is_new named was new =
-    ap₂ (λ t u. t && u) was (new ∙ ap (λ ns. not (is_some (place_in ns g.0))) named ∙ ap not (sym (is_given given g.0))) ∙ sym (distinct_behind given g)
+    ap₂ (λ t u. t && u) was (new ∙ ap (λ ns. not (is_some (place_in ns g.0))) named ∙ ap not (sym (is_given given g.0))) ∙ sym (distinct_after given g)

@@ -14,10 +14,10 @@ use Rattle.cb_facts.specs.Facts.{FactValue, template_fact}
 use Rattle.cb_facts.specs.declared.value.Value.{Value}
 use Rattle.cb_templates.specs.Building.{Given, PartValues, field_values, slot_values, filled, fits, given_for, slot_value, slots_built, built_by, built}
 use Rattle.cb_templates.specs.Results.{and_then, ok_then, with_first}
-use Rattle.cb_templates.specs.SlotForms.{attributes_behind, finished, named_slot, no_attributes, slot_by, slot_with}
+use Rattle.cb_templates.specs.SlotForms.{attributes_after, finished, named_slot, no_attributes, slot_by, slot_with}
 use Rattle.cb_templates.specs.Slots.{SlotShape, Types, allows_all, names, slot_named}
 use Rattle.cb_templates.specs.Laws.{content_names}
-use Rattle.cb_templates.specs.Templates.{Templates, slots_behind, slots_of}
+use Rattle.cb_templates.specs.Templates.{Templates, slots_after, slots_of}
 use Rattle.cb_templates.specs.declared.attribute.Attributes.{Attributes}
 use Rattle.cb_templates.specs.declared.attribute.SlotDefault.{SlotDefault}
 use Rattle.cb_templates.specs.declared.attribute.SlotDefault.TheVariants.{Required, Derived, Fixed}
@@ -59,8 +59,8 @@ IsNew before name = is_some (slot_named before name) ≡ false
 new_named : (before : List SlotShape) (m : Bool) (head : Option (List ℕ × Trees)) (s : SlotShape) → named_slot before m head ≡ Ok s → IsNew before s.name
 new_named before m None s h = absurd (cc)
 new_named before m (Some (name, ts)) s h =
-    let made : Result SlotShape Fault = and_then (attributes_behind m no_attributes ts) (finished name m) in
-    let same : s.name ≡ name = named_then name m (attributes_behind m no_attributes ts) s (unless (is_some (slot_named before name)) MalformedForm made s h) in
+    let made : Result SlotShape Fault = and_then (attributes_after m no_attributes ts) (finished name m) in
+    let same : s.name ≡ name = named_then name m (attributes_after m no_attributes ts) s (unless (is_some (slot_named before name)) MalformedForm made s h) in
     ap (λ n. is_some (slot_named before n)) same ∙ unless_not (is_some (slot_named before name)) MalformedForm made s h
 
 new_slot_by : (before : List SlotShape) (head : List ℕ) (ts : Trees) (t u : Bool) (s : SlotShape)
@@ -92,12 +92,12 @@ one_more : (before : List SlotShape) (s : SlotShape) → IsDistinct bytes_eq (na
 one_more before s distinct new =
     subst (IsDistinct bytes_eq) (names_push before s) (IsDistinct-push nat_list_eq_equiv (names before) s.name distinct (sym (named_among before s.name) ∙ new))
 
-differ_then : (before : List SlotShape) (r : Result SlotShape Fault) (ts : Trees) (slots : List SlotShape) → and_then r (λ s. slots_behind (before ++ s ∷ []) ts) ≡ Ok slots
-    → ((s : SlotShape) → r ≡ Ok s → slots_behind (before ++ s ∷ []) ts ≡ Ok slots → IsDistinct bytes_eq (names slots)) → IsDistinct bytes_eq (names slots)
+differ_then : (before : List SlotShape) (r : Result SlotShape Fault) (ts : Trees) (slots : List SlotShape) → and_then r (λ s. slots_after (before ++ s ∷ []) ts) ≡ Ok slots
+    → ((s : SlotShape) → r ≡ Ok s → slots_after (before ++ s ∷ []) ts ≡ Ok slots → IsDistinct bytes_eq (names slots)) → IsDistinct bytes_eq (names slots)
 differ_then before (Ok s) ts slots h more = more s refl h
 differ_then before (Err f) ts slots h more = absurd (cc)
 
-differ : (ts : Trees) (before slots : List SlotShape) → IsDistinct bytes_eq (names before) → slots_behind before ts ≡ Ok slots → IsDistinct bytes_eq (names slots)
+differ : (ts : Trees) (before slots : List SlotShape) → IsDistinct bytes_eq (names before) → slots_after before ts ≡ Ok slots → IsDistinct bytes_eq (names slots)
 differ no_trees before slots distinct h =
     let same : before ≡ slots = cc in
     subst (λ them. IsDistinct bytes_eq (names them)) same distinct
@@ -105,7 +105,7 @@ differ (tree t ts) before slots distinct h =
     differ_then before (slot_by before (call_of t)) ts slots h (λ s made rest. differ ts (before ++ s ∷ []) slots (one_more before s distinct (new_slot before (call_of t) s made)) rest)
 
 -- No two slots of a template have one name.
-pub slots_differ : (ts : Trees) (slots : List SlotShape) → slots_behind [] ts ≡ Ok slots → IsDistinct bytes_eq (names slots)
+pub slots_differ : (ts : Trees) (slots : List SlotShape) → slots_after [] ts ≡ Ok slots → IsDistinct bytes_eq (names slots)
 unfolding IsDistinct
 slots_differ ts slots h = differ ts [] slots _ h
 

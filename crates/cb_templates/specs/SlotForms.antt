@@ -111,10 +111,10 @@ attribute_by is_multi a (Some (name, ts)) =
     if bytes_eq name (codes "default") then (if is_some a.default then Err MalformedForm else ok_then (with_default a) (default_of is_multi ts)) else
     Err NotInProfile)
 
--- the attributes of a slot, behind those that were given
-abbrev pub attributes_behind : Bool → Attributes → Trees → Result Attributes Fault
-attributes_behind is_multi a no_trees = Ok a
-attributes_behind is_multi a (tree t ts) = and_then (attribute_by is_multi a (call_of t)) (λ b. attributes_behind is_multi b ts)
+-- the attributes of a slot, after those that were given
+abbrev pub attributes_after : Bool → Attributes → Trees → Result Attributes Fault
+attributes_after is_multi a no_trees = Ok a
+attributes_after is_multi a (tree t ts) = and_then (attribute_by is_multi a (call_of t)) (λ b. attributes_after is_multi b ts)
 
 -- the value that a slot of these types has where nothing says which
 abbrev pub derived_one : Types → Value
@@ -136,11 +136,11 @@ slot_with name is_multi ts (Some (Fixed v)) =
 abbrev pub finished : List ℕ → Bool → Attributes → Result SlotShape Fault
 finished name is_multi a = slot_with name is_multi (option_flatten a.types) a.default
 
--- a slot behind those of the template so far, by its name and its attributes; each name is given at most once
+-- a slot after those of the template so far, by its name and its attributes; each name is given at most once
 abbrev pub named_slot : List SlotShape → Bool → Option (List ℕ × Trees) → Result SlotShape Fault
 named_slot slots is_multi None = Err MalformedForm
 named_slot slots is_multi (Some (name, ts)) =
-    if is_some (slot_named slots name) then Err MalformedForm else and_then (attributes_behind is_multi no_attributes ts) (finished name is_multi)
+    if is_some (slot_named slots name) then Err MalformedForm else and_then (attributes_after is_multi no_attributes ts) (finished name is_multi)
 
 -- `(slot name attribute ..)` or `(multislot name attribute ..)`, by its head and what follows
 abbrev pub slot_by : List SlotShape → Option (List ℕ × Trees) → Result SlotShape Fault

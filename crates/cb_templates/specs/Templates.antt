@@ -13,7 +13,7 @@ use Rattle.cb_templates.specs.Results.{ok_then, and_then}
 use Rattle.cb_templates.specs.SlotForms.{slot_by}
 use Rattle.cb_templates.specs.Slots.{SlotShape}
 
--- the templates, each behind its relation's name
+-- the templates, each after its relation's name
 abbrev pub Templates : Type 0
 Templates = List (List ℕ × List SlotShape)
 
@@ -25,27 +25,27 @@ slots_of templates name = lookup (bytes_eq name) templates
 abbrev pub with_template : Templates → List ℕ × List SlotShape → Templates
 with_template templates (name, slots) = insert_entry bytes_eq templates name slots
 
--- what follows the comment that may stand behind the name of a construct
+-- what follows the comment that may stand after the name of a construct
 abbrev pub without_comment : Trees → Trees
 without_comment (tree (atom (token.Str text)) ts) = ts
 without_comment ts = ts
 
--- the slots of a template, behind those so far
-abbrev pub slots_behind : List SlotShape → Trees → Result (List SlotShape) Fault
-slots_behind slots no_trees = Ok slots
-slots_behind slots (tree t ts) = and_then (slot_by slots (call_of t)) (λ s. slots_behind (slots ++ s ∷ []) ts)
+-- the slots of a template, after those so far
+abbrev pub slots_after : List SlotShape → Trees → Result (List SlotShape) Fault
+slots_after slots no_trees = Ok slots
+slots_after slots (tree t ts) = and_then (slot_by slots (call_of t)) (λ s. slots_after (slots ++ s ∷ []) ts)
 
 -- A template, by its name and what follows. Its relation must not be in use.
 abbrev pub named_template : Bool → Option (List ℕ × Trees) → Result (List ℕ × List SlotShape) Fault
 named_template in_use None = Err MalformedForm
 named_template in_use (Some (name, ts)) =
     if is_reserved name then Err MalformedForm else (
-    if in_use then Err TemplateInUse else ok_then (λ slots. (name, slots)) (slots_behind [] (without_comment ts)))
+    if in_use then Err TemplateInUse else ok_then (λ slots. (name, slots)) (slots_after [] (without_comment ts)))
 
 -- `(deftemplate name "comment" slot ..)`, by what follows its head
 abbrev pub template_of : Bool → Trees → Result (List ℕ × List SlotShape) Fault
 template_of in_use ts = named_template in_use (head_and_rest ts)
 
--- the templates behind such a form
+-- the templates after such a form
 abbrev pub defined : Templates → Bool → Trees → Result Templates Fault
 defined templates in_use ts = ok_then (with_template templates) (template_of in_use ts)

@@ -3,12 +3,12 @@ ghost use Rattle.std.specs.Prelude.{◌≡◌, None, Ok, Err, IfOk, IfErr};
 ghost use Rattle.cb_forms.specs.Members.{call_of, head_and_rest, members, symbol_of};
 ghost use Rattle.cb_forms.specs.Trees.{tree_of};
 ghost use Rattle.cb_templates.specs.Results.{Returns, Settles};
-ghost use Rattle.cb_templates.specs.SlotForms.{attribute_by, attributes_behind, default_constant, default_constants, default_of, is_variable, is_variable_form, is_variable_token, multi_default, no_call, no_attributes, no_constant, one_default, some_types, type_by, types_in, types_of};
+ghost use Rattle.cb_templates.specs.SlotForms.{attribute_by, attributes_after, default_constant, default_constants, default_of, is_variable, is_variable_form, is_variable_token, multi_default, no_call, no_attributes, no_constant, one_default, some_types, type_by, types_in, types_of};
 
 use crate::refused::Refused;
 use crate::slot::Types;
 use crate::slot_type::SlotType;
-use cb_facts::{Many, Value, splice};
+use cb_facts::{Multifield, Value, splice};
 use cb_forms::{Fault, Form, Token, split_head};
 use std::alloc::Global;
 
@@ -38,7 +38,7 @@ pub(crate) fn read_attributes(
     is_multi: bool,
     forms: &[Form],
 ) -> Result<Attributes, Refused>
-    ensures { Returns result (attributes_behind is_multi no_attributes (members forms.now)) }
+    ensures { Returns result (attributes_after is_multi no_attributes (members forms.now)) }
 {
     let mut attributes = Attributes {
         types: None,
@@ -85,7 +85,7 @@ fn with_attribute(
     Err(Refused::Fault(Fault::NotInProfile))
 }
 
-/// What `type` says, by the forms behind it.
+/// What `type` says, by the forms after it.
 fn read_types(alloc: Global, forms: &[Form]) -> Result<Types, Refused>
     ensures { Returns result (types_of (members forms.now)) }
 {
@@ -98,7 +98,7 @@ fn read_types(alloc: Global, forms: &[Form]) -> Result<Types, Refused>
     Ok(Types::of(read_type_names(alloc, forms)?))
 }
 
-#[tactic(auto, using(crate::proofs::Firsts::behind_none, crate::proofs::Firsts::behind_all, crate::proofs::Firsts::behind_one))]
+#[tactic(auto, using(crate::proofs::Firsts::after_none, crate::proofs::Firsts::after_all, crate::proofs::Firsts::after_one))]
 fn read_type_names(alloc: Global, forms: &[Form]) -> Result<Vec<SlotType>, Refused>
     ensures { Settles (λ types. types.items) result (types_in (members forms.now)) }
 {
@@ -121,7 +121,7 @@ fn read_type(form: &Form) -> Result<SlotType, Refused>
     }
 }
 
-/// What `default` says, by the forms behind it.
+/// What `default` says, by the forms after it.
 fn read_default(alloc: Global, is_multi: bool, forms: &[Form]) -> Result<SlotDefault, Refused>
     ensures { Returns result (default_of is_multi (members forms.now)) }
 {
@@ -155,10 +155,10 @@ fn read_multi_default(alloc: Global, forms: &[Form]) -> Result<SlotDefault, Refu
 {
     let values = read_constants(alloc, forms)?;
     let fields = splice(alloc, values.as_slice())?;
-    Ok(SlotDefault::Fixed(Value::Multi(Many::from_vec(fields)?)))
+    Ok(SlotDefault::Fixed(Value::Multi(Multifield::from_vec(fields)?)))
 }
 
-#[tactic(auto, using(crate::proofs::Firsts::behind_none, crate::proofs::Firsts::behind_all, crate::proofs::Firsts::behind_one))]
+#[tactic(auto, using(crate::proofs::Firsts::after_none, crate::proofs::Firsts::after_all, crate::proofs::Firsts::after_one))]
 fn read_constants(alloc: Global, forms: &[Form]) -> Result<Vec<Value>, Refused>
     ensures { Settles (λ values. values.items) result (default_constants (members forms.now)) }
 {

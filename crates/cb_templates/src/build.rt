@@ -12,7 +12,7 @@ use crate::refused::Refused;
 use crate::relations::Relations;
 use crate::slot::Slot;
 use crate::template::Template;
-use cb_facts::{Fact, Many, Name, Value, is_multifield, splice, splice_values};
+use cb_facts::{Fact, Multifield, Name, Value, is_multifield, splice, splice_values};
 use cb_forms::{Fault, NoMemory};
 use std::alloc::Global;
 
@@ -132,7 +132,7 @@ fn is_one(values: &[Value]) -> bool
 }
 
 /// The slots of a template, each with its value.
-#[tactic(auto, using(crate::proofs::Firsts::behind_none, crate::proofs::Firsts::behind_all, crate::proofs::Firsts::behind_one))]
+#[tactic(auto, using(crate::proofs::Firsts::after_none, crate::proofs::Firsts::after_all, crate::proofs::Firsts::after_one))]
 fn fill(alloc: Global, slots: &[Slot], given: &GivenSlots) -> Result<Vec<(Name, Value)>, Refused>
     ensures { Settles (λ content. content.items) result (filled slots.now given.now) }
 {
@@ -153,7 +153,7 @@ fn slot_value(alloc: Global, slot: &Slot, given: &GivenSlots) -> Result<Value, R
         Some(values) => {
             if slot.multi() {
                 let fields = splice(alloc, values)?;
-                return Ok(Value::Multi(Many::from_vec(fields)?));
+                return Ok(Value::Multi(Multifield::from_vec(fields)?));
             }
             one_value(values)
         }

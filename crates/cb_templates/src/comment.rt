@@ -5,7 +5,7 @@ ghost use Rattle.cb_templates.specs.Templates.{without_comment};
 
 use cb_forms::{Form, Token};
 
-/// The forms behind the comment that may stand behind the name of a construct.
+/// The forms after the comment that may stand after the name of a construct.
 pub fn without_comment(forms: &[Form]) -> &[Form]
     ensures { members result.now ≡ without_comment (members forms.now) }
 {

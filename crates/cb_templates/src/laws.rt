@@ -6,23 +6,23 @@ ghost use Rattle.cb_forms.specs.Trees.{Tree, Trees, tree};
 ghost use Rattle.cb_facts.specs.Facts.{FactValue};
 ghost use Rattle.cb_templates.specs.Building.{PartValues, built};
 ghost use Rattle.cb_templates.specs.Laws.{content_names};
-ghost use Rattle.cb_templates.specs.SlotForms.{attributes_behind};
+ghost use Rattle.cb_templates.specs.SlotForms.{attributes_after};
 ghost use Rattle.cb_templates.specs.Slots.{SlotShape, names};
-ghost use Rattle.cb_templates.specs.Templates.{Templates, slots_behind, slots_of};
+ghost use Rattle.cb_templates.specs.Templates.{Templates, slots_after, slots_of};
 ghost use Rattle.cb_templates.specs.declared.attribute.Attributes.{Attributes};
 
 /// No two slots of a template have one name.
 pub fn the_slots_of_a_template_differ()
-    ensures { (forms : Trees) (slots : List SlotShape) → slots_behind [] forms ≡ Ok slots
+    ensures { (forms : Trees) (slots : List SlotShape) → slots_after [] forms ≡ Ok slots
         → IsDistinct bytes_eq (names slots) }
 {}
 
-/// The attributes of a slot may stand in any order: where none is at fault, two that stand one behind the other say the same
+/// The attributes of a slot may stand in any order: where none is at fault, two that stand one after the other say the same
 /// the other way round. Which fault comes first may depend on their order.
 pub fn the_attributes_of_a_slot_have_no_order()
     ensures { (is_multi : Bool) (before all : Attributes) (t u : Tree) (forms : Trees)
-        → attributes_behind is_multi before (tree t (tree u forms)) ≡ Ok all
-        → attributes_behind is_multi before (tree u (tree t forms)) ≡ Ok all }
+        → attributes_after is_multi before (tree t (tree u forms)) ≡ Ok all
+        → attributes_after is_multi before (tree u (tree t forms)) ≡ Ok all }
 {}
 
 /// A fact of a template has the slots of the template and no others, in the template's order, whatever it is given.

@@ -111,7 +111,7 @@ impl GivenSlots {
         self.distinct
     }
 
-    /// Adds a slot behind the others. Growth is refused as `NoMemory`, and then nothing has changed.
+    /// Adds a slot after the others. Growth is refused as `NoMemory`, and then nothing has changed.
     pub fn push(&mut self, slot: GivenSlot) -> Result<(), NoMemory>
         ensures ok { OnOk result (self.new ≡ self.old ++ slot ∷ []) }
         ensures err { OnErr result (self.new ≡ self.old) }

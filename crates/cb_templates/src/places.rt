@@ -4,7 +4,7 @@ ghost use Rattle.cb_templates.specs.Places.{NotesPlace, place_at, place_in};
 
 use cb_facts::Name;
 use cb_forms::NoMemory;
-use cb_io::Trace;
+use cb_io::History;
 use std::alloc::Global;
 use std::collections::BTreeMap;
 use std::fmt;
@@ -16,7 +16,7 @@ use std::marker::Model;
 #[derive(Drop)]
 pub struct Places {
     firsts: BTreeMap<Name, usize>,
-    names: Trace<Name>,
+    names: History<Name>,
 }
 
 impl Model for Places {
@@ -37,7 +37,7 @@ impl Places {
     {
         Places {
             firsts: BTreeMap::new(alloc),
-            names: Trace::new(),
+            names: History::new(),
         }
     }
 

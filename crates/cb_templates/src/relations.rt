@@ -2,7 +2,7 @@
 ghost use Rattle.std.specs.Prelude.{◌≡◌, [], None, Some, Ok, Err, MatchOption, IfErr, IfOk, OnOk, OnErr};
 ghost use Rattle.cb_forms.specs.Members.{head_and_rest, members};
 ghost use Rattle.cb_templates.specs.Results.{Returns, Settles};
-ghost use Rattle.cb_templates.specs.Templates.{defined, named_template, slots_behind, slots_of, template_of};
+ghost use Rattle.cb_templates.specs.Templates.{defined, named_template, slots_after, slots_of, template_of};
 
 use crate::comment::without_comment;
 use crate::refused::Refused;
@@ -44,11 +44,11 @@ impl Relations {
         }
     }
 
-    /// Defines the template that a `deftemplate` form is, by the members behind its head, and takes it for the one that the
+    /// Defines the template that a `deftemplate` form is, by the members after its head, and takes it for the one that the
     /// relation had, if it had one. `in_use` says that a fact, a `deffacts` or a rule names the relation.
     ///
     /// It refuses with the first fault in this order: CB08 where the name is no symbol or a reserved word, CB23 where the
-    /// relation is in use, and then those of each slot: CB08, CB14 and, behind its last attribute, CB10. Whatever it refuses,
+    /// relation is in use, and then those of each slot: CB08, CB14 and, after its last attribute, CB10. Whatever it refuses,
     /// nothing has changed.
     pub fn define_template(&mut self, form: &[Form], in_use: bool) -> Result<(), Refused>
         ensures done { Settles (λ _. self.new) result (defined self.old in_use (members form.now)) }
@@ -94,7 +94,7 @@ fn read_template(alloc: Global, forms: &[Form], in_use: bool) -> Result<(Name, T
 }
 
 fn read_slots(alloc: Global, forms: &[Form]) -> Result<Template, Refused>
-    ensures { Returns result (slots_behind [] (members forms.now)) }
+    ensures { Returns result (slots_after [] (members forms.now)) }
 {
     let mut template = Template::new(alloc);
     for form in forms {

@@ -10,7 +10,7 @@ use crate::refused::Refused;
 use crate::slot::{Slot, Types};
 use crate::slot_type::SlotType;
 use crate::template::Template;
-use cb_facts::{Many, Name, Value};
+use cb_facts::{Multifield, Name, Value};
 use cb_forms::{Fault, Form, NoMemory, split_head};
 use std::alloc::Global;
 
@@ -30,7 +30,7 @@ pub(crate) fn read_slot(alloc: Global, template: &Template, form: &Form) -> Resu
     Err(Refused::Fault(Fault::MalformedForm))
 }
 
-/// The slot that the forms behind `slot` or `multislot` make.
+/// The slot that the forms after `slot` or `multislot` make.
 fn read_named(
     alloc: Global,
     template: &Template,
@@ -96,7 +96,7 @@ fn derived(alloc: Global, is_multi: bool, types: &Types) -> Result<Value, NoMemo
     ensures { IfOk result (λ value. value ≡ derived is_multi types.now) }
 {
     if is_multi {
-        return Ok(Value::Multi(Many::from_vec(Vec::new(alloc))?));
+        return Ok(Value::Multi(Multifield::from_vec(Vec::new(alloc))?));
     }
     derived_one(alloc, types)
 }

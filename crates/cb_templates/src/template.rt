@@ -58,7 +58,7 @@ impl Template {
         self.slots.get(place)
     }
 
-    /// Adds a slot behind the others. Growth is refused as `NoMemory`, and then nothing has changed.
+    /// Adds a slot after the others. Growth is refused as `NoMemory`, and then nothing has changed.
     pub(crate) fn push(&mut self, slot: Slot) -> Result<(), NoMemory>
         ensures ok { OnOk result (self.new ≡ self.old ++ slot ∷ []) }
         ensures err { OnErr result (self.new ≡ self.old) }

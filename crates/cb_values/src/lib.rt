@@ -4,7 +4,7 @@
 #![tactic(auto)]
 
 pub use cb_facts::{
-    Content, Fact, FactList, Many, Name, Single, Value, fact_text, is_among, plain_text,
+    Content, Fact, FactList, Multifield, Name, Single, Value, fact_text, is_among, plain_text,
     quoted_text, splice,
 };
 pub use cb_templates::{

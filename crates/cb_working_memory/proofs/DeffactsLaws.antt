@@ -1,4 +1,4 @@
--- A name that no group has goes behind all.
+-- A name that no group has goes after all.
 use Rattle.std.proofs.Common.{◌≡◌, Bool, true, false, List, [], ◌∷◌, ◌++◌, Some, None, refl, ap, cond, if◌then◌else◌}
 use Rattle.std.specs.Map.{lookup}
 use Rattle.indexmap.specs.IndexMap.{insert_entry}

@@ -1,5 +1,5 @@
 //! The errors of bytes: how they read, and that a refused growth becomes one. And that a trace takes no bytes.
-use cb_io::{NoMemory, ReadFault, Trace, WriteFault};
+use cb_io::{History, NoMemory, ReadFault, WriteFault};
 use std::alloc::{AllocError, Global};
 
 fn told(alloc: Global) -> Result<String, NoMemory> {
@@ -27,6 +27,6 @@ fn a_refusal_becomes_an_error(rt: HostRuntime) {
 
 #[test]
 fn a_trace_takes_no_bytes(rt: HostRuntime) {
-    let told = Trace::new().and(&7u64).again();
+    let told = History::new().and(&7u64).again();
     assert_eq!(rt; std::mem::size_of_val(&told), 0);
 }

@@ -4,7 +4,7 @@ use cb_forms::{Form, Item, NoMemory, read_items, split_head};
 use std::alloc::Global;
 
 /// A form, and what is shown of it: `=` and the symbol that it is, `(`, the symbol that it begins with and the members
-/// behind that, or nothing of these.
+/// after that, or nothing of these.
 const ROWS: [(&[u8], &[u8]); 14] = [
     (b"abc", b"=abc"),
     (b"\"abc\"", b""),

@@ -2,7 +2,7 @@
 use cb_forms::{Cutter, NoMemory};
 use std::alloc::Global;
 
-/// A text, and what is held behind each of its bytes, with a point behind each.
+/// A text, and what is held after each of its bytes, with a point after each.
 const ROWS: [(&[u8], &[u8]); 6] = [
     (b"ab ", b"a.ab.."),
     (b"(c;)\n)", b"(.(c.(c;.(c;).(c;)\n.."),
@@ -12,14 +12,14 @@ const ROWS: [(&[u8], &[u8]); 6] = [
     (b")~z(", b"..z.(."),
 ];
 
-/// One more byte, and what is held behind it.
+/// One more byte, and what is held after it.
 fn hold(cutter: &mut Cutter, byte: u8, held: &mut Vec<u8>) -> Result<(), NoMemory> {
     cutter.step(byte)?;
     held.extend_from_slice(cutter.held())?;
     Ok(())
 }
 
-/// What is held behind each byte.
+/// What is held after each byte.
 fn held(alloc: Global, cutter: &mut Cutter, text: &[u8]) -> Result<Vec<u8>, NoMemory> {
     let mut held = Vec::new(alloc);
     for byte in text {

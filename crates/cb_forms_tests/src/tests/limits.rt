@@ -37,7 +37,7 @@ const ROWS: [Row; 5] = [
     },
 ];
 
-/// How many bytes of the text fit: all, or those before the item's first byte behind the limit.
+/// How many bytes of the text fit: all, or those before the item's first byte after the limit.
 fn fitting(row: &Row, limit: usize) -> usize {
     if limit < row.length {
         row.start.saturating_add(limit)

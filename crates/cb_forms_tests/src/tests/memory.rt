@@ -30,7 +30,7 @@ const READS: [Reads; 20] = [
     (9, Some(3), b"41!0000"),
 ];
 
-/// One read: what it answers. The bytes that it gives come behind those that there are.
+/// One read: what it answers. The bytes that it gives come after those that there are.
 fn read(source: &mut MemSource<'_>, given: &mut Vec<u8>) -> Result<u8, NoMemory> {
     let mut buf = [0; 4];
     match source.read(&mut buf) {

@@ -207,7 +207,7 @@ fn takes_most_bytes(rt: HostRuntime) -> Result<(), NoMemory> {
     Ok(())
 }
 
-/// Adds the next run, and the byte behind it. What follows them is returned.
+/// Adds the next run, and the byte after it. What follows them is returned.
 fn mark_run<'a>(
     cutter: &mut Cutter,
     marks: &mut Vec<u8>,

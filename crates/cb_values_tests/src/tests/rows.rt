@@ -1,7 +1,8 @@
 //! Values, templates and facts from rows, and how they are shown.
 use cb_forms::{Form, Item, NoMemory, read_items, split_head};
 use cb_values::{
-    Fact, GivenSlot, Many, Name, Parts, Refused, Relations, Single, Value, build_fact, fact_text,
+    Fact, GivenSlot, Multifield, Name, Parts, Refused, Relations, Single, Value, build_fact,
+    fact_text,
 };
 use std::alloc::Global;
 
@@ -16,7 +17,7 @@ pub(crate) enum Field {
 /// A value.
 pub(crate) enum Row {
     One(Field),
-    Many(&'static [Field]),
+    Multifield(&'static [Field]),
 }
 
 /// The name with these bytes.
@@ -33,18 +34,18 @@ pub(crate) fn single(alloc: Global, field: &Field) -> Result<Single, NoMemory> {
     })
 }
 
-pub(crate) fn many(alloc: Global, fields: &[Field]) -> Result<Many, NoMemory> {
+pub(crate) fn many(alloc: Global, fields: &[Field]) -> Result<Multifield, NoMemory> {
     let mut singles = Vec::new(alloc);
     for field in fields {
         singles.push(single(alloc, field)?)?;
     }
-    Many::from_vec(singles)
+    Multifield::from_vec(singles)
 }
 
 pub(crate) fn value(alloc: Global, row: &Row) -> Result<Value, NoMemory> {
     match row {
         Row::One(field) => one(alloc, field),
-        Row::Many(fields) => Ok(Value::Multi(many(alloc, fields)?)),
+        Row::Multifield(fields) => Ok(Value::Multi(many(alloc, fields)?)),
     }
 }
 
@@ -105,7 +106,7 @@ fn written_value(alloc: Global, form: &Form) -> Result<Value, Refused> {
 fn multifield(alloc: Global, forms: &[Form]) -> Result<Value, Refused> {
     let values = constants(alloc, forms)?;
     let fields = cb_values::splice(alloc, values.as_slice())?;
-    Ok(Value::Multi(Many::from_vec(fields)?))
+    Ok(Value::Multi(Multifield::from_vec(fields)?))
 }
 
 fn written_values(alloc: Global, forms: &[Form]) -> Result<Vec<Value>, Refused> {
@@ -151,7 +152,7 @@ fn define(alloc: Global, relations: &mut Relations, form: &Form) -> Result<(), R
     }
 }
 
-/// The relations with templates, each written as a list of what stands behind `deftemplate`.
+/// The relations with templates, each written as a list of what stands after `deftemplate`.
 pub(crate) fn defined(alloc: Global, templates: &str) -> Result<Relations, Refused> {
     let mut relations = Relations::new(alloc);
     for form in forms(alloc, templates)? {
@@ -178,7 +179,7 @@ fn given_fact(
     build_fact(alloc, relations, Name::new(alloc, relation)?, parts)
 }
 
-/// The text of a fact, or the number of the fault behind a `!`.
+/// The text of a fact, or the number of the fault after a `!`.
 pub(crate) fn shown_fact(alloc: Global, fact: Result<Fact, Refused>) -> Result<Vec<u8>, NoMemory> {
     match fact {
         Ok(fact) => fact_text(alloc, &fact),
@@ -186,7 +187,7 @@ pub(crate) fn shown_fact(alloc: Global, fact: Result<Fact, Refused>) -> Result<V
     }
 }
 
-/// The number of a fault behind a `!`.
+/// The number of a fault after a `!`.
 pub(crate) fn shown_refusal(alloc: Global, refused: Refused) -> Result<Vec<u8>, NoMemory> {
     match refused {
         Refused::Fault(fault) => numbered(alloc, fault.number()),

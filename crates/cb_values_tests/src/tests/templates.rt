@@ -1,10 +1,10 @@
 //! Templates as they are written: their slots, and the faults of those that are refused.
 use super::rows::{Field, defined, forms, shown_refusal, single};
 use cb_forms::NoMemory;
-use cb_values::{Many, Name, Refused, Relations, Single, Slot, Value, quoted_text};
+use cb_values::{Multifield, Name, Refused, Relations, Single, Slot, Value, quoted_text};
 use std::alloc::Global;
 
-/// Templates, and the slots of `t`: behind a name `*` for a multislot, then its default, or `!` where each fact must give
+/// Templates, and the slots of `t`: after a name `*` for a multislot, then its default, or `!` where each fact must give
 /// it.
 const SLOTS: [(&str, &str); 23] = [
     ("(t (slot a))", "a nil "),
@@ -91,7 +91,7 @@ fn defines_templates(rt: HostRuntime) -> Result<(), Refused> {
     Ok(())
 }
 
-/// What stands behind `deftemplate`, and the number of its fault.
+/// What stands after `deftemplate`, and the number of its fault.
 const REFUSED: [(&str, &str); 50] = [
     // A type.
     ("t (slot a (type FLOAT))", "!14"),
@@ -217,7 +217,7 @@ fn allows(alloc: Global, slot: &Slot, field: Single) -> Result<(bool, bool), NoM
     let by_itself = slot.allows(&field);
     let mut fields = Vec::new(alloc);
     fields.push(field)?;
-    let in_many = slot.allows_all(&Value::Multi(Many::from_vec(fields)?))?;
+    let in_many = slot.allows_all(&Value::Multi(Multifield::from_vec(fields)?))?;
     Ok((by_itself, in_many))
 }
 

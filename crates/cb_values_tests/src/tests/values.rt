@@ -1,7 +1,7 @@
 //! Constants, the texts and the order of values, and parts of multifields.
 use super::rows::{Field, Row, forms, many, value};
 use cb_forms::{Form, NoMemory};
-use cb_values::{Many, Refused, Value, plain_text, quoted_text};
+use cb_values::{Multifield, Refused, Value, plain_text, quoted_text};
 use std::alloc::Global;
 use std::cmp::Ordering;
 
@@ -64,12 +64,12 @@ const TEXTS: [Texts; 12] = [
         quoted: "<Fact-18446744073709551615>",
     },
     Texts {
-        value: Row::Many(&[]),
+        value: Row::Multifield(&[]),
         plain: "()",
         quoted: "()",
     },
     Texts {
-        value: Row::Many(&MIXED),
+        value: Row::Multifield(&MIXED),
         plain: "(red \"a b\" -3 <Fact-7>)",
         quoted: "(red \"a b\" -3 <Fact-7>)",
     },
@@ -111,8 +111,8 @@ const RISING: [Row; 7] = [
     Row::One(Field::Str("a")),
     Row::One(Field::Int(1)),
     Row::One(Field::Address(1)),
-    Row::Many(&[]),
-    Row::Many(&[Field::Symbol("a"), Field::Int(1)]),
+    Row::Multifield(&[]),
+    Row::Multifield(&[Field::Symbol("a"), Field::Int(1)]),
 ];
 
 /// How each of them, copied, stands to each.
@@ -178,7 +178,7 @@ fn orders_values(rt: HostRuntime) -> Result<(), NoMemory> {
 }
 
 /// The text of the last field of these, shared, or of none.
-fn last(fields: &Many) -> Result<Many, NoMemory> {
+fn last(fields: &Multifield) -> Result<Multifield, NoMemory> {
     let len = fields.as_slice().len();
     fields.part(len.saturating_sub(1), len)
 }

@@ -83,7 +83,7 @@ pub(super) const FAULT_ROWS: [Row; 12] = [
         ],
         ..FAULTY
     },
-    // A default is compared with its type behind the attributes, before the next slot.
+    // A default is compared with its type after the attributes, before the next slot.
     Row {
         name: "default of another type",
         steps: &[(

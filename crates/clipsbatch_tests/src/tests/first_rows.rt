@@ -1,4 +1,4 @@
-//! Constants, ordered facts and printed lines. A word ends with the delimiter behind it, so a word's step has that delimiter
+//! Constants, ordered facts and printed lines. A word ends with the delimiter after it, so a word's step has that delimiter
 //! too.
 use super::rows::*;
 

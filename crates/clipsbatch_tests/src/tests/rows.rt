@@ -8,7 +8,7 @@ pub(super) type Step = (&'static [u8], &'static [u8]);
 pub(super) struct Row {
     pub(super) name: &'static str,
     pub(super) steps: &'static [Step],
-    /// The bytes behind the steps, which write nothing before the script's end, and what that end writes.
+    /// The bytes after the steps, which write nothing before the script's end, and what that end writes.
     pub(super) rest: Step,
     pub(super) max_form: usize,
     pub(super) outcome: Outcome,

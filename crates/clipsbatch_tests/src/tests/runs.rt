@@ -150,7 +150,7 @@ fn stopped_after(alloc: Global, row: &Row, came: usize) -> Result<(Vec<u8>, Outc
     Ok((written, if is_limited { row.outcome } else { READ_FAULT }))
 }
 
-/// Whether the read behind so many blocks stops the run where it fails: exactly what the bytes before it write is written, and
+/// Whether the read after so many blocks stops the run where it fails: exactly what the bytes before it write is written, and
 /// the item that is open then is not carried out.
 fn stops_after_blocks(
     alloc: Global,
@@ -190,7 +190,7 @@ fn stops_at_each_read(
     Ok(true)
 }
 
-/// Whether the run goes to its end where a read would fail behind the one that tells the script's end: that read does not come.
+/// Whether the run goes to its end where a read would fail after the one that tells the script's end: that read does not come.
 fn ends_before_a_read(
     alloc: Global,
     row: &Row,

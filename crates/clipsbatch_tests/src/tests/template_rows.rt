@@ -90,9 +90,9 @@ pub(super) const TEMPLATE_ROWS: [Row; 12] = [
         ],
         ..FAULTY
     },
-    // Indices go on behind facts that are gone.
+    // Indices go on after facts that are gone.
     Row {
-        name: "indices behind gone facts",
+        name: "indices after gone facts",
         steps: &[
             (b"(assert (a) (b) (c))", b"<Fact-3>\n"),
             (b"(retract 2)", b""),

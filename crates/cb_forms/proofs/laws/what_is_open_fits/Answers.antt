@@ -1,8 +1,8 @@
-use Rattle.cb_forms.proofs.ReadingLaws.{rest-fits, rest-behind}
+use Rattle.cb_forms.proofs.ReadingLaws.{rest-fits, rest-after}
 use Rattle.cb_forms.proofs.laws.what_is_open_fits.Goals as goal
 
 pub returns-clause-fits : goal.returns-clause-fits
 returns-clause-fits c = rest-fits
 
-pub returns-clause-behind : goal.returns-clause-behind
-returns-clause-behind c = rest-behind
+pub returns-clause-after : goal.returns-clause-after
+returns-clause-after c = rest-after

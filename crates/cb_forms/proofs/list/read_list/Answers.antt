@@ -19,7 +19,7 @@ loop-rest-preserved-then-is_blank c =
     let P : List ℕ → Type 0 = λ more. IsListSoFar c.args.list.now (frames_of c.loop-rest.nest) more in
     let some = eqb-false (length s) 0 (sym c.is_empty.ensures ∙ c.loop-rest-test.true) in
     let first = blank-first s (omega (arith, some)) (sym c.is_blank.ensures ∙ c.if-is_blank.true) in
-    subst P (sym c.behind_first-rest.ensures) (list-gap c.args.list.now (frames_of c.loop-rest.nest) s (get_or s 0 0 ∷ []) (drop 1 s) c.loop-rest.invariant first.0 first.1)
+    subst P (sym c.after_first-rest.ensures) (list-gap c.args.list.now (frames_of c.loop-rest.nest) s (get_or s 0 0 ∷ []) (drop 1 s) c.loop-rest.invariant first.0 first.1)
 
 pub loop-rest-preserved-in-Continue-branch-3 : goal.loop-rest-preserved-in-Continue-branch-3
 loop-rest-preserved-in-Continue-branch-3 c =

@@ -1,7 +1,7 @@
 use Rattle.std.proofs.Common.{◌≡◌, drop}
 use Rattle.cb_templates.specs.Building.{filled}
-use Rattle.cb_templates.proofs.Firsts.{behind_those}
+use Rattle.cb_templates.proofs.Firsts.{after_those}
 use Rattle.cb_templates.proofs.build.fill.Given as goal
 
 abbrev pub invariant-loop-slot : goal.invariant-loop-slot
-invariant-loop-slot l = behind_those l.content.items (filled (drop l.slot-index l.slots) l.given) ≡ filled l.slots l.given
+invariant-loop-slot l = after_those l.content.items (filled (drop l.slot-index l.slots) l.given) ≡ filled l.slots l.given

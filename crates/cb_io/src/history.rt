@@ -14,35 +14,35 @@ use std::marker::{Model, PhantomData};
 /// owner ties it to what is real, by a `Model` whose `invariant` relates it to the real fields, or by
 /// clauses that fix it in each method.
 #[derive(Drop)]
-pub struct Trace<T> {
+pub struct History<T> {
     of: PhantomData<T>,
     pub ghost items: { List T },
 }
 
-impl<T> Model for Trace<T> {
+impl<T> Model for History<T> {
     ghost also_owns = { λ _. ftrue };
 }
 
-impl<T> Trace<T> {
+impl<T> History<T> {
     /// The empty list.
-    pub fn new() -> Trace<T>
+    pub fn new() -> History<T>
         ensures { result.items ≡ [] }
     {
-        Trace { of: PhantomData }
+        History { of: PhantomData }
     }
 
     /// This list with one more item at its end. The list itself stays, so it is replaced by writing
     /// `self.stepped = self.stepped.and(&byte)`.
-    pub fn and(&self, last: &T) -> Trace<T>
+    pub fn and(&self, last: &T) -> History<T>
         ensures { result.items ≡ self.now.items ++ last.now ∷ [] }
     {
-        Trace { of: PhantomData }
+        History { of: PhantomData }
     }
 
     /// The same list once more, for a branch in which nothing happened.
-    pub fn again(&self) -> Trace<T>
+    pub fn again(&self) -> History<T>
         ensures { result.items ≡ self.now.items }
     {
-        Trace { of: PhantomData }
+        History { of: PhantomData }
     }
 }

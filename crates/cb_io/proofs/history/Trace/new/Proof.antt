@@ -29,11 +29,11 @@ use denote.Triple.Table.{entered}
 use denote.Triple.Walked.{says, Stays, walk_of, ends_at, walk_Meets}
 use Rattle.std.specs.contracts.marker.PhantomData as Marker
 use Rattle.cb_io.proofs.Walks.{empty, wrapped, wrap}
-use Rattle.cb_io.specs.contracts.trace.Trace as Trace
-use Rattle.cb_io.specs.contracts.trace.Trace.new as clauses
-use Rattle.cb_io.specs.contracts.trace.Trace.new.Key.{name as #key}
-use Rattle.cb_io.proofs.trace.Trace.new.Statement as stated
-use Rattle.cb_io.proofs.trace.Trace.new.Code as code
+use Rattle.cb_io.specs.contracts.history.History as History
+use Rattle.cb_io.specs.contracts.history.History.new as clauses
+use Rattle.cb_io.specs.contracts.history.History.new.Key.{name as #key}
+use Rattle.cb_io.proofs.history.History.new.Statement as stated
+use Rattle.cb_io.proofs.history.History.new.Code as code
 
 module _ (T : RattleType) where
   abbrev chosen : Args
@@ -68,7 +68,7 @@ module _ (T : RattleType) where
       walks =
           let a = z.0.3 in
           let vss = z.0.4 in
-          let made : (Trace.the_row item).Denot = record { of = record {}; items = [] } in
+          let made : (History.the_row item).Denot = record { of = record {}; items = [] } in
           qed 𝓛 ((raw tokens ⊛ ‵ (owns (types_at ended.signature.params z.0.0) a vss)) ∷ raw ((held z.0.0 a).requires z.1) ∷ []) ∵
           keep ! (0 ∷ []) $ split ! $ keep ! (0 ∷ []) $
           enter ! C Λ body [] Post $ alloc_all ! (λ l. pass_all ! refl tt $

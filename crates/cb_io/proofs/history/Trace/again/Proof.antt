@@ -31,11 +31,11 @@ use denote.Triple.Table.{entered}
 use denote.Triple.Walked.{says, Stays, stay_dropped, walk_of, ends_at, walk_Meets, Goes-dropped}
 use Rattle.std.specs.contracts.marker.PhantomData as Marker
 use Rattle.cb_io.proofs.Walks.{empty, wrapped, wrap}
-use Rattle.cb_io.specs.contracts.trace.Trace as Trace
-use Rattle.cb_io.specs.contracts.trace.Trace.again as clauses
-use Rattle.cb_io.specs.contracts.trace.Trace.again.Key.{name as #key}
-use Rattle.cb_io.proofs.trace.Trace.again.Statement as stated
-use Rattle.cb_io.proofs.trace.Trace.again.Code as code
+use Rattle.cb_io.specs.contracts.history.History as History
+use Rattle.cb_io.specs.contracts.history.History.again as clauses
+use Rattle.cb_io.specs.contracts.history.History.again.Key.{name as #key}
+use Rattle.cb_io.proofs.history.History.again.Statement as stated
+use Rattle.cb_io.proofs.history.History.again.Code as code
 
 module _ (T : RattleType) where
   abbrev chosen : Args
@@ -51,7 +51,7 @@ module _ (T : RattleType) where
   ended = clauses.ended T
 
   abbrev stayed : Stays ended.signature.params ended.kept
-  stayed = (stay_dropped (RefOf (0 ∷ []) tt (plain (λ _. Trace.the_row (param 0 T))) (λ _. tt)) yes, tt)
+  stayed = (stay_dropped (RefOf (0 ∷ []) tt (plain (λ _. History.the_row (param 0 T))) (λ _. tt)) yes, tt)
 
   module _ {M : Type 1} {𝓤 : Ura M} (𝓛 : Logic 𝓤) (at_mem : Memory → SProp 𝓤) (run : Routine → Fun 𝓤) where
     open 𝓛 use {H}
@@ -70,7 +70,7 @@ module _ (T : RattleType) where
       walks =
           let a = z.0.3 in
           let vss = z.0.4 in
-          let made : (Trace.the_row item).Denot = record { of = record {}; items = a.0.now.items } in
+          let made : (History.the_row item).Denot = record { of = record {}; items = a.0.now.items } in
           qed 𝓛 ((raw tokens ⊛ ‵ (owns (types_at ended.signature.params z.0.0) a vss)) ∷ raw ((held z.0.0 a).requires z.1) ∷ []) ∵
           keep ! (0 ∷ []) $ split ! $ move ! (1 ∷ []) $
           fsplit ! $ fsplit ! $ feq_l ! (λ self_is. drop ! $ drop ! $
@@ -87,7 +87,7 @@ module _ (T : RattleType) where
 
     meets : (𝓣 : Tables 𝓤 H) → Meets 𝓛 ended.signature (WpFn 𝓤 H 𝓣.C 𝓣.Λ body) (closing 𝓛 ended held)
     meets 𝓣 =
-        walk_Meets 𝓛 ended stayed (Goes-dropped 𝓛 2 (RefOf (0 ∷ []) tt (plain (λ _. Trace.the_row (param 0 T))) (λ _. tt)) yes (λ κs x f. refl), tt) held
+        walk_Meets 𝓛 ended stayed (Goes-dropped 𝓛 2 (RefOf (0 ∷ []) tt (plain (λ _. History.the_row (param 0 T))) (λ _. tt)) yes (λ κs x f. refl), tt) held
         (WpFn 𝓤 H 𝓣.C 𝓣.Λ body) (WpFn-mono 𝓤 H 𝓛.laws 𝓣 body) (walks 𝓣.C 𝓣.Λ)
 
 pub again_spec : {M : Type 1} → stated.statement M

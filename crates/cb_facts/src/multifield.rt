@@ -25,13 +25,13 @@ use std::rc::RcSlice;
 ///
 /// Contracts see the list of its fields.
 #[derive(Drop)]
-pub struct Many {
+pub struct Multifield {
     shared: RcSlice<Single>,
     start: u32,
     end: u32,
 }
 
-impl Model for Many {
+impl Model for Multifield {
     ghost use Rattle.std.specs.Prelude.{◌<◌, ◌≤◌, ◌^◌, List, length, slice_range};
     ghost use Rattle.std.specs.Rc.{rc_slice_items};
     ghost use Rattle.cb_facts.specs.declared.single.Single.{Single};
@@ -43,15 +43,15 @@ impl Model for Many {
     ghost invariant = { λ m. (m.start ≤ m.end) × (m.end ≤ length (rc_slice_items m.shared)) × (m.end < 2 ^ 32) };
 }
 
-impl Many {
+impl Multifield {
     /// These fields, taken over. Growth is refused as `NoMemory`, and so are 2^32 fields or more.
-    pub fn from_vec(fields: Vec<Single>) -> Result<Many, NoMemory>
+    pub fn from_vec(fields: Vec<Single>) -> Result<Multifield, NoMemory>
         ensures { IfOk result (λ m. m ≡ fields.items) }
     {
         let Ok(end) = u32::try_from(fields.len()) else {
             return Err(NoMemory);
         };
-        Ok(Many {
+        Ok(Multifield {
             shared: RcSlice::from_vec(fields)?,
             start: 0,
             end,
@@ -67,14 +67,14 @@ impl Many {
 
     /// The fields from `from` up to and without `to`, shared. It takes no memory, and is refused as `NoMemory` only where
     /// the count of the sharers is full.
-    pub fn part(&self, from: usize, to: usize) -> Result<Many, NoMemory>
+    pub fn part(&self, from: usize, to: usize) -> Result<Multifield, NoMemory>
         requires order { from ≤ to }
         requires within { to ≤ length self.now }
         ensures { IfOk result (λ m. m ≡ slice_range self.now from to) }
     {
         let before = self.start as usize;
         let shared = self.shared.clone()?;
-        Ok(Many {
+        Ok(Multifield {
             shared,
             start: (before + from) as u32,
             end: (before + to) as u32,
@@ -82,12 +82,12 @@ impl Many {
     }
 }
 
-impl Clone for Many {
+impl Clone for Multifield {
     ghost is_clone = { λ m copy. copy ≡ m };
 
-    fn clone(&self) -> Result<Many, AllocError> {
+    fn clone(&self) -> Result<Multifield, AllocError> {
         let shared = self.shared.clone()?;
-        Ok(Many {
+        Ok(Multifield {
             shared,
             start: self.start,
             end: self.end,
@@ -95,31 +95,31 @@ impl Clone for Many {
     }
 }
 
-impl PartialEq for Many {
+impl PartialEq for Multifield {
     ghost eq = { pointwise ⟦<Single as PartialEq>⟧.eq };
 
     ghost laws = { lists_per single_partial_eq.laws-law };
 
-    fn eq(&self, other: &Many) -> bool {
+    fn eq(&self, other: &Multifield) -> bool {
         self.as_slice() == other.as_slice()
     }
 }
 
-impl Eq for Many {
+impl Eq for Multifield {
     ghost laws = { lists_equiv single_eq.laws-law };
 }
 
-impl PartialOrd for Many {
+impl PartialOrd for Multifield {
     ghost partial_cmp = { slice_partial_cmp ⟦<Single as PartialOrd>⟧.partial_cmp };
 
     ghost laws = { lists_po single_partial_ord.laws-law };
 
-    fn partial_cmp(&self, other: &Many) -> Option<Ordering> {
+    fn partial_cmp(&self, other: &Multifield) -> Option<Ordering> {
         self.as_slice().partial_cmp(other.as_slice())
     }
 }
 
-impl Ord for Many {
+impl Ord for Multifield {
     ghost cmp = { slice_cmp ⟦<Single as Ord>⟧.cmp };
 
     ghost total = { lists_total single_ord.total-law };
@@ -128,12 +128,12 @@ impl Ord for Many {
 
     ghost matches_eq = { λ x y. lists_ties ⟦<Single as Ord>⟧.cmp single_ord.matches_eq-law x y };
 
-    fn cmp(&self, other: &Many) -> Ordering {
+    fn cmp(&self, other: &Multifield) -> Ordering {
         self.as_slice().cmp(other.as_slice())
     }
 }
 
-impl Hash for Many {
+impl Hash for Multifield {
     ghost hash_input = { λ m. fed.slice ⟦<Single as Hash>⟧.hash_input m };
 
     ghost respects_eq = { (items_Alike (record { fed = single_hash.respects_eq-law })).fed };
@@ -143,7 +143,7 @@ impl Hash for Many {
     }
 }
 
-impl fmt::Debug for Many {
+impl fmt::Debug for Multifield {
     fn fmt<W: fmt::Write>(&self, f: &mut fmt::Formatter<W>) -> fmt::Result {
         self.as_slice().fmt(f)
     }
