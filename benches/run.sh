@@ -13,10 +13,10 @@ place=$(mktemp -d)
 trap 'rm -rf "$place"' EXIT
 
 mkdir -p "$place/crates/bench_forms/src"
-cp -R "$top/crates/cb_forms" "$place/crates/cb_forms"
+cp -R "$top/crates/cb_io" "$top/crates/cb_forms" "$place/crates/"
 cp "$top/benches/forms.rt.txt" "$place/crates/bench_forms/src/main.rt"
 {
-    grep '^cb_forms:' "$top/crates.txt"
+    grep -E "^cb_(io|forms):" "$top/crates.txt"
     echo 'bench_forms: cb_forms'
 } >"$place/crates.txt"
 

@@ -6,7 +6,7 @@ use Rattle.cb_forms.specs.Bytes.{is_line_end}
 use Rattle.cb_forms.specs.Cuts.{opened_readings, open_bytes, part_with, readings_before}
 use Rattle.cb_forms.specs.Cutter.{IsInStep}
 use Rattle.cb_forms.specs.Items.{part_takes, is_gap, readings_of, is_open, ended_readings, whole, is_longer, over}
-use Rattle.cb_forms.specs.OpenParts.{IsKept, Reaches, part_after, CompletesNone, HasPassed}
+use Rattle.cb_forms.specs.OpenParts.{IsKept, Reaches, part_after, CompletesNone, HasPassed, TakesOrLeaves}
 use Rattle.cb_forms.specs.Places.{mode_takes, fresh_mode, continued_mode, next_mode, mode_is_open, next_depth, fresh_depth, StaysIn, IsOpenStep, StaysOpen, IsPlaceIn}
 use Rattle.cb_forms.specs.Trees.{Reading}
 use Rattle.cb_forms.specs.declared.cut.Cut.TheVariants as cut
@@ -190,12 +190,15 @@ none-mode part kept none =
 pub none-takes : (part : OpenPart) (b : ℕ) → IsKept part → part.bytes.items ≡ [] → part_takes part.spelled.items b ≡ mode_takes part.place.mode b
 none-takes part b kept none = place-takes part.spelled.items part.place.mode part.place.depth b kept.place_is ∙ ap (λ d. nat_lt 0 d || mode_takes part.place.mode b) (none-deep part kept none)
 
+taken-byte : (limit : ℕ) (old : OpenPart) (b : ℕ) (new : OpenPart) → Reaches limit (part_with old.spelled.items b) (readings_before old.spelled.items b) cut.More new → TakesOrLeaves limit old b true new
+taken-byte limit old b new goes = record { taken = λ _. goes; untouched = λ h. absurd (true≢false h) }
+
 -- a comment goes on
-pub passed-comment : (limit b : ℕ) (old new : OpenPart) → IsKept old → old.bytes.items ≡ [] → old.place.mode ≡ Comment → is_line_end b ≡ false → new.bytes.items ≡ old.bytes.items → new.place.mode ≡ old.place.mode → new.place.depth ≡ old.place.depth → new.spelled.items ≡ old.spelled.items ++ b ∷ [] → HasPassed limit old.spelled.items (b ∷ []) new
-passed-comment limit b old new kept none is inside bytes mode depth spelled =
+pub takes-comment : (limit b : ℕ) (old new : OpenPart) → IsKept old → old.bytes.items ≡ [] → old.place.mode ≡ Comment → is_line_end b ≡ false → new.bytes.items ≡ old.bytes.items → new.place.mode ≡ old.place.mode → new.place.depth ≡ old.place.depth → new.spelled.items ≡ old.spelled.items ++ b ∷ [] → TakesOrLeaves limit old b true new
+takes-comment limit b old new kept none is inside bytes mode depth spelled =
     let goes : mode_takes old.place.mode b ≡ true = ap (λ m. mode_takes m b) is ∙ ap not inside in
     let same : continued_mode old.place.mode b ≡ old.place.mode = ap (λ m. continued_mode m b) is ∙ sym is in
-    passed-one limit old.spelled.items b new (stays-comment limit b old new kept goes same none (bytes ∙ none) mode depth spelled)
+    taken-byte limit old b new (stays-comment limit b old new kept goes same none (bytes ∙ none) mode depth spelled)
 
 -- a mode in which no item is open, and no comment takes the byte
 mode-fresh : (m : Mode) (b : ℕ) → mode_is_open m ≡ false → (m ≡ Comment → is_line_end b ≡ true) → mode_takes m b ≡ false
@@ -212,21 +215,21 @@ gap-depth b gap = elim (cases_eq b 40) as (λ _. 0 ≡ fresh_depth b) [
 ]
 
 -- a blank, or a comment that begins
-pub passed-gap : (limit b : ℕ) (old new : OpenPart) → IsKept old → old.bytes.items ≡ [] → (old.place.mode ≡ Comment → is_line_end b ≡ true) → is_gap (b ∷ []) ≡ true → new.bytes.items ≡ old.bytes.items → new.place.mode ≡ fresh_mode b → new.place.depth ≡ 0 → new.spelled.items ≡ b ∷ [] → HasPassed limit old.spelled.items (b ∷ []) new
-passed-gap limit b old new kept none out gap bytes mode depth spelled =
+pub takes-gap : (limit b : ℕ) (old new : OpenPart) → IsKept old → old.bytes.items ≡ [] → (old.place.mode ≡ Comment → is_line_end b ≡ true) → is_gap (b ∷ []) ≡ true → new.bytes.items ≡ old.bytes.items → new.place.mode ≡ fresh_mode b → new.place.depth ≡ 0 → new.spelled.items ≡ b ∷ [] → TakesOrLeaves limit old b true new
+takes-gap limit b old new kept none out gap bytes mode depth spelled =
     let fresh = mode-fresh old.place.mode b (none-mode old kept none) out in
-    passed-one limit old.spelled.items b new (begins limit old.spelled.items b new (none-takes old b kept none ∙ fresh) (none-shut old kept none) (reaches-gap limit b [] cut.More new gap mode (depth ∙ gap-depth b gap) spelled (bytes ∙ none) refl refl))
+    taken-byte limit old b new (begins limit old.spelled.items b new (none-takes old b kept none ∙ fresh) (none-shut old kept none) (reaches-gap limit b [] cut.More new gap mode (depth ∙ gap-depth b gap) spelled (bytes ∙ none) refl refl))
 
 -- the first byte of an item that stays open
-pub passed-first : (limit b : ℕ) (old new : OpenPart) → IsKept old → old.bytes.items ≡ [] → mode_takes old.place.mode b ≡ false → 1 ≤ limit → new.bytes.items ≡ old.bytes.items ++ b ∷ [] → new.place.mode ≡ fresh_mode b → new.place.depth ≡ fresh_depth b → new.spelled.items ≡ b ∷ [] → (nat_lt 0 new.place.depth || mode_is_open new.place.mode) ≡ true → HasPassed limit old.spelled.items (b ∷ []) new
-passed-first limit b old new kept none fresh room bytes mode depth spelled opens =
+pub takes-first : (limit b : ℕ) (old new : OpenPart) → IsKept old → old.bytes.items ≡ [] → mode_takes old.place.mode b ≡ false → 1 ≤ limit → new.bytes.items ≡ old.bytes.items ++ b ∷ [] → new.place.mode ≡ fresh_mode b → new.place.depth ≡ fresh_depth b → new.spelled.items ≡ b ∷ [] → (nat_lt 0 new.place.depth || mode_is_open new.place.mode) ≡ true → TakesOrLeaves limit old b true new
+takes-first limit b old new kept none fresh room bytes mode depth spelled opens =
     let P : Mode → Type 0 = λ m. IsPlaceIn (b ∷ []) m new.place.depth in
     let Q : ℕ → Type 0 = λ d. IsPlaceIn (b ∷ []) (fresh_mode b) d in
     let at : IsPlaceIn (b ∷ []) new.place.mode new.place.depth = subst P (sym mode) (subst Q (sym depth) (place-fresh b)) in
     let is : is_open (b ∷ []) ≡ true = place-open (b ∷ []) new.place.mode new.place.depth at ∙ opens in
     let kept_now : new.bytes.items ≡ open_bytes (b ∷ []) = bytes ∙ (ap (λ it. it ++ b ∷ []) none ∙ sym (open_bytes-open (b ∷ []) is)) in
     let D : ℕ → Type 0 = λ d. d ≤ 1 in
-    passed-one limit old.spelled.items b new (begins limit old.spelled.items b new (none-takes old b kept none ∙ fresh) (none-shut old kept none) (reaches-item limit (b ∷ []) [] [] cut.More new (open-no_gap (b ∷ []) is) room at spelled kept_now (subst D (sym depth) (depth-fresh b)) refl refl (sym (ended-open (b ∷ []) is))))
+    taken-byte limit old b new (begins limit old.spelled.items b new (none-takes old b kept none ∙ fresh) (none-shut old kept none) (reaches-item limit (b ∷ []) [] [] cut.More new (open-no_gap (b ∷ []) is) room at spelled kept_now (subst D (sym depth) (depth-fresh b)) refl refl (sym (ended-open (b ∷ []) is))))
 
 -- the first byte of a text, and those after it
 pub take-first : (n : ℕ) (s : List ℕ) → 1 ≤ length s → take (1 + n) s ≡ (get_or s 0 0 ∷ []) ++ take n (drop 1 s)

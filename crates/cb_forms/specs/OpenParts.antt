@@ -1,10 +1,11 @@
 -- What is kept of the part that a text so far ends with.
-use Rattle.std.specs.Prelude.{◌≡◌, ◌≤◌, ℕ, true, false, List, [], ◌∷◌, ◌++◌, ⊤, length}
+use Rattle.std.specs.Prelude.{◌≡◌, ◌≤◌, ℕ, true, false, List, [], ◌∷◌, ◌++◌, ⊤, Bool, length, take}
 use Rattle.cb_forms.specs.Cuts.{cut_readings, is_too_long, open_bytes, part_with, readings_before}
 use Rattle.cb_forms.specs.Items.{ended_readings, is_longer}
 use Rattle.cb_forms.specs.Places.{IsPlaceIn}
 use Rattle.cb_forms.specs.Trees.{Reading}
 use Rattle.cb_forms.specs.declared.cut.Cut.{Cut}
+use Rattle.cb_forms.specs.declared.cut.Cut.TheVariants as cut
 use Rattle.cb_forms.specs.declared.open_part.OpenPart.{OpenPart}
 
 -- the bytes of the part where it is an open item, and the place after its last byte
@@ -38,3 +39,13 @@ pub record HasPassed (limit : ℕ) (w run : List ℕ) (part : OpenPart) : Type 0
   pub completes : CompletesNone limit w run
   pub spelled : part.spelled.items ≡ part_after w run
   pub kept : IsKept part
+
+-- what a function does that takes a byte only where that completes nothing
+pub record TakesOrLeaves (limit : ℕ) (old : OpenPart) (b : ℕ) (is_taken : Bool) (new : OpenPart) : Type 0 where
+  pub taken : is_taken ≡ true → Reaches limit (part_with old.spelled.items b) (readings_before old.spelled.items b) cut.More new
+  pub untouched : is_taken ≡ false → new ≡ old
+
+-- what a function does that takes as many of these bytes as it says, where these complete nothing
+pub record TakesRun (limit : ℕ) (old : OpenPart) (bytes : List ℕ) (taken : ℕ) (new : OpenPart) : Type 0 where
+  pub within : taken ≤ length bytes
+  pub passed : HasPassed limit old.spelled.items (take taken bytes) new

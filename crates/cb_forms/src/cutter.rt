@@ -11,11 +11,11 @@ use cb_io::{History, NoMemory};
 use std::alloc::Global;
 use std::marker::Model;
 
-/// Cuts a script into items, byte by byte (`docs/LANGUAGE.md`, "Items").
+/// Cuts a script into items, byte by byte or by runs of bytes (`docs/LANGUAGE.md`, "Items").
 ///
 /// It keeps the bytes of the item that is open, at most the limit, and nothing else of the script. How the bytes are
-/// cut into blocks doesn't matter, since each is a step of its own. A byte costs constant time, spread over the item
-/// that it belongs to.
+/// cut into blocks doesn't matter, since contracts speak of all bytes stepped. A byte costs constant time, spread over
+/// the item that it belongs to.
 ///
 /// Contracts see its limit, the bytes stepped and the items given since it was new or since its last `end`, and whether
 /// it has failed.
@@ -73,8 +73,10 @@ impl Cutter {
         ensures stepped { OnOk result (self.new.stepped ≡ self.old.stepped ++ byte ∷ []) }
         ensures given { IfOk result (λ cut. self.new.given ≡ self.old.given ++ cut_items cut) }
         // The items given are those that have ended in the bytes stepped.
-        ensures items { OnOk result (over self.new.limit self.new.stepped ≡ false → readings_in self.new.given ≡ whole self.new.stepped) }
-        ensures too_long { IfOk result (λ cut. is_too_long cut ≡ over self.new.limit self.new.stepped) }
+        ensures items { OnOk result (over self.new.limit self.new.stepped ≡ false
+            → readings_in self.new.given ≡ whole self.new.stepped) }
+        ensures too_long { IfOk result
+            (λ cut. is_too_long cut ≡ over self.new.limit self.new.stepped) }
         ensures ok { OnOk result (self.new.failed ≡ false) }
         ensures err { OnErr result (self.new.failed ≡ true) }
         ensures once { self.old.failed ≡ true → IsErr result }
@@ -102,11 +104,14 @@ impl Cutter {
     /// Growth is refused as `NoMemory`, and then so is every later call.
     pub fn step_within(&mut self, byte: u8) -> Result<bool, NoMemory>
         ensures limit { self.new.limit ≡ self.old.limit }
-        ensures stepped { IfOk result (λ is_taken. is_taken ≡ true → self.new.stepped ≡ self.old.stepped ++ byte ∷ []) }
+        ensures stepped { IfOk result
+            (λ is_taken. is_taken ≡ true → self.new.stepped ≡ self.old.stepped ++ byte ∷ []) }
         ensures given { OnOk result (self.new.given ≡ self.old.given) }
         // Nothing has ended in the byte.
-        ensures items { IfOk result (λ is_taken. is_taken ≡ true → readings_in self.new.given ≡ whole self.new.stepped) }
-        ensures fits { IfOk result (λ is_taken. is_taken ≡ true → over self.new.limit self.new.stepped ≡ false) }
+        ensures items { IfOk result
+            (λ is_taken. is_taken ≡ true → readings_in self.new.given ≡ whole self.new.stepped) }
+        ensures fits { IfOk result
+            (λ is_taken. is_taken ≡ true → over self.new.limit self.new.stepped ≡ false) }
         ensures untouched { IfOk result (λ is_taken. is_taken ≡ false → self.new ≡ self.old) }
         ensures ok { OnOk result (self.new.failed ≡ false) }
         ensures err { OnErr result (self.new.failed ≡ true) }
@@ -137,10 +142,12 @@ impl Cutter {
     pub fn step_run(&mut self, bytes: &[u8]) -> Result<usize, NoMemory>
         ensures limit { self.new.limit ≡ self.old.limit }
         ensures within { IfOk result (λ n. n ≤ length bytes.now) }
-        ensures stepped { IfOk result (λ n. self.new.stepped ≡ self.old.stepped ++ take n bytes.now) }
+        ensures stepped { IfOk result
+            (λ n. self.new.stepped ≡ self.old.stepped ++ take n bytes.now) }
         ensures given { OnOk result (self.new.given ≡ self.old.given) }
         // Nothing has ended in the run.
-        ensures items { IfOk result (λ n. 0 < n → readings_in self.new.given ≡ whole self.new.stepped) }
+        ensures items { IfOk result
+            (λ n. 0 < n → readings_in self.new.given ≡ whole self.new.stepped) }
         ensures fits { IfOk result (λ n. 0 < n → over self.new.limit self.new.stepped ≡ false) }
         ensures untouched { result ≡ Ok 0 → self.new ≡ self.old }
         ensures ok { OnOk result (self.new.failed ≡ false) }
@@ -166,10 +173,14 @@ impl Cutter {
     /// later call.
     pub fn end(&mut self) -> Result<Option<Item>, NoMemory>
         // With the item that is open at the end, the items given are those of the text.
-        ensures items { IfOk result (λ item. over self.old.limit self.old.stepped ≡ false → readings_in self.old.given ++ item_readings item ≡ items self.old.stepped) }
-        ensures fresh { OnOk result (over self.old.limit self.old.stepped ≡ false → self.new ≡ fresh_progress self.old.limit) }
-        ensures too_long { IfOk result (λ item. over self.old.limit self.old.stepped ≡ true → item ≡ None) }
-        ensures still { OnOk result (over self.old.limit self.old.stepped ≡ true → self.new ≡ self.old) }
+        ensures items { IfOk result (λ item. over self.old.limit self.old.stepped ≡ false
+            → readings_in self.old.given ++ item_readings item ≡ items self.old.stepped) }
+        ensures fresh { OnOk result (over self.old.limit self.old.stepped ≡ false
+            → self.new ≡ fresh_progress self.old.limit) }
+        ensures too_long { IfOk result
+            (λ item. over self.old.limit self.old.stepped ≡ true → item ≡ None) }
+        ensures still { OnOk result (over self.old.limit self.old.stepped ≡ true
+            → self.new ≡ self.old) }
         ensures ok { OnOk result (self.new.failed ≡ false) }
         ensures err { OnErr result (self.new.failed ≡ true) }
         ensures once { self.old.failed ≡ true → IsErr result }
@@ -191,8 +202,10 @@ impl Cutter {
     /// The bytes of the item that is open, at most the limit; none after a `TooLong`. After a `NoMemory` they may be
     /// any.
     pub fn held(&self) -> &[u8]
-        ensures rest { self.now.failed ≡ false → over self.now.limit self.now.stepped ≡ false → result.now ≡ rest self.now.stepped }
-        ensures too_long { self.now.failed ≡ false → over self.now.limit self.now.stepped ≡ true → result.now ≡ [] }
+        ensures rest { self.now.failed ≡ false → over self.now.limit self.now.stepped ≡ false
+            → result.now ≡ rest self.now.stepped }
+        ensures too_long { self.now.failed ≡ false → over self.now.limit self.now.stepped ≡ true
+            → result.now ≡ [] }
         ensures within { self.now.failed ≡ false → length result.now ≤ self.now.limit }
     {
         self.part.bytes.as_slice()

@@ -18,7 +18,8 @@ pub enum Form {
 impl Form {
     /// The bytes of the symbol that the form is; `None` of any other form.
     pub fn symbol(&self) -> Option<&[u8]>
-        ensures { MatchOption result (symbol_of (tree_of self.now) ≡ None) (λ name. symbol_of (tree_of self.now) ≡ Some name.now) }
+        ensures { MatchOption result (symbol_of (tree_of self.now) ≡ None)
+            (λ name. symbol_of (tree_of self.now) ≡ Some name.now) }
     {
         match self {
             Form::Atom(token) => token.symbol(),
@@ -29,7 +30,8 @@ impl Form {
     /// The symbol that a list begins with, and the members after it; `None` of an atom and of a list that begins with
     /// anything else or is empty.
     pub fn call(&self) -> Option<(&[u8], &[Form])>
-        ensures { MatchOption result (call_of (tree_of self.now) ≡ None) (λ call. call_of (tree_of self.now) ≡ Some (call.0.now, members call.1.now)) }
+        ensures { MatchOption result (call_of (tree_of self.now) ≡ None)
+            (λ call. call_of (tree_of self.now) ≡ Some (call.0.now, members call.1.now)) }
     {
         match self {
             Form::Atom(_) => None,
@@ -40,7 +42,8 @@ impl Form {
 
 /// The symbol that forms begin with, and the forms after it; `None` where they begin with anything else or are none.
 pub fn split_head(forms: &[Form]) -> Option<(&[u8], &[Form])>
-    ensures { MatchOption result (head_and_rest (members forms.now) ≡ None) (λ split. head_and_rest (members forms.now) ≡ Some (split.0.now, members split.1.now)) }
+    ensures { MatchOption result (head_and_rest (members forms.now) ≡ None)
+        (λ split. head_and_rest (members forms.now) ≡ Some (split.0.now, members split.1.now)) }
 {
     let (first, rest) = forms.split_first()?;
     Some((first.symbol()?, rest))

@@ -29,9 +29,11 @@ pub fn too_long_stays()
 /// After an item that is longer than the limit nothing counts, and where there is none all items fit. What has ended
 /// before there is one is among those that fit.
 pub fn what_fits_is_settled()
-    ensures settled { (limit : ℕ) (p r : List ℕ) → over limit p ≡ true → fitting limit (p ++ r) ≡ fitting limit p }
+    ensures settled { (limit : ℕ) (p r : List ℕ) → over limit p ≡ true
+        → fitting limit (p ++ r) ≡ fitting limit p }
     ensures all { (limit : ℕ) (s : List ℕ) → over limit s ≡ false → fitting limit s ≡ items s }
-    ensures ended { (limit : ℕ) (p r : List ℕ) → over limit p ≡ false → BeginsWith (whole p) (fitting limit (p ++ r)) }
+    ensures ended { (limit : ℕ) (p r : List ℕ) → over limit p ≡ false
+        → BeginsWith (whole p) (fitting limit (p ++ r)) }
 {}
 
 /// What is open of a text stands at its end, after the items that have ended. Unless an item is too long, it has no
@@ -44,15 +46,20 @@ pub fn what_is_open_fits()
 /// A form is the tree that is written, whatever stands after it and whichever blanks and comments stand in it, unless
 /// its lists nest more than 200 deep. No two trees are written alike.
 pub fn a_form_is_as_it_is_written()
-    ensures first { (t : Tree) (ls : List Lexeme) → levels_of (written t ++ ls) ≡ put_first t (levels_of ls) }
-    ensures read { (t : Tree) (s : List ℕ) → without_gaps (lexemes s) ≡ written t → depth_of t ≤ 200 → list_reading (lexemes s) ≡ Ok t }
-    ensures deep { (t : Tree) (s : List ℕ) → without_gaps (lexemes s) ≡ written t → 200 < depth_of t → list_reading (lexemes s) ≡ Err NestingTooDeep }
+    ensures first { (t : Tree) (ls : List Lexeme)
+        → levels_of (written t ++ ls) ≡ put_first t (levels_of ls) }
+    ensures read { (t : Tree) (s : List ℕ) → without_gaps (lexemes s) ≡ written t → depth_of t ≤ 200
+        → list_reading (lexemes s) ≡ Ok t }
+    ensures deep { (t : Tree) (s : List ℕ) → without_gaps (lexemes s) ≡ written t → 200 < depth_of t
+        → list_reading (lexemes s) ≡ Err NestingTooDeep }
     ensures unique { (t u : Tree) → written t ≡ written u → t ≡ u }
 {}
 
 /// A text without a fault is its forms as they are written, with blanks and comments between the lexemes: no item is
 /// lost or made up, and their order is kept. And such a text reads as those forms, unless lists nest more than 200 deep.
 pub fn a_text_is_its_forms_as_written()
-    ensures written { (s : List ℕ) (ts : List Tree) → items s ≡ map Ok ts → without_gaps (lexemes s) ≡ flat_map written ts }
-    ensures read { (s : List ℕ) (ts : List Tree) → All (λ t. depth_of t ≤ 200) ts → without_gaps (lexemes s) ≡ flat_map written ts → items s ≡ map Ok ts }
+    ensures written { (s : List ℕ) (ts : List Tree) → items s ≡ map Ok ts
+        → without_gaps (lexemes s) ≡ flat_map written ts }
+    ensures read { (s : List ℕ) (ts : List Tree) → All (λ t. depth_of t ≤ 200) ts
+        → without_gaps (lexemes s) ≡ flat_map written ts → items s ≡ map Ok ts }
 {}

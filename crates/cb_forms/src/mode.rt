@@ -82,7 +82,8 @@ impl Mode {
 
     /// Whether the piece goes on with the byte, and waits for the same as before.
     pub(crate) fn stays(self, byte: u8) -> bool
-        ensures { result ≡ true → (mode_takes self byte ≡ true) × (continued_mode self byte ≡ self) }
+        ensures { result ≡ true
+            → (mode_takes self byte ≡ true) × (continued_mode self byte ≡ self) }
     {
         match self {
             Mode::Word => !is_delimiter(byte),

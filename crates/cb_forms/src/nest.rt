@@ -47,7 +47,9 @@ impl Nest {
 
     /// Puts a form into the innermost list.
     pub(crate) fn add(&mut self, form: Form) -> Result<(), NoMemory>
-        ensures frames { OnOk result ((levels : List (List Tree)) → closed_up (frames_of self.new) levels ≡ closed_up (frames_of self.old) (put_first (tree_of form) levels)) }
+        ensures frames { OnOk result ((levels : List (List Tree))
+            → closed_up (frames_of self.new) levels
+            ≡ closed_up (frames_of self.old) (put_first (tree_of form) levels)) }
         ensures depth { OnOk result (length (frames_of self.new) ≡ length (frames_of self.old)) }
     {
         self.inner.push(form)?;
@@ -56,9 +58,13 @@ impl Nest {
 
     /// Closes the innermost list. If it was the only one, the list is the answer.
     pub(crate) fn close(&mut self) -> Result<Option<Form>, NoMemory>
-        ensures inner { result ≡ Ok None → (levels : List (List Tree)) → closed_up (frames_of self.new) levels ≡ closed_up (frames_of self.old) ([] ∷ levels) }
-        ensures only { IfOk result (λ list. IfSome list (λ form. (levels : List (List Tree)) → first_tree (closed_up (frames_of self.old) ([] ∷ levels)) ≡ tree_of form)) }
-        ensures depth { IfOk result (λ list. MatchOption list (length (frames_of self.old) ≡ length (frames_of self.new) + 1) (λ _. length (frames_of self.old) ≡ 1)) }
+        ensures inner { result ≡ Ok None → (levels : List (List Tree))
+            → closed_up (frames_of self.new) levels ≡ closed_up (frames_of self.old) ([] ∷ levels) }
+        ensures only { IfOk result (λ list. IfSome list (λ form. (levels : List (List Tree))
+            → first_tree (closed_up (frames_of self.old) ([] ∷ levels)) ≡ tree_of form)) }
+        ensures depth { IfOk result (λ list. MatchOption list
+            (length (frames_of self.old) ≡ length (frames_of self.new) + 1)
+            (λ _. length (frames_of self.old) ≡ 1)) }
     {
         let list = Form::List(mem::replace(&mut self.inner, Vec::new(self.alloc)));
         let Some(mut around) = self.outer.pop() else {

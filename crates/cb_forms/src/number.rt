@@ -90,7 +90,8 @@ fn is_exponent(text: &[u8]) -> bool
 /// The number that digits stand for, or `None` where it does not fit 64 bits.
 fn digits_value(digits: &[u8]) -> Option<u64>
     requires { All (λ b. IsTrue (is_digit b)) digits.now }
-    ensures { SomeIff result (spec.digits_value digits.now < 2 ^ 64) (spec.digits_value digits.now) }
+    ensures { SomeIff result (spec.digits_value digits.now < 2 ^ 64)
+        (spec.digits_value digits.now) }
 {
     let mut value: u64 = 0;
     for digit in digits {

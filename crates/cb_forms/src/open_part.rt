@@ -2,7 +2,7 @@
 ghost use Rattle.std.specs.Prelude.{◌≡◌, ◌||◌, ◌≤◌, ◌<◌, ℕ, nat_lt, List, [], ◌∷◌, ◌++◌, true, false, length, take, IfOk, IfSome, OnOk, if◌then◌else◌};
 ghost use Rattle.cb_forms.specs.Cuts.{item_readings, opened_readings, open_bytes, part_with, readings_before};
 ghost use Rattle.cb_forms.specs.Items.{is_gap, part_takes, readings_of, ended_readings};
-ghost use Rattle.cb_forms.specs.OpenParts.{HasPassed, IsKept, Reaches};
+ghost use Rattle.cb_forms.specs.OpenParts.{HasPassed, IsKept, Reaches, TakesOrLeaves, TakesRun};
 ghost use Rattle.cb_forms.specs.Places.{continued_mode, fresh_mode, mode_is_open, mode_takes, IsPlaceIn};
 
 use crate::byte_kinds::is_blank;
@@ -41,7 +41,8 @@ impl OpenPart {
     /// let go.
     pub(crate) fn step(&mut self, alloc: Global, limit: usize, byte: u8) -> Result<Cut, NoMemory>
         requires { IsKept self.old }
-        ensures { IfOk result (λ cut. Reaches limit (part_with self.old.spelled.items byte) (readings_before self.old.spelled.items byte) cut self.new) }
+        ensures { IfOk result (λ cut. Reaches limit (part_with self.old.spelled.items byte)
+            (readings_before self.old.spelled.items byte) cut self.new) }
     {
         if self.place.takes(byte) {
             self.go_on(alloc, limit, byte)
@@ -53,8 +54,7 @@ impl OpenPart {
     /// Takes the next byte where that completes nothing, and says whether it did. Where it didn't, nothing has changed.
     pub(crate) fn step_within(&mut self, limit: usize, byte: u8) -> Result<bool, NoMemory>
         requires { IsKept self.old }
-        ensures taken { IfOk result (λ is_taken. is_taken ≡ true → Reaches limit (part_with self.old.spelled.items byte) (readings_before self.old.spelled.items byte) Cut.More self.new) }
-        ensures untouched { IfOk result (λ is_taken. is_taken ≡ false → self.new ≡ self.old) }
+        ensures { IfOk result (λ is_taken. TakesOrLeaves limit self.old byte is_taken self.new) }
     {
         if self.place.mode.stays(byte) {
             self.stay(limit, byte)
@@ -68,8 +68,7 @@ impl OpenPart {
     /// Takes the longest beginning of these bytes that plainly completes nothing, and says how many bytes that is.
     pub(crate) fn step_run(&mut self, limit: usize, bytes: &[u8]) -> Result<usize, NoMemory>
         requires { IsKept self.old }
-        ensures within { IfOk result (λ n. n ≤ length bytes.now) }
-        ensures passed { IfOk result (λ n. HasPassed limit self.old.spelled.items (take n bytes.now) self.new) }
+        ensures { IfOk result (λ n. TakesRun limit self.old bytes.now n self.new) }
     {
         if !self.bytes.is_empty() {
             return self.stay_open(limit, bytes);
@@ -85,7 +84,8 @@ impl OpenPart {
         requires kept { IsKept self.old }
         requires none { self.old.bytes.items ≡ [] }
         ensures within { result ≤ length bytes.now }
-        ensures passed { (limit : ℕ) → HasPassed limit self.old.spelled.items (take result bytes.now) self.new }
+        ensures passed { (limit : ℕ)
+            → HasPassed limit self.old.spelled.items (take result bytes.now) self.new }
         ensures none { self.new.bytes.items ≡ [] }
     {
         let mut end = 0;
@@ -99,8 +99,7 @@ impl OpenPart {
     fn pass_gap(&mut self, byte: u8) -> bool
         requires kept { IsKept self.old }
         requires none { self.old.bytes.items ≡ [] }
-        ensures passed { result ≡ true → (limit : ℕ) → HasPassed limit self.old.spelled.items (byte ∷ []) self.new }
-        ensures untouched { result ≡ false → self.new ≡ self.old }
+        ensures passed { (limit : ℕ) → TakesOrLeaves limit self.old byte result self.new }
         ensures none { self.new.bytes.items ≡ [] }
     {
         if self.place.mode.is_comment_with(byte) {
@@ -119,8 +118,7 @@ impl OpenPart {
     fn open(&mut self, limit: usize, bytes: &[u8]) -> Result<usize, NoMemory>
         requires kept { IsKept self.old }
         requires none { self.old.bytes.items ≡ [] }
-        ensures within { IfOk result (λ n. n ≤ length bytes.now) }
-        ensures passed { IfOk result (λ n. HasPassed limit self.old.spelled.items (take n bytes.now) self.new) }
+        ensures { IfOk result (λ n. TakesRun limit self.old bytes.now n self.new) }
     {
         let [first, rest @ ..] = bytes else {
             return Ok(0);
@@ -136,10 +134,9 @@ impl OpenPart {
     fn begin_item(&mut self, limit: usize, byte: u8) -> Result<bool, NoMemory>
         requires kept { IsKept self.old }
         requires none { self.old.bytes.items ≡ [] }
-        ensures passed { IfOk result (λ is_begun. is_begun ≡ true
-            → HasPassed limit self.old.spelled.items (byte ∷ []) self.new) }
+        ensures begun { IfOk result
+            (λ is_begun. TakesOrLeaves limit self.old byte is_begun self.new) }
         ensures some { IfOk result (λ is_begun. is_begun ≡ true → 0 < length self.new.bytes.items) }
-        ensures untouched { IfOk result (λ is_begun. is_begun ≡ false → self.new ≡ self.old) }
     {
         let place = Place::fresh(byte);
         if limit == 0 || self.place.mode.takes(byte) || !place.is_open() {
@@ -155,8 +152,7 @@ impl OpenPart {
     fn stay_open(&mut self, limit: usize, bytes: &[u8]) -> Result<usize, NoMemory>
         requires kept { IsKept self.old }
         requires some { 0 < length self.old.bytes.items }
-        ensures within { IfOk result (λ n. n ≤ length bytes.now) }
-        ensures passed { IfOk result (λ n. HasPassed limit self.old.spelled.items (take n bytes.now) self.new) }
+        ensures { IfOk result (λ n. TakesRun limit self.old bytes.now n self.new) }
     {
         let room = limit.saturating_sub(self.bytes.len()).min(bytes.len());
         let (inside, _) = bytes.split_at(room);
@@ -173,8 +169,7 @@ impl OpenPart {
         requires kept { IsKept self.old }
         requires takes { mode_takes self.old.place.mode byte ≡ true }
         requires stays { continued_mode self.old.place.mode byte ≡ self.old.place.mode }
-        ensures taken { IfOk result (λ is_taken. is_taken ≡ true → Reaches limit (part_with self.old.spelled.items byte) (readings_before self.old.spelled.items byte) Cut.More self.new) }
-        ensures untouched { IfOk result (λ is_taken. is_taken ≡ false → self.new ≡ self.old) }
+        ensures { IfOk result (λ is_taken. TakesOrLeaves limit self.old byte is_taken self.new) }
     {
         if self.bytes.is_empty() {
             // a comment
@@ -194,8 +189,7 @@ impl OpenPart {
         requires kept { IsKept self.old }
         requires ended { self.old.place.mode ≡ Mode.Ended }
         requires closed { self.old.place.depth ≡ 0 }
-        ensures taken { IfOk result (λ is_taken. is_taken ≡ true → Reaches limit (part_with self.old.spelled.items byte) (readings_before self.old.spelled.items byte) Cut.More self.new) }
-        ensures untouched { IfOk result (λ is_taken. is_taken ≡ false → self.new ≡ self.old) }
+        ensures { IfOk result (λ is_taken. TakesOrLeaves limit self.old byte is_taken self.new) }
     {
         let place = Place::fresh(byte);
         if is_blank(byte) || byte == b';' {
@@ -215,7 +209,8 @@ impl OpenPart {
     fn go_on(&mut self, alloc: Global, limit: usize, byte: u8) -> Result<Cut, NoMemory>
         requires kept { IsKept self.old }
         requires takes { part_takes self.old.spelled.items byte ≡ true }
-        ensures { IfOk result (λ cut. Reaches limit (self.old.spelled.items ++ byte ∷ []) [] cut self.new) }
+        ensures { IfOk result
+            (λ cut. Reaches limit (self.old.spelled.items ++ byte ∷ []) [] cut self.new) }
     {
         self.place = self.place.after(byte);
         self.spelled = self.spelled.and(&byte);
@@ -234,7 +229,8 @@ impl OpenPart {
 
     fn begin(&mut self, alloc: Global, limit: usize, byte: u8) -> Result<Cut, NoMemory>
         requires { IsKept self.old }
-        ensures { IfOk result (λ cut. Reaches limit (byte ∷ []) (opened_readings self.old.spelled.items) cut self.new) }
+        ensures { IfOk result (λ cut.
+            Reaches limit (byte ∷ []) (opened_readings self.old.spelled.items) cut self.new) }
     {
         let first = take_open(alloc, &mut self.bytes, self.place)?;
         self.place = Place::fresh(byte);
@@ -253,7 +249,8 @@ impl OpenPart {
     /// The open item, as if the script ended here, or none. Afterwards it is as before the first byte.
     pub(crate) fn finish(&mut self, alloc: Global) -> Result<Option<Item>, NoMemory>
         requires { IsKept self.old }
-        ensures item { IfOk result (λ item. item_readings item ≡ opened_readings self.old.spelled.items) }
+        ensures item { IfOk result
+            (λ item. item_readings item ≡ opened_readings self.old.spelled.items) }
         ensures kept { OnOk result (IsKept self.new) }
         ensures spelled { OnOk result (self.new.spelled.items ≡ []) }
     {
@@ -280,8 +277,10 @@ fn take_ended(alloc: Global, bytes: &mut Vec<u8>, place: Place) -> Result<Option
 
 /// The item of these bytes, if one is open at their end. Then the bytes are let go.
 fn take_open(alloc: Global, bytes: &mut Vec<u8>, place: Place) -> Result<Option<Item>, NoMemory>
-    requires { (nat_lt 0 place.depth || mode_is_open place.mode) ≡ true → IsPlaceIn bytes.old.items place.mode place.depth }
-    ensures item { IfOk result (λ item. item_readings item ≡ (if nat_lt 0 place.depth || mode_is_open place.mode then readings_of bytes.old.items else [])) }
+    requires { (nat_lt 0 place.depth || mode_is_open place.mode) ≡ true
+        → IsPlaceIn bytes.old.items place.mode place.depth }
+    ensures item { IfOk result (λ item. item_readings item
+        ≡ (if nat_lt 0 place.depth || mode_is_open place.mode then readings_of bytes.old.items else [])) }
     ensures bytes { OnOk result (bytes.new.items ≡ []) }
 {
     let item = if !place.is_open() {

@@ -72,7 +72,8 @@ impl Place {
     /// How many of the first of these bytes plainly leave an item that is open here as it is.
     fn still_run(self, bytes: &[u8]) -> usize
         ensures within { result ≤ length bytes.now }
-        ensures stays { StaysOpen self.mode self.depth (take result bytes.now) self.mode self.depth }
+        ensures stays { StaysOpen self.mode self.depth (take result bytes.now)
+            self.mode self.depth }
     {
         let mut end = 0;
         while end < bytes.len() && self.stays(bytes[end]) {
@@ -86,7 +87,8 @@ impl Place {
     pub(crate) fn open_run(self, bytes: &[u8]) -> (usize, Place)
         requires { self.depth + length bytes.now ≤ usize.MAX }
         ensures within { result.0 ≤ length bytes.now }
-        ensures stays { StaysOpen self.mode self.depth (take result.0 bytes.now) result.1.mode result.1.depth }
+        ensures stays { StaysOpen self.mode self.depth (take result.0 bytes.now)
+            result.1.mode result.1.depth }
     {
         let mut place = self;
         let mut end = 0;

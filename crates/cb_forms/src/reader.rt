@@ -57,7 +57,8 @@ fn read_last_part(alloc: Global, part: &[u8], place: Place) -> Result<Option<Ite
 
 /// Puts an item at the end, if there is one.
 fn keep(read: &mut Vec<Item>, item: Option<Item>) -> Result<(), NoMemory>
-    ensures { OnOk result (map reading_of read.new.items ≡ map reading_of read.old.items ++ item_readings item) }
+    ensures { OnOk result (map reading_of read.new.items
+        ≡ map reading_of read.old.items ++ item_readings item) }
 {
     if let Some(item) = item {
         read.push(item)?;

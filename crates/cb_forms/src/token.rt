@@ -34,7 +34,8 @@ pub enum Token {
 impl Token {
     /// The bytes of a symbol; `None` of any other atom.
     pub fn symbol(&self) -> Option<&[u8]>
-        ensures { MatchOption result (token_symbol self.now ≡ None) (λ name. token_symbol self.now ≡ Some name.now) }
+        ensures { MatchOption result (token_symbol self.now ≡ None)
+            (λ name. token_symbol self.now ≡ Some name.now) }
     {
         match self {
             Token::Symbol(name) => Some(name.as_slice()),

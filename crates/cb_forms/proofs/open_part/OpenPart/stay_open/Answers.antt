@@ -4,8 +4,8 @@ use Rattle.cb_forms.specs.Places.{StaysOpen}
 use Rattle.cb_forms.proofs.RunLaws.{passed-open}
 use Rattle.cb_forms.proofs.open_part.OpenPart.stay_open.Goals as goal
 
-pub returns-clause-passed : goal.returns-clause-passed
-returns-clause-passed c =
+pub returns : goal.returns
+returns c =
     let old = c.args.self.now in
     let s = c.args.bytes.now in
     let n = c.open_run-end.result.0 in
@@ -18,4 +18,4 @@ returns-clause-passed c =
     let inside : n ≤ length s = omega (arith, c.min-room.ensures, low) in
     let long = length-take-le n s inside in
     let short : length (take n s) ≤ c.args.limit - length old.bytes.items = omega (arith, c.min-room.ensures, c.saturating_sub.ensures, c.len.ensures, old.bytes.ok.0, long, low) in
-    passed-open c.args.limit (take n s) old _ c.requires.kept c.requires.some short (subst P same c.open_run-end.ensures.stays) (c.in_ok-extend_from_slice.ensures.items ∙ ap (λ it. old.bytes.items ++ it) run) (c.with_run-self.ensures ∙ ap (λ it. old.spelled.items ++ it) run)
+    record { within = inside; passed = passed-open c.args.limit (take n s) old _ c.requires.kept c.requires.some short (subst P same c.open_run-end.ensures.stays) (c.in_ok-extend_from_slice.ensures.items ∙ ap (λ it. old.bytes.items ++ it) run) (c.with_run-self.ensures ∙ ap (λ it. old.spelled.items ++ it) run) }
