@@ -98,7 +98,6 @@ fn given_within(alloc: Global, cutter: &mut Cutter, text: &[u8]) -> Result<Shown
     Ok(shown)
 }
 
-<<<<<<< ours
 /// How many bytes the next run has.
 fn run_of(cutter: &mut Cutter, text: &[u8]) -> Result<usize, NoMemory>
     ensures { IfOk result (λ n. n ≤ length text.now) }
@@ -106,8 +105,6 @@ fn run_of(cutter: &mut Cutter, text: &[u8]) -> Result<usize, NoMemory>
     cutter.step_run(text)
 }
 
-=======
->>>>>>> theirs
 /// The next run of bytes and the byte after it. What follows them is returned.
 fn add_run<'a>(
     cutter: &mut Cutter,
