@@ -119,7 +119,17 @@ fn feeds(
     requires { session.old.stop ≡ None → IsReady out.old }
     ensures { session.new.stop ≡ None → IsReady out.new }
 {
-    session.feed(piece, out) == answer
+    is_flow(session.feed(piece, out), answer)
+}
+
+/// Whether the answer of a `feed` is this one.
+fn is_flow(got: Result<Flow, Stop>, answer: Result<Flow, Stop>) -> bool {
+    got == answer
+}
+
+/// Whether the answer of a `finish` is this one.
+fn is_status(got: Result<Status, Stop>, answer: Result<Status, Stop>) -> bool {
+    got == answer
 }
 
 /// Whether the session answers so where the script ends.
@@ -127,7 +137,7 @@ fn finishes(session: &mut Session, out: &mut Out<MemSink>, answer: Result<Status
     requires { session.old.stop ≡ None → IsReady out.old }
     ensures { session.new.stop ≡ None → IsReady out.new }
 {
-    session.finish(out) == answer
+    is_status(session.finish(out), answer)
 }
 
 /// Whether this is what the sink has from a place on.
