@@ -92,7 +92,7 @@ first-written t u ls more h =
 -- the list at the front of a text that is forms as they are written, where the first form is a list
 record IsListOf (cs : List ℕ) (us : Trees) (after more : List Lexeme) : Type 0 where
   pub says : readings_of (40 ∷ cs) ≡ Ok (branch us) ∷ []
-  pub after : after ≡ more
+  pub same : after ≡ more
 
 front-list : (cs : List ℕ) (us : Trees) (after more : List Lexeme) → TakesAll part_takes (40 ∷ []) cs → is_open_list (40 ∷ cs) ≡ false → 1 + deepest us ≤ 200 → without_gaps (lexemes (40 ∷ cs)) ++ after ≡ written (branch us) ++ more → IsListOf cs us after more
 front-list cs us after more takes shut low h =
@@ -106,7 +106,7 @@ front-list cs us after more takes shut low h =
     let spells : without_gaps (lexemes (40 ∷ cs)) ≡ written t = list-spelled t cs takes shut says in
     let same : t ≡ branch us = first-written t (branch us) after more (sym (ap (λ it. it ++ after) spells) ∙ h) in record {
       says = ap (λ it. (if it then Err FormNotClosed else list_reading (lexemes (40 ∷ cs))) ∷ []) shut ∙ ap (λ it. it ∷ []) (says ∙ ap Ok same);
-      after = append_cancel_left (written (branch us)) after more (sym (ap (λ it. it ++ after) (spells ∙ ap written same)) ∙ h);
+      same = append_cancel_left (written (branch us)) after more (sym (ap (λ it. it ++ after) (spells ∙ ap written same)) ∙ h);
     }
 
 -- an open list isn't the end of such a text
@@ -153,7 +153,7 @@ module _ (ws : List (List ℕ)) (more : (ts : List Tree) → AreFlat ts → spel
       let begins : Opening ∷ (without_gaps (lexemes cs) ++ spelled ws) ≡ Atom (Ok a) ∷ flat_map written ts = sym (ap (λ it. it ++ spelled ws) all) ∙ h in cc
   reads-closed cs (branch us ∷ ts) takes shut flat h =
       let is = front-list cs us (spelled ws) (flat_map written ts) takes shut (All-head (λ t. depth_of t ≤ 200) (branch us) ts flat) h in
-      ap (λ it. it ++ flat_map readings_of ws) is.says ∙ ap (λ it. Ok (branch us) ∷ it) (more ts (All-tail (λ t. depth_of t ≤ 200) (branch us) ts flat) is.after)
+      ap (λ it. it ++ flat_map readings_of ws) is.says ∙ ap (λ it. Ok (branch us) ∷ it) (more ts (All-tail (λ t. depth_of t ≤ 200) (branch us) ts flat) is.same)
 
 -- an open list is the last part
 open-last : (cs : List ℕ) (ws : List (List ℕ)) (ts : List Tree) → is_open_list (40 ∷ cs) ≡ true → EndsBefore part_takes (40 ∷ cs) ws → without_gaps (lexemes (40 ∷ cs)) ++ spelled ws ≡ flat_map written ts → ⊥
