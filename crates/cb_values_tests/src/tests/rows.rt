@@ -132,6 +132,7 @@ fn given_slots(alloc: Global, forms: &[Form]) -> Result<Vec<GivenSlot>, Refused>
 }
 
 /// The relation of a fact and what it is given, by their text. A list stands for a multifield.
+#[derive(Clone, Copy)]
 pub(crate) enum Given {
     Fields(&'static str),
     Slots(&'static str),

@@ -1,5 +1,6 @@
 //! Whole runs over memory: however the script comes, and with each read and each write failing in turn.
-ghost use Rattle.std.specs.Prelude.{◌<◌};
+ghost use Rattle.std.specs.Prelude.{◌<◌, ◌≤◌};
+ghost use Rattle.cb_io.specs.Output.{IsReady};
 
 use super::examples::EXAMPLES;
 use super::fault_rows::FAULT_ROWS;
@@ -42,10 +43,21 @@ const READ_FAULT: Outcome = Outcome {
     cause: Cause::ReadFault,
 };
 
+/// This number, if an item may have so many bytes.
+fn form_limit(max_form: usize) -> usize
+    ensures least { 1 ≤ result }
+    ensures greatest { result ≤ 16777216 }
+{
+    if max_form == 0 || max_form > 16_777_216 {
+        return 1;
+    }
+    max_form
+}
+
 fn limits(max_form: usize) -> Limits {
-    let is_within = 1 <= max_form && max_form <= 16_777_216;
+    let max_form = form_limit(max_form);
     Limits {
-        max_form: if is_within { max_form } else { 1 },
+        max_form,
         max_firings: 1000,
         max_turns: 1000,
     }
@@ -59,11 +71,28 @@ struct Want<'a> {
     outcome: Outcome,
 }
 
+/// How a run over these ends.
+fn outcome_of<S: Source>(
+    alloc: Global,
+    source: &mut S,
+    out: &mut Out<MemSink>,
+    max_form: usize,
+) -> Outcome
+    requires { IsReady out.old }
+{
+    run(alloc, source, out, limits(max_form))
+}
+
+/// Whether a run that ended so and wrote this is as it should be.
+fn is_as_wanted(outcome: Outcome, written: &[u8], want: Want<'_>) -> bool {
+    outcome == want.outcome && written == want.written
+}
+
 /// Whether a run over these ends goes so.
 fn goes<S: Source>(alloc: Global, source: &mut S, sink: MemSink, want: Want<'_>) -> bool {
     let mut out = Out::new(sink);
-    let outcome = run(alloc, source, &mut out, limits(want.max_form));
-    outcome == want.outcome && out.sink().bytes() == want.written
+    let outcome = outcome_of(alloc, source, &mut out, want.max_form);
+    is_as_wanted(outcome, out.sink().bytes(), want)
 }
 
 /// Whether it goes so with so many bytes a read, and with all that is written taken at once.
@@ -344,9 +373,13 @@ enum End {
 fn end_of_run(alloc: Global, script: &[u8], sink: MemSink, want: Want<'_>) -> End {
     let mut out = Out::new(sink);
     let mut source = MemSource::new(script, 7, None);
-    let outcome = run(alloc, &mut source, &mut out, limits(want.max_form));
-    let written = out.sink().bytes();
-    if outcome == want.outcome && written == want.written {
+    let outcome = outcome_of(alloc, &mut source, &mut out, want.max_form);
+    end_by(outcome, out.sink().bytes(), want)
+}
+
+/// What a run that ended so and wrote this is.
+fn end_by(outcome: Outcome, written: &[u8], want: Want<'_>) -> End {
+    if is_as_wanted(outcome, written, want) {
         End::AsWanted
     } else if outcome == NO_MEMORY && want.written.starts_with(written) {
         End::Refused

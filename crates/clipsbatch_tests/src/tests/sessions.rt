@@ -161,12 +161,17 @@ fn answers(session: &mut Session, out: &mut Out<MemSink>, call: &Call) -> bool
     }
 }
 
+/// Whether the call should answer a `Stop`.
+fn is_stop(call: &Call) -> bool {
+    match call {
+        Call::Feed(_, want) => want.is_err(),
+        Call::Finish(want) => want.is_err(),
+    }
+}
+
 /// Whether the session is stopped after a call that should answer a `Stop`, and after no other.
 fn stops(session: &Session, call: &Call) -> bool {
-    match call {
-        Call::Feed(_, want) => session.failed() == want.is_err(),
-        Call::Finish(want) => session.failed() == want.is_err(),
-    }
+    session.failed() == is_stop(call)
 }
 
 /// Whether the session shows what is open after this turn, and the sink has what was written.
