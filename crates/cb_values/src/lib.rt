@@ -8,6 +8,6 @@ pub use cb_facts::{
     quoted_text, splice,
 };
 pub use cb_templates::{
-    GivenSlot, Parts, Refused, Relations, Slot, build_fact, find_given, find_slot, is_reserved,
-    laws, without_comment,
+    GivenSlot, GivenSlots, Parts, Refused, Relations, Slot, Template, build_fact, build_slots,
+    find_given, find_slot, is_reserved, laws, without_comment,
 };
