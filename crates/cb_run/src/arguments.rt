@@ -1,9 +1,9 @@
 //! The whole program, with the words that the system has for it.
-ghost use Rattle.std.specs.Prelude.{◌≡◌, ◌⊎◌, List, IfOk, map};
+ghost use Rattle.std.specs.Prelude.{◌≡◌, ◌⊎◌, List, IfOk, IfErr, map};
 ghost use Rattle.std.specs.String.{string_bytes};
 ghost use Rattle.clap.specs.Words.{Text};
 ghost use Rattle.cb_io.specs.Output.{IsReady};
-ghost use Rattle.cb_run.specs.Statuses.{EndedBefore, EndedByRun, Untouched};
+ghost use Rattle.cb_run.specs.Statuses.{EndedBefore, EndedByRun, HadNoWords};
 
 use crate::program::carry_out;
 use crate::reports::{ended, no_memory, refused};
@@ -27,7 +27,8 @@ pub fn run_program<R: AllocGlobal + Env + Print + Eprint, S: Source, K: Sink>(
         ⊎ EndedBefore words result
         (S.left source.old) (S.left source.new) (S.reads source.old) (S.reads source.new)
         (K.writes out.old.sink) (K.writes out.new.sink)))
-        ⊎ Untouched (S.left source.old) (S.left source.new) (S.reads source.old) (S.reads source.new)
+        ⊎ HadNoWords result
+        (S.left source.old) (S.left source.new) (S.reads source.old) (S.reads source.new)
         (K.writes out.old.sink) (K.writes out.new.sink) }
 {
     match given_words(rt) {
@@ -37,7 +38,9 @@ pub fn run_program<R: AllocGlobal + Env + Print + Eprint, S: Source, K: Sink>(
 }
 
 /// The program's words, its name first. Where they can't be had, that is reported, and this is the exit status.
-fn given_words<R: AllocGlobal + Env + Eprint>(rt: &R) -> Result<Vec<String>, u8> {
+fn given_words<R: AllocGlobal + Env + Eprint>(rt: &R) -> Result<Vec<String>, u8>
+    ensures { IfErr result (λ status. (status ≡ 2) ⊎ (status ≡ 3)) }
+{
     let args = match env::args(rt) {
         Ok(args) => args,
         Err(error) if error.kind() == io::ErrorKind::OutOfMemory => return Err(no_memory(rt)),
