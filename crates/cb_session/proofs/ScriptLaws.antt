@@ -1,5 +1,5 @@
 -- A script that goes on by what a byte completes, and by what is open at its end.
-use Rattle.std.proofs.Common.{◌≡◌, ◌≤◌, ◌<◌, ◌+◌, ℕ, true, false, List, [], ◌∷◌, ◌++◌, Option, Some, None, length, take, drop, get_or, refl, sym, ap, ◌∙◌, subst, inl, inr, if◌then◌else◌}
+use Rattle.std.proofs.Common.{◌≡◌, ◌≤◌, ◌<◌, ◌+◌, arith, ℕ, zero, suc, true, false, List, [], ◌∷◌, ◌++◌, Option, Some, None, length, take, drop, get_or, refl, sym, ap, ap₂, ◌∙◌, subst, inl, inr, if◌then◌else◌}
 use Rattle.std.proofs.lemmas.Bool.{cases_Bool}
 use Rattle.std.proofs.lemmas.List.{append-nil, append_assoc, map-append, take_more}
 use Rattle.std.proofs.Math.Seq.{drop-append_seam}
@@ -113,6 +113,39 @@ module _ (l : Limits) (fed : List ℕ) (cutter : Progress) (state : State) (way 
             so_far-fits l (p ++ b ∷ []) fits ∙ (ap (after_all begun) wholes ∙ (after_all-append begun (whole p) (cut_readings given)
             ∙ (ap (λ it. after_all it (cut_readings given)) (sym way-start) ∙ (sym (joined-all here (from state) (cut_readings given)) ∙ (ap (joined here) (sym run_is) ∙ sym far)))))
       ]
+
+  -- a run of bytes that complete nothing
+  pub way-run : (q : List ℕ) (cutter' : Progress) → cutter'.limit ≡ cutter.limit → cutter'.stepped ≡ cutter.stepped ++ q → cutter'.given ≡ cutter.given → readings_in cutter'.given ≡ whole cutter'.stepped
+      → over cutter'.limit cutter'.stepped ≡ false → cutter'.failed ≡ false → IsUnderWay l (fed ++ q) cutter' state
+  way-run q cutter' limit stepped given whole_is fits fine =
+      let bytes : cutter'.stepped ≡ fed ++ q = stepped ∙ ap (λ it. it ++ q) way.stepped in
+      let all : readings_in cutter'.given ≡ whole (fed ++ q) = whole_is ∙ ap whole bytes in
+      let same : whole fed ≡ whole (fed ++ q) = sym way.given ∙ (ap readings_in (sym given) ∙ all) in
+      record {
+        limit = limit ∙ way.limit;
+        stepped = bytes;
+        some = way.some;
+        fine = fine;
+        fits = sym (ap₂ over (limit ∙ way.limit) bytes) ∙ fits;
+        given = all;
+        state_is = way.state_is ∙ ap (λ xs. (after_all begun xs).state) same;
+        goes = ap (λ xs. (after_all begun xs).status) (sym same) ∙ way.goes;
+      }
+
+  -- the same of any first bytes of these, none too
+  pub way-taken : (bytes : List ℕ) (n : ℕ) (cutter' : Progress) → cutter'.limit ≡ cutter.limit → cutter'.stepped ≡ cutter.stepped ++ take n bytes → cutter'.given ≡ cutter.given
+      → (0 < n → readings_in cutter'.given ≡ whole cutter'.stepped) → (0 < n → over cutter'.limit cutter'.stepped ≡ false) → (n ≡ 0 → cutter' ≡ cutter) → cutter'.failed ≡ false
+      → IsUnderWay l (fed ++ take n bytes) cutter' state
+  way-taken bytes zero cutter' limit stepped given whole_is fits none fine =
+      let there : IsUnderWay l (fed ++ []) cutter state = subst (λ p. IsUnderWay l p cutter state) (sym (append-nil fed)) way in
+      subst (λ (it : Progress). IsUnderWay l (fed ++ []) it state) (sym (none refl)) there
+  way-taken bytes (suc n) cutter' limit stepped given whole_is fits none fine = way-run (take (suc n) bytes) cutter' limit stepped given (whole_is (omega arith)) (fits (omega arith)) fine
+
+  -- a run adds nothing
+  pub run-nothing : (q : List ℕ) (cutter' : Progress) → IsUnderWay l (fed ++ q) cutter' state → cutter'.given ≡ cutter.given → added l fed q ≡ []
+  run-nothing q cutter' way' given =
+      let same : whole fed ≡ whole (fed ++ q) = sym way.given ∙ (ap readings_in (sym given) ∙ way'.given) in
+      added-joined l fed q (from state) (so_far-fits l (fed ++ q) way'.fits ∙ (ap (after_all begun) (sym same) ∙ (sym way-start ∙ ap (λ it. joined it (from state)) (sym (so_far-fits l fed way.fits)))))
 
   -- the run of a whole script, by the item that is open at its end
   pub complete-end : (item : Option Item) → (over cutter.limit cutter.stepped ≡ false → readings_in cutter.given ++ item_readings item ≡ items cutter.stepped)

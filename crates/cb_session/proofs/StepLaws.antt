@@ -1,6 +1,7 @@
 -- A session that takes a byte more, and ends.
 use Rattle.std.proofs.Common.{◌≡◌, ◌+◌, ◌<◌, ℕ, true, false, List, [], ◌∷◌, ◌++◌, Option, Some, None, Result, Ok, Err, IfOk, OnOk, is_some, refl, sym, ap, ap₂, ◌∙◌, subst, length, take, drop, get_or, append_assoc}
 use Rattle.std.proofs.lemmas.List.{append-nil, take_more, take-append-drop}
+use Rattle.std.proofs.Math.Seq.{take-add}
 use Rattle.cb_forms.specs.Cuts.{item_readings, cut_items, is_too_long}
 use Rattle.cb_forms.specs.Cutter.{Progress, readings_in}
 use Rattle.cb_forms.specs.Items.{items, whole, over}
@@ -51,14 +52,6 @@ module _ {K : Type 0} (writes : K → Writes) (o o1 : OutState K) (l : Limits) (
   pub steps-refused : o.fault ≡ false → Steps writes o o l fed b cutter' state' (Err stop.NoMemory)
   steps-refused fine = record { puts = puts_nothing writes o (added l fed (b ∷ [])) fine; status = tt; goes = tt }
 
-module _ {K : Type 0} (writes : K → Writes) (o : OutState K) (l : Limits) (fed : List ℕ) (b : ℕ) (cutter cutter' : Progress) (state : State) (way : IsUnderWay l fed cutter state) where
-  -- a byte that completes nothing
-  pub steps-within : o.fault ≡ false → cutter'.limit ≡ cutter.limit → cutter'.stepped ≡ cutter.stepped ++ b ∷ [] → cutter'.given ≡ cutter.given → readings_in cutter'.given ≡ whole cutter'.stepped → over cutter'.limit cutter'.stepped ≡ false → cutter'.failed ≡ false
-      → Steps writes o o l fed b cutter' state (Ok None)
-  steps-within fine limit stepped given whole_is fits ok =
-      steps-cut writes o o l fed b cutter cutter' state state way cut.More (Ok None) limit stepped (given ∙ sym (append-nil cutter.given)) (λ _. whole_is) (sym fits) ok
-      (record { puts = puts_none writes o fine; state_is = refl; status_is = refl })
-
 module _ {K : Type 0} (writes : K → Writes) (o o1 : OutState K) (l : Limits) (fed : List ℕ) (cutter : Progress) (state state' : State) (way : IsUnderWay l fed cutter state) where
   -- the end, and the item that is open there
   ends-run : (item : Option Item) (result : Result (Option Status) Stop) → (over cutter.limit cutter.stepped ≡ false → readings_in cutter.given ++ item_readings item ≡ items cutter.stepped)
@@ -80,24 +73,24 @@ module _ {K : Type 0} (writes : K → Writes) (o o1 : OutState K) (l : Limits) (
       let P : OutState K → Type 0 = λ it. Executes writes o it state' (Ok None) (after_all (from state) []) in
       ends-run None (Ok None) items_is (subst P (sym same) (record { puts = puts_none writes o fine; state_is = still; status_is = refl }))
 
--- a byte after the end
-pub after-end-status : (l : Limits) (fed : List ℕ) (b : ℕ) (o : Option Status) → o ≡ (so_far l fed).status → is_some o ≡ true → o ≡ (so_far l (fed ++ b ∷ [])).status
-after-end-status l fed b None e some = absurd (cc)
-after-end-status l fed b (Some status) e some = sym (ended-status l fed (b ∷ []) status (sym e))
+-- bytes after the end
+pub after-end-status : (l : Limits) (fed q : List ℕ) (o : Option Status) → o ≡ (so_far l fed).status → is_some o ≡ true → o ≡ (so_far l (fed ++ q)).status
+after-end-status l fed q None e some = absurd (cc)
+after-end-status l fed q (Some status) e some = sym (ended-status l fed q status (sym e))
 
-pub after-end-adds : (l : Limits) (fed : List ℕ) (b : ℕ) (o : Option Status) → o ≡ (so_far l fed).status → is_some o ≡ true → added l fed (b ∷ []) ≡ []
-after-end-adds l fed b None e some = absurd (cc)
-after-end-adds l fed b (Some status) e some = ended-adds l fed (b ∷ []) status (sym e)
+pub after-end-adds : (l : Limits) (fed q : List ℕ) (o : Option Status) → o ≡ (so_far l fed).status → is_some o ≡ true → added l fed q ≡ []
+after-end-adds l fed q None e some = absurd (cc)
+after-end-adds l fed q (Some status) e some = ended-adds l fed q status (sym e)
 
 pub none-of : {T : Type 0} (o : Option T) → is_some o ≡ false → o ≡ None
 none-of None h = refl
 none-of (Some x) h = absurd (cc)
 
--- a session that has taken a byte after the end
-pub taken-after-end : (s t : SessionState) (b : ℕ) → s.stop ≡ None → is_some s.status ≡ true → s.status ≡ (so_far s.limits s.fed).status → t ≡ record s { fed = s.fed ++ b ∷ [] }
-    → t ≡ session_after s.limits (s.fed ++ b ∷ []) (so_far s.limits (s.fed ++ b ∷ [])).status
-taken-after-end s t b on some goes is =
-    is ∙ ap₂ (λ (o : Option Status) (u : Option Stop). record { limits = s.limits; fed = s.fed ++ b ∷ []; status = o; stop = u }) (after-end-status s.limits s.fed b s.status goes some) on
+-- a session that has taken bytes after the end
+pub taken-after-end : (s t : SessionState) (q : List ℕ) → s.stop ≡ None → is_some s.status ≡ true → s.status ≡ (so_far s.limits s.fed).status → t ≡ record s { fed = s.fed ++ q }
+    → t ≡ session_after s.limits (s.fed ++ q) (so_far s.limits (s.fed ++ q)).status
+taken-after-end s t q on some goes is =
+    is ∙ ap₂ (λ (o : Option Status) (u : Option Stop). record { limits = s.limits; fed = s.fed ++ q; status = o; stop = u }) (after-end-status s.limits s.fed q s.status goes some) on
 
 -- a session before the next byte of a piece
 pub session-here : (s : SessionState) → s.stop ≡ None → s.status ≡ (so_far s.limits s.fed).status → s ≡ session_after s.limits (s.fed ++ []) (so_far s.limits (s.fed ++ [])).status
@@ -128,3 +121,21 @@ module _ (s0 s : SessionState) (bytes : List ℕ) (i : ℕ) (here : s ≡ sessio
       let rest = added s0.limits (s0.fed ++ take (i + 1) bytes) (drop (i + 1) bytes) in
       ap (added s0.limits s0.fed) (sym (take-append-drop (i + 1) bytes)) ∙ (added-then s0.limits s0.fed (take (i + 1) bytes) (drop (i + 1) bytes)
       ∙ (ap (λ it. it ++ rest) (adds-next below) ∙ append_assoc (added s0.limits s0.fed (take i bytes)) (added s.limits s.fed (get_or bytes i 0 ∷ [])) rest))
+
+  -- a run of bytes that adds nothing
+  run-split : (n : ℕ) → take (i + n) bytes ≡ take i bytes ++ take n (drop i bytes)
+  run-split n = take-add i n bytes
+
+  pub run-next : (t : SessionState) (n : ℕ) → t ≡ session_after s.limits (s.fed ++ take n (drop i bytes)) (so_far s.limits (s.fed ++ take n (drop i bytes))).status
+      → t ≡ session_after s0.limits (s0.fed ++ take (i + n) bytes) (so_far s0.limits (s0.fed ++ take (i + n) bytes)).status
+  run-next t n is =
+      is ∙ (ap (λ (it : SessionState). session_after it.limits (it.fed ++ take n (drop i bytes)) (so_far it.limits (it.fed ++ take n (drop i bytes))).status) here
+      ∙ ap (λ p. session_after s0.limits p (so_far s0.limits p).status) (append_assoc s0.fed (take i bytes) (take n (drop i bytes)) ∙ ap (λ it. s0.fed ++ it) (sym (run-split n))))
+
+  pub run-adds : (n : ℕ) → added s.limits s.fed (take n (drop i bytes)) ≡ [] → added s0.limits s0.fed (take (i + n) bytes) ≡ added s0.limits s0.fed (take i bytes)
+  run-adds n none =
+      ap (added s0.limits s0.fed) (run-split n) ∙ (added-then s0.limits s0.fed (take i bytes) (take n (drop i bytes))
+      ∙ (ap (λ it. added s0.limits s0.fed (take i bytes) ++ it) (sym (ap (λ (it : SessionState). added it.limits it.fed (take n (drop i bytes))) here) ∙ none) ∙ append-nil (added s0.limits s0.fed (take i bytes))))
+
+  pub adds-rest : added s0.limits s0.fed bytes ≡ added s0.limits s0.fed (take i bytes) ++ added s0.limits (s0.fed ++ take i bytes) (drop i bytes)
+  adds-rest = ap (added s0.limits s0.fed) (sym (take-append-drop i bytes)) ∙ added-then s0.limits s0.fed (take i bytes) (drop i bytes)

@@ -1,5 +1,5 @@
 //! A script carried out while it comes.
-ghost use Rattle.std.specs.Prelude.{◌≡◌, ◌≤◌, List, ℕ, ◌++◌, [], ◌∷◌, Some, None, Ok, Err, IfOk, IfErr, IfSome, IsSome, OnOk, is_some, length, false};
+ghost use Rattle.std.specs.Prelude.{◌≡◌, ◌≤◌, List, ℕ, ◌++◌, [], ◌∷◌, Some, None, Ok, Err, IfOk, IfErr, IfSome, IsSome, OnOk, is_some, length, take, false};
 ghost use Rattle.cb_forms.specs.Items.{rest};
 ghost use Rattle.cb_io.specs.Output.{IsReady, OutState, Puts};
 ghost use Rattle.cb_session.specs.Scripts.{Ends, IsUnderWay, Steps};
@@ -11,6 +11,7 @@ use crate::engine::Engine;
 use crate::limits::Limits;
 use crate::status::{Ending, Flow, Status, Stop};
 use cb_forms::{Cutter, History, Out, Sink};
+use cb_io::with_all;
 use std::alloc::Global;
 use std::marker::Model;
 
@@ -124,10 +125,38 @@ impl Session {
         ensures puts { Puts K.writes out.old out.new (stop_extent result)
             (added self.old.limits self.old.fed bytes.now) }
     {
-        for byte in bytes {
-            self.take(*byte, out)?;
+        let mut done = 0;
+        while done < bytes.len() {
+            done += self.take_run(&bytes[done..])?;
+            if done < bytes.len() {
+                self.take(bytes[done], out)?;
+                done += 1;
+            }
         }
         Ok(())
+    }
+
+    /// Takes a beginning of the next bytes that completes nothing, and returns how many bytes that is. Nothing is written
+    /// for it. After the script's end all bytes are such.
+    fn take_run(&mut self, bytes: &[u8]) -> Result<usize, Stop>
+        requires on { self.old.stop ≡ None }
+        requires goes { self.old.status ≡ (so_far self.old.limits self.old.fed).status }
+        ensures within { IfOk result (λ n. n ≤ length bytes.now) }
+        ensures fed { IfOk result (λ n. HasTaken self.old (take n bytes.now) self.new result) }
+        ensures adds { IfOk result
+            (λ n. added self.old.limits self.old.fed (take n bytes.now) ≡ []) }
+        ensures err { IfErr result (λ stop. stop ≡ Stop.NoMemory) }
+    {
+        if let Some(_) = self.status {
+            self.fed = with_all(&self.fed, bytes);
+            return Ok(bytes.len());
+        }
+        self.stop = Some(Stop::NoMemory);
+        let n = self.cutter.step_run(bytes)?;
+        let (run, _) = bytes.split_at(n);
+        self.fed = with_all(&self.fed, run);
+        self.stop = None;
+        Ok(n)
     }
 
     /// Takes the next byte, and carries out what it completes. After the script's end a byte does nothing.
@@ -253,27 +282,9 @@ impl Session {
     }
 }
 
-/// Takes the next byte of a script that goes on, and executes what it completes. The answer is the status, where the script ends
-/// with it. A byte that completes nothing, as nearly all do, is cheap.
+/// Takes the next byte of a script that goes on, and executes what it completes. The answer is the status, where the
+/// script ends with it.
 fn step<K: Sink>(
-    cutter: &mut Cutter,
-    engine: &mut Engine,
-    byte: u8,
-    out: &mut Out<K>,
-) -> Result<Option<Status>, Stop>
-    requires { out.old.fault ≡ false }
-    ensures { (limits : Limits) (fed : List ℕ) → IsUnderWay limits fed cutter.old engine.old
-        → Steps K.writes out.old out.new limits fed byte cutter.new engine.new result }
-{
-    match cutter.step_within(byte) {
-        Ok(true) => Ok(None),
-        Ok(false) => step_on(cutter, engine, byte, out),
-        Err(_) => Err(Stop::NoMemory),
-    }
-}
-
-/// The same of a byte that may complete an item.
-fn step_on<K: Sink>(
     cutter: &mut Cutter,
     engine: &mut Engine,
     byte: u8,
@@ -290,8 +301,8 @@ fn step_on<K: Sink>(
     engine.execute_cut(&cut, out)
 }
 
-/// Executes the item that is open at the end of a script, if there is one. The answer is the status, where the script ends with
-/// it.
+/// Executes the item that is open at the end of a script, if there is one. The answer is the status, where the script
+/// ends with it.
 fn execute_last<K: Sink>(
     cutter: &mut Cutter,
     engine: &mut Engine,

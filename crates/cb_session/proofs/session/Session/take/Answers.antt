@@ -9,12 +9,12 @@ use Rattle.cb_session.proofs.session.Session.take.Goals as goal
 pub returns-then-is_some-clause-fed : goal.returns-then-is_some-clause-fed
 returns-then-is_some-clause-fed g c =
     let some : is_some c.args.self.now.status ≡ true = rw (← c.self.view_is) (sym c.is_some.ensures ∙ c.if-is_some.true) in
-    taken-after-end c.args.self.now _ c.args.byte c.requires.on some c.requires.goes (rw c.and-self-inside.ensures (ap (λ (it : SessionState). record it { fed = it.fed ++ c.args.byte ∷ [] }) c.self.view_is))
+    taken-after-end c.args.self.now _ (c.args.byte ∷ []) c.requires.on some c.requires.goes (rw c.and-self-inside.ensures (ap (λ (it : SessionState). record it { fed = it.fed ++ c.args.byte ∷ [] }) c.self.view_is))
 
 pub returns-then-is_some-clause-puts : goal.returns-then-is_some-clause-puts
 returns-then-is_some-clause-puts g c =
     let some : is_some c.args.self.now.status ≡ true = rw (← c.self.view_is) (sym c.is_some.ensures ∙ c.if-is_some.true) in
-    puts_as g.K.Sink.writes _ _ _ _ _ _ refl (after-end-adds c.args.self.now.limits c.args.self.now.fed c.args.byte c.args.self.now.status c.requires.goes some) (puts_none g.K.Sink.writes _ c.requires.fine)
+    puts_as g.K.Sink.writes _ _ _ _ _ _ refl (after-end-adds c.args.self.now.limits c.args.self.now.fed (c.args.byte ∷ []) c.args.self.now.status c.requires.goes some) (puts_none g.K.Sink.writes _ c.requires.fine)
 
 pub returns-in_err-status-clause-puts : goal.returns-in_err-status-clause-puts
 returns-in_err-status-clause-puts g c =

@@ -1,58 +1,85 @@
-use Rattle.std.proofs.Common.{◌≡◌, ◌++◌, ◌+◌, ◌∷◌, [], Err, take, drop, get_or, refl, sym, ap, ◌∙◌, rules}
-use Rattle.std.proofs.lemmas.List.{take_all}
-use Rattle.cb_io.proofs.Putting.{puts_none, puts_fine, puts_then, puts_as}
-use Rattle.cb_session.specs.Sessions.{session_after}
+use Rattle.std.proofs.Common.{◌≡◌, ◌≤◌, ◌<◌, ◌-◌, ◌++◌, ◌+◌, ◌∷◌, [], ℕ, List, Err, arith, length, take, drop, get_or, refl, sym, ap, ◌∙◌, subst, rules}
+use Rattle.std.proofs.lemmas.List.{length-drop, take_rest}
+use Rattle.cb_io.proofs.Putting.{puts_none, puts_nothing, puts_fine, puts_then, puts_as}
+use Rattle.cb_session.specs.Sessions.{SessionState, session_after}
 use Rattle.cb_session.specs.Transcripts.{added, so_far}
 use Rattle.cb_session.specs.Went.{stop_extent}
 use Rattle.cb_session.proofs.ActLaws.{stopped-more}
 use Rattle.cb_session.proofs.ScriptLaws.{added-nothing}
-use Rattle.cb_session.proofs.StepLaws.{session-here, taken-on, taken-goes, taken-next, adds-next, adds-all}
+use Rattle.cb_session.proofs.StepLaws.{session-here, taken-next, adds-next, adds-all, adds-rest, run-next, run-adds}
 use Rattle.cb_session.proofs.session.Session.take_all.Goals as goal
 
-pub loop-byte-init : goal.loop-byte-init
-loop-byte-init g c = record {
+-- a session that has taken a run of what is left of these bytes
+ran : (s0 s t : SessionState) (bytes : List ℕ) (i n : ℕ) → s ≡ session_after s0.limits (s0.fed ++ take i bytes) (so_far s0.limits (s0.fed ++ take i bytes)).status
+    → t ≡ session_after s.limits (s.fed ++ take n (take (length bytes - i) (drop i bytes))) (so_far s.limits (s.fed ++ take n (take (length bytes - i) (drop i bytes)))).status
+    → t ≡ session_after s0.limits (s0.fed ++ take (i + n) bytes) (so_far s0.limits (s0.fed ++ take (i + n) bytes)).status
+ran s0 s t bytes i n here is = run-next s0 s bytes i here t n (subst (λ rest. t ≡ session_after s.limits (s.fed ++ take n rest) (so_far s.limits (s.fed ++ take n rest)).status) (take_rest bytes i) is)
+
+ran-adds : (s0 s : SessionState) (bytes : List ℕ) (i n : ℕ) → s ≡ session_after s0.limits (s0.fed ++ take i bytes) (so_far s0.limits (s0.fed ++ take i bytes)).status
+    → added s.limits s.fed (take n (take (length bytes - i) (drop i bytes))) ≡ [] → added s0.limits s0.fed (take (i + n) bytes) ≡ added s0.limits s0.fed (take i bytes)
+ran-adds s0 s bytes i n here none = run-adds s0 s bytes i here n (subst (λ rest. added s.limits s.fed (take n rest) ≡ []) (take_rest bytes i) none)
+
+ran-within : (bytes : List ℕ) (i n : ℕ) → i ≤ length bytes → n ≤ length (take (length bytes - i) (drop i bytes)) → i + n ≤ length bytes
+ran-within bytes i n below within =
+    let low : n ≤ length (drop i bytes) = subst (λ rest. n ≤ length rest) (take_rest bytes i) within in
+    omega (arith, length-drop i bytes)
+
+pub loop-done-init : goal.loop-done-init
+loop-done-init g c = record {
+  within = omega arith;
   fed = session-here c.args.self.now c.requires.on c.requires.goes;
   puts = puts_as g.K.Sink.writes _ _ _ _ _ _ refl (added-nothing c.args.self.now.limits c.args.self.now.fed) (puts_none g.K.Sink.writes _ c.requires.fine);
 }
 
-pub loop-byte-preserved : goal.loop-byte-preserved
-loop-byte-preserved g c =
-    let s0 = c.args.self.now in
-    let s = c.loop-byte.self in
-    let bytes = c.args.bytes.now in
-    let i = c.loop-byte.byte-index in
-    record {
-      fed = taken-next s0 s bytes i c.loop-byte.invariant.fed c.take.new.self c.loop-byte-test.true c.in_ok-take.ensures.fed;
-      puts = puts_as g.K.Sink.writes _ _ _ _ _ _ refl (adds-next s0 s bytes i c.loop-byte.invariant.fed c.loop-byte-test.true) (puts_then g.K.Sink.writes _ _ _ _ _ _ c.loop-byte.invariant.puts c.in_ok-take.ensures.puts);
-    }
-
-pub take-requires-clause-on : goal.take-requires-clause-on
-take-requires-clause-on g c = taken-on c.args.self.now c.loop-byte.self c.args.bytes.now c.loop-byte.byte-index c.loop-byte.invariant.fed
-
-pub take-requires-clause-goes : goal.take-requires-clause-goes
-take-requires-clause-goes g c = taken-goes c.args.self.now c.loop-byte.self c.args.bytes.now c.loop-byte.byte-index c.loop-byte.invariant.fed
+pub returns-in_err-done-clause-puts : goal.returns-in_err-done-clause-puts
+returns-in_err-done-clause-puts g c =
+    let r : c.from_residual.result ≡ Err c.in_err-done.field-0.0 = search rules in
+    let o1 = c.loop-done.out in
+    puts_as g.K.Sink.writes _ _ _ _ _ _ (ap stop_extent (r ∙ ap Err c.in_err-done.ensures.err)) (adds-rest c.args.self.now c.loop-done.self c.args.bytes.now c.loop-done.done c.loop-done.invariant.fed)
+    (puts_then g.K.Sink.writes _ _ _ _ _ _ c.loop-done.invariant.puts (puts_nothing g.K.Sink.writes o1 _ (puts_fine g.K.Sink.writes _ _ _ c.loop-done.invariant.puts)))
 
 pub take-requires-clause-fine : goal.take-requires-clause-fine
-take-requires-clause-fine g c = puts_fine g.K.Sink.writes _ _ _ c.loop-byte.invariant.puts
-
-pub returns-clause-fed : goal.returns-clause-fed
-returns-clause-fed g c =
-    let all = take_all c.loop-byte.byte-index c.args.bytes.now c.loop-byte-test.false in
-    c.loop-byte.invariant.fed ∙ ap (λ it. session_after c.args.self.now.limits (c.args.self.now.fed ++ it) (so_far c.args.self.now.limits (c.args.self.now.fed ++ it)).status) all
-
-pub returns-clause-puts : goal.returns-clause-puts
-returns-clause-puts g c =
-    let all = take_all c.loop-byte.byte-index c.args.bytes.now c.loop-byte-test.false in
-    puts_as g.K.Sink.writes _ _ _ _ _ _ refl (sym (ap (added c.args.self.now.limits c.args.self.now.fed) all)) c.loop-byte.invariant.puts
+take-requires-clause-fine g c = puts_fine g.K.Sink.writes _ _ _ c.loop-done.invariant.puts
 
 pub returns-in_err-take-clause-puts : goal.returns-in_err-take-clause-puts
 returns-in_err-take-clause-puts g c =
     let s0 = c.args.self.now in
-    let s = c.loop-byte.self in
     let bytes = c.args.bytes.now in
-    let i = c.loop-byte.byte-index in
-    let here = added s.limits s.fed (get_or bytes i 0 ∷ []) in
-    let more = added s0.limits (s0.fed ++ take (i + 1) bytes) (drop (i + 1) bytes) in
-    let r : c.from_residual.result ≡ Err c.in_err-take.field-0.0 = search rules in
-    puts_as g.K.Sink.writes _ _ _ _ _ _ (ap stop_extent r) (adds-all s0 s bytes i c.loop-byte.invariant.fed c.loop-byte-test.true)
-    (puts_then g.K.Sink.writes _ _ _ _ (added s0.limits s0.fed (take i bytes)) (here ++ more) c.loop-byte.invariant.puts (stopped-more g.K.Sink.writes _ _ c.in_err-take.field-0.0 here more c.in_err-take.ensures.puts))
+    let i = c.loop-done.done in
+    let n = c.in_ok-done.field-0 in
+    let s = c.take_run.new.self in
+    let here = ran s0 c.loop-done.self s bytes i n c.loop-done.invariant.fed c.in_ok-done.ensures.fed in
+    let first = puts_as g.K.Sink.writes _ _ _ _ _ _ refl (ran-adds s0 c.loop-done.self bytes i n c.loop-done.invariant.fed c.in_ok-done.ensures.adds) c.loop-done.invariant.puts in
+    let byte = added s.limits s.fed (get_or bytes (i + n) 0 ∷ []) in
+    let more = added s0.limits (s0.fed ++ take (i + n + 1) bytes) (drop (i + n + 1) bytes) in
+    let r : c.from_residual-in_err-take.result ≡ Err c.in_err-take.field-0.0 = search rules in
+    puts_as g.K.Sink.writes _ _ _ _ _ _ (ap stop_extent r) (adds-all s0 s bytes (i + n) here c.if-done-bytes.true)
+    (puts_then g.K.Sink.writes _ _ _ _ (added s0.limits s0.fed (take (i + n) bytes)) (byte ++ more) first (stopped-more g.K.Sink.writes _ _ c.in_err-take.field-0.0 byte more c.in_err-take.ensures.puts))
+
+pub loop-done-preserved-then-done-bytes : goal.loop-done-preserved-then-done-bytes
+loop-done-preserved-then-done-bytes g c =
+    let s0 = c.args.self.now in
+    let bytes = c.args.bytes.now in
+    let i = c.loop-done.done in
+    let n = c.in_ok-done.field-0 in
+    let s = c.take_run.new.self in
+    let below : i + n < length bytes = c.if-done-bytes.true in
+    let here = ran s0 c.loop-done.self s bytes i n c.loop-done.invariant.fed c.in_ok-done.ensures.fed in
+    let first = puts_as g.K.Sink.writes _ _ _ _ _ _ refl (ran-adds s0 c.loop-done.self bytes i n c.loop-done.invariant.fed c.in_ok-done.ensures.adds) c.loop-done.invariant.puts in
+    record {
+      within = omega arith;
+      fed = taken-next s0 s bytes (i + n) here c.take.new.self below c.in_ok-take.ensures.fed;
+      puts = puts_as g.K.Sink.writes _ _ _ _ _ _ refl (adds-next s0 s bytes (i + n) here below) (puts_then g.K.Sink.writes _ _ _ _ _ _ first c.in_ok-take.ensures.puts);
+    }
+
+pub loop-done-preserved : goal.loop-done-preserved
+loop-done-preserved g c =
+    let s0 = c.args.self.now in
+    let bytes = c.args.bytes.now in
+    let i = c.loop-done.done in
+    let n = c.in_ok-done.field-0 in
+    record {
+      within = ran-within bytes i n c.loop-done.invariant.within c.in_ok-done.ensures.within;
+      fed = ran s0 c.loop-done.self c.take_run.new.self bytes i n c.loop-done.invariant.fed c.in_ok-done.ensures.fed;
+      puts = puts_as g.K.Sink.writes _ _ _ _ _ _ refl (ran-adds s0 c.loop-done.self bytes i n c.loop-done.invariant.fed c.in_ok-done.ensures.adds) c.loop-done.invariant.puts;
+    }
