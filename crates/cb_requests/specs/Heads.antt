@@ -21,7 +21,7 @@ abbrev pub refused_actions : List (List ℕ)
 refused_actions =
     codes "bind" ∷ codes "if" ∷ codes "while" ∷ codes "print" ∷ codes "println" ∷ codes "halt" ∷ []
 
--- functions without one that are known and not carried out
+-- functions without an effect that are known and not carried out
 abbrev pub refused_functions : List (List ℕ)
 refused_functions =
     codes "+" ∷ codes "-" ∷ codes "*" ∷ codes "div" ∷ codes "mod" ∷ codes "=" ∷ codes "<>" ∷ codes "<" ∷ codes ">" ∷

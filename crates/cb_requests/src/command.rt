@@ -26,7 +26,7 @@ pub enum Command<'a> {
     DefineDeffacts(Name, Vec<FactExpr>),
     /// To assert facts, one after another.
     Assert(Vec<FactExpr>),
-    /// To retract the facts that values say.
+    /// To retract the facts that values name.
     Retract(Vec<Value>),
     /// To list the facts.
     ListFacts,
@@ -34,7 +34,7 @@ pub enum Command<'a> {
     Print(Channel, Vec<Value>),
     /// To begin anew with the facts that are kept for it.
     Reset,
-    /// To forget all but that a fault was written.
+    /// To drop the facts, the templates and each `deffacts`.
     Clear,
 }
 

@@ -28,7 +28,7 @@ pub record EndedBefore (words : List Text) (status : ℕ) (left left' : Option (
   pub writes_are : writes' ≡ writes
   pub status_is : (status ≡ 3) ⊎ ((k : ErrorKind) × IsAmong k (fault_of limits_app words) × IsStatusFor k status)
 
--- Nothing was read of the script and nothing written: the program's words could not be had. One is no text, or memory was refused.
+-- Nothing was read of the script and nothing written: the program's words could not be had. One isn't UTF-8, or memory was refused.
 pub record HadNoWords (status : ℕ) (left left' : Option (List ℕ)) (reads reads' : Reads) (writes writes' : Writes) : Type 0 where
   pub left_is : left' ≡ left
   pub reads_are : reads' ≡ reads

@@ -13,8 +13,8 @@ use std::alloc::Global;
 ///
 /// It reads at most 4096 bytes at a time, and carries out and writes what they hold before it reads on. After the
 /// script's end at most the rest of those 4096 bytes has been read. After a read that failed nothing more is carried out
-/// or written. A source that gives no end in 18,446,744,073,709,551,615 reads counts as one that failed. Where memory is
-/// refused, what was put before is written. The record `Ran` has a field for each promise.
+/// or written. A source that gives no end in 18,446,744,073,709,551,615 reads counts as one that failed. The record `Ran`
+/// has a field for each promise.
 pub fn run<S: Source, K: Sink>(
     alloc: Global,
     source: &mut S,
@@ -22,7 +22,8 @@ pub fn run<S: Source, K: Sink>(
     limits: Limits,
 ) -> Outcome
     requires { IsReady out.old }
-    ensures { Ran limits result (S.left source.old) (S.left source.new) (S.reads source.old) (S.reads source.new)
+    ensures { Ran limits result
+        (S.left source.old) (S.left source.new) (S.reads source.old) (S.reads source.new)
         (K.writes out.old.sink) (K.writes out.new.sink) }
 {
     let mut session = Session::new(alloc, limits);
@@ -33,7 +34,8 @@ pub fn run<S: Source, K: Sink>(
 fn follow<S: Source, K: Sink>(session: &mut Session, source: &mut S, out: &mut Out<K>) -> Outcome
     requires fresh { session.old ≡ fresh_session session.old.limits }
     requires ready { IsReady out.old }
-    ensures { Ran session.old.limits result (S.left source.old) (S.left source.new) (S.reads source.old) (S.reads source.new)
+    ensures { Ran session.old.limits result
+        (S.left source.old) (S.left source.new) (S.reads source.old) (S.reads source.new)
         (K.writes out.old.sink) (K.writes out.new.sink) }
 {
     let mut block = [0u8; 4096];

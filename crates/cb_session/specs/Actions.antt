@@ -25,7 +25,7 @@ use Rattle.cb_facts.specs.declared.value.Value.TheVariants as value
 abbrev pub is_in_use : State → List ℕ → Bool
 is_in_use s relation = list_any (λ entry. bytes_eq entry.1.relation relation) s.memory.facts || is_named_in_deffacts relation s.deffacts
 
--- the relation that a template is written for, if it is a symbol, is
+-- the symbol after `deftemplate`, if there is one, is a relation in use
 abbrev pub is_name_in_use : State → Trees → Bool
 is_name_in_use s ts = option_map_or (λ split. is_in_use s split.0) (head_and_rest ts) false
 
@@ -39,7 +39,7 @@ abbrev pub retracted : Memory × Bool → Act (Option Value)
 retracted (m, true) s = become (record s { memory = m }) s
 retracted (m, false) s = stop (ended.Fault NoSuchFact) (record s { memory = m })
 
--- the facts that these values say are retracted; a value of another kind is reported before any is
+-- the facts that these values name are retracted; a value of another kind is reported before any is
 abbrev pub retract : List Value → Act (Option Value)
 retract values s = if list_all is_retractable values then retracted (retracted_all s.memory values) s else stop (ended.Fault WrongType) s
 
@@ -65,14 +65,14 @@ abbrev pub shown_line : Option Value → List ℕ
 shown_line None = []
 shown_line (Some v) = value_line v
 
--- the value of an item is printed
+-- the value of an item is shown
 abbrev pub shown : Option Value → Act (Unit {0})
 shown v s = record { state = s; written = shown_line v; answer = Ok tt }
 
--- a request is done, and then its value is printed
+-- a request is done, and then its value is shown
 abbrev pub performed_and_shown : Request → Act (Unit {0})
 performed_and_shown request = performed request >>= shown
 
--- an item: its request is read, done, and its value printed
+-- an item: its request is read and done, and its value is shown
 unfoldable pub acted : Reading → Act (Unit {0})
 acted r s = (give_or_fault (request_of s.templates r) >>= performed_and_shown) s

@@ -184,7 +184,7 @@ impl Engine {
         }
     }
 
-    /// Defines the template that forms are.
+    /// Defines the template that these forms write.
     fn define_template(&mut self, forms: &[Form]) -> Result<Option<Value>, Break>
         ensures { Quietly self.new result
             (performed (request.define_template (members forms.now)) self.old) }
@@ -229,7 +229,7 @@ impl Engine {
         }
     }
 
-    /// Retracts the facts that values say.
+    /// Retracts the facts that values name.
     fn retract(&mut self, values: &[Value]) -> Result<Option<Value>, Break>
         ensures { Quietly self.new result (retract values.now self.old) }
     {
@@ -252,7 +252,7 @@ impl Engine {
         Ok(None)
     }
 
-    /// Puts what values print.
+    /// Prints values on a channel.
     fn print<K: Sink>(
         &mut self,
         channel: Channel,

@@ -3,7 +3,7 @@ use Rattle.std.specs.Prelude.{ℕ, Bool, List, [], ◌∷◌, codes}
 use Rattle.std.specs.List.{list_any}
 use Rattle.std.specs.Str.{bytes_eq}
 
--- the words that name condition elements of rules
+-- the words that name condition elements of rules, and `declare`
 abbrev pub reserved_words : List (List ℕ)
 reserved_words =
     codes "test" ∷ codes "and" ∷ codes "or" ∷ codes "not" ∷ codes "declare" ∷ codes "logical" ∷ codes "object" ∷ codes "exists" ∷ codes "forall" ∷ []

@@ -37,7 +37,8 @@ fn read_named(
     is_multi: bool,
     forms: &[Form],
 ) -> Result<Slot, Refused>
-    ensures { Returns result (named_slot template.now is_multi (head_and_rest (members forms.now))) }
+    ensures { Returns result
+        (named_slot template.now is_multi (head_and_rest (members forms.now))) }
 {
     let Some((name, forms)) = split_head(forms) else {
         return Err(Refused::Fault(Fault::MalformedForm));

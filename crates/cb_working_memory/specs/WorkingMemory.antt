@@ -72,7 +72,7 @@ abbrev pub after_retracted : Memory → Option Memory → (Memory → Memory × 
 after_retracted m None next = (m, false)
 after_retracted m (Some n) next = next n
 
--- Values retracted, one after another, up to the first index that no fact has, and whether there was none such.
+-- Values retracted, one after another, up to the first index that no fact has, and whether every index had a fact.
 abbrev pub retracted_all : Memory → List Value → Memory × Bool
 retracted_all m [] = (m, true)
 retracted_all m (v ∷ vs) = after_retracted m (retracted_one m v) (λ n. retracted_all n vs)

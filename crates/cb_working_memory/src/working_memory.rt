@@ -99,8 +99,8 @@ impl WorkingMemory {
         Ok(Some(ix))
     }
 
-    /// Retracts what values say, one after another, up to an index that no fact has. The answer says whether there was none
-    /// such.
+    /// Retracts the facts that values name, one after another, up to an index that no fact has. The answer says whether
+    /// every index had a fact.
     pub fn retract_all(&mut self, values: &[Value]) -> bool
         ensures { retracted_all self.old values.now ≡ (self.new, result) }
     {
