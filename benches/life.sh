@@ -52,18 +52,15 @@ script() {
 }
 
 # The processor seconds of a run on that script, the least of five.
-measured() {
+seconds() {
     script "$1" "$2" >"$place/script"
-    for _ in 1 2 3 4 5; do
-        /usr/bin/time -f '%U %S' "$program" --max-form 16777216 \
-            <"$place/script" 2>&1 >"$place/transcript" | tail -n 1
-    done | awk '{ took = $1 + $2; if (NR == 1 || took < least) least = took } END { print least }'
+    measured | cut -d ' ' -f 1
 }
 
-# The ratios for the script of this kind, which does what $2 says: of n = $3, or 25,000, of twice and of four times as many.
+# The ratios for the script of this kind, which does what $2 says: of n = 25,000, of twice and of four times as many.
 ratios() {
-    n=${3:-25000}
-    echo "$(measured "$1" "$n") $(measured "$1" $((2 * n))) $(measured "$1" $((4 * n)))" | awk -v what="$2" -v n="$n" '{
+    n=25000
+    echo "$(seconds "$1" "$n") $(seconds "$1" $((2 * n))) $(seconds "$1" $((4 * n)))" | awk -v what="$2" -v n="$n" '{
         printf "%-52s n = %d to %d: %.2f, %d to %d: %.2f (%.2f s, %.2f s, %.2f s)\n",
             what ":", n, 2 * n, $2 / $1, 2 * n, 4 * n, $3 / $2, $1, $2, $3
     }'
@@ -77,7 +74,6 @@ ratios back 'n facts asserted, and retracted from the back'
 ratios all 'n facts asserted, and retracted by *'
 ratios deffacts 'n deffacts defined'
 ratios reset 'n deffacts defined, and a reset'
-# A deffacts that is defined anew takes the last place, and the others move up.
-ratios again 'n deffacts defined, and each defined anew' 5000
+ratios again 'n deffacts defined, and each defined anew'
 ratios one 'a deffacts of n facts defined, and a reset'
 ratios templates 'n templates defined'

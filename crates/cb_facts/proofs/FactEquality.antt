@@ -3,7 +3,7 @@ use Rattle.std.proofs.Common.{◌≡◌, List, Bool, true, false, ℕ, rules, ap
 use Rattle.std.specs.Bool.{Decides}
 use Rattle.std.specs.Cmp.{first_so, second_so}
 use Rattle.std.specs.Cmp.Lexicographic.{bytes_decides}
-use Rattle.cb_facts.specs.Facts.{FactContent, fields, slots, FactValue, content_eq, fact_eq, fact_in, KeepsHash}
+use Rattle.cb_facts.specs.Facts.{FactContent, fields, slots, FactValue, content_eq, fact_eq, fact_in, IsHashOf}
 use Rattle.cb_facts.specs.FactLaws.{hash_of_equal}
 use Rattle.cb_facts.specs.declared.fact.Body.{Body}
 use Rattle.cb_facts.proofs.Equality.{both-true, values-Decides, slots-Decides}
@@ -28,5 +28,5 @@ not-true true n = absurd (n refl)
 not-true false n = refl
 
 -- facts that are kept with two numbers differ
-pub fact_eq-apart : (x y : Body) → KeepsHash x → KeepsHash y → (x.hash ≡ y.hash → ⊥) → false ≡ fact_eq (fact_in x) (fact_in y)
-fact_eq-apart x y p q n = not-true (fact_eq (fact_in x) (fact_in y)) (λ e. n (p ∙ hash_of_equal (fact_in x) (fact_in y) e ∙ sym q))
+pub fact_eq-apart : (i j : ℕ) (x y : Body) → IsHashOf i x → IsHashOf j y → (i ≡ j → ⊥) → false ≡ fact_eq (fact_in x) (fact_in y)
+fact_eq-apart i j x y p q n = not-true (fact_eq (fact_in x) (fact_in y)) (λ e. n (p ∙ hash_of_equal (fact_in x) (fact_in y) e ∙ sym q))

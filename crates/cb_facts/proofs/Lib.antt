@@ -1,6 +1,8 @@
+pub mod CountLaws
 pub mod Equality
 pub mod FactEquality
 pub mod FactListLaws
+pub mod Inverses
 pub mod ListLaws
 pub mod PartLaws
 pub mod Splices

@@ -16,14 +16,14 @@ abbrev pub NamedSlots : Type 0
 NamedSlots = List (List ℕ × SlotContent)
 
 -- what follows the relation: the fields of an ordered fact, or the slots of a template in its order
-pub data FactContent : Type 0 where
-  fields : List Value → FactContent
-  slots : NamedSlots → FactContent
+pub data ExprContent : Type 0 where
+  fields : List Value → ExprContent
+  slots : NamedSlots → ExprContent
 
 -- a fact that was read and is not asserted yet
 pub record FactExpr : Type 0 where
   pub relation : List ℕ
-  pub content : FactContent
+  pub content : ExprContent
 
 -- the value of a slot; of the values of a multislot, a multifield is spliced
 abbrev pub slot_value : SlotContent → Value
@@ -32,7 +32,7 @@ slot_value (one v) = v
 slot_value (several vs) = value.Multi (spliced vs)
 
 -- the fact that a relation and what follows it give
-abbrev pub fact_with : List ℕ → FactContent → FactValue
+abbrev pub fact_with : List ℕ → ExprContent → FactValue
 fact_with relation (fields vs) = ordered_fact relation (map value_of_field (spliced vs))
 fact_with relation (slots given) = template_fact relation (map (λ s. (s.0, slot_value s.1)) given)
 

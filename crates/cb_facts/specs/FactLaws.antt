@@ -1,13 +1,19 @@
--- `==` of facts is an equivalence, and equal facts are fed to a hasher alike.
-use Rattle.std.specs.Prelude.{◌≡◌, ◌∷◌, [], ℕ, List, true, nat_eq}
-use Rattle.std.proofs.Common.{ap, ap₂, refl}
-use Rattle.std.proofs.lemmas.Bool.{false≢true}
-use Rattle.std.specs.Cmp.{IsEquivalence, and_equiv, on_equiv, first_so, second_so}
-use Rattle.std.specs.Cmp.Lexicographic.{pointwise, lists_equiv, nat_list_eq_equiv, bytes_decides}
+-- `==` of facts is an equivalence, equal facts are fed to a hasher alike, and the order of facts is total and agrees with `==`.
+use Rattle.std.specs.Prelude.{◌≡◌, ◌∷◌, [], ℕ, List, Bool, true, false, nat_eq}
+use Rattle.std.proofs.Common.{ap, ap₂, refl, sym, ◌∙◌}
+use Rattle.std.proofs.lemmas.Bool.{false≢true, eq-eqb}
+use Rattle.std.specs.Cmp.{IsEquivalence, IsTotalOrder, and_equiv, on_equiv, on_total, then_total, both_tied, first_so, second_so, nat_cmp_total, unsigned_tied}
+use Rattle.std.specs.Cmp.Lexicographic.{pointwise, slice_cmp, lists_equiv, lists_total, lists_ties, on_texts, texts_ties, nat_list_eq_equiv, bytes_decides}
+use Rattle.std.specs.declared.cmp.Ordering.{Ordering}
+use Rattle.std.specs.declared.cmp.Ordering.TheVariants.{Less, Equal, Greater}
+use Rattle.std.specs.Ordering.{is_eq, is_lt, eq_by_cmp, nat_cmp, ordering_reverse, ordering_then}
 use Rattle.std.specs.Hash as fed
 use Rattle.std.specs.Hash.{Alike, and-Alike, on_Alike, items_Alike, same_Alike}
-use Rattle.cb_facts.specs.Facts.{FactContent, fields, slots, FactValue, slot_eq, slot_writes, content_eq, content_writes, fact_eq, hash_from, hash_of}
+use Rattle.cb_facts.specs.Facts.{FactContent, fields, slots, FactValue, slot_eq, slot_cmp, slot_writes, content_eq, content_cmp, content_writes, fact_eq, fact_cmp, rest_cmp, hash_from, hash_of}
 use Rattle.cb_facts.specs.contracts.value.ValueEq.TheImpl.Laws as value_eq
+use Rattle.cb_facts.specs.contracts.value.ValueOrd.TheImpl as order
+use Rattle.cb_facts.specs.contracts.value.ValueOrd.TheImpl.Laws as value_ord
+use Rattle.cb_facts.specs.contracts.value.ValuePartialEq.TheImpl as equality
 use Rattle.cb_facts.specs.contracts.value.ValueHash.TheImpl.Laws as value_hash
 use Rattle.cb_facts.specs.declared.value.Value.{Value}
 
@@ -56,3 +62,58 @@ hash_of_equal f g e =
 
 pub fact_fed : (f g : FactValue) → fact_eq f g ≡ true → fed.u64 (hash_of f) ≡ fed.u64 (hash_of g)
 fact_fed f g e = ap fed.u64 (hash_of_equal f g e)
+
+slot_total : IsTotalOrder slot_cmp
+slot_total = then_total (on_texts (λ (s : List ℕ × Value). s.0)) (on_total (λ (s : List ℕ × Value). s.1) value_ord.total-law)
+
+slot_tied : (s t : List ℕ × Value) → slot_eq s t ≡ eq_by_cmp slot_cmp s t
+slot_tied s t = both_tied (pointwise nat_eq s.0 t.0) (equality.ghosts.eq s.1 t.1) (slice_cmp nat_cmp s.0 t.0) (order.ghosts.cmp s.1 t.1) (texts_ties s.0 t.0) (value_ord.matches_eq-law s.1 t.1)
+
+content_antisymm : (c d : FactContent) → content_cmp c d ≡ ordering_reverse (content_cmp d c)
+content_antisymm (fields vs) (fields ws) = (lists_total value_ord.total-law).antisymm vs ws
+content_antisymm (fields vs) (slots ts) = refl
+content_antisymm (slots ss) (fields ws) = refl
+content_antisymm (slots ss) (slots ts) = (lists_total slot_total).antisymm ss ts
+
+content_trans : (c d e : FactContent) → content_cmp c d ≡ Less → content_cmp d e ≡ Less → content_cmp c e ≡ Less
+content_trans (fields us) (fields vs) (fields ws) h k = (lists_total value_ord.total-law).trans us vs ws h k
+content_trans (fields us) d (slots ts) h k = refl
+content_trans (fields us) (slots ss) (fields ws) h k = absurd (false≢true (ap is_lt k))
+content_trans (slots rs) (fields vs) e h k = absurd (false≢true (ap is_lt h))
+content_trans (slots rs) (slots ss) (fields ws) h k = absurd (false≢true (ap is_lt k))
+content_trans (slots rs) (slots ss) (slots ts) h k = (lists_total slot_total).trans rs ss ts h k
+
+content_level : (c d e : FactContent) → content_cmp c d ≡ Equal → content_cmp c e ≡ content_cmp d e
+content_level (fields us) (fields vs) (fields ws) h = (lists_total value_ord.total-law).congr us vs ws h
+content_level (fields us) (fields vs) (slots ts) h = refl
+content_level (fields us) (slots ss) e h = absurd (false≢true (ap is_eq h))
+content_level (slots rs) (fields vs) e h = absurd (false≢true (ap is_eq h))
+content_level (slots rs) (slots ss) (fields ws) h = refl
+content_level (slots rs) (slots ss) (slots ts) h = (lists_total slot_total).congr rs ss ts h
+
+content_total : IsTotalOrder content_cmp
+content_total = record { antisymm = content_antisymm; trans = content_trans; congr = content_level }
+
+content_tied : (c d : FactContent) → content_eq c d ≡ eq_by_cmp content_cmp c d
+content_tied (fields vs) (fields ws) = lists_ties order.ghosts.cmp value_ord.matches_eq-law vs ws
+content_tied (fields vs) (slots ts) = refl
+content_tied (slots ss) (fields ws) = refl
+content_tied (slots ss) (slots ts) = lists_ties slot_cmp slot_tied ss ts
+
+pub fact_total : IsTotalOrder fact_cmp
+fact_total = then_total (on_total hash_of nat_cmp_total) (then_total (on_texts (λ (f : FactValue). f.relation)) (on_total (λ (f : FactValue). f.content) content_total))
+
+-- where what is equal is level by the first order, the second alone tells what is equal
+guarded : (same : Bool) (first second : Ordering) → same ≡ is_eq second → (same ≡ true → is_eq first ≡ true) → same ≡ is_eq (ordering_then first second)
+guarded same Equal second tied level = tied
+guarded true Less second tied level = sym (level refl)
+guarded true Greater second tied level = sym (level refl)
+guarded false Less second tied level = refl
+guarded false Greater second tied level = refl
+
+pub fact_tied : (f g : FactValue) → fact_eq f g ≡ eq_by_cmp fact_cmp f g
+fact_tied f g =
+    guarded (fact_eq f g) (nat_cmp (hash_of f) (hash_of g)) (rest_cmp f g)
+    (both_tied (pointwise nat_eq f.relation g.relation) (content_eq f.content g.content) (slice_cmp nat_cmp f.relation g.relation) (content_cmp f.content g.content)
+    (texts_ties f.relation g.relation) (content_tied f.content g.content))
+    (λ e. unsigned_tied (hash_of f) (hash_of g) ∙ eq-eqb (hash_of f) (hash_of g) (hash_of_equal f g e))

@@ -1,10 +1,14 @@
--- Facts, when two are equal, and what is kept of one.
+-- Facts, when two are equal, in which order tables have them, and what is kept of one.
 use Rattle.std.specs.Prelude.{◌≡◌, ◌&&◌, ◌++◌, ℕ, Bool, false, List, [], ◌∷◌, fold, nat_eq}
-use Rattle.std.specs.Cmp.Lexicographic.{pointwise}
+use Rattle.std.specs.Cmp.Lexicographic.{pointwise, slice_cmp}
 use Rattle.std.specs.Hash as fed
 use Rattle.std.specs.Hash.{HashWrites}
 use Rattle.std.specs.Hash.FoldHasher as folding
+use Rattle.std.specs.Ordering.{nat_cmp, on, then_cmp}
+use Rattle.std.specs.declared.cmp.Ordering.TheVariants.{Less, Greater}
+use Rattle.std.specs.declared.cmp.Ordering.{Ordering}
 use Rattle.cb_facts.specs.contracts.value.ValuePartialEq.TheImpl as value_eq
+use Rattle.cb_facts.specs.contracts.value.ValueOrd.TheImpl as value_ord
 use Rattle.cb_facts.specs.contracts.value.ValueHash.TheImpl as value_hash
 use Rattle.cb_facts.specs.declared.fact.Body.{Body}
 use Rattle.cb_facts.specs.declared.fact.Content.{Content}
@@ -56,18 +60,37 @@ abbrev pub content_writes : FactContent → HashWrites
 content_writes (fields vs) = fed.slice value_hash.ghosts.hash_input vs
 content_writes (slots ss) = fed.slice slot_writes ss
 
--- the number that a hasher gives for a relation and what it is fed of the content
+-- the hash of a relation and what a hasher is fed of the content
 unfoldable pub hash_from : List ℕ → HashWrites → ℕ
 hash_from relation writes = folding.finish (fold folding.write (folding.write folding.initial relation) writes)
 
--- the number that stands for a fact in tables
+-- the hash of a fact
 abbrev pub hash_of : FactValue → ℕ
 hash_of f = hash_from f.relation (content_writes f.content)
+
+-- slots in order: by their names, then by their values
+abbrev pub slot_cmp : List ℕ × Value → List ℕ × Value → Ordering
+slot_cmp = then_cmp (on (λ s. s.0) (slice_cmp nat_cmp)) (on (λ s. s.1) value_ord.ghosts.cmp)
+
+-- contents in order: fields one after another, then slots one after another, and fields before slots
+abbrev pub content_cmp : FactContent → FactContent → Ordering
+content_cmp (fields vs) (fields ws) = slice_cmp value_ord.ghosts.cmp vs ws
+content_cmp (fields vs) (slots ts) = Less
+content_cmp (slots ss) (fields ws) = Greater
+content_cmp (slots ss) (slots ts) = slice_cmp slot_cmp ss ts
+
+-- facts with the same hash in order: by their relations, then by their contents
+abbrev pub rest_cmp : FactValue → FactValue → Ordering
+rest_cmp = then_cmp (on (λ f. f.relation) (slice_cmp nat_cmp)) (on (λ f. f.content) content_cmp)
+
+-- facts in the order in which tables have them: by their hashes, and those with the same hash by what they say
+abbrev pub fact_cmp : FactValue → FactValue → Ordering
+fact_cmp = then_cmp (on hash_of nat_cmp) rest_cmp
 
 -- what the body of a fact says
 abbrev pub fact_in : Body → FactValue
 fact_in body = record { relation = body.relation; content = content_of body.content }
 
--- a body keeps its fact's number
-abbrev pub KeepsHash : Body → Type 0
-KeepsHash body = body.hash ≡ hash_of (fact_in body)
+-- this is the hash of the fact with the body
+abbrev pub IsHashOf : ℕ → Body → Type 0
+IsHashOf hash body = hash ≡ hash_of (fact_in body)

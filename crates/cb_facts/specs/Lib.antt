@@ -1,8 +1,9 @@
-pub mod FactContents
+pub mod ExprContents
 pub mod FactExprs
 pub mod FactLaws
 pub mod FactLists
 pub mod Facts
+pub mod RelationCounts
 pub mod SlotContents
 pub mod Texts
 pub mod Values

@@ -1,15 +1,17 @@
 //! Facts.
-ghost use Rattle.std.specs.Prelude.{◌≡◌, IfOk, fold};
+ghost use Rattle.std.specs.Prelude.{◌≡◌, IfOk, fold, refl};
 ghost use Rattle.std.specs.Hash as fed;
 ghost use Rattle.std.specs.Hash.FoldHasher as folding;
-ghost use Rattle.std.specs.Cmp.{partial_equiv_from_equiv};
-ghost use Rattle.cb_facts.specs.Facts.{ordered_fact, template_fact, content_of, content_writes, fact_eq, hash_of};
-ghost use Rattle.cb_facts.specs.FactLaws.{fact_equiv, fact_fed};
+ghost use Rattle.std.specs.Cmp.{partial_equiv_from_equiv, po};
+ghost use Rattle.std.specs.Ordering.{as_partial_cmp};
+ghost use Rattle.cb_facts.specs.Facts.{ordered_fact, template_fact, content_of, content_writes, content_cmp, fact_cmp, fact_eq, fact_in, hash_of, rest_cmp};
+ghost use Rattle.cb_facts.specs.FactLaws.{fact_equiv, fact_fed, fact_tied, fact_total};
 
 use crate::name::Name;
 use crate::value::Value;
 use cb_forms::NoMemory;
 use std::alloc::{AllocError, Global};
+use std::cmp::Ordering;
 use std::fmt;
 use std::hash::{FoldHasher, Hash, Hasher};
 use std::marker::Model;
@@ -34,36 +36,64 @@ impl Content {
             Content::Slots(slots) => slots.as_slice().hash(hasher),
         }
     }
+
+    fn order(&self, other: &Content) -> Ordering
+        ensures { result ≡ content_cmp (content_of self.now) (content_of other.now) }
+    {
+        match self {
+            Content::Fields(values) => match other {
+                Content::Fields(others) => values.as_slice().cmp(others.as_slice()),
+                Content::Slots(_) => Ordering::Less,
+            },
+            Content::Slots(slots) => match other {
+                Content::Fields(_) => Ordering::Greater,
+                Content::Slots(others) => slots.as_slice().cmp(others.as_slice()),
+            },
+        }
+    }
 }
 
 #[derive(Debug, Drop)]
 struct Body {
     relation: Name,
     content: Content,
-    hash: u64,
+}
+
+impl Body {
+    fn order(&self, other: &Body) -> Ordering
+        ensures { result ≡ rest_cmp (fact_in self.now) (fact_in other.now) }
+    {
+        match self.relation.cmp(&other.relation) {
+            Ordering::Equal => self.content.order(&other.content),
+            unequal => unequal,
+        }
+    }
 }
 
 /// A fact: its relation and its content, which never change.
 ///
 /// A clone shares both. It takes no memory, and is refused only where the count of its sharers is full. Two facts are
-/// equal where their relations and their contents are. Hashing a fact takes constant time.
+/// equal where their relations and their contents are. Hashing a fact takes constant time. Facts are in order by their
+/// hashes, and those with the same hash by their relations and their contents: so two facts are told apart by their hashes,
+/// and where a script makes these equal the order still tells the facts apart.
 ///
 /// Contracts see its relation's bytes and its content.
 #[derive(Drop)]
 pub struct Fact {
+    hash: u64,
     body: Rc<Body>,
 }
 
 impl Model for Fact {
     ghost use Rattle.std.specs.Prelude.{◌≡◌};
     ghost use Rattle.std.specs.Rc.{rc_value};
-    ghost use Rattle.cb_facts.specs.Facts.{FactValue, fact_in, KeepsHash};
+    ghost use Rattle.cb_facts.specs.Facts.{FactValue, fact_in, IsHashOf};
 
     ghost Value = { FactValue };
 
     ghost view = { λ f. fact_in (rc_value f.body) };
 
-    ghost invariant = { λ f. KeepsHash (rc_value f.body) };
+    ghost invariant = { λ f. IsHashOf f.hash (rc_value f.body) };
 }
 
 impl Fact {
@@ -91,22 +121,22 @@ impl Fact {
             (λ fact. fact ≡ record { relation = relation; content = content_of content }) }
     {
         let hash = hash_of(&relation, &content);
-        let body = Rc::new(
-            alloc,
-            Body {
-                relation,
-                content,
-                hash,
-            },
-        )?;
-        Ok(Fact { body })
+        let body = Rc::new(alloc, Body { relation, content })?;
+        Ok(Fact { hash, body })
     }
 
-    /// The relation's name.
+    /// The relation's bytes.
     pub fn relation(&self) -> &[u8]
         ensures { result.now ≡ self.now.relation }
     {
         self.body.relation.as_slice()
+    }
+
+    /// The relation.
+    pub fn relation_name(&self) -> &Name
+        ensures { result.now ≡ self.now.relation }
+    {
+        &self.body.relation
     }
 
     /// What stands after the relation.
@@ -133,7 +163,10 @@ impl Clone for Fact {
 
     fn clone(&self) -> Result<Fact, AllocError> {
         let body = self.body.clone()?;
-        Ok(Fact { body })
+        Ok(Fact {
+            hash: self.hash,
+            body,
+        })
     }
 }
 
@@ -143,7 +176,7 @@ impl PartialEq for Fact {
     ghost laws = { partial_equiv_from_equiv fact_equiv };
 
     fn eq(&self, other: &Fact) -> bool {
-        if self.body.hash != other.body.hash {
+        if self.hash != other.hash {
             return false;
         }
         self.body.relation == other.body.relation && self.body.content == other.body.content
@@ -154,13 +187,40 @@ impl Eq for Fact {
     ghost laws = { fact_equiv };
 }
 
+impl PartialOrd for Fact {
+    ghost partial_cmp = { as_partial_cmp fact_cmp };
+
+    ghost laws = { po fact_total fact_tied };
+
+    fn partial_cmp(&self, other: &Fact) -> Option<Ordering> {
+        Some(self.cmp(other))
+    }
+}
+
+impl Ord for Fact {
+    ghost cmp = { fact_cmp };
+
+    ghost total = { fact_total };
+
+    ghost matches_partial_cmp = { λ x y. refl };
+
+    ghost matches_eq = { fact_tied };
+
+    fn cmp(&self, other: &Fact) -> Ordering {
+        match self.hash.cmp(&other.hash) {
+            Ordering::Equal => self.body.order(&other.body),
+            unequal => unequal,
+        }
+    }
+}
+
 impl Hash for Fact {
     ghost hash_input = { λ f. fed.u64 (hash_of f) };
 
     ghost respects_eq = { fact_fed };
 
     fn hash<H: Hasher>(&self, state: &mut H) {
-        state.write_u64(self.body.hash);
+        state.write_u64(self.hash);
     }
 }
 

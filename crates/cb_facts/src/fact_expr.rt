@@ -2,7 +2,7 @@
 ghost use Rattle.std.specs.Prelude.{◌≡◌, IfOk, map};
 ghost use Rattle.cb_facts.specs.Facts.{ordered_fact, template_fact};
 ghost use Rattle.cb_facts.specs.Values.{spliced, value_of_field};
-ghost use Rattle.cb_facts.specs.FactContents.{fact_content};
+ghost use Rattle.cb_facts.specs.ExprContents.{expr_content};
 ghost use Rattle.cb_facts.specs.FactExprs.{fact_by, slot_value};
 ghost use Rattle.cb_facts.specs.SlotContents.{slot_content};
 
@@ -113,27 +113,27 @@ pub struct FactExpr {
 }
 
 impl Model for FactExpr {
-    ghost use Rattle.cb_facts.specs.FactContents.{fact_content};
+    ghost use Rattle.cb_facts.specs.ExprContents.{expr_content};
     ghost use Rattle.cb_facts.specs.FactExprs.{FactExpr as Expr};
 
     ghost Value = { Expr };
 
-    ghost view = { λ e. record { relation = e.relation; content = fact_content e.content } };
+    ghost view = { λ e. record { relation = e.relation; content = expr_content e.content } };
 }
 
 impl FactExpr {
     /// A fact of this relation.
     pub fn new(relation: Name, content: ContentExpr) -> FactExpr
-        ensures { result ≡ record { relation = relation; content = fact_content content } }
+        ensures { result ≡ record { relation = relation; content = expr_content content } }
     {
         FactExpr { relation, content }
     }
 
     /// The fact's relation.
-    pub fn relation(&self) -> &[u8]
+    pub fn relation(&self) -> &Name
         ensures { result.now ≡ self.now.relation }
     {
-        self.relation.as_slice()
+        &self.relation
     }
 
     /// The fact.
@@ -160,7 +160,7 @@ fn build_slots(alloc: Global, relation: Name, slots: &[SlotExpr]) -> Result<Fact
     ensures { IfOk result
         (λ fact. fact ≡ template_fact relation (map (λ s. (s.0, slot_value s.1)) slots.now)) }
 {
-    let mut content = Vec::new(alloc);
+    let mut content = Vec::with_capacity(alloc, slots.len())?;
     for slot in slots {
         content.push((slot.name.clone()?, slot.filling.value(alloc)?))?;
     }
@@ -170,7 +170,7 @@ fn build_slots(alloc: Global, relation: Name, slots: &[SlotExpr]) -> Result<Fact
 fn copy_all(alloc: Global, values: &[Value]) -> Result<Vec<Value>, NoMemory>
     ensures { IfOk result (λ copies. copies.items ≡ values.now) }
 {
-    let mut copies = Vec::new(alloc);
+    let mut copies = Vec::with_capacity(alloc, values.len())?;
     for value in values {
         copies.push(value.clone()?)?;
     }

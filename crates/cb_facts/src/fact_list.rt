@@ -6,7 +6,6 @@ ghost use Rattle.cb_facts.specs.FactLists.{fact_at, with_fact, without_fact, Cha
 
 use crate::fact::Fact;
 use cb_forms::NoMemory;
-use indexmap::IndexMap;
 use std::alloc::Global;
 use std::collections::BTreeMap;
 use std::collections::btree_map::Iter;
@@ -14,25 +13,26 @@ use std::marker::Model;
 
 /// Facts by their indices, no two of them equal.
 ///
-/// An equal fact is found in constant expected time, and a fact is added and removed in logarithmic time.
+/// An equal fact is found, and a fact is added and removed, in logarithmic time, whatever the facts are.
 ///
 /// Contracts see the list of the pairs of an index and its fact, in rising order of the indices.
 #[derive(Debug, Drop)]
 pub struct FactList {
+    // Fields drop in order: this map goes first, so that dropping `facts` frees them in the order of their indices.
+    indices: BTreeMap<Fact, u64>,
     facts: BTreeMap<u64, Fact>,
-    indices: IndexMap<Fact, u64>,
 }
 
 impl Model for FactList {
-    ghost use Rattle.indexmap.specs.IndexMap as index;
-    ghost use Rattle.cb_facts.specs.Facts.{fact_eq};
+    ghost use Rattle.std.specs.BTreeMap.{get};
+    ghost use Rattle.cb_facts.specs.Facts.{fact_cmp};
     ghost use Rattle.cb_facts.specs.FactLists.{IndexedFacts, IsIndexed};
 
     ghost Value = { IndexedFacts };
 
     ghost view = { λ l. l.facts.entries };
 
-    ghost invariant = { λ l. IsIndexed l.facts.entries (index.get fact_eq l.indices) };
+    ghost invariant = { λ l. IsIndexed l.facts.entries (get fact_cmp l.indices) };
 }
 
 impl FactList {
@@ -42,7 +42,7 @@ impl FactList {
     {
         FactList {
             facts: BTreeMap::new(alloc),
-            indices: IndexMap::new(alloc),
+            indices: BTreeMap::new(alloc),
         }
     }
 
@@ -88,10 +88,15 @@ impl FactList {
         ensures err { OnErr result (self.new ≡ self.old) }
     {
         let shared = fact.clone()?;
-        self.indices.reserve(1)?;
-        self.facts.insert(ix, shared)?;
-        self.indices.insert(fact, ix)?;
-        Ok(())
+        self.indices.insert(shared, ix)?;
+        match self.facts.insert(ix, fact) {
+            Ok(_) => Ok(()),
+            Err(refused) => {
+                let (_, fact) = refused.value;
+                self.indices.remove(&fact);
+                Err(NoMemory)
+            }
+        }
     }
 
     /// Removes the fact with this index. Where there is none, nothing changes.
@@ -103,7 +108,7 @@ impl FactList {
         ensures base { IsFactBase self.new }
     {
         if let Some(fact) = self.facts.remove(&ix) {
-            self.indices.swap_remove(&fact);
+            self.indices.remove(&fact);
         }
     }
 

@@ -7,13 +7,13 @@ ghost use Rattle.std.specs.Cmp.{partial_order_from_own_ties};
 ghost use Rattle.std.specs.Cmp.Rules.{comparing};
 ghost use Rattle.std.proofs.Common.{rules};
 
-use cb_forms::NoMemory;
+use cb_forms::{ByteString, NoMemory};
 use std::alloc::{AllocError, Global};
 use std::cmp::Ordering;
 use std::fmt;
 use std::hash::{Hash, Hasher};
 use std::marker::Model;
-use std::rc::RcSlice;
+use std::rc::Rc;
 
 /// The bytes of a symbol, a string, a relation or a variable. Nothing checks them as UTF-8.
 ///
@@ -23,16 +23,16 @@ use std::rc::RcSlice;
 /// Contracts see its list of bytes.
 #[derive(Drop)]
 pub struct Name {
-    bytes: RcSlice<u8>,
+    bytes: Rc<ByteString>,
 }
 
 impl Model for Name {
     ghost use Rattle.std.specs.Prelude.{List, ℕ};
-    ghost use Rattle.std.specs.Rc.{rc_slice_items};
+    ghost use Rattle.std.specs.Rc.{rc_value};
 
     ghost Value = { List ℕ };
 
-    ghost view = { λ n. rc_slice_items n.bytes };
+    ghost view = { λ n. rc_value n.bytes };
 }
 
 impl Name {
@@ -41,8 +41,13 @@ impl Name {
         ensures { IfOk result (λ n. n ≡ bytes.now) }
     {
         Ok(Name {
-            bytes: RcSlice::from_slice(alloc, bytes)?,
+            bytes: Rc::new(alloc, ByteString::new(alloc, bytes)?)?,
         })
+    }
+
+    /// Whether another name shares the bytes.
+    pub(crate) fn is_shared(&self) -> bool {
+        Rc::strong_count(&self.bytes) > 1
     }
 
     /// The bytes.
@@ -68,7 +73,7 @@ impl PartialEq for Name {
     ghost laws = { Prim.search (comparing, rules) };
 
     fn eq(&self, other: &Name) -> bool {
-        self.bytes == other.bytes
+        self.as_slice() == other.as_slice()
     }
 }
 
@@ -96,7 +101,7 @@ impl Ord for Name {
     ghost matches_eq = { Prim.search (comparing, rules) };
 
     fn cmp(&self, other: &Name) -> Ordering {
-        self.bytes.cmp(&other.bytes)
+        self.as_slice().cmp(other.as_slice())
     }
 }
 
@@ -113,6 +118,6 @@ impl Hash for Name {
 
 impl fmt::Debug for Name {
     fn fmt<W: fmt::Write>(&self, f: &mut fmt::Formatter<W>) -> fmt::Result {
-        self.bytes.fmt(f)
+        self.as_slice().fmt(f)
     }
 }

@@ -12,7 +12,7 @@ use std::alloc::Global;
 pub fn splice(alloc: Global, values: &[Value]) -> Result<Vec<Single>, NoMemory>
     ensures { IfOk result (λ fields. fields.items ≡ spliced values.now) }
 {
-    let mut fields = Vec::new(alloc);
+    let mut fields = Vec::with_capacity(alloc, values.len())?;
     for value in values {
         add_fields(&mut fields, value)?;
     }
@@ -41,7 +41,7 @@ fn has_multifield(values: &[Value]) -> bool
 fn values_of(alloc: Global, fields: &[Single]) -> Result<Vec<Value>, NoMemory>
     ensures { IfOk result (λ values. values.items ≡ map value_of_field fields.now) }
 {
-    let mut values = Vec::new(alloc);
+    let mut values = Vec::with_capacity(alloc, fields.len())?;
     for field in fields {
         values.push(value_of(field.clone()?))?;
     }

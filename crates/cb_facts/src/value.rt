@@ -4,8 +4,8 @@ ghost use Rattle.cb_facts.specs.Values.{constant_of};
 
 use crate::multifield::Multifield;
 use crate::name::Name;
+use crate::names::Names;
 use cb_forms::{NoMemory, Token};
-use std::alloc::Global;
 
 /// A value of a script. Of two variants the first here is the lesser.
 ///
@@ -27,12 +27,12 @@ pub enum Value {
 impl Value {
     /// The value of a token that is a constant, as a symbol, a string and an integer are; `None` of any other. Growth is
     /// refused as `NoMemory`.
-    pub fn constant(alloc: Global, token: &Token) -> Result<Option<Value>, NoMemory>
+    pub fn constant(names: &mut Names, token: &Token) -> Result<Option<Value>, NoMemory>
         ensures { IfOk result (λ v. v ≡ constant_of token.now) }
     {
         Ok(match token {
-            Token::Symbol(bytes) => Some(Value::Symbol(Name::new(alloc, bytes.as_slice())?)),
-            Token::Str(bytes) => Some(Value::Str(Name::new(alloc, bytes.as_slice())?)),
+            Token::Symbol(bytes) => Some(Value::Symbol(names.name(bytes.as_slice())?)),
+            Token::Str(bytes) => Some(Value::Str(names.name(bytes.as_slice())?)),
             Token::Int(number) => Some(Value::Int(*number)),
             _ => None,
         })

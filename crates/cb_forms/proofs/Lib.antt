@@ -7,12 +7,12 @@ pub mod FormLaws
 pub mod Lasts
 pub mod ListLaws
 pub mod Modes
-pub mod NestLaws
+pub mod ListStackLaws
 mod NumberLemmas
 pub mod OpenPartLaws
 pub mod PartLaws
 pub mod PieceLaws
-pub mod PlaceLaws
+pub mod ScanStateLaws
 pub mod ReaderLaws
 pub mod ReadingLaws
 mod RunLaws

@@ -6,7 +6,7 @@ use Rattle.std.proofs.lemmas.List.Sums.{sum_by-cons}
 use Rattle.cb_forms.specs.Bytes.{is_blank, begins_with}
 use Rattle.cb_forms.specs.Items.{openings, closings, is_open_list}
 use Rattle.cb_forms.specs.Lists.{first_fault, put_first, levels_of, first_tree, fault_or, list_reading}
-use Rattle.cb_forms.specs.Nests.{closed_up}
+use Rattle.cb_forms.specs.ListStacks.{closed_up}
 use Rattle.cb_forms.specs.Pieces.{pieces, string_token, lexeme_of, lexemes}
 use Rattle.cb_forms.specs.Trees.{Tree, atom}
 use Rattle.cb_forms.specs.Words.{token_of}
@@ -16,7 +16,7 @@ use Rattle.cb_forms.specs.declared.lexeme.Lexeme.{Lexeme}
 use Rattle.cb_forms.specs.declared.lexeme.Lexeme.TheVariants.{Gap, Opening, Closing, Atom}
 use Rattle.cb_forms.specs.declared.token.Token.{Token}
 use Rattle.cb_forms.specs.declared.token.Token.TheVariants.{And, Or, Not}
-use Rattle.cb_forms.proofs.NestLaws.{closed_up-open}
+use Rattle.cb_forms.proofs.ListStackLaws.{closed_up-open}
 
 abbrev pub is_opening : Lexeme → Bool
 is_opening Opening = true

@@ -6,32 +6,32 @@ use Rattle.cb_forms.specs.Cuts.{cut_readings, is_too_long, opened_readings, open
 use Rattle.cb_forms.specs.Items.{openings, closings, is_open_list, part_takes, is_gap, readings_of, is_open, ended_readings}
 use Rattle.cb_forms.specs.OpenParts.{IsKept, Reaches}
 use Rattle.cb_forms.specs.Pieces.{pieces}
-use Rattle.cb_forms.specs.Places.{mode_takes, fresh_mode, next_mode, mode_is_open, next_depth, fresh_depth, mode_in, depth_in, IsPlaceIn}
+use Rattle.cb_forms.specs.ScanStates.{mode_takes, fresh_mode, next_mode, mode_is_open, next_depth, fresh_depth, mode_in, depth_in, IsStateIn}
 use Rattle.cb_forms.specs.Strings.{is_unclosed}
 use Rattle.cb_forms.specs.Trees.{Reading}
 use Rattle.cb_forms.specs.declared.cut.Cut.{Cut}
 use Rattle.cb_forms.specs.declared.cut.Cut.TheVariants as cut
 use Rattle.cb_forms.specs.declared.fault.Fault.TheVariants.{FormNotClosed}
-use Rattle.cb_forms.specs.declared.mode.Mode.{Mode}
-use Rattle.cb_forms.specs.declared.mode.Mode.TheVariants.{Ended}
+use Rattle.cb_forms.specs.declared.lex_mode.LexMode.{LexMode}
+use Rattle.cb_forms.specs.declared.lex_mode.LexMode.TheVariants.{Ended}
 use Rattle.cb_forms.specs.declared.open_part.OpenPart.{OpenPart}
 use Rattle.cb_forms.proofs.PartLaws.{goes_open}
-use Rattle.cb_forms.proofs.PlaceLaws.{place-takes, place-open, place-push, place-fresh}
+use Rattle.cb_forms.proofs.ScanStateLaws.{state-takes, state-open, state-push, state-fresh}
 
 -- before the first byte
-pub place-start : IsPlaceIn [] Ended 0
+pub state-start : IsStateIn [] Ended 0
 unfolding mode_in depth_in
-place-start = record { mode_is = refl; depth_is = refl; closed = λ _ _. refl }
+state-start = record { mode_is = refl; depth_is = refl; closed = λ _ _. refl }
 
-pub kept-start : (part : OpenPart) → part.spelled.items ≡ [] → part.bytes.items ≡ [] → part.place.mode ≡ Ended → part.place.depth ≡ 0 → IsKept part
+pub kept-start : (part : OpenPart) → part.spelled.items ≡ [] → part.bytes.items ≡ [] → part.state.mode ≡ Ended → part.state.depth ≡ 0 → IsKept part
 kept-start part spelled bytes mode depth = record {
-  place_is = rw (spelled, mode, depth) place-start;
+  state_is = rw (spelled, mode, depth) state-start;
   bytes_are = rw (spelled, bytes) refl;
   depth_fits = omega arith;
 }
 
 -- a part in which lists are open is an open list
-pub deep-list : (w : List ℕ) (m : Mode) (d : ℕ) → IsPlaceIn w m d → 0 < d → readings_of w ≡ Err FormNotClosed ∷ []
+pub deep-list : (w : List ℕ) (m : LexMode) (d : ℕ) → IsStateIn w m d → 0 < d → readings_of w ≡ Err FormNotClosed ∷ []
 unfolding depth_in is_open_list
 deep-list w m d at lt =
     let P : Bool → Type 0 = λ t. begins_with 40 w ≡ t → d ≡ (if t then openings (pieces w) - closings (pieces w) else 0) → readings_of w ≡ Err FormNotClosed ∷ [] in
@@ -41,7 +41,7 @@ deep-list w m d at lt =
     ] in cases (begins_with 40 w) refl at.depth_is
 
 -- a list in which none is open is closed
-pub flat-list : (w : List ℕ) (m : Mode) (d : ℕ) → IsPlaceIn w m d → d ≡ 0 → begins_with 40 w ≡ true → is_open_list w ≡ false
+pub flat-list : (w : List ℕ) (m : LexMode) (d : ℕ) → IsStateIn w m d → d ≡ 0 → begins_with 40 w ≡ true → is_open_list w ≡ false
 unfolding depth_in is_open_list
 flat-list w m d at none e =
     let depth : d ≡ openings (pieces w) - closings (pieces w) = at.depth_is ∙ ap (λ t. if t then openings (pieces w) - closings (pieces w) else 0) e in
@@ -78,7 +78,7 @@ comment_is_gap : (c : ℕ) (cs : List ℕ) → c ≡ 59 → (is_open (c ∷ cs) 
 comment_is_gap c cs e = rw e (refl, refl, refl)
 
 -- the part has no more open lists than one more byte
-pub depth-next : (m : Mode) (d b : ℕ) → next_depth m d b ≤ d + 1
+pub depth-next : (m : LexMode) (d b : ℕ) → next_depth m d b ≤ d + 1
 depth-next m d b = elim (mode_takes m b) as (λ t. (if t then d else (if b == 40 then d + 1 else (if b == 41 then d - 1 else d))) ≤ d + 1) [
   | true ↦ omega arith
   | false ↦ elim (b == 40) as (λ t. (if t then d + 1 else (if b == 41 then d - 1 else d)) ≤ d + 1) [
@@ -87,7 +87,7 @@ depth-next m d b = elim (mode_takes m b) as (λ t. (if t then d else (if b == 40
   ]
 ]
 
-depth-same : (m : Mode) (d b : ℕ) → mode_takes m b ≡ true → next_depth m d b ≡ d
+depth-same : (m : LexMode) (d b : ℕ) → mode_takes m b ≡ true → next_depth m d b ≡ d
 depth-same m d b h = ap (λ t. if t then d else (if b == 40 then d + 1 else (if b == 41 then d - 1 else d))) h
 
 pub open_bytes-open : (w : List ℕ) → is_open w ≡ true → open_bytes w ≡ w
@@ -104,47 +104,47 @@ kept-open w bytes are some = elim (cases_Bool (is_open w)) [
 ]
 
 -- a byte more in an item, or the first byte of one: it is kept, or the item has ended
-pub reaches-item : (limit : ℕ) (w : List ℕ) (before item : List Reading) (given : Cut) (part : OpenPart) → is_gap w ≡ false → length w ≤ limit → IsPlaceIn w part.place.mode part.place.depth → part.spelled.items ≡ w → part.bytes.items ≡ open_bytes w → part.place.depth ≤ length w → is_too_long given ≡ false → cut_readings given ≡ before ++ item → item ≡ ended_readings w → Reaches limit w before given part
+pub reaches-item : (limit : ℕ) (w : List ℕ) (before item : List Reading) (given : Cut) (part : OpenPart) → is_gap w ≡ false → length w ≤ limit → IsStateIn w part.state.mode part.state.depth → part.spelled.items ≡ w → part.bytes.items ≡ open_bytes w → part.state.depth ≤ length w → is_too_long given ≡ false → cut_readings given ≡ before ++ item → item ≡ ended_readings w → Reaches limit w before given part
 reaches-item limit w before item given part no_gap fits at spelled bytes deep short gives is_item =
-    let open_is = place-open w part.place.mode part.place.depth at in record {
+    let open_is = state-open w part.state.mode part.state.depth at in record {
       too_long = short ∙ sym (ap (λ t. not t && nat_lt limit (length w)) no_gap ∙ le-ltb limit (length w) fits);
       cleared = λ h. absurd (false≢true (sym short ∙ h));
       items = λ _. gives ∙ ap (λ more. before ++ more) is_item;
       spelled = λ _. spelled;
       kept = λ _. record {
-        place_is = rw spelled at;
+        state_is = rw spelled at;
         bytes_are = rw spelled bytes;
         depth_fits = elim (cases_Bool (is_open w)) [
           | inl e ↦ let same = ap length (bytes ∙ open_bytes-open w e) in omega arith
-          | inr e ↦ let none = or_parts (nat_lt 0 part.place.depth) (mode_is_open part.place.mode) (sym open_is ∙ e) in let le = ltb-false 0 part.place.depth none.0 in omega arith
+          | inr e ↦ let none = or_parts (nat_lt 0 part.state.depth) (mode_is_open part.state.mode) (sym open_is ∙ e) in let le = ltb-false 0 part.state.depth none.0 in omega arith
         ];
       };
     }
 
 -- a byte more in a comment
-pub reaches-comment : (limit : ℕ) (w : List ℕ) (b : ℕ) (old new : OpenPart) → old.spelled.items ≡ w → IsKept old → part_takes w b ≡ true → old.bytes.items ≡ [] → new.bytes.items ≡ [] → new.place.mode ≡ next_mode old.place.mode b → new.place.depth ≡ next_depth old.place.mode old.place.depth b
+pub reaches-comment : (limit : ℕ) (w : List ℕ) (b : ℕ) (old new : OpenPart) → old.spelled.items ≡ w → IsKept old → part_takes w b ≡ true → old.bytes.items ≡ [] → new.bytes.items ≡ [] → new.state.mode ≡ next_mode old.state.mode b → new.state.depth ≡ next_depth old.state.mode old.state.depth b
     → new.spelled.items ≡ w ++ b ∷ [] → Reaches limit (w ++ b ∷ []) [] cut.More new
 reaches-comment limit [] b old new was kept takes none bytes mode depth spelled = absurd (false≢true takes)
 reaches-comment limit (c ∷ cs) b old new was kept takes none bytes mode depth spelled =
     let w = c ∷ cs in
-    let Q : List ℕ → Type 0 = λ it. IsPlaceIn it old.place.mode old.place.depth in
-    let at : IsPlaceIn w old.place.mode old.place.depth = subst Q was kept.place_is in
+    let Q : List ℕ → Type 0 = λ it. IsStateIn it old.state.mode old.state.depth in
+    let at : IsStateIn w old.state.mode old.state.depth = subst Q was kept.state_is in
     let shut : is_open w ≡ false = elim (cases_Bool (is_open w)) [
       | inl e ↦ let same = ap length (sym none ∙ (kept.bytes_are ∙ (ap open_bytes was ∙ open_bytes-open w e))) in absurd (omega arith)
       | inr e ↦ e
     ] in
     let gap = comment_is_gap c (cs ++ b ∷ []) (eqb-true c 59 (goes-comment w b takes shut)) in
-    let zero : old.place.depth ≡ 0 = let fits = kept.depth_fits in let none_kept = ap length none in omega arith in
-    let goes : mode_takes old.place.mode b ≡ true = sym (ap (λ d. nat_lt 0 d || mode_takes old.place.mode b) zero) ∙ (sym (place-takes w old.place.mode old.place.depth b at) ∙ takes) in
-    let pushed = place-push w old.place.mode old.place.depth b at takes in record {
+    let zero : old.state.depth ≡ 0 = let fits = kept.depth_fits in let none_kept = ap length none in omega arith in
+    let goes : mode_takes old.state.mode b ≡ true = sym (ap (λ d. nat_lt 0 d || mode_takes old.state.mode b) zero) ∙ (sym (state-takes w old.state.mode old.state.depth b at) ∙ takes) in
+    let pushed = state-push w old.state.mode old.state.depth b at takes in record {
       too_long = sym (ap (λ t. not t && nat_lt limit (length (w ++ b ∷ []))) gap.1);
       cleared = λ h. absurd (false≢true h);
       items = λ _. rw (gap.0, gap.2) refl;
       spelled = λ _. spelled;
       kept = λ _. record {
-        place_is = rw (spelled, mode, depth) pushed;
+        state_is = rw (spelled, mode, depth) pushed;
         bytes_are = rw (spelled, bytes) (sym (open_bytes-ended (w ++ b ∷ []) gap.0));
-        depth_fits = let same = depth-same old.place.mode old.place.depth b goes in omega arith;
+        depth_fits = let same = depth-same old.state.mode old.state.depth b goes in omega arith;
       };
     }
 
@@ -162,7 +162,7 @@ gap_says b gap shut =
     rw (shut, plain, gap) refl
 
 -- a blank or the beginning of a comment
-pub reaches-gap : (limit : ℕ) (b : ℕ) (before : List Reading) (given : Cut) (part : OpenPart) → is_gap (b ∷ []) ≡ true → part.place.mode ≡ fresh_mode b → part.place.depth ≡ fresh_depth b → part.spelled.items ≡ b ∷ [] → part.bytes.items ≡ [] → is_too_long given ≡ false → cut_readings given ≡ before ++ [] → Reaches limit (b ∷ []) before given part
+pub reaches-gap : (limit : ℕ) (b : ℕ) (before : List Reading) (given : Cut) (part : OpenPart) → is_gap (b ∷ []) ≡ true → part.state.mode ≡ fresh_mode b → part.state.depth ≡ fresh_depth b → part.spelled.items ≡ b ∷ [] → part.bytes.items ≡ [] → is_too_long given ≡ false → cut_readings given ≡ before ++ [] → Reaches limit (b ∷ []) before given part
 reaches-gap limit b before given part gap mode depth spelled bytes short gives =
     let shut : is_open (b ∷ []) ≡ false = elim (cases_Bool (is_open (b ∷ []))) [ inl e ↦ absurd (true≢false (sym gap ∙ open-no_gap (b ∷ []) e)) | inr e ↦ e ] in
     let zero : fresh_depth b ≡ 0 = elim (cases_eq b 40) as (λ _. fresh_depth b ≡ 0) [ inl e ↦ absurd (false≢true (sym (ap (λ it. is_gap (it ∷ [])) e) ∙ gap)) | inr e ↦ rw (ne_eqb b 40 e) refl ] in record {
@@ -171,35 +171,35 @@ reaches-gap limit b before given part gap mode depth spelled bytes short gives =
       items = λ _. gives ∙ ap (λ more. before ++ more) (sym (gap_says b gap shut));
       spelled = λ _. spelled;
       kept = λ _. record {
-        place_is = rw (spelled, mode, depth) (place-fresh b);
+        state_is = rw (spelled, mode, depth) (state-fresh b);
         bytes_are = rw (spelled, bytes) (sym (open_bytes-ended (b ∷ []) shut));
         depth_fits = omega arith;
       };
     }
 
 -- where an item is open, its bytes are kept
-pub kept-place : (part : OpenPart) → IsKept part → (nat_lt 0 part.place.depth || mode_is_open part.place.mode) ≡ true → IsPlaceIn part.bytes.items part.place.mode part.place.depth
-kept-place part kept h =
-    let P : List ℕ → Type 0 = λ w. IsPlaceIn w part.place.mode part.place.depth in
-    let same : part.spelled.items ≡ part.bytes.items = sym (kept.bytes_are ∙ open_bytes-open part.spelled.items (place-open part.spelled.items part.place.mode part.place.depth kept.place_is ∙ h)) in
-    subst P same kept.place_is
+pub kept-state : (part : OpenPart) → IsKept part → (nat_lt 0 part.state.depth || mode_is_open part.state.mode) ≡ true → IsStateIn part.bytes.items part.state.mode part.state.depth
+kept-state part kept h =
+    let P : List ℕ → Type 0 = λ w. IsStateIn w part.state.mode part.state.depth in
+    let same : part.spelled.items ≡ part.bytes.items = sym (kept.bytes_are ∙ open_bytes-open part.spelled.items (state-open part.spelled.items part.state.mode part.state.depth kept.state_is ∙ h)) in
+    subst P same kept.state_is
 
 -- what the kept bytes say is what the part says
-pub opened-says : (part : OpenPart) (says : List Reading) → IsKept part → says ≡ (if nat_lt 0 part.place.depth || mode_is_open part.place.mode then readings_of part.bytes.items else []) → says ≡ opened_readings part.spelled.items
+pub opened-says : (part : OpenPart) (says : List Reading) → IsKept part → says ≡ (if nat_lt 0 part.state.depth || mode_is_open part.state.mode then readings_of part.bytes.items else []) → says ≡ opened_readings part.spelled.items
 opened-says part says kept h =
-    let open_is = place-open part.spelled.items part.place.mode part.place.depth kept.place_is in
+    let open_is = state-open part.spelled.items part.state.mode part.state.depth kept.state_is in
     h ∙ (ap (λ t. if t then readings_of part.bytes.items else []) (sym open_is) ∙ elim (cases_Bool (is_open part.spelled.items)) as (λ _. (if is_open part.spelled.items then readings_of part.bytes.items else []) ≡ opened_readings part.spelled.items) [
       | inl e ↦ ap (λ w. if is_open part.spelled.items then readings_of w else []) (kept.bytes_are ∙ open_bytes-open part.spelled.items e)
       | inr e ↦ rw e refl
     ])
 
 -- a byte more in the kept bytes of an open item
-pub place-goes : (part : OpenPart) (b : ℕ) (bytes : List ℕ) → IsKept part → part_takes part.spelled.items b ≡ true → 0 < length part.bytes.items → bytes ≡ part.bytes.items ++ b ∷ [] → (bytes ≡ part.spelled.items ++ b ∷ []) × IsPlaceIn bytes (next_mode part.place.mode b) (next_depth part.place.mode part.place.depth b)
-place-goes part b bytes kept takes some is =
+pub state-goes : (part : OpenPart) (b : ℕ) (bytes : List ℕ) → IsKept part → part_takes part.spelled.items b ≡ true → 0 < length part.bytes.items → bytes ≡ part.bytes.items ++ b ∷ [] → (bytes ≡ part.spelled.items ++ b ∷ []) × IsStateIn bytes (next_mode part.state.mode b) (next_depth part.state.mode part.state.depth b)
+state-goes part b bytes kept takes some is =
     let w = part.spelled.items in
     let same : bytes ≡ w ++ b ∷ [] = is ∙ ap (λ it. it ++ b ∷ []) (kept-open w part.bytes.items kept.bytes_are some).1 in
-    let P : List ℕ → Type 0 = λ it. IsPlaceIn it (next_mode part.place.mode b) (next_depth part.place.mode part.place.depth b) in
-    (same, subst P (sym same) (place-push w part.place.mode part.place.depth b kept.place_is takes))
+    let P : List ℕ → Type 0 = λ it. IsStateIn it (next_mode part.state.mode b) (next_depth part.state.mode part.state.depth b) in
+    (same, subst P (sym same) (state-push w part.state.mode part.state.depth b kept.state_is takes))
 
 -- the first byte of an item
 pub no_gap-fresh : (b : ℕ) → is_blank b ≡ false → (b ≡ 59 → ⊥) → is_gap (b ∷ []) ≡ false

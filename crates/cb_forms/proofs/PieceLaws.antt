@@ -5,15 +5,15 @@ use Rattle.std.proofs.lemmas.List.{append-nil, drop_more, take_more, take-append
 use Rattle.cb_forms.specs.Bytes.{is_blank}
 use Rattle.cb_forms.specs.Cutting.{cut_from}
 use Rattle.cb_forms.specs.Pieces.{piece_takes, pieces, lexeme_of}
-use Rattle.cb_forms.specs.Places.{StaysIn, mode_of, mode_takes, fresh_mode, continued_mode, next_mode}
+use Rattle.cb_forms.specs.ScanStates.{StaysIn, mode_of, mode_takes, fresh_mode, continued_mode, next_mode}
 use Rattle.cb_forms.specs.Strings.{is_unclosed, is_unclosed_escaped}
 use Rattle.cb_forms.specs.declared.lexeme.Lexeme.TheVariants.{Gap}
-use Rattle.cb_forms.specs.declared.mode.Mode.{Mode}
+use Rattle.cb_forms.specs.declared.lex_mode.LexMode.{LexMode}
 use Rattle.cb_forms.proofs.Modes.{piece-takes, mode-push}
 use Rattle.cb_forms.proofs.Splits.{take-both, split-more, split-all, split-end}
 
 -- the piece at the front of a text, as far as the first i bytes tell
-pub record IsPieceSoFar (s : List ℕ) (i : ℕ) (mode : Mode) : Type 0 where
+pub record IsPieceSoFar (s : List ℕ) (i : ℕ) (mode : LexMode) : Type 0 where
   pub mode_is : mode ≡ mode_of (take i s)
   pub cut_is : cut_from piece_takes (take i s) (drop i s) ≡ pieces s
 
@@ -22,7 +22,7 @@ unfolding pieces
 piece-begin [] h = absurd (omega arith)
 piece-begin (x ∷ xs) h = record { mode_is = refl; cut_is = refl }
 
-pub piece-more : (s : List ℕ) (i : ℕ) (m : Mode) → i < length s → IsPieceSoFar s i m → mode_takes m (get_or s i 0) ≡ true → IsPieceSoFar s (i + 1) (next_mode m (get_or s i 0))
+pub piece-more : (s : List ℕ) (i : ℕ) (m : LexMode) → i < length s → IsPieceSoFar s i m → mode_takes m (get_or s i 0) ≡ true → IsPieceSoFar s (i + 1) (next_mode m (get_or s i 0))
 piece-more s i m lt so_far h =
     let b = get_or s i 0 in
     let takes : piece_takes (take i s) b ≡ true = piece-takes (take i s) b ∙ (ap (λ it. mode_takes it b) (sym so_far.mode_is) ∙ h) in record {
@@ -30,17 +30,17 @@ piece-more s i m lt so_far h =
       cut_is = split-more piece_takes s i lt takes ∙ so_far.cut_is;
     }
 
-pub piece-all : (s : List ℕ) (i : ℕ) (m : Mode) → length s ≤ i → IsPieceSoFar s i m → pieces s ≡ take i s ∷ pieces (drop i s)
+pub piece-all : (s : List ℕ) (i : ℕ) (m : LexMode) → length s ≤ i → IsPieceSoFar s i m → pieces s ≡ take i s ∷ pieces (drop i s)
 unfolding pieces
 piece-all s i m le so_far = sym so_far.cut_is ∙ split-all piece_takes s i le
 
-pub piece-end : (s : List ℕ) (i : ℕ) (m : Mode) → i < length s → IsPieceSoFar s i m → mode_takes m (get_or s i 0) ≡ false → pieces s ≡ take i s ∷ pieces (drop i s)
+pub piece-end : (s : List ℕ) (i : ℕ) (m : LexMode) → i < length s → IsPieceSoFar s i m → mode_takes m (get_or s i 0) ≡ false → pieces s ≡ take i s ∷ pieces (drop i s)
 unfolding pieces
 piece-end s i m lt so_far h =
     let takes : piece_takes (take i s) (get_or s i 0) ≡ false = piece-takes (take i s) (get_or s i 0) ∙ (ap (λ it. mode_takes it (get_or s i 0)) (sym so_far.mode_is) ∙ h) in
     sym so_far.cut_is ∙ split-end piece_takes s i lt takes
 
-piece-stays : (w run rest : List ℕ) (m : Mode) → m ≡ mode_of w → StaysIn m run → (m ≡ mode_of (w ++ run)) × (cut_from piece_takes w (run ++ rest) ≡ cut_from piece_takes (w ++ run) rest)
+piece-stays : (w run rest : List ℕ) (m : LexMode) → m ≡ mode_of w → StaysIn m run → (m ≡ mode_of (w ++ run)) × (cut_from piece_takes w (run ++ rest) ≡ cut_from piece_takes (w ++ run) rest)
 piece-stays w [] rest m is stays = (is ∙ ap mode_of (sym (append-nil w)), ap (λ v. cut_from piece_takes v rest) (sym (append-nil w)))
 piece-stays w (b ∷ bs) rest m is stays =
     let takes : piece_takes w b ≡ true = piece-takes w b ∙ (ap (λ it. mode_takes it b) (sym is) ∙ stays.0) in
@@ -51,7 +51,7 @@ piece-stays w (b ∷ bs) rest m is stays =
     (more.0 ∙ ap mode_of all, one ∙ (more.1 ∙ ap (λ v. cut_from piece_takes v rest) all))
 
 -- the piece goes on with a run of bytes, and waits for the same
-pub piece-run : (s rest : List ℕ) (i n : ℕ) (m : Mode) → rest ≡ drop i s → IsPieceSoFar s i m → StaysIn m (take n rest) → IsPieceSoFar s (i + n) m
+pub piece-run : (s rest : List ℕ) (i n : ℕ) (m : LexMode) → rest ≡ drop i s → IsPieceSoFar s i m → StaysIn m (take n rest) → IsPieceSoFar s (i + n) m
 piece-run s rest i n m is so_far stays =
     let P : List ℕ → Type 0 = λ it. StaysIn m (take n it) in
     let run = take n (drop i s) in

@@ -12,7 +12,7 @@ use Rattle.cb_forms.specs.Trees.{Tree, atom, branch, Trees, no_trees, tree, tree
 use Rattle.cb_forms.specs.declared.lexeme.Lexeme.{Lexeme}
 use Rattle.cb_forms.specs.declared.lexeme.Lexeme.TheVariants.{Gap, Opening, Closing, Atom}
 use Rattle.cb_forms.proofs.CuttingLaws.{joined-cut, are_cut-cut, cut-joined, are_cut-front}
-use Rattle.cb_forms.proofs.NestLaws.{first_tree-put_first}
+use Rattle.cb_forms.proofs.ListStackLaws.{first_tree-put_first}
 use Rattle.cb_forms.proofs.OpenPartLaws.{open-no_gap}
 use Rattle.cb_forms.proofs.PartLaws.{tail, items-split, whole-taken, whole-fresh, over-split, over-kept}
 

@@ -7,33 +7,33 @@ use Rattle.cb_forms.specs.Cuts.{opened_readings, open_bytes, part_with, readings
 use Rattle.cb_forms.specs.Cutter.{IsInStep}
 use Rattle.cb_forms.specs.Items.{part_takes, is_gap, readings_of, is_open, ended_readings, whole, is_longer, over}
 use Rattle.cb_forms.specs.OpenParts.{IsKept, Reaches, part_after, CompletesNone, HasPassed, TakesOrLeaves}
-use Rattle.cb_forms.specs.Places.{mode_takes, fresh_mode, continued_mode, next_mode, mode_is_open, next_depth, fresh_depth, StaysIn, IsOpenStep, StaysOpen, IsPlaceIn}
+use Rattle.cb_forms.specs.ScanStates.{mode_takes, fresh_mode, continued_mode, next_mode, mode_is_open, next_depth, fresh_depth, StaysIn, IsOpenStep, StaysOpen, IsStateIn}
 use Rattle.cb_forms.specs.Trees.{Reading}
 use Rattle.cb_forms.specs.declared.cut.Cut.TheVariants as cut
-use Rattle.cb_forms.specs.declared.mode.Mode.{Mode}
-use Rattle.cb_forms.specs.declared.mode.Mode.TheVariants.{Ended, Comment, Word, Quoted, Escaped}
+use Rattle.cb_forms.specs.declared.lex_mode.LexMode.{LexMode}
+use Rattle.cb_forms.specs.declared.lex_mode.LexMode.TheVariants.{Ended, Comment, Word, Quoted, Escaped}
 use Rattle.cb_forms.specs.declared.open_part.OpenPart.{OpenPart}
 use Rattle.cb_forms.proofs.CutterLaws.{whole-push}
 use Rattle.cb_forms.proofs.OpenPartLaws.{depth-next, kept-open, open_bytes-open, open-no_gap, reaches-gap, reaches-item, depth-fresh}
 use Rattle.cb_forms.proofs.PartLaws.{tail, tail-push, over-push}
-use Rattle.cb_forms.proofs.PlaceLaws.{place-takes, place-open, place-push, place-fresh}
+use Rattle.cb_forms.proofs.ScanStateLaws.{state-takes, state-open, state-push, state-fresh}
 use Rattle.cb_forms.proofs.Splits.{take-both}
 use Rattle.cb_forms.proofs.WithinLaws.{begins, ended-open, stays-comment}
 
 -- an item that stays open, with one more byte
-pub stays-push : (m : Mode) (d : ℕ) (bs : List ℕ) (last : Mode) (deep b : ℕ) (next : Mode) (deeper : ℕ) → StaysOpen m d bs last deep → IsOpenStep last deep b next deeper → StaysOpen m d (bs ++ b ∷ []) next deeper
+pub stays-push : (m : LexMode) (d : ℕ) (bs : List ℕ) (last : LexMode) (deep b : ℕ) (next : LexMode) (deeper : ℕ) → StaysOpen m d bs last deep → IsOpenStep last deep b next deeper → StaysOpen m d (bs ++ b ∷ []) next deeper
 stays-push m d [] last deep b next deeper at goes =
     let here : IsOpenStep m d b next deeper = rw (← at.0, ← at.1) goes in
     (record { takes = here.takes; mode_is = refl; depth_is = refl; opens = rw (← here.mode_is, ← here.depth_is) here.opens }, (here.mode_is, here.depth_is))
 stays-push m d (c ∷ cs) last deep b next deeper at goes = (at.0, stays-push (next_mode m c) (next_depth m d c) cs last deep b next deeper at.1 goes)
 
 -- and with a run of bytes more
-pub stays-append : (m : Mode) (d : ℕ) (bs cs : List ℕ) (last : Mode) (deep : ℕ) (end : Mode) (lower : ℕ) → StaysOpen m d bs last deep → StaysOpen last deep cs end lower → StaysOpen m d (bs ++ cs) end lower
+pub stays-append : (m : LexMode) (d : ℕ) (bs cs : List ℕ) (last : LexMode) (deep : ℕ) (end : LexMode) (lower : ℕ) → StaysOpen m d bs last deep → StaysOpen last deep cs end lower → StaysOpen m d (bs ++ cs) end lower
 stays-append m d [] cs last deep end lower at goes = rw (← at.0, ← at.1) goes
 stays-append m d (b ∷ bs) cs last deep end lower at goes = (at.0, stays-append (next_mode m b) (next_depth m d b) bs cs last deep end lower at.1 goes)
 
 -- a piece that waits for the same, with one more byte
-pub stays_in-push : (m : Mode) (bs : List ℕ) (b : ℕ) → StaysIn m bs → mode_takes m b ≡ true → continued_mode m b ≡ m → StaysIn m (bs ++ b ∷ [])
+pub stays_in-push : (m : LexMode) (bs : List ℕ) (b : ℕ) → StaysIn m bs → mode_takes m b ≡ true → continued_mode m b ≡ m → StaysIn m (bs ++ b ∷ [])
 stays_in-push m [] b at takes same = (takes, same, tt)
 stays_in-push m (c ∷ cs) b at takes same = (at.0, at.1, stays_in-push m cs b at.2 takes same)
 
@@ -106,25 +106,25 @@ in_step-run limit p p' run given part part' is_over fits was goes next =
     })
 
 -- an open item with a run of bytes more, through all of which it stays open
-pub record IsOpenAfter (limit : ℕ) (w run : List ℕ) (mode : Mode) (depth : ℕ) : Type 0 where
+pub record IsOpenAfter (limit : ℕ) (w run : List ℕ) (mode : LexMode) (depth : ℕ) : Type 0 where
   pub completes : CompletesNone limit w run
   pub part_is : part_after w run ≡ w ++ run
-  pub place_is : IsPlaceIn (w ++ run) mode depth
+  pub state_is : IsStateIn (w ++ run) mode depth
   pub opens : is_open (w ++ run) ≡ true
 
-pub open-run : (limit : ℕ) (w : List ℕ) (m : Mode) (d : ℕ) (run : List ℕ) (last : Mode) (deep : ℕ) → IsPlaceIn w m d → is_open w ≡ true → StaysOpen m d run last deep → length run ≤ limit - length w → IsOpenAfter limit w run last deep
+pub open-run : (limit : ℕ) (w : List ℕ) (m : LexMode) (d : ℕ) (run : List ℕ) (last : LexMode) (deep : ℕ) → IsStateIn w m d → is_open w ≡ true → StaysOpen m d run last deep → length run ≤ limit - length w → IsOpenAfter limit w run last deep
 open-run limit w m d [] last deep at opens stays short =
     let same = append-nil w in record {
       completes = tt;
       part_is = sym same;
-      place_is = rw (same, stays.0, stays.1) at;
+      state_is = rw (same, stays.0, stays.1) at;
       opens = ap is_open same ∙ opens;
     }
 open-run limit w m d (b ∷ bs) last deep at opens stays short =
     let step = stays.0 in
-    let takes : part_takes w b ≡ true = place-takes w m d b at ∙ step.takes in
-    let next : IsPlaceIn (w ++ b ∷ []) (next_mode m b) (next_depth m d b) = place-push w m d b at takes in
-    let still : is_open (w ++ b ∷ []) ≡ true = place-open (w ++ b ∷ []) (next_mode m b) (next_depth m d b) next ∙ step.opens in
+    let takes : part_takes w b ≡ true = state-takes w m d b at ∙ step.takes in
+    let next : IsStateIn (w ++ b ∷ []) (next_mode m b) (next_depth m d b) = state-push w m d b at takes in
+    let still : is_open (w ++ b ∷ []) ≡ true = state-open (w ++ b ∷ []) (next_mode m b) (next_depth m d b) next ∙ step.opens in
     let longer = length_push w b in
     let more = open-run limit (w ++ b ∷ []) (next_mode m b) (next_depth m d b) bs last deep next still stays.1 (omega arith) in
     let same : (w ++ b ∷ []) ++ bs ≡ w ++ b ∷ bs = append_assoc w (b ∷ []) bs in
@@ -134,36 +134,36 @@ open-run limit w m d (b ∷ bs) last deep at opens stays short =
     let fits : length (w ++ b ∷ []) ≤ limit = omega arith in
     let short_enough : is_longer limit (part_with w b) ≡ false = ap (is_longer limit) with ∙ (ap (λ t. not t && nat_lt limit (length (w ++ b ∷ []))) (open-no_gap (w ++ b ∷ []) still) ∙ le-ltb limit (length (w ++ b ∷ [])) fits) in
     let P : List ℕ → Type 0 = λ v. CompletesNone limit v bs in
-    let Q : List ℕ → Type 0 = λ v. IsPlaceIn v last deep in record {
+    let Q : List ℕ → Type 0 = λ v. IsStateIn v last deep in record {
       completes = (ap (λ rs. rs ++ ended_readings (part_with w b)) before ∙ ended, short_enough, subst P (sym with) more.completes);
       part_is = ap (λ v. part_after v bs) with ∙ (more.part_is ∙ same);
-      place_is = subst Q same more.place_is;
+      state_is = subst Q same more.state_is;
       opens = ap is_open (sym same) ∙ more.opens;
     }
 
 -- how deep it may be then
-pub open-deep : (m : Mode) (d : ℕ) (run : List ℕ) (last : Mode) (deep : ℕ) → StaysOpen m d run last deep → deep ≤ d + length run
+pub open-deep : (m : LexMode) (d : ℕ) (run : List ℕ) (last : LexMode) (deep : ℕ) → StaysOpen m d run last deep → deep ≤ d + length run
 open-deep m d [] last deep stays = omega (arith, stays.1)
 open-deep m d (b ∷ bs) last deep stays =
     let more = open-deep (next_mode m b) (next_depth m d b) bs last deep stays.1 in
     let one = depth-next m d b in omega arith
 
 -- the same of the open part that keeps the item
-pub passed-open : (limit : ℕ) (run : List ℕ) (old new : OpenPart) → IsKept old → 0 < length old.bytes.items → length run ≤ limit - length old.bytes.items → StaysOpen old.place.mode old.place.depth run new.place.mode new.place.depth → new.bytes.items ≡ old.bytes.items ++ run → new.spelled.items ≡ old.spelled.items ++ run → HasPassed limit old.spelled.items run new
+pub passed-open : (limit : ℕ) (run : List ℕ) (old new : OpenPart) → IsKept old → 0 < length old.bytes.items → length run ≤ limit - length old.bytes.items → StaysOpen old.state.mode old.state.depth run new.state.mode new.state.depth → new.bytes.items ≡ old.bytes.items ++ run → new.spelled.items ≡ old.spelled.items ++ run → HasPassed limit old.spelled.items run new
 passed-open limit run old new kept some short stays bytes spelled =
     let w = old.spelled.items in
     let open_is = kept-open w old.bytes.items kept.bytes_are some in
     let same = ap length open_is.1 in
-    let after = open-run limit w old.place.mode old.place.depth run new.place.mode new.place.depth kept.place_is open_is.0 stays (omega (arith, short, same)) in
+    let after = open-run limit w old.state.mode old.state.depth run new.state.mode new.state.depth kept.state_is open_is.0 stays (omega (arith, short, same)) in
     let all : new.bytes.items ≡ w ++ run = bytes ∙ ap (λ it. it ++ run) open_is.1 in
-    let P : List ℕ → Type 0 = λ v. IsPlaceIn v new.place.mode new.place.depth in
-    let deep = open-deep old.place.mode old.place.depth run new.place.mode new.place.depth stays in
+    let P : List ℕ → Type 0 = λ v. IsStateIn v new.state.mode new.state.depth in
+    let deep = open-deep old.state.mode old.state.depth run new.state.mode new.state.depth stays in
     let was = kept.depth_fits in
     let long : length new.bytes.items ≡ length old.bytes.items + length run = ap length bytes ∙ length-append old.bytes.items run in record {
       completes = after.completes;
       spelled = spelled ∙ sym after.part_is;
       kept = record {
-        place_is = subst P (sym spelled) after.place_is;
+        state_is = subst P (sym spelled) after.state_is;
         bytes_are = all ∙ (sym (open_bytes-open (w ++ run) after.opens) ∙ ap open_bytes (sym spelled));
         depth_fits = omega arith;
       };
@@ -179,29 +179,29 @@ none-shut part kept none = elim (cases_Bool (is_open part.spelled.items)) [
   | inr e ↦ e
 ]
 
-pub none-deep : (part : OpenPart) → IsKept part → part.bytes.items ≡ [] → part.place.depth ≡ 0
+pub none-deep : (part : OpenPart) → IsKept part → part.bytes.items ≡ [] → part.state.depth ≡ 0
 none-deep part kept none = let fits = kept.depth_fits in let length_is = ap length none in omega arith
 
-none-mode : (part : OpenPart) → IsKept part → part.bytes.items ≡ [] → mode_is_open part.place.mode ≡ false
+none-mode : (part : OpenPart) → IsKept part → part.bytes.items ≡ [] → mode_is_open part.state.mode ≡ false
 none-mode part kept none =
-    (or_parts (nat_lt 0 part.place.depth) (mode_is_open part.place.mode) (sym (place-open part.spelled.items part.place.mode part.place.depth kept.place_is) ∙ none-shut part kept none)).1
+    (or_parts (nat_lt 0 part.state.depth) (mode_is_open part.state.mode) (sym (state-open part.spelled.items part.state.mode part.state.depth kept.state_is) ∙ none-shut part kept none)).1
 
 -- there the part goes on with a byte only where its mode does
-pub none-takes : (part : OpenPart) (b : ℕ) → IsKept part → part.bytes.items ≡ [] → part_takes part.spelled.items b ≡ mode_takes part.place.mode b
-none-takes part b kept none = place-takes part.spelled.items part.place.mode part.place.depth b kept.place_is ∙ ap (λ d. nat_lt 0 d || mode_takes part.place.mode b) (none-deep part kept none)
+pub none-takes : (part : OpenPart) (b : ℕ) → IsKept part → part.bytes.items ≡ [] → part_takes part.spelled.items b ≡ mode_takes part.state.mode b
+none-takes part b kept none = state-takes part.spelled.items part.state.mode part.state.depth b kept.state_is ∙ ap (λ d. nat_lt 0 d || mode_takes part.state.mode b) (none-deep part kept none)
 
 taken-byte : (limit : ℕ) (old : OpenPart) (b : ℕ) (new : OpenPart) → Reaches limit (part_with old.spelled.items b) (readings_before old.spelled.items b) cut.More new → TakesOrLeaves limit old b true new
 taken-byte limit old b new goes = record { taken = λ _. goes; untouched = λ h. absurd (true≢false h) }
 
 -- a comment goes on
-pub takes-comment : (limit b : ℕ) (old new : OpenPart) → IsKept old → old.bytes.items ≡ [] → old.place.mode ≡ Comment → is_line_end b ≡ false → new.bytes.items ≡ old.bytes.items → new.place.mode ≡ old.place.mode → new.place.depth ≡ old.place.depth → new.spelled.items ≡ old.spelled.items ++ b ∷ [] → TakesOrLeaves limit old b true new
+pub takes-comment : (limit b : ℕ) (old new : OpenPart) → IsKept old → old.bytes.items ≡ [] → old.state.mode ≡ Comment → is_line_end b ≡ false → new.bytes.items ≡ old.bytes.items → new.state.mode ≡ old.state.mode → new.state.depth ≡ old.state.depth → new.spelled.items ≡ old.spelled.items ++ b ∷ [] → TakesOrLeaves limit old b true new
 takes-comment limit b old new kept none is inside bytes mode depth spelled =
-    let goes : mode_takes old.place.mode b ≡ true = ap (λ m. mode_takes m b) is ∙ ap not inside in
-    let same : continued_mode old.place.mode b ≡ old.place.mode = ap (λ m. continued_mode m b) is ∙ sym is in
+    let goes : mode_takes old.state.mode b ≡ true = ap (λ m. mode_takes m b) is ∙ ap not inside in
+    let same : continued_mode old.state.mode b ≡ old.state.mode = ap (λ m. continued_mode m b) is ∙ sym is in
     taken-byte limit old b new (stays-comment limit b old new kept goes same none (bytes ∙ none) mode depth spelled)
 
 -- a mode in which no item is open, and no comment takes the byte
-mode-fresh : (m : Mode) (b : ℕ) → mode_is_open m ≡ false → (m ≡ Comment → is_line_end b ≡ true) → mode_takes m b ≡ false
+mode-fresh : (m : LexMode) (b : ℕ) → mode_is_open m ≡ false → (m ≡ Comment → is_line_end b ≡ true) → mode_takes m b ≡ false
 mode-fresh Ended b shut out = refl
 mode-fresh Comment b shut out = ap not (out refl)
 mode-fresh Word b shut out = absurd (true≢false shut)
@@ -215,18 +215,18 @@ gap-depth b gap = elim (cases_eq b 40) as (λ _. 0 ≡ fresh_depth b) [
 ]
 
 -- a blank, or a comment that begins
-pub takes-gap : (limit b : ℕ) (old new : OpenPart) → IsKept old → old.bytes.items ≡ [] → (old.place.mode ≡ Comment → is_line_end b ≡ true) → is_gap (b ∷ []) ≡ true → new.bytes.items ≡ old.bytes.items → new.place.mode ≡ fresh_mode b → new.place.depth ≡ 0 → new.spelled.items ≡ b ∷ [] → TakesOrLeaves limit old b true new
+pub takes-gap : (limit b : ℕ) (old new : OpenPart) → IsKept old → old.bytes.items ≡ [] → (old.state.mode ≡ Comment → is_line_end b ≡ true) → is_gap (b ∷ []) ≡ true → new.bytes.items ≡ old.bytes.items → new.state.mode ≡ fresh_mode b → new.state.depth ≡ 0 → new.spelled.items ≡ b ∷ [] → TakesOrLeaves limit old b true new
 takes-gap limit b old new kept none out gap bytes mode depth spelled =
-    let fresh = mode-fresh old.place.mode b (none-mode old kept none) out in
+    let fresh = mode-fresh old.state.mode b (none-mode old kept none) out in
     taken-byte limit old b new (begins limit old.spelled.items b new (none-takes old b kept none ∙ fresh) (none-shut old kept none) (reaches-gap limit b [] cut.More new gap mode (depth ∙ gap-depth b gap) spelled (bytes ∙ none) refl refl))
 
 -- the first byte of an item that stays open
-pub takes-first : (limit b : ℕ) (old new : OpenPart) → IsKept old → old.bytes.items ≡ [] → mode_takes old.place.mode b ≡ false → 1 ≤ limit → new.bytes.items ≡ old.bytes.items ++ b ∷ [] → new.place.mode ≡ fresh_mode b → new.place.depth ≡ fresh_depth b → new.spelled.items ≡ b ∷ [] → (nat_lt 0 new.place.depth || mode_is_open new.place.mode) ≡ true → TakesOrLeaves limit old b true new
+pub takes-first : (limit b : ℕ) (old new : OpenPart) → IsKept old → old.bytes.items ≡ [] → mode_takes old.state.mode b ≡ false → 1 ≤ limit → new.bytes.items ≡ old.bytes.items ++ b ∷ [] → new.state.mode ≡ fresh_mode b → new.state.depth ≡ fresh_depth b → new.spelled.items ≡ b ∷ [] → (nat_lt 0 new.state.depth || mode_is_open new.state.mode) ≡ true → TakesOrLeaves limit old b true new
 takes-first limit b old new kept none fresh room bytes mode depth spelled opens =
-    let P : Mode → Type 0 = λ m. IsPlaceIn (b ∷ []) m new.place.depth in
-    let Q : ℕ → Type 0 = λ d. IsPlaceIn (b ∷ []) (fresh_mode b) d in
-    let at : IsPlaceIn (b ∷ []) new.place.mode new.place.depth = subst P (sym mode) (subst Q (sym depth) (place-fresh b)) in
-    let is : is_open (b ∷ []) ≡ true = place-open (b ∷ []) new.place.mode new.place.depth at ∙ opens in
+    let P : LexMode → Type 0 = λ m. IsStateIn (b ∷ []) m new.state.depth in
+    let Q : ℕ → Type 0 = λ d. IsStateIn (b ∷ []) (fresh_mode b) d in
+    let at : IsStateIn (b ∷ []) new.state.mode new.state.depth = subst P (sym mode) (subst Q (sym depth) (state-fresh b)) in
+    let is : is_open (b ∷ []) ≡ true = state-open (b ∷ []) new.state.mode new.state.depth at ∙ opens in
     let kept_now : new.bytes.items ≡ open_bytes (b ∷ []) = bytes ∙ (ap (λ it. it ++ b ∷ []) none ∙ sym (open_bytes-open (b ∷ []) is)) in
     let D : ℕ → Type 0 = λ d. d ≤ 1 in
     taken-byte limit old b new (begins limit old.spelled.items b new (none-takes old b kept none ∙ fresh) (none-shut old kept none) (reaches-item limit (b ∷ []) [] [] cut.More new (open-no_gap (b ∷ []) is) room at spelled kept_now (subst D (sym depth) (depth-fresh b)) refl refl (sym (ended-open (b ∷ []) is))))
@@ -237,7 +237,7 @@ take-first n [] = λ h. absurd (omega arith)
 take-first n (b ∷ bs) = λ h. take-both 1 n (b ∷ bs)
 
 -- the bytes that leave an open item as it is, after those that it has gone on with
-pub stays-still : (s rest : List ℕ) (i n : ℕ) (m : Mode) (d : ℕ) (last : Mode) (deep : ℕ) → StaysOpen m d (take i s) last deep → rest ≡ drop i s → StaysOpen last deep (take n rest) last deep → StaysOpen m d (take (i + n) s) last deep
+pub stays-still : (s rest : List ℕ) (i n : ℕ) (m : LexMode) (d : ℕ) (last : LexMode) (deep : ℕ) → StaysOpen m d (take i s) last deep → rest ≡ drop i s → StaysOpen last deep (take n rest) last deep → StaysOpen m d (take (i + n) s) last deep
 stays-still s rest i n m d last deep at is still =
     let P : List ℕ → Type 0 = λ it. StaysOpen last deep (take n it) last deep in
     rw (take-both i n s) (stays-append m d (take i s) (take n (drop i s)) last deep last deep at (subst P is still))

@@ -14,7 +14,7 @@ use Rattle.cb_forms.specs.declared.lexeme.Lexeme.{Lexeme}
 use Rattle.cb_forms.specs.declared.lexeme.Lexeme.TheVariants.{Gap, Opening, Closing, Atom}
 use Rattle.cb_forms.proofs.CuttingLaws.{joined-cut, are_cut-cut, cut-joined, are_cut-front, are_cut-back}
 use Rattle.cb_forms.proofs.ListLaws.{is_opening, opening-begins, pieces-list}
-use Rattle.cb_forms.proofs.NestLaws.{first_tree-put_first}
+use Rattle.cb_forms.proofs.ListStackLaws.{first_tree-put_first}
 use Rattle.cb_forms.proofs.ReadingLaws.{levels-written, levels-gaps}
 use Rattle.cb_forms.proofs.WritingLaws.{opens, closes, opens-pieces, closes-pieces, written_rest, Closes, closes-run}
 

@@ -8,16 +8,16 @@ use Rattle.cb_forms.specs.Items.{is_open_list, part_takes, parts, piece_readings
 use Rattle.cb_forms.specs.Laws.{without_gaps}
 use Rattle.cb_forms.specs.Lists.{list_reading, written}
 use Rattle.cb_forms.specs.Pieces.{piece_takes, pieces, lexeme_of, lexemes}
-use Rattle.cb_forms.specs.Places.{mode_takes, fresh_mode, next_mode, next_depth, fresh_depth, mode_in, IsPlaceIn}
+use Rattle.cb_forms.specs.ScanStates.{mode_takes, fresh_mode, next_mode, next_depth, fresh_depth, mode_in, IsStateIn}
 use Rattle.cb_forms.specs.Trees.{Tree, atom, Reading}
 use Rattle.cb_forms.specs.declared.fault.Fault.TheVariants.{FormNotClosed, UnmatchedParenthesis}
 use Rattle.cb_forms.specs.declared.lexeme.Lexeme.{Lexeme}
 use Rattle.cb_forms.specs.declared.lexeme.Lexeme.TheVariants.{Gap, Opening, Closing, Atom}
-use Rattle.cb_forms.specs.declared.mode.Mode.{Mode}
-use Rattle.cb_forms.specs.declared.mode.Mode.TheVariants.{Ended}
+use Rattle.cb_forms.specs.declared.lex_mode.LexMode.{LexMode}
+use Rattle.cb_forms.specs.declared.lex_mode.LexMode.TheVariants.{Ended}
 use Rattle.cb_forms.proofs.CuttingLaws.{joined-cut, are_cut-cut}
 use Rattle.cb_forms.proofs.Modes.{piece-takes}
-use Rattle.cb_forms.proofs.PlaceLaws.{place-takes, place-push, place-fresh}
+use Rattle.cb_forms.proofs.ScanStateLaws.{state-takes, state-push, state-fresh}
 use Rattle.cb_forms.proofs.SpellingLaws.{gaps-append, one-piece, SaysPart, says-part}
 
 module _ (takes : List ℕ → ℕ → Bool) where
@@ -41,23 +41,23 @@ pieces-append : (c : ℕ) (cs : List ℕ) (b : ℕ) (more : List ℕ) → piece_
 unfolding pieces
 pieces-append c cs b more h = cut_from-append piece_takes (c ∷ []) cs b more h
 
--- there is a place at the end of each part
+-- there is a state at the end of each part
 record HasPlace (w : List ℕ) : Type 0 where
-  pub mode : Mode
+  pub mode : LexMode
   pub depth : ℕ
-  pub at : IsPlaceIn w mode depth
+  pub at : IsStateIn w mode depth
 
 has_place-more : (part xs : List ℕ) → HasPlace part → TakesAll part_takes part xs → HasPlace (part ++ xs)
 has_place-more part [] h takes = rw (append-nil part) h
-has_place-more part (x ∷ xs) h takes = rw (← append_assoc part (x ∷ []) xs) (has_place-more (part ++ x ∷ []) xs (record { mode = next_mode h.mode x; depth = next_depth h.mode h.depth x; at = place-push part h.mode h.depth x h.at takes.0 }) takes.1)
+has_place-more part (x ∷ xs) h takes = rw (← append_assoc part (x ∷ []) xs) (has_place-more (part ++ x ∷ []) xs (record { mode = next_mode h.mode x; depth = next_depth h.mode h.depth x; at = state-push part h.mode h.depth x h.at takes.0 }) takes.1)
 
-has_place : (c : ℕ) (cs : List ℕ) → TakesAll part_takes (c ∷ []) cs → HasPlace (c ∷ cs)
-has_place c cs takes = has_place-more (c ∷ []) cs (record { mode = fresh_mode c; depth = fresh_depth c; at = place-fresh c }) takes
+has_state : (c : ℕ) (cs : List ℕ) → TakesAll part_takes (c ∷ []) cs → HasPlace (c ∷ cs)
+has_state c cs takes = has_place-more (c ∷ []) cs (record { mode = fresh_mode c; depth = fresh_depth c; at = state-fresh c }) takes
 
 ends-list : (cs : List ℕ) (b : ℕ) → HasPlace (40 ∷ cs) → part_takes (40 ∷ cs) b ≡ false → piece_takes (last_part (pieces (40 ∷ cs))) b ≡ false
 unfolding mode_in
 ends-list cs b h ends =
-    let both = or_parts (nat_lt 0 h.depth) (mode_takes h.mode b) (sym (place-takes (40 ∷ cs) h.mode h.depth b h.at) ∙ ends) in
+    let both = or_parts (nat_lt 0 h.depth) (mode_takes h.mode b) (sym (state-takes (40 ∷ cs) h.mode h.depth b h.at) ∙ ends) in
     let le = ltb-false 0 h.depth both.0 in
     let ended : h.mode ≡ Ended = h.at.closed refl (omega arith) in
     piece-takes (last_part (pieces (40 ∷ cs))) b ∙ ap (λ m. mode_takes m b) (sym h.at.mode_is ∙ ended)
@@ -71,7 +71,7 @@ ends-piece c cs b e takes ends =
 ends-part : (c : ℕ) (cs : List ℕ) (b : ℕ) → TakesAll part_takes (c ∷ []) cs → part_takes (c ∷ cs) b ≡ false → piece_takes (last_part (pieces (c ∷ cs))) b ≡ false
 ends-part c cs b takes ends =
     let P : ℕ → Type 0 = λ it. HasPlace (it ∷ cs) → part_takes (it ∷ cs) b ≡ false → piece_takes (last_part (pieces (it ∷ cs))) b ≡ false in
-    elim (cases_Bool (c == 40)) [ inl e ↦ subst P (sym (eqb-true c 40 e)) (ends-list cs b) (has_place c cs takes) ends | inr e ↦ ends-piece c cs b e takes ends ]
+    elim (cases_Bool (c == 40)) [ inl e ↦ subst P (sym (eqb-true c 40 e)) (ends-list cs b) (has_state c cs takes) ends | inr e ↦ ends-piece c cs b e takes ends ]
 
 pieces-none : pieces [] ≡ []
 unfolding pieces

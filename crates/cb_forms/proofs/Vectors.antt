@@ -1,7 +1,7 @@
 -- Words by their class and strings by their content, against values worked out by hand from the rule.
 use Rattle.std.proofs.Common.{◌≡◌, ℕ, Bool, true, false, List, [], ◌∷◌, map, codes, pos, negsuc, Result, Ok, Err, refl}
 use Rattle.cb_forms.specs.Words.{token_of}
-use Rattle.cb_forms.specs.Strings.{is_unclosed, content_of}
+use Rattle.cb_forms.specs.Strings.{is_unclosed, string_content}
 use Rattle.cb_forms.specs.declared.fault.Fault.{Fault}
 use Rattle.cb_forms.specs.declared.fault.Fault.TheVariants.{IntegerOutOfRange, FloatNotSupported}
 use Rattle.cb_forms.specs.declared.token.Token.{Token}
@@ -159,12 +159,12 @@ strings =
     (codes "(a) ; ~?x\"", (codes "(a) ; ~?x", false)) ∷
     []
 
-strings-read : map (λ row. content_of row.0) strings ≡ map (λ row. row.1.0) strings
+strings-read : map (λ row. string_content row.0) strings ≡ map (λ row. row.1.0) strings
 strings-read = refl
 
 strings-end : map (λ row. is_unclosed row.0) strings ≡ map (λ row. row.1.1) strings
 strings-end = refl
 
 -- bytes past 127 and a zero byte stay as they are
-bytes-read : content_of (195 ∷ 169 ∷ 255 ∷ 0 ∷ 34 ∷ []) ≡ 195 ∷ 169 ∷ 255 ∷ 0 ∷ []
+bytes-read : string_content (195 ∷ 169 ∷ 255 ∷ 0 ∷ 34 ∷ []) ≡ 195 ∷ 169 ∷ 255 ∷ 0 ∷ []
 bytes-read = refl

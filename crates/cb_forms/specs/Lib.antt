@@ -4,13 +4,14 @@ pub mod Cutter
 pub mod Cutting
 pub mod Faults
 pub mod Items
+pub mod KeptBytes
 pub mod Laws
 pub mod Lists
 pub mod Members
-pub mod Nests
+pub mod ListStacks
 pub mod OpenParts
 pub mod Pieces
-pub mod Places
+pub mod ScanStates
 pub mod Strings
 pub mod Trees
 pub mod Words

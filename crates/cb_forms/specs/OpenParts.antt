@@ -2,17 +2,17 @@
 use Rattle.std.specs.Prelude.{◌≡◌, ◌≤◌, ℕ, true, false, List, [], ◌∷◌, ◌++◌, ⊤, Bool, length, take}
 use Rattle.cb_forms.specs.Cuts.{cut_readings, is_too_long, open_bytes, part_with, readings_before}
 use Rattle.cb_forms.specs.Items.{ended_readings, is_longer}
-use Rattle.cb_forms.specs.Places.{IsPlaceIn}
+use Rattle.cb_forms.specs.ScanStates.{IsStateIn}
 use Rattle.cb_forms.specs.Trees.{Reading}
 use Rattle.cb_forms.specs.declared.cut.Cut.{Cut}
 use Rattle.cb_forms.specs.declared.cut.Cut.TheVariants as cut
 use Rattle.cb_forms.specs.declared.open_part.OpenPart.{OpenPart}
 
--- the bytes of the part where it is an open item, and the place after its last byte
+-- the bytes of the part where it is an open item, and the state after its last byte
 pub record IsKept (part : OpenPart) : Type 0 where
-  pub place_is : IsPlaceIn part.spelled.items part.place.mode part.place.depth
+  pub state_is : IsStateIn part.spelled.items part.state.mode part.state.depth
   pub bytes_are : part.bytes.items ≡ open_bytes part.spelled.items
-  pub depth_fits : part.place.depth ≤ length part.bytes.items
+  pub depth_fits : part.state.depth ≤ length part.bytes.items
 
 -- A byte has made w the part that the text ends with, and given an item that ended before it.
 pub record Reaches (limit : ℕ) (w : List ℕ) (before : List Reading) (given : Cut) (part : OpenPart) : Type 0 where

@@ -3,7 +3,7 @@
 use Rattle.std.specs.Prelude.{◌==◌, ◌||◌, ℕ, Bool, false, not, List, [], ◌∷◌, Result, Ok, Err, map, if◌then◌else◌}
 use Rattle.cb_forms.specs.Bytes.{is_blank, is_line_end, is_single, is_delimiter, ampersand, bar, closing, opening, quote, semicolon, tilde}
 use Rattle.cb_forms.specs.Cutting.{cut}
-use Rattle.cb_forms.specs.Strings.{is_unclosed, content_of}
+use Rattle.cb_forms.specs.Strings.{is_unclosed, string_content}
 use Rattle.cb_forms.specs.Words.{token_of}
 use Rattle.cb_forms.specs.declared.fault.Fault.{Fault}
 use Rattle.cb_forms.specs.declared.fault.Fault.TheVariants.{FormNotClosed}
@@ -23,7 +23,7 @@ pieces s = cut piece_takes s
 
 -- a string, by the bytes after its opening quote: without a closing one it is open
 abbrev pub string_token : List ℕ → Result Token Fault
-string_token cs = if is_unclosed cs then Err FormNotClosed else Ok (Str (content_of cs))
+string_token cs = if is_unclosed cs then Err FormNotClosed else Ok (Str (string_content cs))
 
 -- what a piece is, by its first byte
 abbrev pub lexeme_of : List ℕ → Lexeme

@@ -14,10 +14,10 @@ abbrev mutual
 
 -- what the bytes after an opening quote say up to the closing one: a backslash gives the byte after it
 abbrev mutual
-  pub content_of : List ℕ → List ℕ
-  content_of [] = []
-  content_of (b ∷ bs) = if b == quote then [] else (if b == backslash then escaped_content_of bs else b ∷ content_of bs)
+  pub string_content : List ℕ → List ℕ
+  string_content [] = []
+  string_content (b ∷ bs) = if b == quote then [] else (if b == backslash then escaped_content_of bs else b ∷ string_content bs)
 
   pub escaped_content_of : List ℕ → List ℕ
   escaped_content_of [] = []
-  escaped_content_of (b ∷ bs) = b ∷ content_of bs
+  escaped_content_of (b ∷ bs) = b ∷ string_content bs

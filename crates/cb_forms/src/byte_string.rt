@@ -4,24 +4,31 @@ ghost use Rattle.std.specs.Cmp.Lexicographic.{pointwise};
 ghost use Rattle.std.specs.Cmp.Rules.{comparing};
 ghost use Rattle.std.proofs.Common.{rules};
 
+use crate::kept_bytes::KeptBytes;
 use cb_io::NoMemory;
 use std::alloc::Global;
+use std::fmt;
 use std::marker::Model;
 
 /// The bytes of a symbol, a string or a variable's name. Nothing checks them as UTF-8.
 ///
+/// Up to 22 bytes stand in the value itself, so that most words take no memory of their own.
+///
 /// Contracts see its list of bytes.
-#[derive(Debug, Drop)]
+#[derive(Drop)]
 pub struct ByteString {
-    bytes: Vec<u8>,
+    bytes: KeptBytes,
 }
 
 impl Model for ByteString {
     ghost use Rattle.std.specs.Prelude.{List, ℕ};
+    ghost use Rattle.cb_forms.specs.KeptBytes.{bytes_in, IsWithin};
 
     ghost Value = { List ℕ };
 
-    ghost view = { λ s. s.bytes.items };
+    ghost view = { λ s. bytes_in s.bytes };
+
+    ghost invariant = { λ s. IsWithin s.bytes };
 }
 
 impl ByteString {
@@ -30,15 +37,8 @@ impl ByteString {
         ensures { IfOk result (λ s. s ≡ bytes.now) }
     {
         Ok(ByteString {
-            bytes: bytes.to_vec(alloc)?,
+            bytes: KeptBytes::new(alloc, bytes)?,
         })
-    }
-
-    /// These bytes, taken over.
-    pub(crate) fn from_vec(bytes: Vec<u8>) -> ByteString
-        ensures { result ≡ bytes.items }
-    {
-        ByteString { bytes }
     }
 
     /// The bytes, of which there may be none.
@@ -55,10 +55,16 @@ impl PartialEq for ByteString {
     ghost laws = { Prim.search (comparing, rules) };
 
     fn eq(&self, other: &ByteString) -> bool {
-        self.bytes == other.bytes
+        self.as_slice() == other.as_slice()
     }
 }
 
 impl Eq for ByteString {
     ghost laws = { Prim.search (comparing, rules) };
+}
+
+impl fmt::Debug for ByteString {
+    fn fmt<W: fmt::Write>(&self, f: &mut fmt::Formatter<W>) -> fmt::Result {
+        self.as_slice().fmt(f)
+    }
 }

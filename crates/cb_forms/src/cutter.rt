@@ -97,46 +97,9 @@ impl Cutter {
         Ok(cut)
     }
 
-    /// Takes the next byte if it plainly completes nothing, and says whether it took it. Where it didn't, nothing has
-    /// changed: then `step` takes the byte, and may give nothing too. Most bytes of a script are taken so, and for less
-    /// than by `step`.
-    ///
-    /// Growth is refused as `NoMemory`, and then so is every later call.
-    pub fn step_within(&mut self, byte: u8) -> Result<bool, NoMemory>
-        ensures limit { self.new.limit ≡ self.old.limit }
-        ensures stepped { IfOk result
-            (λ is_taken. is_taken ≡ true → self.new.stepped ≡ self.old.stepped ++ byte ∷ []) }
-        ensures given { OnOk result (self.new.given ≡ self.old.given) }
-        // Nothing has ended in the byte.
-        ensures items { IfOk result
-            (λ is_taken. is_taken ≡ true → readings_in self.new.given ≡ whole self.new.stepped) }
-        ensures fits { IfOk result
-            (λ is_taken. is_taken ≡ true → over self.new.limit self.new.stepped ≡ false) }
-        ensures untouched { IfOk result (λ is_taken. is_taken ≡ false → self.new ≡ self.old) }
-        ensures ok { OnOk result (self.new.failed ≡ false) }
-        ensures err { OnErr result (self.new.failed ≡ true) }
-        ensures once { self.old.failed ≡ true → IsErr result }
-    {
-        if self.failed {
-            return Err(NoMemory);
-        }
-        if self.over {
-            return Ok(false);
-        }
-        self.failed = true;
-        let is_taken = self.part.step_within(self.limit, byte)?;
-        if !is_taken {
-            self.failed = false;
-            return Ok(false);
-        }
-        self.stepped = self.stepped.and(&byte);
-        self.failed = false;
-        Ok(true)
-    }
-
     /// Takes the longest beginning of these bytes that plainly completes nothing, and says how many bytes that is: then
     /// `step` takes the next one. In a list that stays open it is every byte up to the limit; outside lists it is blanks,
-    /// comments, and the inside of a word or a string. A byte costs a few instructions, and none is looked at twice.
+    /// comments, and the inside of a word or a string. A byte costs a few instructions.
     ///
     /// Growth is refused as `NoMemory`, and then so is every later call.
     pub fn step_run(&mut self, bytes: &[u8]) -> Result<usize, NoMemory>

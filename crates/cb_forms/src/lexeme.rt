@@ -3,7 +3,7 @@ use crate::fault::Fault;
 use crate::token::Token;
 
 /// What a piece of a script is, a piece being a blank, a comment, a parenthesis, a connective, a string or a word.
-#[derive(Debug, Drop, PartialEq, Eq)]
+#[derive(Drop)]
 pub(crate) enum Lexeme {
     /// A blank or a comment.
     Gap,

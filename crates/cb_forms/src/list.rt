@@ -10,7 +10,7 @@ use crate::byte_kinds::is_blank;
 use crate::fault::Fault;
 use crate::form::{Form, Item};
 use crate::lexeme::Lexeme;
-use crate::nest::Nest;
+use crate::list_stack::ListStack;
 use crate::piece::{read_piece, split_piece};
 use cb_io::NoMemory;
 use std::alloc::Global;
@@ -24,7 +24,7 @@ pub(crate) fn read_list(alloc: Global, list: &[u8]) -> Result<Item, NoMemory>
     requires closed { is_open_list list.now ≡ false }
     ensures { IfOk result (λ item. reading_of item ≡ list_reading (lexemes list.now)) }
 {
-    let mut nest = Nest::new(alloc);
+    let mut stack = ListStack::new(alloc);
     let (_, mut rest) = list.split_at(1);
     while !rest.is_empty() {
         if is_blank(rest[0]) {
@@ -35,16 +35,16 @@ pub(crate) fn read_list(alloc: Global, list: &[u8]) -> Result<Item, NoMemory>
         rest = more;
         match read_piece(alloc, piece)? {
             Lexeme::Gap => {}
-            Lexeme::Opening if nest.depth() >= MAX_DEPTH => return Ok(Item::Bad(
+            Lexeme::Opening if stack.depth() >= MAX_DEPTH => return Ok(Item::Bad(
                 Fault::NestingTooDeep,
             )),
-            Lexeme::Opening => nest.open()?,
+            Lexeme::Opening => stack.open()?,
             Lexeme::Closing => {
-                if let Some(form) = nest.close()? {
+                if let Some(form) = stack.close()? {
                     return Ok(Item::Form(form));
                 }
             }
-            Lexeme::Atom(Ok(token)) => nest.add(Form::Atom(token))?,
+            Lexeme::Atom(Ok(token)) => stack.add(Form::Atom(token))?,
             Lexeme::Atom(Err(fault)) => return Ok(Item::Bad(fault)),
         }
     }

@@ -3,23 +3,23 @@ ghost use Rattle.std.specs.Prelude.{◌≡◌, ◌||◌, ◌≤◌, ◌<◌, ℕ
 ghost use Rattle.cb_forms.specs.Cuts.{item_readings, opened_readings, open_bytes, part_with, readings_before};
 ghost use Rattle.cb_forms.specs.Items.{is_gap, part_takes, readings_of, ended_readings};
 ghost use Rattle.cb_forms.specs.OpenParts.{HasPassed, IsKept, Reaches, TakesOrLeaves, TakesRun};
-ghost use Rattle.cb_forms.specs.Places.{continued_mode, fresh_mode, mode_is_open, mode_takes, IsPlaceIn};
+ghost use Rattle.cb_forms.specs.ScanStates.{continued_mode, fresh_mode, mode_is_open, mode_takes, IsStateIn};
 
 use crate::byte_kinds::is_blank;
 use crate::cut::Cut;
 use crate::fault::Fault;
 use crate::form::Item;
-use crate::mode::Mode;
+use crate::lex_mode::LexMode;
 use crate::part::read_part;
-use crate::place::Place;
+use crate::scan_state::ScanState;
 use cb_io::{History, NoMemory};
 use std::alloc::Global;
 
-/// A part that may go on: its bytes where it is an item, and the place after its last byte.
+/// A part that may go on: its bytes where it is an item, and the state after its last byte.
 #[derive(Drop)]
 pub(crate) struct OpenPart {
     pub(crate) bytes: Vec<u8>,
-    pub(crate) place: Place,
+    pub(crate) state: ScanState,
     /// All its bytes, those of a comment too.
     pub(crate) spelled: History<u8>,
 }
@@ -32,7 +32,7 @@ impl OpenPart {
     {
         OpenPart {
             bytes: Vec::new(alloc),
-            place: Place::START,
+            state: ScanState::START,
             spelled: History::new(),
         }
     }
@@ -44,24 +44,10 @@ impl OpenPart {
         ensures { IfOk result (λ cut. Reaches limit (part_with self.old.spelled.items byte)
             (readings_before self.old.spelled.items byte) cut self.new) }
     {
-        if self.place.takes(byte) {
+        if self.state.takes(byte) {
             self.go_on(alloc, limit, byte)
         } else {
             self.begin(alloc, limit, byte)
-        }
-    }
-
-    /// Takes the next byte where that completes nothing, and says whether it did. Where it didn't, nothing has changed.
-    pub(crate) fn step_within(&mut self, limit: usize, byte: u8) -> Result<bool, NoMemory>
-        requires { IsKept self.old }
-        ensures { IfOk result (λ is_taken. TakesOrLeaves limit self.old byte is_taken self.new) }
-    {
-        if self.place.mode.stays(byte) {
-            self.stay(limit, byte)
-        } else if self.place.depth == 0 && self.place.mode == Mode::Ended {
-            self.begin_open(limit, byte)
-        } else {
-            Ok(false)
         }
     }
 
@@ -102,14 +88,14 @@ impl OpenPart {
         ensures passed { (limit : ℕ) → TakesOrLeaves limit self.old byte result self.new }
         ensures none { self.new.bytes.items ≡ [] }
     {
-        if self.place.mode.is_comment_with(byte) {
+        if self.state.mode.is_comment_with(byte) {
             self.spelled = self.spelled.and(&byte);
             return true;
         }
         let Some(mode) = gap_mode(byte) else {
             return false;
         };
-        self.place = Place { mode, depth: 0 };
+        self.state = ScanState { mode, depth: 0 };
         self.spelled = History::new().and(&byte);
         true
     }
@@ -138,12 +124,12 @@ impl OpenPart {
             (λ is_begun. TakesOrLeaves limit self.old byte is_begun self.new) }
         ensures some { IfOk result (λ is_begun. is_begun ≡ true → 0 < length self.new.bytes.items) }
     {
-        let place = Place::fresh(byte);
-        if limit == 0 || self.place.mode.takes(byte) || !place.is_open() {
+        let state = ScanState::fresh(byte);
+        if limit == 0 || self.state.mode.takes(byte) || !state.is_open() {
             return Ok(false);
         }
         self.bytes.push(byte)?;
-        self.place = place;
+        self.state = state;
         self.spelled = History::new().and(&byte);
         Ok(true)
     }
@@ -156,54 +142,12 @@ impl OpenPart {
     {
         let room = limit.saturating_sub(self.bytes.len()).min(bytes.len());
         let (inside, _) = bytes.split_at(room);
-        let (end, place) = self.place.open_run(inside);
+        let (end, state) = self.state.open_run(inside);
         let (run, _) = inside.split_at(end);
         self.bytes.extend_from_slice(run)?;
-        self.place = place;
+        self.state = state;
         self.spelled = with_run(&self.spelled, run);
         Ok(end)
-    }
-
-    /// Goes on with a byte that leaves the place as it is.
-    fn stay(&mut self, limit: usize, byte: u8) -> Result<bool, NoMemory>
-        requires kept { IsKept self.old }
-        requires takes { mode_takes self.old.place.mode byte ≡ true }
-        requires stays { continued_mode self.old.place.mode byte ≡ self.old.place.mode }
-        ensures { IfOk result (λ is_taken. TakesOrLeaves limit self.old byte is_taken self.new) }
-    {
-        if self.bytes.is_empty() {
-            // a comment
-            self.spelled = self.spelled.and(&byte);
-            return Ok(true);
-        }
-        if limit <= self.bytes.len() {
-            return Ok(false);
-        }
-        self.bytes.push(byte)?;
-        self.spelled = self.spelled.and(&byte);
-        Ok(true)
-    }
-
-    /// Begins a part after one that has ended, where the byte alone is no item.
-    fn begin_open(&mut self, limit: usize, byte: u8) -> Result<bool, NoMemory>
-        requires kept { IsKept self.old }
-        requires ended { self.old.place.mode ≡ Mode.Ended }
-        requires closed { self.old.place.depth ≡ 0 }
-        ensures { IfOk result (λ is_taken. TakesOrLeaves limit self.old byte is_taken self.new) }
-    {
-        let place = Place::fresh(byte);
-        if is_blank(byte) || byte == b';' {
-            self.place = place;
-            self.spelled = History::new().and(&byte);
-            return Ok(true);
-        }
-        if limit == 0 || !place.is_open() {
-            return Ok(false);
-        }
-        self.bytes.push(byte)?;
-        self.place = place;
-        self.spelled = History::new().and(&byte);
-        Ok(true)
     }
 
     fn go_on(&mut self, alloc: Global, limit: usize, byte: u8) -> Result<Cut, NoMemory>
@@ -212,7 +156,7 @@ impl OpenPart {
         ensures { IfOk result
             (λ cut. Reaches limit (self.old.spelled.items ++ byte ∷ []) [] cut self.new) }
     {
-        self.place = self.place.after(byte);
+        self.state = self.state.after(byte);
         self.spelled = self.spelled.and(&byte);
         if self.bytes.is_empty() {
             // a comment
@@ -223,7 +167,7 @@ impl OpenPart {
             return Ok(Cut::TooLong);
         }
         self.bytes.push(byte)?;
-        let item = take_ended(alloc, &mut self.bytes, self.place)?;
+        let item = take_ended(alloc, &mut self.bytes, self.state)?;
         Ok(Cut::of(None, item))
     }
 
@@ -232,8 +176,8 @@ impl OpenPart {
         ensures { IfOk result (λ cut.
             Reaches limit (byte ∷ []) (opened_readings self.old.spelled.items) cut self.new) }
     {
-        let first = take_open(alloc, &mut self.bytes, self.place)?;
-        self.place = Place::fresh(byte);
+        let first = take_open(alloc, &mut self.bytes, self.state)?;
+        self.state = ScanState::fresh(byte);
         self.spelled = History::new().and(&byte);
         if is_blank(byte) || byte == b';' {
             return Ok(Cut::of(first, None));
@@ -242,7 +186,7 @@ impl OpenPart {
             return Ok(Cut::TooLong);
         }
         self.bytes.push(byte)?;
-        let second = take_ended(alloc, &mut self.bytes, self.place)?;
+        let second = take_ended(alloc, &mut self.bytes, self.state)?;
         Ok(Cut::of(first, second))
     }
 
@@ -254,20 +198,24 @@ impl OpenPart {
         ensures kept { OnOk result (IsKept self.new) }
         ensures spelled { OnOk result (self.new.spelled.items ≡ []) }
     {
-        let item = take_open(alloc, &mut self.bytes, self.place)?;
-        self.place = Place::START;
+        let item = take_open(alloc, &mut self.bytes, self.state)?;
+        self.state = ScanState::START;
         self.spelled = History::new();
         Ok(item)
     }
 }
 
 /// The item of these bytes, if it has ended with the last of them. Then the bytes are let go.
-fn take_ended(alloc: Global, bytes: &mut Vec<u8>, place: Place) -> Result<Option<Item>, NoMemory>
-    requires { IsPlaceIn bytes.old.items place.mode place.depth }
+fn take_ended(
+    alloc: Global,
+    bytes: &mut Vec<u8>,
+    state: ScanState,
+) -> Result<Option<Item>, NoMemory>
+    requires { IsStateIn bytes.old.items state.mode state.depth }
     ensures item { IfOk result (λ item. item_readings item ≡ ended_readings bytes.old.items) }
     ensures bytes { OnOk result (bytes.new.items ≡ open_bytes bytes.old.items) }
 {
-    if place.is_open() {
+    if state.is_open() {
         return Ok(None);
     }
     let item = read_part(alloc, bytes.as_slice())?;
@@ -276,16 +224,16 @@ fn take_ended(alloc: Global, bytes: &mut Vec<u8>, place: Place) -> Result<Option
 }
 
 /// The item of these bytes, if one is open at their end. Then the bytes are let go.
-fn take_open(alloc: Global, bytes: &mut Vec<u8>, place: Place) -> Result<Option<Item>, NoMemory>
-    requires { (nat_lt 0 place.depth || mode_is_open place.mode) ≡ true
-        → IsPlaceIn bytes.old.items place.mode place.depth }
+fn take_open(alloc: Global, bytes: &mut Vec<u8>, state: ScanState) -> Result<Option<Item>, NoMemory>
+    requires { (nat_lt 0 state.depth || mode_is_open state.mode) ≡ true
+        → IsStateIn bytes.old.items state.mode state.depth }
     ensures item { IfOk result (λ item. item_readings item
-        ≡ (if nat_lt 0 place.depth || mode_is_open place.mode then readings_of bytes.old.items else [])) }
+        ≡ (if nat_lt 0 state.depth || mode_is_open state.mode then readings_of bytes.old.items else [])) }
     ensures bytes { OnOk result (bytes.new.items ≡ []) }
 {
-    let item = if !place.is_open() {
+    let item = if !state.is_open() {
         None
-    } else if place.depth > 0 {
+    } else if state.depth > 0 {
         Some(Item::Bad(Fault::FormNotClosed))
     } else {
         read_part(alloc, bytes.as_slice())?
@@ -295,13 +243,13 @@ fn take_open(alloc: Global, bytes: &mut Vec<u8>, place: Place) -> Result<Option<
 }
 
 /// The mode of a blank, or of a comment that the byte begins; `None` of any other byte.
-fn gap_mode(byte: u8) -> Option<Mode>
+fn gap_mode(byte: u8) -> Option<LexMode>
     ensures { IfSome result (λ mode. (is_gap (byte ∷ []) ≡ true) × (mode ≡ fresh_mode byte)) }
 {
     if is_blank(byte) {
-        Some(Mode::Ended)
+        Some(LexMode::Ended)
     } else if byte == b';' {
-        Some(Mode::Comment)
+        Some(LexMode::Comment)
     } else {
         None
     }

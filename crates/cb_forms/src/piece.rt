@@ -5,8 +5,8 @@ ghost use Rattle.cb_forms.specs.Strings.{is_unclosed};
 
 use crate::byte_kinds::is_blank;
 use crate::fault::Fault;
+use crate::lex_mode::LexMode;
 use crate::lexeme::Lexeme;
-use crate::mode::Mode;
 use crate::string::read_content;
 use crate::token::Token;
 use crate::word::read_word;
@@ -19,7 +19,7 @@ pub(crate) fn split_piece(text: &[u8]) -> (&[u8], &[u8])
     ensures cut { pieces text.now ≡ result.0.now ∷ pieces result.1.now }
     ensures shorter { length result.1.now < length text.now }
 {
-    let mut mode = Mode::fresh(text[0]);
+    let mut mode = LexMode::fresh(text[0]);
     let mut end = 1;
     while end < text.len() {
         let (_, rest) = text.split_at(end);

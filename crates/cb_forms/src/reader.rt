@@ -2,13 +2,13 @@
 ghost use Rattle.std.specs.Prelude.{◌≡◌, ◌<◌, ◌∷◌, ◌++◌, length, map, IfOk, OnOk};
 ghost use Rattle.cb_forms.specs.Cuts.{item_readings};
 ghost use Rattle.cb_forms.specs.Items.{parts, readings_of, items};
-ghost use Rattle.cb_forms.specs.Places.{IsPlaceIn};
+ghost use Rattle.cb_forms.specs.ScanStates.{IsStateIn};
 ghost use Rattle.cb_forms.specs.Trees.{reading_of};
 
 use crate::fault::Fault;
 use crate::form::Item;
 use crate::part::read_part;
-use crate::place::Place;
+use crate::scan_state::ScanState;
 use cb_io::NoMemory;
 use std::alloc::Global;
 
@@ -20,36 +20,36 @@ pub fn read_items(alloc: Global, text: &[u8]) -> Result<Vec<Item>, NoMemory>
     let mut read = Vec::new(alloc);
     let mut rest = text;
     while !rest.is_empty() {
-        let (part, more, place) = split_part(rest);
+        let (part, more, state) = split_part(rest);
         rest = more;
-        keep(&mut read, read_last_part(alloc, part, place)?)?;
+        keep(&mut read, read_last_part(alloc, part, state)?)?;
     }
     Ok(read)
 }
 
-/// The first part of a text, what stands after it, and the place at the part's end.
-fn split_part(text: &[u8]) -> (&[u8], &[u8], Place)
+/// The first part of a text, what stands after it, and the state at the part's end.
+fn split_part(text: &[u8]) -> (&[u8], &[u8], ScanState)
     requires { 0 < length text.now }
     ensures cut { parts text.now ≡ result.0.now ∷ parts result.1.now }
-    ensures place { IsPlaceIn result.0.now result.2.mode result.2.depth }
+    ensures state { IsStateIn result.0.now result.2.mode result.2.depth }
     ensures shorter { length result.1.now < length text.now }
 {
-    let mut place = Place::fresh(text[0]);
+    let mut state = ScanState::fresh(text[0]);
     let mut end = 1;
-    while end < text.len() && place.takes(text[end]) {
-        place = place.after(text[end]);
+    while end < text.len() && state.takes(text[end]) {
+        state = state.after(text[end]);
         end += 1;
     }
     let (part, more) = text.split_at(end);
-    (part, more, place)
+    (part, more, state)
 }
 
 /// The item that a part is, also a list that isn't closed: none for a blank or a comment.
-fn read_last_part(alloc: Global, part: &[u8], place: Place) -> Result<Option<Item>, NoMemory>
-    requires { IsPlaceIn part.now place.mode place.depth }
+fn read_last_part(alloc: Global, part: &[u8], state: ScanState) -> Result<Option<Item>, NoMemory>
+    requires { IsStateIn part.now state.mode state.depth }
     ensures { IfOk result (λ item. item_readings item ≡ readings_of part.now) }
 {
-    if place.depth > 0 {
+    if state.depth > 0 {
         return Ok(Some(Item::Bad(Fault::FormNotClosed)));
     }
     read_part(alloc, part)

@@ -8,7 +8,7 @@ use Rattle.cb_forms.specs.Trees.{Tree, Trees, no_trees, tree}
 use Rattle.cb_forms.specs.declared.fault.Fault.{Fault}
 use Rattle.cb_forms.specs.declared.fault.Fault.TheVariants.{FactDoesNotFit}
 use Rattle.cb_facts.specs.FactExprs.{SlotContent, NamedSlots, FactExpr, slots}
-use Rattle.cb_requests.specs.FactForms.{all_slots, content_for, content_of, given_or_default, headed_fact, known_slot, named_slot, slot_content_of, slots_given}
+use Rattle.cb_requests.specs.FactForms.{all_slots, content_for, content_by, given_or_default, headed_fact, known_slot, named_slot, slot_content_of, slots_given}
 use Rattle.cb_requests.specs.Laws.{followed_by}
 use Rattle.cb_facts.proofs.FactListLaws.{false-from_not}
 use Rattle.cb_templates.specs.Reserved.{is_reserved}
@@ -220,7 +220,7 @@ swap_if relation false r s fact same h = same_fact relation r s fact same h
 pub slots_swapped : (templates : Templates) (relation : List ℕ) (shapes : List SlotShape) (front back : Trees) (t u : Tree) (fact : FactExpr) → slots_of templates relation ≡ Some shapes
     → headed_fact templates (Some (relation, followed_by front (tree t (tree u back)))) ≡ Ok fact → headed_fact templates (Some (relation, followed_by front (tree u (tree t back)))) ≡ Ok fact
 slots_swapped templates relation shapes front back t u fact is h =
-    let of : Option (List SlotShape) → Trees → Result FactExpr Fault = λ o ts. if is_reserved relation then Err FactDoesNotFit else ok_then (λ content. record { relation = relation; content = content }) (content_of o ts) in
+    let of : Option (List SlotShape) → Trees → Result FactExpr Fault = λ o ts. if is_reserved relation then Err FactDoesNotFit else ok_then (λ content. record { relation = relation; content = content }) (content_by o ts) in
     ap (λ o. of o (followed_by front (tree u (tree t back)))) is
     ∙ swap_if relation (is_reserved relation) (slots_given shapes [] (followed_by front (tree t (tree u back)))) (slots_given shapes [] (followed_by front (tree u (tree t back)))) fact
     (λ all e. swap_forms shapes [] front t u back all e)

@@ -7,7 +7,7 @@ use Rattle.cb_forms.specs.Trees.{Tree, atom, branch, Trees, no_trees, tree}
 use Rattle.cb_forms.specs.declared.fault.Fault.{Fault}
 use Rattle.cb_forms.specs.declared.fault.Fault.TheVariants.{FactDoesNotFit, NotInProfile, ValueNotAllowed}
 use Rattle.cb_requests.specs.Constants.{value_of}
-use Rattle.cb_facts.specs.FactExprs.{SlotContent, default, one, several, NamedSlots, FactContent, fields, slots, FactExpr}
+use Rattle.cb_facts.specs.FactExprs.{SlotContent, default, one, several, NamedSlots, ExprContent, fields, slots, FactExpr}
 use Rattle.cb_templates.specs.Reserved.{is_reserved}
 use Rattle.cb_templates.specs.Results.{ok_then, and_then, with_first}
 use Rattle.cb_templates.specs.Slots.{SlotShape, Types, allows_all, slot_named}
@@ -90,16 +90,16 @@ slots_given shapes given no_trees = all_slots shapes given
 slots_given shapes given (tree t ts) = and_then (named_slot shapes given (call_of t)) (λ g. slots_given shapes (given ++ g ∷ []) ts)
 
 -- what follows the relation of a fact, by the slots of its template, if it has one
-abbrev pub content_of : Option (List SlotShape) → Trees → Result FactContent Fault
-content_of None ts = ok_then fields (fields_of ts)
-content_of (Some shapes) ts = ok_then slots (slots_given shapes [] ts)
+abbrev pub content_by : Option (List SlotShape) → Trees → Result ExprContent Fault
+content_by None ts = ok_then fields (fields_of ts)
+content_by (Some shapes) ts = ok_then slots (slots_given shapes [] ts)
 
 -- the fact that a list is, by its relation and what follows
 abbrev pub headed_fact : Templates → Option (List ℕ × Trees) → Result FactExpr Fault
 headed_fact templates None = Err FactDoesNotFit
 headed_fact templates (Some (relation, ts)) =
     if is_reserved relation then Err FactDoesNotFit else
-    ok_then (λ content. record { relation = relation; content = content }) (content_of (slots_of templates relation) ts)
+    ok_then (λ content. record { relation = relation; content = content }) (content_by (slots_of templates relation) ts)
 
 -- the fact that a form is, or its first fault
 abbrev pub fact_of : Templates → Tree → Result FactExpr Fault

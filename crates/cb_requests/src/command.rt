@@ -10,10 +10,9 @@ use crate::channel::Channel;
 use crate::constant::{read_constant, read_values};
 use crate::fact_form::read_facts;
 use crate::heads::{Head, read_head};
-use cb_facts::{FactExpr, Name, Value};
+use cb_facts::{FactExpr, Name, Names, Value};
 use cb_forms::{Fault, Form, Item, split_head};
 use cb_templates::{Refused, Relations, without_comment};
-use std::alloc::Global;
 
 /// What an item asks for.
 #[derive(Drop)]
@@ -40,33 +39,33 @@ pub enum Command<'a> {
 
 /// The command that an item is, where these relations have a template, or its first fault (`docs/LANGUAGE.md`, "Faults").
 pub fn read_command<'a>(
-    alloc: Global,
+    names: &mut Names,
     relations: &Relations,
     item: &'a Item,
 ) -> Result<Command<'a>, Refused>
     ensures { Settles request_by result (request_of relations.now (reading_of item.now)) }
 {
     match item {
-        Item::Form(form) => read_form(alloc, relations, form),
+        Item::Form(form) => read_form(names, relations, form),
         Item::Bad(fault) => Err(Refused::Fault(*fault)),
     }
 }
 
 fn read_form<'a>(
-    alloc: Global,
+    names: &mut Names,
     relations: &Relations,
     form: &'a Form,
 ) -> Result<Command<'a>, Refused>
     ensures { Settles request_by result (form_request relations.now (tree_of form.now)) }
 {
     match form {
-        Form::Atom(token) => Ok(Command::Show(read_constant(alloc, token)?)),
-        Form::List(forms) => read_list(alloc, relations, forms),
+        Form::Atom(token) => Ok(Command::Show(read_constant(names, token)?)),
+        Form::List(forms) => read_list(names, relations, forms),
     }
 }
 
 fn read_list<'a>(
-    alloc: Global,
+    names: &mut Names,
     relations: &Relations,
     forms: &'a [Form],
 ) -> Result<Command<'a>, Refused>
@@ -78,11 +77,11 @@ fn read_list<'a>(
     };
     match read_head(name) {
         Head::Deftemplate => Ok(Command::DefineTemplate(args)),
-        Head::Deffacts => read_deffacts(alloc, relations, args),
-        Head::Assert => read_assert(alloc, relations, args),
-        Head::Retract => read_retract(alloc, args),
+        Head::Deffacts => read_deffacts(names, relations, args),
+        Head::Assert => read_assert(names, relations, args),
+        Head::Retract => read_retract(names, args),
         Head::Facts => read_bare(Command::ListFacts, args),
-        Head::Printout => read_printout(alloc, args),
+        Head::Printout => read_printout(names, args),
         Head::Reset => read_bare(Command::Reset, args),
         Head::Clear => read_bare(Command::Clear, args),
         Head::Refused => Err(Refused::Fault(Fault::NotInProfile)),
@@ -91,7 +90,7 @@ fn read_list<'a>(
 }
 
 fn read_deffacts<'a>(
-    alloc: Global,
+    names: &mut Names,
     relations: &Relations,
     args: &'a [Form],
 ) -> Result<Command<'a>, Refused>
@@ -101,12 +100,12 @@ fn read_deffacts<'a>(
     let Some((name, forms)) = split_head(args) else {
         return Err(Refused::Fault(Fault::MalformedForm));
     };
-    let facts = read_facts(alloc, relations, without_comment(forms))?;
-    Ok(Command::DefineDeffacts(Name::new(alloc, name)?, facts))
+    let facts = read_facts(names, relations, without_comment(forms))?;
+    Ok(Command::DefineDeffacts(names.name(name)?, facts))
 }
 
 fn read_assert<'a>(
-    alloc: Global,
+    names: &mut Names,
     relations: &Relations,
     args: &'a [Form],
 ) -> Result<Command<'a>, Refused>
@@ -115,16 +114,16 @@ fn read_assert<'a>(
     let Some(_) = args.split_first() else {
         return Err(Refused::Fault(Fault::WrongArguments));
     };
-    Ok(Command::Assert(read_facts(alloc, relations, args)?))
+    Ok(Command::Assert(read_facts(names, relations, args)?))
 }
 
-fn read_retract<'a>(alloc: Global, args: &'a [Form]) -> Result<Command<'a>, Refused>
+fn read_retract<'a>(names: &mut Names, args: &'a [Form]) -> Result<Command<'a>, Refused>
     ensures { Settles request_by result (retract_request (members args.now)) }
 {
     let Some(_) = args.split_first() else {
         return Err(Refused::Fault(Fault::WrongArguments));
     };
-    Ok(Command::Retract(read_values(alloc, args)?))
+    Ok(Command::Retract(read_values(names, args)?))
 }
 
 /// A command that takes no arguments.
@@ -138,7 +137,7 @@ fn read_bare<'a>(command: Command<'a>, args: &'a [Form]) -> Result<Command<'a>, 
     }
 }
 
-fn read_printout<'a>(alloc: Global, args: &'a [Form]) -> Result<Command<'a>, Refused>
+fn read_printout<'a>(names: &mut Names, args: &'a [Form]) -> Result<Command<'a>, Refused>
     ensures { Settles request_by result (printout_request (members args.now)) }
 {
     let Some((first, values)) = args.split_first() else {
@@ -147,7 +146,7 @@ fn read_printout<'a>(alloc: Global, args: &'a [Form]) -> Result<Command<'a>, Ref
     let Some(channel) = read_channel(first) else {
         return Err(Refused::Fault(Fault::NotInProfile));
     };
-    Ok(Command::Print(channel, read_values(alloc, values)?))
+    Ok(Command::Print(channel, read_values(names, values)?))
 }
 
 fn read_channel(form: &Form) -> Option<Channel>

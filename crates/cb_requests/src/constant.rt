@@ -6,38 +6,37 @@ ghost use Rattle.cb_requests.specs.Constants.{call_fault, headed_fault, token_fa
 ghost use Rattle.cb_templates.specs.Results.{Returns, Settles};
 
 use crate::heads::{Head, read_head};
-use cb_facts::Value;
+use cb_facts::{Names, Value};
 use cb_forms::{Fault, Form, Token, split_head};
 use cb_templates::Refused;
-use std::alloc::Global;
 
 /// The values of forms, or the first fault.
 #[tactic(auto, using(cb_templates::proofs::Firsts::after_none, cb_templates::proofs::Firsts::after_all, cb_templates::proofs::Firsts::after_one))]
-pub(crate) fn read_values(alloc: Global, forms: &[Form]) -> Result<Vec<Value>, Refused>
+pub(crate) fn read_values(names: &mut Names, forms: &[Form]) -> Result<Vec<Value>, Refused>
     ensures { Settles (λ values. values.items) result (values_of (members forms.now)) }
 {
-    let mut values = Vec::new(alloc);
+    let mut values = Vec::with_capacity(names.alloc(), forms.len())?;
     for form in forms {
-        values.push(read_value(alloc, form)?)?;
+        values.push(read_value(names, form)?)?;
     }
     Ok(values)
 }
 
 /// The value of a form, or its fault.
-pub(crate) fn read_value(alloc: Global, form: &Form) -> Result<Value, Refused>
+pub(crate) fn read_value(names: &mut Names, form: &Form) -> Result<Value, Refused>
     ensures { Returns result (value_of (tree_of form.now)) }
 {
     match form {
-        Form::Atom(token) => read_constant(alloc, token),
+        Form::Atom(token) => read_constant(names, token),
         Form::List(forms) => Err(Refused::Fault(list_fault(forms))),
     }
 }
 
 /// The value of a token, or its fault.
-pub(crate) fn read_constant(alloc: Global, token: &Token) -> Result<Value, Refused>
+pub(crate) fn read_constant(names: &mut Names, token: &Token) -> Result<Value, Refused>
     ensures { Returns result (token_value token.now) }
 {
-    Value::constant(alloc, token)?.ok_or(Refused::Fault(token_fault(token)))
+    Value::constant(names, token)?.ok_or(Refused::Fault(token_fault(token)))
 }
 
 fn token_fault(token: &Token) -> Fault

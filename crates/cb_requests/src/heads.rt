@@ -5,7 +5,7 @@ ghost use Rattle.cb_requests.specs.Heads.{head_of, is_refused};
 use cb_facts::is_among;
 
 /// What the symbol that a list begins with names (`docs/LANGUAGE.md`, "Commands").
-#[derive(Clone, Copy, Debug, PartialEq, Eq)]
+#[derive(Clone, Copy)]
 pub(crate) enum Head {
     /// `deftemplate`
     Deftemplate,

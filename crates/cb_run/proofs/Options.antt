@@ -25,7 +25,7 @@ use Rattle.clap.proofs.CallerLemmas.{added_plain, entry_by_id, same_rules_by_id}
 use Rattle.clap.specs.Words.{App, fault_of, is_simple_and_free, HasMatchesOf, Text, app_of, is_simple, matches_of, new_app, one_of, rows_of, rule_of, with_rule}
 use Rattle.clap.proofs.OnLiterals.{clap_on_literals}
 use Rattle.clap.proofs.WalkLemmas.{one_text-rows}
-use Rattle.cb_run.specs.Commands.{IsNumberOption, limit_of, limits_app, number_of, number_rule, option_or}
+use Rattle.cb_run.specs.Commands.{IsNumberOption, limit_of, limits_app, number_in, number_rule, option_or}
 
 -- the numbers that an option's text may be, where it has a text
 first_passes : (P : List ℕ → Type 0) (how : Reading) (vals : List (Bor (List ℕ))) (text : List ℕ) → All (λ v. P v.now) vals
@@ -255,7 +255,7 @@ pub from_words : (app : App) (m : ArgMatches) (words : List Text) (id : Text) (d
     → option_or (found_of m) id default ≡ limit_of id default words
 from_words app m words id default is has =
     let rows : rows_of (found_of m) ≡ matches_of limits_app words = (has (ap is_simple is ∙ simple)).0 ∙ ap (λ a. matches_of a words) is in
-    ap (λ o. unwrap_or (option_map number_of o) default) (one_text-rows (found_of m) id ∙ ap (λ r. one_of id r) rows)
+    ap (λ o. unwrap_or (option_map number_in o) default) (one_text-rows (found_of m) id ∙ ap (λ r. one_of id r) rows)
 
 -- the command is the one of the definitions
 pub made_app : (start a b cmd : Command) (first second third : Arg) → AddsArg start first a → AddsArg a second b → AddsArg b third cmd

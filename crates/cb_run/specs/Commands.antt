@@ -17,12 +17,12 @@ limits_app =
     (number_rule (codes "max-firings") 0 1000000000000)) (number_rule (codes "max-turns") 0 1000000000000)
 
 -- the number that a text of digits is; a plus may stand before it
-abbrev pub number_of : Text → ℕ
-number_of text = digits_value 10 (without_leading_plus text)
+abbrev pub number_in : Text → ℕ
+number_in text = digits_value 10 (without_leading_plus text)
 
 -- the number that this option has among the words, or the default where it isn't given
 abbrev pub limit_of : Text → ℕ → List Text → ℕ
-limit_of id default words = unwrap_or (option_map number_of (one_of id (matches_of limits_app words))) default
+limit_of id default words = unwrap_or (option_map number_in (one_of id (matches_of limits_app words))) default
 
 -- where the option has a text, that is a number from `min` to `max`
 abbrev pub IsNumberOption : Found → Text → ℕ → ℕ → Type 0
@@ -30,4 +30,4 @@ IsNumberOption found id min max = (text : Text) → one_text found id ≡ Some t
 
 -- the number that the option has, or the default
 abbrev pub option_or : Found → Text → ℕ → ℕ
-option_or found id default = unwrap_or (option_map number_of (one_text found id)) default
+option_or found id default = unwrap_or (option_map number_in (one_text found id)) default

@@ -1,5 +1,5 @@
 -- How the program ends, by its words and its run.
-use Rattle.std.specs.Prelude.{◌≡◌, ◌≢◌, ◌⊎◌, ℕ, List, Option}
+use Rattle.std.specs.Prelude.{◌≡◌, ◌≢◌, ◌⊎◌, ℕ, List, [], Option}
 use Rattle.clap.specs.Words.{IsAmong, Text, fault_of}
 use Rattle.clap.specs.declared.error.kind.ErrorKind.{ErrorKind}
 use Rattle.clap.specs.declared.error.kind.ErrorKind.TheVariants as kind
@@ -15,8 +15,9 @@ pub record IsStatusFor (k : ErrorKind) (status : ℕ) : Type 0 where
   pub help : k ≡ kind.DisplayHelp → status ≡ 0
   pub wrong : k ≢ kind.OutOfMemory → k ≢ kind.DisplayHelp → k ≢ kind.DisplayVersion → status ≡ 2
 
--- The script was carried out by these words, and the status is that of the run.
+-- The script was carried out by these words, which have no fault, and the status is that of the run.
 pub record EndedByRun (words : List Text) (status : ℕ) (left left' : Option (List ℕ)) (reads reads' : Reads) (writes writes' : Writes) : Type 0 where
+  pub faultless : fault_of limits_app words ≡ []
   pub outcome : Outcome
   pub ran : RanBy words outcome left left' reads reads' writes writes'
   pub status_is : status ≡ outcome.status

@@ -6,7 +6,7 @@ ghost use Rattle.cb_io.specs.Output.{IsReady};
 ghost use Rattle.cb_run.specs.Statuses.{EndedBefore, EndedByRun, HadNoWords};
 
 use crate::program::carry_out;
-use crate::reports::{ended, no_memory, refused};
+use crate::reports::{ended, no_memory, not_text, refused};
 use cb_forms::{NoMemory, Out, Sink, Source};
 use std::alloc::Global;
 use std::env::{self, Env};
@@ -44,10 +44,7 @@ fn given_words<R: AllocGlobal + Env + Eprint>(rt: &R) -> Result<Vec<String>, u8>
     let args = match env::args(rt) {
         Ok(args) => args,
         Err(error) if error.kind() == io::ErrorKind::OutOfMemory => return Err(no_memory(rt)),
-        Err(error) => {
-            let _ = eprintln!(rt; "clipsbatch: {error}");
-            return Err(2);
-        }
+        Err(_) => return Err(not_text(rt)),
     };
     match args.collect::<Vec<String>>(rt.alloc()) {
         Ok(given) => Ok(given),

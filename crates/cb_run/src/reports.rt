@@ -19,6 +19,19 @@ pub(crate) fn refused<R: Print + Eprint>(rt: &R, error: Error) -> u8
     if error.use_stderr() { 2 } else { 0 }
 }
 
+/// What is reported of a word that isn't UTF-8, as `clap` words it.
+static NOT_TEXT: &str = "error: invalid UTF-8 was detected in one or more arguments\n\n\
+                         Usage: clipsbatch [OPTIONS]\n\n\
+                         For more information, try '--help'.";
+
+/// Reports that a word isn't UTF-8; its exit status.
+pub(crate) fn not_text<R: Eprint>(rt: &R) -> u8
+    ensures { result ≡ 2 }
+{
+    let _ = eprintln!(rt; "{NOT_TEXT}");
+    2
+}
+
 /// Reports that memory was refused; its exit status.
 pub(crate) fn no_memory<R: Eprint>(rt: &R) -> u8
     ensures { result ≡ 3 }

@@ -116,10 +116,6 @@ with_none l (Some unread) p wrote end = λ some. absurd (some end)
 begins_then : (a b c : List ℕ) → BeginsWith a b → BeginsWith b c → BeginsWith a c
 begins_then a b c (m, e) (n, f) = (m ++ n, f ∙ (ap (λ it. it ++ n) e ∙ append_assoc a m n))
 
-no_reads_failed : (left : Option (List ℕ)) (reads reads' : Reads) → reads.failures < reads'.failures → IfSome left (λ s. length s < 2 ^ 64 - 1 → reads.failures < reads'.failures)
-no_reads_failed None reads reads' more = tt
-no_reads_failed (Some s) reads reads' more = λ _. more
-
 module _ (l : Limits) (s : SessionState) (left a a' : Option (List ℕ)) (reads r r' : Reads) (writes w w' : Writes) (piece : List ℕ) (before : Following l s left a reads r writes w) where
   -- the script has ended with this piece
   pub ran_ended : (status : Status) (flow : Flow) → length piece ≤ 4096 → Gave a a' piece → GaveMore piece r r' → WroteAll (added s.limits s.fed piece) w w' → flow ≡ Ended status → flow ≡ flow_of (so_far s.limits (s.fed ++ piece)).status
@@ -256,7 +252,7 @@ module _ (l : Limits) (s : SessionState) (left a a' : Option (List ℕ)) (reads 
       }
 
 module _ (l : Limits) (s : SessionState) (left a : Option (List ℕ)) (reads r r' : Reads) (writes w : Writes) (before : Following l s left a reads r writes w) where
-  ran_read_fault : r'.bytes ≡ r.bytes → IfSome left (λ t. length t < 2 ^ 64 - 1 → reads.failures < r'.failures) → Ran l (failed_as ReadFault) left a reads r' writes w
+  ran_read_fault : r'.bytes ≡ r.bytes → (length s.fed < 2 ^ 64 - 1 → reads.failures < r'.failures) → Ran l (failed_as ReadFault) left a reads r' writes w
   ran_read_fault bytes failed = record {
     read = s.fed;
     wrote = (so_far l s.fed).written;
@@ -269,6 +265,7 @@ module _ (l : Limits) (s : SessionState) (left a : Option (List ℕ)) (reads r r
     after_read_fault = λ _. refl;
     after_stop = λ h. absurd h;
     after_stop_however = λ h. absurd h;
+    read_failed = λ _. failed;
     no_read_failed = λ other. absurd (other refl);
     write_failed = λ h. cc;
     no_write_failed = λ _. before.write_failures;
@@ -277,22 +274,15 @@ module _ (l : Limits) (s : SessionState) (left a : Option (List ℕ)) (reads r r
     whole_transcript = λ h. absurd h;
     after_stop_of_all = λ h. absurd h;
     after_stop_with_more = λ h. absurd h;
-    read_failed = λ _. failed;
   }
 
   -- a read that failed
   pub ran_unread : r'.bytes ≡ r.bytes → r'.failures ≡ r.failures + 1 → Ran l (failed_as ReadFault) left a reads r' writes w
   ran_unread bytes more =
       let same : r.failures ≡ reads.failures = before.read_failures in
-      ran_read_fault bytes (no_reads_failed left reads r' (omega arith))
-
-too_many : (left a : Option (List ℕ)) (p : List ℕ) (reads r : Reads) → Gave left a p → 18446744073709551615 ≤ length p → IfSome left (λ s. length s < 2 ^ 64 - 1 → reads.failures < r.failures)
-too_many None a p reads r gave many = tt
-too_many (Some s) a p reads r gave many = λ few.
-    let lengths : length s ≡ length p + length gave.0 = ap length gave.1 ∙ length-append p gave.0 in
-    absurd (omega arith)
+      ran_read_fault bytes (λ _. omega arith)
 
 -- one read too many
 pub ran_endless : (l : Limits) (s : SessionState) (left a : Option (List ℕ)) (reads r : Reads) (writes w : Writes) → Following l s left a reads r writes w → 18446744073709551615 ≤ length s.fed
     → Ran l (failed_as ReadFault) left a reads r writes w
-ran_endless l s left a reads r writes w here many = ran_read_fault l s left a reads r r writes w here refl (too_many left a s.fed reads r here.gave many)
+ran_endless l s left a reads r writes w here many = ran_read_fault l s left a reads r r writes w here refl (λ few. absurd (omega arith))

@@ -32,6 +32,7 @@ pub record Ran (limits : Limits) (result : Outcome) (left left' : Option (List �
   pub after_read_fault : result.cause ≡ ReadFault → wrote ≡ (so_far limits read).written
   pub after_stop : HasStopped result.cause → BeginsWith wrote (transcript limits read)
   pub after_stop_however : HasStopped result.cause → reads'.ends ≡ reads.ends → (rest : List ℕ) → BeginsWith wrote (transcript limits (read ++ rest))
+  pub read_failed : result.cause ≡ ReadFault → length read < 2 ^ 64 - 1 → reads.failures < reads'.failures
   pub no_read_failed : (result.cause ≢ ReadFault) → reads'.failures ≡ reads.failures
   pub write_failed : result.cause ≡ WriteFault → writes.failures < writes'.failures
   pub no_write_failed : (result.cause ≢ WriteFault) → writes'.failures ≡ writes.failures
@@ -41,4 +42,3 @@ pub record Ran (limits : Limits) (result : Outcome) (left left' : Option (List �
   pub whole_transcript : HasEnded result.cause → IfSome left (λ s. IsTranscript limits result s wrote)
   pub after_stop_of_all : HasStopped result.cause → IfSome left (λ s. BeginsWith wrote (transcript limits s))
   pub after_stop_with_more : HasStopped result.cause → IfSome left' (λ unread. unread ≢ [] → (rest : List ℕ) → BeginsWith wrote (transcript limits (read ++ rest)))
-  pub read_failed : result.cause ≡ ReadFault → IfSome left (λ s. length s < 2 ^ 64 - 1 → reads.failures < reads'.failures)

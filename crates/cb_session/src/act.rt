@@ -9,7 +9,7 @@ use cb_forms::{Fault, NoMemory};
 use cb_templates::Refused;
 
 /// How an item ends before it is done.
-#[derive(Clone, Copy, Debug, PartialEq, Eq)]
+#[derive(Clone, Copy)]
 pub(crate) enum Ended {
     /// By a fault: its line is written, and the script goes on.
     Fault(Fault),
@@ -18,7 +18,7 @@ pub(crate) enum Ended {
 }
 
 /// Why an act was not done whole.
-#[derive(Clone, Copy, Debug, PartialEq, Eq)]
+#[derive(Clone, Copy)]
 pub(crate) enum Break {
     /// The item has ended.
     Ended(Ended),

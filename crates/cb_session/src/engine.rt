@@ -16,8 +16,8 @@ use crate::act::{Break, Ended};
 use crate::line::{fault_line, put, put_fact_lines, put_text, value_line};
 use crate::print::put_printed;
 use crate::status::{Status, Stop};
-use cb_facts::{FactExpr, Name, Value};
-use cb_forms::{Cut, Fault, Form, Item, Out, Sink, Token, split_head};
+use cb_facts::{FactExpr, Name, Names, Value};
+use cb_forms::{Cut, Fault, Form, Item, NoMemory, Out, Sink, Token, split_head};
 use cb_requests::{Channel, Command, read_command};
 use cb_templates::Relations;
 use cb_working_memory::{Asserted, DeffactsTable, WorkingMemory, are_retractable};
@@ -25,12 +25,14 @@ use std::alloc::Global;
 use std::marker::Model;
 
 /// What is kept from item to item: the facts, the templates, the facts of each `deffacts`, and whether a fault line was
-/// written.
+/// written. The names that were read are kept too, so that one that is read again takes no more memory: nothing that is
+/// written depends on them.
 ///
 /// After `NoMemory` it may be any.
 #[derive(Drop)]
 pub(crate) struct Engine {
     alloc: Global,
+    names: Names,
     memory: WorkingMemory,
     relations: Relations,
     deffacts: DeffactsTable,
@@ -52,6 +54,7 @@ impl Engine {
     {
         Engine {
             alloc,
+            names: Names::new(alloc),
             memory: WorkingMemory::new(alloc),
             relations: Relations::new(alloc),
             deffacts: DeffactsTable::new(alloc),
@@ -141,7 +144,7 @@ impl Engine {
         ensures { Went K.writes out.old out.new self.new result
             (acted (reading_of item.now) self.old) }
     {
-        match read_command(self.alloc, &self.relations, item) {
+        match read_command(&mut self.names, &self.relations, item) {
             Ok(command) => self.perform_and_show(command, out),
             Err(refused) => Err(Break::from(refused)),
         }
@@ -189,22 +192,23 @@ impl Engine {
         ensures { Quietly self.new result
             (performed (request.define_template (members forms.now)) self.old) }
     {
-        let in_use = self.is_name_in_use(forms);
-        self.relations.define_template(forms, in_use)?;
+        let in_use = self.is_name_in_use(forms)?;
+        self.relations
+            .define_template(&mut self.names, forms, in_use)?;
         Ok(None)
     }
 
     /// Whether the relation that a template is written for is in use.
-    fn is_name_in_use(&self, forms: &[Form]) -> bool
-        ensures { result ≡ is_name_in_use self.now (members forms.now) }
+    fn is_name_in_use(&self, forms: &[Form]) -> Result<bool, NoMemory>
+        ensures { IfOk result (λ in_use. in_use ≡ is_name_in_use self.now (members forms.now)) }
     {
         match split_head(forms) {
-            Some((relation, _)) => self.is_in_use(relation),
-            None => false,
+            Some((relation, _)) => Ok(self.is_in_use(&Name::new(self.alloc, relation)?)),
+            None => Ok(false),
         }
     }
 
-    fn is_in_use(&self, relation: &[u8]) -> bool
+    fn is_in_use(&self, relation: &Name) -> bool
         ensures { result ≡ is_in_use self.now relation.now }
     {
         self.memory.mentions(relation) || self.deffacts.mentions(relation)
@@ -285,6 +289,7 @@ impl Engine {
         self.memory = WorkingMemory::new(self.alloc);
         self.relations = Relations::new(self.alloc);
         self.deffacts = DeffactsTable::new(self.alloc);
+        self.names = Names::new(self.alloc);
         Ok(None)
     }
 }

@@ -2,3 +2,4 @@ pub mod AttributeLaws
 pub mod Firsts
 pub mod PlaceLaws
 pub mod SlotLaws
+mod TemplateLaws

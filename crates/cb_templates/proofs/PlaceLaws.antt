@@ -149,7 +149,7 @@ pub lent_at : {X : Type 0} (xs : List X) (i : ℕ) (r : Option (Bor X)) → IsIt
 lent_at xs i None h = sym (slice_get_past xs i h.3)
 lent_at xs i (Some x) h = sym (slice_get_read xs (length xs) i x.now refl h.3.0 h.1)
 
-match_lent : {X : Type 0} (r : Option (Bor X)) (o : Option X) → option_copied r ≡ o → MatchOption r (o ≡ None) (λ x. o ≡ Some x.now)
+pub match_lent : {X : Type 0} (r : Option (Bor X)) (o : Option X) → option_copied r ≡ o → MatchOption r (o ≡ None) (λ x. o ≡ Some x.now)
 match_lent None o e = sym e
 match_lent (Some x) o e = sym e
 

@@ -12,9 +12,9 @@ use Rattle.cb_forms.specs.declared.fault.Fault.{Fault}
 use Rattle.cb_forms.specs.declared.fault.Fault.TheVariants.{MalformedForm}
 use Rattle.cb_facts.specs.Facts.{FactValue, template_fact}
 use Rattle.cb_facts.specs.declared.value.Value.{Value}
-use Rattle.cb_templates.specs.Building.{Given, PartValues, field_values, slot_values, filled, fits, given_for, slot_value, slots_built, built_by, built}
+use Rattle.cb_templates.specs.Building.{Given, PartValues, field_values, slot_values, filled, fits, given_for, value_or_default, slots_built, built_by, built}
 use Rattle.cb_templates.specs.Results.{and_then, ok_then, with_first}
-use Rattle.cb_templates.specs.SlotForms.{attributes_after, finished, named_slot, no_attributes, slot_by, slot_with}
+use Rattle.cb_templates.specs.SlotForms.{attributes_after, finished, slot_defined, no_attributes, slot_by, slot_with}
 use Rattle.cb_templates.specs.Slots.{SlotShape, Types, allows_all, names, slot_named}
 use Rattle.cb_templates.specs.Laws.{content_names}
 use Rattle.cb_templates.specs.Templates.{Templates, slots_after, slots_of}
@@ -56,7 +56,7 @@ named_then name m (Err f) s h = absurd (cc)
 abbrev IsNew : List SlotShape → List ℕ → Type 0
 IsNew before name = is_some (slot_named before name) ≡ false
 
-new_named : (before : List SlotShape) (m : Bool) (head : Option (List ℕ × Trees)) (s : SlotShape) → named_slot before m head ≡ Ok s → IsNew before s.name
+new_named : (before : List SlotShape) (m : Bool) (head : Option (List ℕ × Trees)) (s : SlotShape) → slot_defined before m head ≡ Ok s → IsNew before s.name
 new_named before m None s h = absurd (cc)
 new_named before m (Some (name, ts)) s h =
     let made : Result SlotShape Fault = and_then (attributes_after m no_attributes ts) (finished name m) in
@@ -64,7 +64,7 @@ new_named before m (Some (name, ts)) s h =
     ap (λ n. is_some (slot_named before n)) same ∙ unless_not (is_some (slot_named before name)) MalformedForm made s h
 
 new_slot_by : (before : List SlotShape) (head : List ℕ) (ts : Trees) (t u : Bool) (s : SlotShape)
-    → (if t then named_slot before false (head_and_rest ts) else (if u then named_slot before true (head_and_rest ts) else Err MalformedForm)) ≡ Ok s → IsNew before s.name
+    → (if t then slot_defined before false (head_and_rest ts) else (if u then slot_defined before true (head_and_rest ts) else Err MalformedForm)) ≡ Ok s → IsNew before s.name
 new_slot_by before head ts true u s h = new_named before false (head_and_rest ts) s h
 new_slot_by before head ts false true s h = new_named before true (head_and_rest ts) s h
 new_slot_by before head ts false false s h = absurd (cc)
@@ -122,7 +122,7 @@ filled_names [] given pairs h =
     let same : [] ≡ pairs = cc in
     ap (λ (ps : List (List ℕ × Value)). map (λ p. p.0) ps) (sym same)
 filled_names (s ∷ slots) given pairs h =
-    filled_one s.name (names slots) (slot_value s (given_for given s.name)) (filled slots given) pairs h (λ others is. filled_names slots given others is)
+    filled_one s.name (names slots) (value_or_default s (given_for given s.name)) (filled slots given) pairs h (λ others is. filled_names slots given others is)
 
 of_template : (relation : List ℕ) (r : Result (List (List ℕ × Value)) Fault) (fact : FactValue) (slots : List SlotShape) → ok_then (template_fact relation) r ≡ Ok fact
     → ((pairs : List (List ℕ × Value)) → r ≡ Ok pairs → map (λ p. p.0) pairs ≡ names slots) → content_names fact.content ≡ names slots

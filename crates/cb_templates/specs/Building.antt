@@ -63,14 +63,14 @@ one_value (v ∷ []) = if is_multifield v then Err OneValueWanted else Ok v
 one_value vs = Err FactDoesNotFit
 
 -- the value of a slot, by what it is given
-abbrev pub slot_value : SlotShape → Option (List Value) → Result Value Fault
-slot_value s None = ok_or s.default FactDoesNotFit
-slot_value s (Some vs) = if s.is_multi then Ok (value.Multi (spliced vs)) else one_value vs
+abbrev pub value_or_default : SlotShape → Option (List Value) → Result Value Fault
+value_or_default s None = ok_or s.default FactDoesNotFit
+value_or_default s (Some vs) = if s.is_multi then Ok (value.Multi (spliced vs)) else one_value vs
 
 -- the slots of a template, each with its value
 abbrev pub filled : List SlotShape → Given → Result (List (List ℕ × Value)) Fault
 filled [] given = Ok []
-filled (s ∷ slots) given = with_first (ok_then (λ v. (s.name, v)) (slot_value s (given_for given s.name))) (filled slots given)
+filled (s ∷ slots) given = with_first (ok_then (λ v. (s.name, v)) (value_or_default s (given_for given s.name))) (filled slots given)
 
 -- the fact of a relation with these slots; that they don't fit is told before a multifield where one value is wanted
 abbrev pub slots_built : List ℕ → List SlotShape → Given → Result FactValue Fault

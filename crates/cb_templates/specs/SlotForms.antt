@@ -12,7 +12,7 @@ use Rattle.cb_facts.specs.Values.{constant_of, spliced}
 use Rattle.cb_facts.specs.declared.value.Value.{Value}
 use Rattle.cb_facts.specs.declared.value.Value.TheVariants as value
 use Rattle.cb_templates.specs.Results.{ok_then, and_then, with_first}
-use Rattle.cb_templates.specs.Slots.{Types, allows_all, are_only, SlotShape, slot_named}
+use Rattle.cb_templates.specs.Slots.{Types, allows_all, are_only, with_type, SlotShape, slot_named}
 use Rattle.cb_templates.specs.declared.attribute.Attributes.{Attributes}
 use Rattle.cb_templates.specs.declared.attribute.SlotDefault.{SlotDefault}
 use Rattle.cb_templates.specs.declared.attribute.SlotDefault.TheVariants.{Required, Derived, Fixed}
@@ -46,13 +46,14 @@ abbrev pub type_by : Option (List ℕ) → Result SlotType Fault
 type_by None = Err MalformedForm
 type_by (Some name) = ok_or (type_named name) NotInProfile
 
-abbrev pub types_in : Trees → Result (List SlotType) Fault
-types_in no_trees = Ok []
-types_in (tree t ts) = with_first (type_by (symbol_of t)) (types_in ts)
+-- the types that forms name, each once, after those that were named
+abbrev pub types_after : List SlotType → Trees → Result (List SlotType) Fault
+types_after types no_trees = Ok types
+types_after types (tree t ts) = and_then (type_by (symbol_of t)) (λ more. types_after (with_type types more) ts)
 
 abbrev pub some_types : Trees → Result Types Fault
 some_types no_trees = Err MalformedForm
-some_types (tree t ts) = ok_then Some (types_in (tree t ts))
+some_types (tree t ts) = ok_then Some (types_after [] (tree t ts))
 
 -- `(type T ..)`, by what follows its head: at least one type, or `?VARIABLE` for any value
 abbrev pub types_of : Trees → Result Types Fault
@@ -137,15 +138,15 @@ abbrev pub finished : List ℕ → Bool → Attributes → Result SlotShape Faul
 finished name is_multi a = slot_with name is_multi (option_flatten a.types) a.default
 
 -- a slot after those of the template so far, by its name and its attributes; each name is given at most once
-abbrev pub named_slot : List SlotShape → Bool → Option (List ℕ × Trees) → Result SlotShape Fault
-named_slot slots is_multi None = Err MalformedForm
-named_slot slots is_multi (Some (name, ts)) =
+abbrev pub slot_defined : List SlotShape → Bool → Option (List ℕ × Trees) → Result SlotShape Fault
+slot_defined slots is_multi None = Err MalformedForm
+slot_defined slots is_multi (Some (name, ts)) =
     if is_some (slot_named slots name) then Err MalformedForm else and_then (attributes_after is_multi no_attributes ts) (finished name is_multi)
 
 -- `(slot name attribute ..)` or `(multislot name attribute ..)`, by its head and what follows
 abbrev pub slot_by : List SlotShape → Option (List ℕ × Trees) → Result SlotShape Fault
 slot_by slots None = Err MalformedForm
 slot_by slots (Some (head, ts)) =
-    if bytes_eq head (codes "slot") then named_slot slots false (head_and_rest ts) else (
-    if bytes_eq head (codes "multislot") then named_slot slots true (head_and_rest ts) else
+    if bytes_eq head (codes "slot") then slot_defined slots false (head_and_rest ts) else (
+    if bytes_eq head (codes "multislot") then slot_defined slots true (head_and_rest ts) else
     Err MalformedForm)

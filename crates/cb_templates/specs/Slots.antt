@@ -1,5 +1,5 @@
 -- The slots of a template.
-use Rattle.std.specs.Prelude.{◌||◌, ℕ, Bool, true, false, List, [], ◌∷◌, Option, Some, None, map, if◌then◌else◌}
+use Rattle.std.specs.Prelude.{◌||◌, ◌++◌, ℕ, Bool, true, false, List, [], ◌∷◌, Option, Some, None, map, if◌then◌else◌}
 use Rattle.std.specs.List.{list_any, list_all}
 use Rattle.std.specs.Str.{bytes_eq}
 use Rattle.cb_facts.specs.Values.{fields_in}
@@ -34,7 +34,11 @@ is_of Lexeme v = is_symbol v || is_string v
 abbrev pub Types : Type 0
 Types = Option (List SlotType)
 
--- the types are this one alone, however often it is named
+-- the types with one more, each of them once
+abbrev pub with_type : List SlotType → SlotType → List SlotType
+with_type ts t = if list_any (λ u. type_eq.ghosts.eq u t) ts then ts else ts ++ t ∷ []
+
+-- the types are this one alone
 abbrev pub are_only : SlotType → Types → Bool
 are_only t None = false
 are_only t (Some ts) = list_all (λ u. type_eq.ghosts.eq u t) ts

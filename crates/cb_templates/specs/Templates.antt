@@ -1,8 +1,10 @@
 -- Templates as they are written, and the relations that have one.
 use Rattle.std.specs.Prelude.{ℕ, Bool, List, [], ◌∷◌, ◌++◌, Option, Some, None, Result, Ok, Err, if◌then◌else◌}
+use Rattle.std.specs.BTreeMap.{insert_entry}
+use Rattle.std.specs.Cmp.Lexicographic.{slice_cmp}
 use Rattle.std.specs.Map.{lookup}
+use Rattle.std.specs.Ordering.{nat_cmp}
 use Rattle.std.specs.Str.{bytes_eq}
-use Rattle.indexmap.specs.IndexMap.{insert_entry}
 use Rattle.cb_forms.specs.Members.{call_of, head_and_rest}
 use Rattle.cb_forms.specs.Trees.{atom, Trees, no_trees, tree}
 use Rattle.cb_forms.specs.declared.fault.Fault.{Fault}
@@ -13,7 +15,7 @@ use Rattle.cb_templates.specs.Results.{ok_then, and_then}
 use Rattle.cb_templates.specs.SlotForms.{slot_by}
 use Rattle.cb_templates.specs.Slots.{SlotShape}
 
--- the templates, each after its relation's name
+-- the templates, each after its relation's name, in the order of the names
 abbrev pub Templates : Type 0
 Templates = List (List ℕ × List SlotShape)
 
@@ -21,9 +23,9 @@ Templates = List (List ℕ × List SlotShape)
 abbrev pub slots_of : Templates → List ℕ → Option (List SlotShape)
 slots_of templates name = lookup (bytes_eq name) templates
 
--- one template more; one of the same relation gives way
+-- one template more, put where its relation's name belongs; one of the same relation gives way
 abbrev pub with_template : Templates → List ℕ × List SlotShape → Templates
-with_template templates (name, slots) = insert_entry bytes_eq templates name slots
+with_template templates (name, slots) = insert_entry (slice_cmp nat_cmp) templates name slots
 
 -- what follows the comment that may stand after the name of a construct
 abbrev pub without_comment : Trees → Trees

@@ -1,15 +1,18 @@
 //! The attributes of a slot as they are written.
-ghost use Rattle.std.specs.Prelude.{◌≡◌, None, Ok, Err, IfOk, IfErr};
+ghost use Rattle.std.specs.Prelude.{◌≡◌, [], None, Ok, Err, IfOk, IfErr, OnOk};
+ghost use Rattle.std.specs.List.{list_any};
 ghost use Rattle.cb_forms.specs.Members.{call_of, head_and_rest, members, symbol_of};
 ghost use Rattle.cb_forms.specs.Trees.{tree_of};
 ghost use Rattle.cb_templates.specs.Results.{Returns, Settles};
-ghost use Rattle.cb_templates.specs.SlotForms.{attribute_by, attributes_after, default_constant, default_constants, default_of, is_variable, is_variable_form, is_variable_token, multi_default, no_call, no_attributes, no_constant, one_default, some_types, type_by, types_in, types_of};
+ghost use Rattle.cb_templates.specs.SlotForms.{attribute_by, attributes_after, default_constant, default_constants, default_of, is_variable, is_variable_form, is_variable_token, multi_default, no_call, no_attributes, no_constant, one_default, some_types, type_by, types_after, types_of};
+ghost use Rattle.cb_templates.specs.Slots.{with_type};
+ghost use Rattle.cb_templates.specs.contracts.slot_type.SlotTypePartialEq.TheImpl as type_eq;
 
 use crate::refused::Refused;
 use crate::slot::Types;
 use crate::slot_type::SlotType;
-use cb_facts::{Multifield, Value, splice};
-use cb_forms::{Fault, Form, Token, split_head};
+use cb_facts::{Multifield, Names, Value, splice};
+use cb_forms::{Fault, Form, NoMemory, Token, split_head};
 use std::alloc::Global;
 
 /// What a `default` attribute says.
@@ -34,7 +37,7 @@ pub(crate) struct Attributes {
 
 /// The attributes that forms are, or the first fault.
 pub(crate) fn read_attributes(
-    alloc: Global,
+    names: &mut Names,
     is_multi: bool,
     forms: &[Form],
 ) -> Result<Attributes, Refused>
@@ -45,14 +48,14 @@ pub(crate) fn read_attributes(
         default: None,
     };
     for form in forms {
-        attributes = with_attribute(alloc, is_multi, attributes, form)?;
+        attributes = with_attribute(names, is_multi, attributes, form)?;
     }
     Ok(attributes)
 }
 
 /// The attributes with one more.
 fn with_attribute(
-    alloc: Global,
+    names: &mut Names,
     is_multi: bool,
     attributes: Attributes,
     form: &Form,
@@ -66,7 +69,7 @@ fn with_attribute(
         if attributes.types.is_some() {
             return Err(Refused::Fault(Fault::MalformedForm));
         }
-        let types = Some(read_types(alloc, forms)?);
+        let types = Some(read_types(names.alloc(), forms)?);
         return Ok(Attributes {
             types,
             default: attributes.default,
@@ -76,7 +79,7 @@ fn with_attribute(
         if attributes.default.is_some() {
             return Err(Refused::Fault(Fault::MalformedForm));
         }
-        let default = Some(read_default(alloc, is_multi, forms)?);
+        let default = Some(read_default(names, is_multi, forms)?);
         return Ok(Attributes {
             types: attributes.types,
             default,
@@ -98,15 +101,32 @@ fn read_types(alloc: Global, forms: &[Form]) -> Result<Types, Refused>
     Ok(Types::of(read_type_names(alloc, forms)?))
 }
 
-#[tactic(auto, using(crate::proofs::Firsts::after_none, crate::proofs::Firsts::after_all, crate::proofs::Firsts::after_one))]
+/// The types that forms name, each once: so a field is compared with no more types than there are.
 fn read_type_names(alloc: Global, forms: &[Form]) -> Result<Vec<SlotType>, Refused>
-    ensures { Settles (λ types. types.items) result (types_in (members forms.now)) }
+    ensures { Settles (λ types. types.items) result (types_after [] (members forms.now)) }
 {
     let mut types = Vec::new(alloc);
     for form in forms {
-        types.push(read_type(form)?)?;
+        add_type(&mut types, read_type(form)?)?;
     }
     Ok(types)
+}
+
+/// Adds a type, if it isn't among these.
+fn add_type(types: &mut Vec<SlotType>, more: SlotType) -> Result<(), NoMemory>
+    ensures { OnOk result (types.new.items ≡ with_type types.old.items more) }
+{
+    if is_one_of(types.as_slice(), more) {
+        return Ok(());
+    }
+    types.push(more)?;
+    Ok(())
+}
+
+fn is_one_of(types: &[SlotType], wanted: SlotType) -> bool
+    ensures { result ≡ list_any (λ t. type_eq.ghosts.eq t wanted) types.now }
+{
+    types.iter().any(|t| *t == wanted)
 }
 
 fn read_type(form: &Form) -> Result<SlotType, Refused>
@@ -122,7 +142,7 @@ fn read_type(form: &Form) -> Result<SlotType, Refused>
 }
 
 /// What `default` says, by the forms after it.
-fn read_default(alloc: Global, is_multi: bool, forms: &[Form]) -> Result<SlotDefault, Refused>
+fn read_default(names: &mut Names, is_multi: bool, forms: &[Form]) -> Result<SlotDefault, Refused>
     ensures { Returns result (default_of is_multi (members forms.now)) }
 {
     if is_variable(b"NONE", forms) {
@@ -132,48 +152,48 @@ fn read_default(alloc: Global, is_multi: bool, forms: &[Form]) -> Result<SlotDef
         return Ok(SlotDefault::Derived);
     }
     if is_multi {
-        read_multi_default(alloc, forms)
+        read_multi_default(names, forms)
     } else {
-        read_one_default(alloc, forms)
+        read_one_default(names, forms)
     }
 }
 
-fn read_one_default(alloc: Global, forms: &[Form]) -> Result<SlotDefault, Refused>
+fn read_one_default(names: &mut Names, forms: &[Form]) -> Result<SlotDefault, Refused>
     ensures { Returns result (one_default (members forms.now)) }
 {
     let Some((form, rest)) = forms.split_first() else {
         return Err(Refused::Fault(Fault::MalformedForm));
     };
     match rest.split_first() {
-        None => Ok(SlotDefault::Fixed(read_constant(alloc, form)?)),
+        None => Ok(SlotDefault::Fixed(read_constant(names, form)?)),
         Some(_) => Err(Refused::Fault(Fault::MalformedForm)),
     }
 }
 
-fn read_multi_default(alloc: Global, forms: &[Form]) -> Result<SlotDefault, Refused>
+fn read_multi_default(names: &mut Names, forms: &[Form]) -> Result<SlotDefault, Refused>
     ensures { Returns result (multi_default (members forms.now)) }
 {
-    let values = read_constants(alloc, forms)?;
-    let fields = splice(alloc, values.as_slice())?;
+    let values = read_constants(names, forms)?;
+    let fields = splice(names.alloc(), values.as_slice())?;
     Ok(SlotDefault::Fixed(Value::Multi(Multifield::from_vec(fields)?)))
 }
 
 #[tactic(auto, using(crate::proofs::Firsts::after_none, crate::proofs::Firsts::after_all, crate::proofs::Firsts::after_one))]
-fn read_constants(alloc: Global, forms: &[Form]) -> Result<Vec<Value>, Refused>
+fn read_constants(names: &mut Names, forms: &[Form]) -> Result<Vec<Value>, Refused>
     ensures { Settles (λ values. values.items) result (default_constants (members forms.now)) }
 {
-    let mut values = Vec::new(alloc);
+    let mut values = Vec::new(names.alloc());
     for form in forms {
-        values.push(read_constant(alloc, form)?)?;
+        values.push(read_constant(names, form)?)?;
     }
     Ok(values)
 }
 
-fn read_constant(alloc: Global, form: &Form) -> Result<Value, Refused>
+fn read_constant(names: &mut Names, form: &Form) -> Result<Value, Refused>
     ensures { Returns result (default_constant (tree_of form.now)) }
 {
     match form {
-        Form::Atom(token) => match Value::constant(alloc, token)? {
+        Form::Atom(token) => match Value::constant(names, token)? {
             Some(value) => Ok(value),
             None => Err(Refused::Fault(no_constant(token))),
         },

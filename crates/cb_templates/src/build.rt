@@ -3,7 +3,7 @@ ghost use Rattle.std.specs.Prelude.{◌≡◌, None, Ok, Err, IfOk, IfErr, is_so
 ghost use Rattle.std.specs.List.{list_all};
 ghost use Rattle.cb_facts.specs.Facts.{ordered_fact};
 ghost use Rattle.cb_facts.specs.Values.{spliced, value_of_field};
-ghost use Rattle.cb_templates.specs.Building.{built, filled, fits, given_for, is_one, one_value, part_values, slot_value, slots_built, takes};
+ghost use Rattle.cb_templates.specs.Building.{built, filled, fits, given_for, is_one, one_value, part_values, value_or_default, slots_built, takes};
 ghost use Rattle.cb_templates.specs.Results.{Returns, Settles};
 ghost use Rattle.cb_templates.specs.Slots.{slot_named};
 
@@ -138,15 +138,15 @@ fn fill(alloc: Global, slots: &[Slot], given: &GivenSlots) -> Result<Vec<(Name, 
 {
     let mut content = Vec::new(alloc);
     for slot in slots {
-        let value = slot_value(alloc, slot, given)?;
+        let value = value_or_default(alloc, slot, given)?;
         content.push((slot.name().clone()?, value))?;
     }
     Ok(content)
 }
 
 /// The value of a slot.
-fn slot_value(alloc: Global, slot: &Slot, given: &GivenSlots) -> Result<Value, Refused>
-    ensures { Returns result (slot_value slot.now (given_for given.now slot.now.name)) }
+fn value_or_default(alloc: Global, slot: &Slot, given: &GivenSlots) -> Result<Value, Refused>
+    ensures { Returns result (value_or_default slot.now (given_for given.now slot.now.name)) }
 {
     match given.find(slot.name()) {
         None => default_value(slot),
@@ -161,7 +161,7 @@ fn slot_value(alloc: Global, slot: &Slot, given: &GivenSlots) -> Result<Value, R
 }
 
 fn default_value(slot: &Slot) -> Result<Value, Refused>
-    ensures { Returns result (slot_value slot.now None) }
+    ensures { Returns result (value_or_default slot.now None) }
 {
     match slot.default() {
         Some(value) => Ok(value.clone()?),

@@ -11,7 +11,7 @@ use std::marker::Model;
 /// A slot that a fact is given, by its name, and the values that it is given.
 ///
 /// Contracts see the pair of its name and its values.
-#[derive(Debug, Drop)]
+#[derive(Drop)]
 pub struct GivenSlot {
     name: Name,
     values: Vec<Value>,
@@ -45,7 +45,7 @@ impl GivenSlot {
 /// whatever the names are.
 ///
 /// Contracts see the list of the slots.
-#[derive(Debug, Drop)]
+#[derive(Drop)]
 pub struct GivenSlots {
     slots: Vec<GivenSlot>,
     places: Places,
@@ -131,7 +131,7 @@ fn both(first: bool, second: bool) -> bool
 }
 
 /// What a fact is given.
-#[derive(Debug, Drop)]
+#[derive(Drop)]
 pub enum Parts {
     /// The values of its fields, for an ordered fact.
     Fields(Vec<Value>),

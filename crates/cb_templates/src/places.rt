@@ -7,7 +7,6 @@ use cb_forms::NoMemory;
 use cb_io::History;
 use std::alloc::Global;
 use std::collections::BTreeMap;
-use std::fmt;
 use std::marker::Model;
 
 /// The first place of each name in a list of names, found in logarithmic time, whatever the names are.
@@ -59,12 +58,6 @@ impl Places {
         let is_new = note(&mut self.firsts, name, place)?;
         self.names = self.names.and(name);
         Ok(is_new)
-    }
-}
-
-impl fmt::Debug for Places {
-    fn fmt<W: fmt::Write>(&self, f: &mut fmt::Formatter<W>) -> fmt::Result {
-        self.firsts.fmt(f)
     }
 }
 

@@ -10,19 +10,20 @@ use crate::reserved::is_reserved;
 use crate::slot::Slot;
 use crate::slot_form::read_slot;
 use crate::template::Template;
-use cb_facts::Name;
+use cb_facts::{Name, Names};
 use cb_forms::{Fault, Form, split_head};
-use indexmap::IndexMap;
 use std::alloc::Global;
+use std::collections::BTreeMap;
 use std::marker::Model;
 
 /// The relations that have a template, each with its slots (`docs/LANGUAGE.md`, "Templates").
 ///
-/// Contracts see the list of the pairs of a name and its slots, in the order in which the names were first defined.
-#[derive(Debug, Drop)]
+/// A template is found in logarithmic time, whatever the names are.
+///
+/// Contracts see the list of the pairs of a name and its slots, in the order of the names.
+#[derive(Drop)]
 pub struct Relations {
-    alloc: Global,
-    templates: IndexMap<Name, Template>,
+    templates: BTreeMap<Name, Template>,
 }
 
 impl Model for Relations {
@@ -39,8 +40,7 @@ impl Relations {
         ensures { result ≡ [] }
     {
         Relations {
-            alloc,
-            templates: IndexMap::new(alloc),
+            templates: BTreeMap::new(alloc),
         }
     }
 
@@ -50,11 +50,16 @@ impl Relations {
     /// It refuses with the first fault in this order: CB08 where the name is no symbol or a reserved word, CB23 where the
     /// relation is in use, and then those of each slot: CB08, CB14 and, after its last attribute, CB10. Whatever it refuses,
     /// nothing has changed.
-    pub fn define_template(&mut self, form: &[Form], in_use: bool) -> Result<(), Refused>
+    pub fn define_template(
+        &mut self,
+        names: &mut Names,
+        form: &[Form],
+        in_use: bool,
+    ) -> Result<(), Refused>
         ensures done { Settles (λ _. self.new) result (defined self.old in_use (members form.now)) }
         ensures err { OnErr result (self.new ≡ self.old) }
     {
-        let (name, template) = read_template(self.alloc, form, in_use)?;
+        let (name, template) = read_template(names, form, in_use)?;
         self.templates.insert(name, template)?;
         Ok(())
     }
@@ -77,7 +82,11 @@ impl Relations {
     }
 }
 
-fn read_template(alloc: Global, forms: &[Form], in_use: bool) -> Result<(Name, Template), Refused>
+fn read_template(
+    names: &mut Names,
+    forms: &[Form],
+    in_use: bool,
+) -> Result<(Name, Template), Refused>
     ensures { Returns result (template_of in_use (members forms.now)) }
 {
     let Some((name, forms)) = split_head(forms) else {
@@ -89,16 +98,16 @@ fn read_template(alloc: Global, forms: &[Form], in_use: bool) -> Result<(Name, T
     if in_use {
         return Err(Refused::Fault(Fault::TemplateInUse));
     }
-    let template = read_slots(alloc, without_comment(forms))?;
-    Ok((Name::new(alloc, name)?, template))
+    let template = read_slots(names, without_comment(forms))?;
+    Ok((names.name(name)?, template))
 }
 
-fn read_slots(alloc: Global, forms: &[Form]) -> Result<Template, Refused>
+fn read_slots(names: &mut Names, forms: &[Form]) -> Result<Template, Refused>
     ensures { Returns result (slots_after [] (members forms.now)) }
 {
-    let mut template = Template::new(alloc);
+    let mut template = Template::new(names.alloc());
     for form in forms {
-        let slot = read_slot(alloc, &template, form)?;
+        let slot = read_slot(names, &template, form)?;
         template.push(slot)?;
     }
     Ok(template)

@@ -12,7 +12,7 @@ use std::marker::Model;
 /// The types that a slot names, if it names any.
 ///
 /// Contracts see the list of the types, or `None` where any value may stand.
-#[derive(Debug, Drop)]
+#[derive(Drop)]
 pub(crate) struct Types {
     named: Option<Vec<SlotType>>,
 }
@@ -97,7 +97,7 @@ fn any_has(types: &[SlotType], field: &Single) -> bool
 /// A slot of a template (`docs/LANGUAGE.md`, "Templates").
 ///
 /// Contracts see its name, whether it is a multislot, the types that its fields may have, and its default.
-#[derive(Debug, Drop)]
+#[derive(Drop)]
 pub struct Slot {
     name: Name,
     is_multi: bool,

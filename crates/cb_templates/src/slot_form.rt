@@ -3,57 +3,60 @@ ghost use Rattle.std.specs.Prelude.{◌≡◌, [], Ok, Err, IfOk, IfErr};
 ghost use Rattle.cb_forms.specs.Members.{call_of, head_and_rest, members};
 ghost use Rattle.cb_forms.specs.Trees.{tree_of};
 ghost use Rattle.cb_templates.specs.Results.{Returns};
-ghost use Rattle.cb_templates.specs.SlotForms.{derived, derived_one, finished, named_slot, slot_by, slot_with};
+ghost use Rattle.cb_templates.specs.SlotForms.{derived, derived_one, finished, slot_defined, slot_by, slot_with};
 
 use crate::attribute::{Attributes, SlotDefault, read_attributes};
 use crate::refused::Refused;
 use crate::slot::{Slot, Types};
 use crate::slot_type::SlotType;
 use crate::template::Template;
-use cb_facts::{Multifield, Name, Value};
+use cb_facts::{Multifield, Name, Names, Value};
 use cb_forms::{Fault, Form, NoMemory, split_head};
-use std::alloc::Global;
 
 /// The slot that a form is, after the slots of the template so far, or its first fault.
-pub(crate) fn read_slot(alloc: Global, template: &Template, form: &Form) -> Result<Slot, Refused>
+pub(crate) fn read_slot(
+    names: &mut Names,
+    template: &Template,
+    form: &Form,
+) -> Result<Slot, Refused>
     ensures { Returns result (slot_by template.now (call_of (tree_of form.now))) }
 {
     let Some((head, forms)) = form.call() else {
         return Err(Refused::Fault(Fault::MalformedForm));
     };
     if head == b"slot".as_slice() {
-        return read_named(alloc, template, false, forms);
+        return read_named(names, template, false, forms);
     }
     if head == b"multislot".as_slice() {
-        return read_named(alloc, template, true, forms);
+        return read_named(names, template, true, forms);
     }
     Err(Refused::Fault(Fault::MalformedForm))
 }
 
 /// The slot that the forms after `slot` or `multislot` make.
 fn read_named(
-    alloc: Global,
+    names: &mut Names,
     template: &Template,
     is_multi: bool,
     forms: &[Form],
 ) -> Result<Slot, Refused>
     ensures { Returns result
-        (named_slot template.now is_multi (head_and_rest (members forms.now))) }
+        (slot_defined template.now is_multi (head_and_rest (members forms.now))) }
 {
     let Some((name, forms)) = split_head(forms) else {
         return Err(Refused::Fault(Fault::MalformedForm));
     };
-    let name = Name::new(alloc, name)?;
+    let name = names.name(name)?;
     if template.find(&name).is_some() {
         return Err(Refused::Fault(Fault::MalformedForm));
     }
-    let attributes = read_attributes(alloc, is_multi, forms)?;
-    finish(alloc, name, is_multi, attributes)
+    let attributes = read_attributes(names, is_multi, forms)?;
+    finish(names, name, is_multi, attributes)
 }
 
 /// The slot with these attributes.
 fn finish(
-    alloc: Global,
+    names: &mut Names,
     name: Name,
     is_multi: bool,
     attributes: Attributes,
@@ -62,14 +65,14 @@ fn finish(
 {
     let Attributes { types, default } = attributes;
     match types {
-        Some(types) => slot_with(alloc, name, is_multi, types, default),
-        None => slot_with(alloc, name, is_multi, Types::any(), default),
+        Some(types) => slot_with(names, name, is_multi, types, default),
+        None => slot_with(names, name, is_multi, Types::any(), default),
     }
 }
 
 /// The slot of these types with what its `default` attribute says, if it has one.
 fn slot_with(
-    alloc: Global,
+    names: &mut Names,
     name: Name,
     is_multi: bool,
     types: Types,
@@ -79,7 +82,7 @@ fn slot_with(
 {
     match default {
         None | Some(SlotDefault::Derived) => {
-            let value = derived(alloc, is_multi, &types)?;
+            let value = derived(names, is_multi, &types)?;
             Ok(Slot::new(name, is_multi, types, Some(value)))
         }
         Some(SlotDefault::Required) => Ok(Slot::new(name, is_multi, types, None)),
@@ -93,23 +96,23 @@ fn slot_with(
 }
 
 /// The value of a slot of these types where nothing says which.
-fn derived(alloc: Global, is_multi: bool, types: &Types) -> Result<Value, NoMemory>
+fn derived(names: &mut Names, is_multi: bool, types: &Types) -> Result<Value, NoMemory>
     ensures { IfOk result (λ value. value ≡ derived is_multi types.now) }
 {
     if is_multi {
-        return Ok(Value::Multi(Multifield::from_vec(Vec::new(alloc))?));
+        return Ok(Value::Multi(Multifield::from_vec(Vec::new(names.alloc()))?));
     }
-    derived_one(alloc, types)
+    derived_one(names, types)
 }
 
-fn derived_one(alloc: Global, types: &Types) -> Result<Value, NoMemory>
+fn derived_one(names: &mut Names, types: &Types) -> Result<Value, NoMemory>
     ensures { IfOk result (λ value. value ≡ derived_one types.now) }
 {
     if types.are_only(SlotType::Str) {
-        return Ok(Value::Str(Name::new(alloc, b"")?));
+        return Ok(Value::Str(names.name(b"")?));
     }
     if types.are_only(SlotType::Integer) || types.are_only(SlotType::Number) {
         return Ok(Value::Int(0));
     }
-    Ok(Value::Symbol(Name::new(alloc, b"nil")?))
+    Ok(Value::Symbol(names.name(b"nil")?))
 }

@@ -6,7 +6,7 @@ ghost use Rattle.cb_templates.specs.Slots.{is_of, is_integer, is_string, is_symb
 use cb_facts::Single;
 
 /// A type that a slot may name.
-#[derive(Clone, Copy, Debug, PartialEq, Eq)]
+#[derive(Clone, Copy, PartialEq, Eq)]
 pub(crate) enum SlotType {
     /// `INTEGER`
     Integer,

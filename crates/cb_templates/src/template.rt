@@ -13,7 +13,7 @@ use std::marker::Model;
 /// (`docs/LANGUAGE.md`, "Templates").
 ///
 /// Contracts see the list of its slots.
-#[derive(Debug, Drop)]
+#[derive(Drop)]
 pub struct Template {
     slots: Vec<Slot>,
     places: Places,

@@ -4,8 +4,8 @@
 #![tactic(auto)]
 
 pub use cb_facts::{
-    Content, Fact, FactList, Multifield, Name, Single, Value, fact_text, is_among, plain_text,
-    quoted_text, splice,
+    Content, Fact, FactList, Multifield, Name, Names, Single, Value, fact_text, is_among,
+    plain_text, quoted_text, splice,
 };
 pub use cb_templates::{
     GivenSlot, GivenSlots, Parts, Refused, Relations, Slot, Template, build_fact, build_slots,

@@ -12,7 +12,7 @@ use Rattle.cb_facts.proofs.FactEquality.{fact-Decides}
 use Rattle.cb_facts.specs.FactLists.{IndexedFacts, fact_at, IsAbsent, IsFactBase}
 use Rattle.cb_facts.specs.Facts.{FactValue, fact_eq}
 
-contains_here : {X : Type 0} (x : X) (xs : List X) → Contains (x ∷ xs) x
+pub contains_here : {X : Type 0} (x : X) (xs : List X) → Contains (x ∷ xs) x
 contains_here x xs = (0, omega arith, refl)
 
 pub contains_there : {X : Type 0} (x y : X) (xs : List X) → Contains xs y → Contains (x ∷ xs) y

@@ -1,4 +1,6 @@
-mod DeffactsLaws
+mod CountedLaws
 pub mod IndexLaws
 mod KeepLaws
 mod MemoryLaws
+mod GroupCountLaws
+mod GroupLaws

@@ -1,4 +1,6 @@
 pub mod Deffacts
+pub mod GroupCounts
+pub mod Groups
 pub mod Laws
 pub mod WorkingMemories
 pub mod WorkingMemory

@@ -60,7 +60,7 @@ is_retractable (value.Symbol name) = bytes_eq name (codes "*")
 is_retractable v = false
 
 -- The memory without the facts that a value says, or `None` where it is an index that no fact has. An address that no fact
--- has is passed over; `*` is all facts.
+-- has is passed over. Any other value, which is `*` wherever values are checked first, is all facts.
 abbrev pub retracted_one : Memory → Value → Option Memory
 retracted_one m (value.Fact ix) = Some (without m ix)
 retracted_one m (value.Int (pos ix)) = if is_some (fact_at m.facts ix) then Some (without m ix) else None

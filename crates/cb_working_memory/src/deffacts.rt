@@ -1,55 +1,39 @@
 //! The facts that `deffacts` keeps for `reset`.
-ghost use Rattle.std.specs.Prelude.{◌≡◌, [], None, IfOk, OnOk};
-ghost use Rattle.cb_working_memory.specs.Deffacts.{facts_in, is_named_in_deffacts, has_relation, with_deffacts};
+ghost use Rattle.std.specs.Prelude.{◌≡◌, ◌++◌, ◌∷◌, [], None, IfOk, OnOk};
+ghost use Rattle.std.specs.Map.{lookup, remove_entry};
+ghost use Rattle.std.specs.Str.{bytes_eq};
+ghost use Rattle.cb_working_memory.specs.Deffacts.{facts_in, is_named_in_deffacts, with_deffacts};
+ghost use Rattle.cb_working_memory.specs.GroupCounts.{AreCounted, HasLess, HasMore, IsLessByGroup};
 ghost use Rattle.cb_working_memory.specs.WorkingMemory.{asserted_all};
 
+use crate::groups::{Deffacts, Groups};
 use crate::working_memory::{Asserted, WorkingMemory};
-use cb_facts::{FactExpr, Name};
+use cb_facts::{FactExpr, Name, RelationCounts};
 use cb_forms::NoMemory;
-use indexmap::IndexMap;
 use std::alloc::Global;
 use std::marker::Model;
 
-/// The facts of one `deffacts`.
-///
-/// Contracts see the list of the facts.
-#[derive(Drop)]
-pub struct Deffacts {
-    facts: Vec<FactExpr>,
-}
-
-impl Model for Deffacts {
-    ghost use Rattle.std.specs.Prelude.{List};
-    ghost use Rattle.cb_facts.specs.FactExprs.{FactExpr as Expr};
-
-    ghost Value = { List Expr };
-
-    ghost view = { λ g. g.facts.items };
-}
-
-impl Deffacts {
-    /// The facts.
-    pub fn facts(&self) -> &[FactExpr]
-        ensures { result.now ≡ self.now }
-    {
-        self.facts.as_slice()
-    }
-}
-
 /// The facts of each `deffacts`, by its name, in the order of their definition.
+///
+/// A group is found by its name in logarithmic time, whatever the names are.
 ///
 /// Contracts see the list of the pairs of a name and its facts.
 #[derive(Drop)]
 pub struct DeffactsTable {
-    groups: IndexMap<Name, Deffacts>,
+    alloc: Global,
+    groups: Groups,
+    counts: RelationCounts,
 }
 
 impl Model for DeffactsTable {
     ghost use Rattle.cb_working_memory.specs.Deffacts.{DeffactsTable as Table};
+    ghost use Rattle.cb_working_memory.specs.GroupCounts.{AreCounted};
 
     ghost Value = { Table };
 
-    ghost view = { λ g. g.groups.entries };
+    ghost view = { λ g. g.groups };
+
+    ghost invariant = { λ g. AreCounted g.counts g.groups };
 }
 
 impl DeffactsTable {
@@ -58,30 +42,30 @@ impl DeffactsTable {
         ensures { result ≡ [] }
     {
         DeffactsTable {
-            groups: IndexMap::new(alloc),
+            alloc,
+            groups: Groups::new(alloc),
+            counts: RelationCounts::new(alloc),
         }
     }
 
     /// Keeps facts under a name, after the other groups, and in place of the group that had the name. Growth is refused
-    /// as `NoMemory`.
+    /// as `NoMemory`; then it may have any groups.
     pub fn define(&mut self, name: Name, facts: Vec<FactExpr>) -> Result<(), NoMemory>
         ensures { OnOk result (self.new ≡ with_deffacts self.old name facts.items) }
     {
-        self.groups.shift_remove(&name);
-        self.groups.insert(name, Deffacts { facts })?;
+        forget(&mut self.groups, &mut self.counts, &name);
+        if let Err(error) = keep(&mut self.groups, &mut self.counts, name, facts) {
+            *self = DeffactsTable::new(self.alloc);
+            return Err(error);
+        }
         Ok(())
     }
 
-    /// Whether a fact of a group names a relation. It looks at each fact.
-    pub fn mentions(&self, relation: &[u8]) -> bool
+    /// Whether a fact of a group names a relation. It takes logarithmic time, whatever the relations are.
+    pub fn mentions(&self, relation: &Name) -> bool
         ensures { result ≡ is_named_in_deffacts relation.now self.now }
     {
-        for (_, group) in self.groups.iter() {
-            if has_relation(relation, group.facts()) {
-                return true;
-            }
-        }
-        false
+        self.counts.count(relation) > 0
     }
 
     /// Asserts all facts of the groups, in order.
@@ -91,7 +75,7 @@ impl DeffactsTable {
             (λ told. asserted_all memory.old None (facts_in self.now) ≡ (memory.new, told)) }
     {
         let mut last = None;
-        for (_, group) in self.groups.iter() {
+        for group in self.groups.iter() {
             match memory.assert_all(last, group.facts())? {
                 Asserted::All(ix) => last = ix,
                 Asserted::Exhausted => return Ok(Asserted::Exhausted),
@@ -101,8 +85,56 @@ impl DeffactsTable {
     }
 }
 
-fn has_relation(relation: &[u8], facts: &[FactExpr]) -> bool
-    ensures { result ≡ has_relation relation.now facts.now }
+/// Takes the group with a name out, if there is one, and counts its facts no more.
+fn forget(groups: &mut Groups, counts: &mut RelationCounts, name: &Name)
+    requires { AreCounted counts.old groups.old }
+    ensures taken { groups.new ≡ remove_entry (bytes_eq name.now) groups.old }
+    ensures absent { lookup (bytes_eq name.now) groups.new ≡ None }
+    ensures counted { AreCounted counts.new groups.new }
 {
-    facts.iter().any(|fact| fact.relation() == relation)
+    discount(counts, groups.take(name));
+}
+
+/// Counts the facts of a group no more, if there is one.
+fn discount(counts: &mut RelationCounts, group: Option<Deffacts>)
+    ensures { IsLessByGroup group counts.old counts.new }
+{
+    match group {
+        Some(group) => remove_all(counts, group.facts()),
+        None => {}
+    }
+}
+
+fn remove_all(counts: &mut RelationCounts, facts: &[FactExpr])
+    ensures { HasLess counts.old counts.new facts.now }
+{
+    for fact in facts {
+        counts.remove(fact.relation());
+    }
+}
+
+/// Keeps a group after the others, and counts its facts.
+fn keep(
+    groups: &mut Groups,
+    counts: &mut RelationCounts,
+    name: Name,
+    facts: Vec<FactExpr>,
+) -> Result<(), NoMemory>
+    requires absent { lookup (bytes_eq name) groups.old ≡ None }
+    requires counted { AreCounted counts.old groups.old }
+    ensures kept { OnOk result (groups.new ≡ groups.old ++ (name, facts.items) ∷ []) }
+    ensures counted { OnOk result (AreCounted counts.new groups.new) }
+{
+    add_all(counts, facts.as_slice())?;
+    groups.push(name, facts)?;
+    Ok(())
+}
+
+fn add_all(counts: &mut RelationCounts, facts: &[FactExpr]) -> Result<(), NoMemory>
+    ensures { OnOk result (HasMore counts.old counts.new facts.now) }
+{
+    for fact in facts {
+        counts.add(fact.relation())?;
+    }
+    Ok(())
 }

@@ -1,7 +1,9 @@
 //! The working memory, and the facts that each `deffacts` keeps for it.
 #![tactic(auto)]
 
+mod counted_facts;
 mod deffacts;
+mod groups;
 pub mod laws;
 mod working_memory;
 

@@ -7,7 +7,8 @@ ghost use Rattle.cb_facts.specs.FactExprs.{fact_by};
 ghost use Rattle.cb_working_memory.specs.WorkingMemory.{asserted_all, asserted_one, empty_memory, is_retractable, retracted_all, retracted_one, without};
 ghost use Rattle.cb_facts.specs.FactLists.{fact_at};
 
-use cb_facts::{Fact, FactExpr, FactList, Value};
+use crate::counted_facts::CountedFacts;
+use cb_facts::{Fact, FactExpr, FactList, Name, Value};
 use cb_forms::NoMemory;
 use std::alloc::Global;
 use std::marker::Model;
@@ -30,7 +31,7 @@ pub enum Asserted {
 #[derive(Drop)]
 pub struct WorkingMemory {
     alloc: Global,
-    facts: FactList,
+    facts: CountedFacts,
     last: u64,
 }
 
@@ -52,7 +53,7 @@ impl WorkingMemory {
     {
         WorkingMemory {
             alloc,
-            facts: FactList::new(alloc),
+            facts: CountedFacts::new(alloc),
             last: 0,
         }
     }
@@ -61,7 +62,7 @@ impl WorkingMemory {
     pub fn facts(&self) -> &FactList
         ensures { result.now ≡ self.now.facts }
     {
-        &self.facts
+        self.facts.facts()
     }
 
     /// Asserts facts, one after another; the one before them has the index `last`, if there is one.
@@ -151,20 +152,15 @@ impl WorkingMemory {
     fn drop_facts(&mut self)
         ensures { self.new ≡ record { facts = []; last = self.old.last } }
     {
-        self.facts = FactList::new(self.alloc);
+        self.facts = CountedFacts::new(self.alloc);
     }
 
-    /// Whether a fact names a relation. It looks at each fact.
-    pub fn mentions(&self, relation: &[u8]) -> bool
+    /// Whether a fact names a relation. It takes logarithmic time, whatever the relations are.
+    pub fn mentions(&self, relation: &Name) -> bool
         ensures { result ≡ list_any
             (λ entry. bytes_eq entry.1.relation relation.now) self.now.facts }
     {
-        for (_, fact) in self.facts.iter() {
-            if fact.relation() == relation {
-                return true;
-            }
-        }
-        false
+        self.facts.mentions(relation)
     }
 }
 

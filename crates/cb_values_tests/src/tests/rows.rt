@@ -1,7 +1,7 @@
 //! Values, templates and facts from rows, and how they are shown.
 use cb_forms::{Form, Item, NoMemory, read_items, split_head};
 use cb_values::{
-    Fact, GivenSlot, Multifield, Name, Parts, Refused, Relations, Single, Value, build_fact,
+    Fact, GivenSlot, Multifield, Name, Names, Parts, Refused, Relations, Single, Value, build_fact,
     fact_text,
 };
 use std::alloc::Global;
@@ -84,7 +84,8 @@ fn constant(alloc: Global, form: &Form) -> Result<Value, Refused> {
     let Form::Atom(token) = form else {
         return Err(Refused::NoMemory);
     };
-    Ok(Value::constant(alloc, token)?.ok_or(Refused::NoMemory)?)
+    let mut names = Names::new(alloc);
+    Ok(Value::constant(&mut names, token)?.ok_or(Refused::NoMemory)?)
 }
 
 fn constants(alloc: Global, forms: &[Form]) -> Result<Vec<Value>, Refused> {
@@ -146,18 +147,19 @@ fn parts(alloc: Global, given: &Given, forms: &[Form]) -> Result<Parts, Refused>
 }
 
 /// Defines the template of these forms.
-fn define(alloc: Global, relations: &mut Relations, form: &Form) -> Result<(), Refused> {
+fn define(names: &mut Names, relations: &mut Relations, form: &Form) -> Result<(), Refused> {
     match form {
         Form::Atom(_) => Err(Refused::NoMemory),
-        Form::List(members) => relations.define_template(members.as_slice(), false),
+        Form::List(members) => relations.define_template(names, members.as_slice(), false),
     }
 }
 
 /// The relations with templates, each written as a list of what stands after `deftemplate`.
 pub(crate) fn defined(alloc: Global, templates: &str) -> Result<Relations, Refused> {
+    let mut names = Names::new(alloc);
     let mut relations = Relations::new(alloc);
     for form in forms(alloc, templates)? {
-        define(alloc, &mut relations, &form)?;
+        define(&mut names, &mut relations, &form)?;
     }
     Ok(relations)
 }

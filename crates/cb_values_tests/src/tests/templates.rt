@@ -1,7 +1,7 @@
 //! Templates as they are written: their slots, and the faults of those that are refused.
 use super::rows::{Field, defined, forms, shown_refusal, single};
 use cb_forms::NoMemory;
-use cb_values::{Multifield, Name, Refused, Relations, Single, Slot, Value, quoted_text};
+use cb_values::{Multifield, Name, Names, Refused, Relations, Single, Slot, Value, quoted_text};
 use std::alloc::Global;
 
 /// Templates, and the slots of `t`: after a name `*` for a multislot, then its default, or `!` where each fact must give
@@ -157,7 +157,8 @@ const IN_USE: [(&str, &str); 3] = [("p (foo)", "!23"), ("t (slot a)", "!23"), ("
 
 fn define(alloc: Global, text: &str, in_use: bool) -> Result<(), Refused> {
     let mut relations = Relations::new(alloc);
-    relations.define_template(forms(alloc, text)?.as_slice(), in_use)
+    let mut names = Names::new(alloc);
+    relations.define_template(&mut names, forms(alloc, text)?.as_slice(), in_use)
 }
 
 fn is_refused(alloc: Global, text: &str, in_use: bool, number: &str) -> Result<bool, NoMemory> {

@@ -1,7 +1,7 @@
 //! Constants, the texts and the order of values, and parts of multifields.
 use super::rows::{Field, Row, forms, many, value};
 use cb_forms::{Form, NoMemory};
-use cb_values::{Multifield, Refused, Value, plain_text, quoted_text};
+use cb_values::{Multifield, Names, Refused, Value, plain_text, quoted_text};
 use std::alloc::Global;
 use std::cmp::Ordering;
 
@@ -207,9 +207,9 @@ fn shares_a_part(rt: HostRuntime) -> Result<(), NoMemory> {
 }
 
 /// The text of the constant that a form is.
-fn shown(alloc: Global, form: &Form) -> Result<Vec<u8>, NoMemory> {
+fn shown(alloc: Global, names: &mut Names, form: &Form) -> Result<Vec<u8>, NoMemory> {
     if let Form::Atom(token) = form {
-        if let Some(value) = Value::constant(alloc, token)? {
+        if let Some(value) = Value::constant(names, token)? {
             return quoted_text(alloc, &value);
         }
     }
@@ -217,9 +217,10 @@ fn shown(alloc: Global, form: &Form) -> Result<Vec<u8>, NoMemory> {
 }
 
 fn shown_constants(alloc: Global, text: &str) -> Result<Vec<u8>, Refused> {
+    let mut names = Names::new(alloc);
     let mut shown_ones = Vec::new(alloc);
     for form in forms(alloc, text)? {
-        shown_ones.extend_from_slice(shown(alloc, &form)?.as_slice())?;
+        shown_ones.extend_from_slice(shown(alloc, &mut names, &form)?.as_slice())?;
         shown_ones.push(b' ')?;
     }
     Ok(shown_ones)
@@ -229,5 +230,31 @@ fn shown_constants(alloc: Global, text: &str) -> Result<Vec<u8>, Refused> {
 fn takes_constants(rt: HostRuntime) -> Result<(), Refused> {
     let shown = shown_constants(rt.alloc(), "red \"a b\" -7 ?x & $?x ?*g*")?;
     assert!(rt; shown.as_slice() == b"red \"a b\" -7 none none none none ".as_slice());
+    Ok(())
+}
+
+#[test]
+fn takes_names_again(rt: HostRuntime) -> Result<(), Refused> {
+    let text = "red a-name-of-more-than-two-dozen-bytes red a-name-of-more-than-two-dozen-bytes ";
+    let shown = shown_constants(rt.alloc(), text)?;
+    assert!(rt; shown.as_slice() == text.as_bytes());
+    Ok(())
+}
+
+/// Whether each of so many names is as it was read: more than are kept where nothing else holds them.
+fn are_as_read(alloc: Global, count: u32) -> Result<bool, NoMemory> {
+    let mut names = Names::new(alloc);
+    for number in 0..count {
+        let bytes = number.to_be_bytes();
+        if names.name(&bytes)?.as_slice() != bytes.as_slice() {
+            return Ok(false);
+        }
+    }
+    Ok(true)
+}
+
+#[test]
+fn reads_many_names(rt: HostRuntime) -> Result<(), NoMemory> {
+    assert!(rt; are_as_read(rt.alloc(), 3000)?);
     Ok(())
 }

@@ -1,13 +1,13 @@
 use Rattle.std.proofs.Common.{◌≡◌, ◌<◌, ◌≤◌, ◌+◌, ◌∷◌, length, take, drop, sym, ◌∙◌, subst, arith}
 use Rattle.cb_forms.specs.Pieces.{pieces}
-use Rattle.cb_forms.specs.declared.mode.Mode.{Mode}
+use Rattle.cb_forms.specs.declared.lex_mode.LexMode.{LexMode}
 use Rattle.cb_forms.proofs.PieceLaws.{IsPieceSoFar, piece-begin, piece-more, piece-run, piece-all, piece-end}
 use Rattle.cb_forms.proofs.piece.split_piece.Goals as goal
 use Rattle.cb_forms.proofs.piece.split_piece.Goals.{else-loop-end-test, then-loop-end-test+then-end-text, then-end-text-via-then-end-text, then-end-text-via-else-end-text+then-not-takes}
 
 pub loop-end-init : goal.loop-end-init
 loop-end-init c =
-    let P : Mode → Type 0 = λ m. IsPieceSoFar c.args.text.now 1 m in
+    let P : LexMode → Type 0 = λ m. IsPieceSoFar c.args.text.now 1 m in
     record { begun = omega arith; within = omega arith; so_far = subst P (sym c.fresh-mode.ensures) (piece-begin c.args.text.now c.requires) }
 
 pub loop-end-preserved : goal.loop-end-preserved
@@ -15,7 +15,7 @@ loop-end-preserved c =
     let s = c.args.text.now in
     let i = c.loop-end.end + c.run-end.result in
     let m = c.loop-end.mode in
-    let P : Mode → Type 0 = λ m. IsPieceSoFar s (i + 1) m in
+    let P : LexMode → Type 0 = λ m. IsPieceSoFar s (i + 1) m in
     let within : i ≤ length s = omega (arith, c.run-end.ensures.within, c.split_at.ensures.back_len) in
     let inside : i < length s = omega (arith, within, c.if-end-text.false) in
     let so_far = piece-run s c.split_at.result.1.now c.loop-end.end c.run-end.result m c.split_at.ensures.back c.loop-end.invariant.so_far c.run-end.ensures.stays in

@@ -6,7 +6,7 @@ abbrev pub invariant-loop-end : goal.invariant-loop-end
 invariant-loop-end l = record {
   begun : 0 < l.end;
   within : l.end ≤ length l.text;
-  so_far : IsPartSoFar l.text l.end l.place.mode l.place.depth;
+  so_far : IsPartSoFar l.text l.end l.state.mode l.state.depth;
 }
 
 abbrev pub decreases-loop-end : goal.decreases-loop-end

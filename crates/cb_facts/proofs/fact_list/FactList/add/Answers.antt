@@ -1,20 +1,29 @@
-use Rattle.std.proofs.Common.{◌≡◌, None, rules}
-use Rattle.indexmap.specs.IndexMap as index
-use Rattle.cb_facts.specs.Facts.{fact_eq}
+use Rattle.std.proofs.Common.{◌≡◌, None, ap, rules, subst, sym}
+use Rattle.std.specs.BTreeMap.{get}
+use Rattle.cb_facts.specs.Facts.{fact_cmp}
 use Rattle.cb_facts.specs.FactLists.{fact_at, IsAbsent, IsIndexed}
-use Rattle.cb_facts.proofs.FactListLaws.{fact_base, indexed-insert}
+use Rattle.cb_facts.proofs.FactListLaws.{fact_base, indexed-insert, indexed-undone}
 use Rattle.cb_facts.proofs.fact_list.FactList.add.Goals as goal
 
-indexed : (c : goal.In_ok-insert-2) → IsIndexed c.insert.new.self.entries (index.get fact_eq c.insert-2.new.self)
+indexed : (c : goal.Joined-insert-2) → IsIndexed c.insert-2.new.self.entries (get fact_cmp c.insert.new.self)
 indexed c =
     let same : c.in_ok-shared.shared ≡ c.args.fact = search rules in
     let free : fact_at c.self.inside.facts.entries c.args.ix ≡ None = search rules in
     let absent : IsAbsent c.self.inside.facts.entries c.args.fact = search rules in
-    indexed-insert c.self.inside.facts c.insert.new.self c.self.inside.indices c.reserve.new.self c.insert-2.new.self c.args.ix c.args.fact c.in_ok-shared.shared
-    c.self.invariant c.in_ok-reserve.ensures.entries same free absent c.in_ok-insert.ensures.updates c.in_ok-insert-2.ensures.updates c.insert.ensures.ordered
+    indexed-insert c.self.inside.facts c.insert-2.new.self c.self.inside.indices c.insert.new.self c.args.ix c.args.fact c.in_ok-shared.shared
+    c.self.invariant same free absent c.in-Ok.ensures.updates c.in_ok-insert.ensures.updates c.insert-2.ensures.ordered
 
-pub invariant_of-self-2 : goal.invariant_of-self-2
-invariant_of-self-2 c = indexed c
+pub invariant_of-self-in-Ok : goal.invariant_of-self-in-Ok
+invariant_of-self-in-Ok c = indexed c
 
-pub returns-clause-base : goal.returns-clause-base
-returns-clause-base c = fact_base _ _ (indexed c)
+pub returns-in-Ok-clause-base : goal.returns-in-Ok-clause-base
+returns-in-Ok-clause-base c = fact_base _ _ (indexed c)
+
+pub invariant_of-self-in-Err : goal.invariant_of-self-in-Err
+invariant_of-self-in-Err c =
+    let same : c.in_ok-shared.shared ≡ c.args.fact = search rules in
+    let back : c.in-Err.refused.value.1 ≡ c.args.fact = ap (λ p. p.1) c.in-Err.ensures.value_returned in
+    let absent : IsAbsent c.self.inside.facts.entries c.args.fact = search rules in
+    subst (λ es. IsIndexed es (get fact_cmp c.remove.new.self)) (sym c.in-Err.ensures.err)
+    (indexed-undone c.self.inside.facts.entries c.self.inside.indices c.insert.new.self c.remove.new.self c.args.ix c.args.fact c.in_ok-shared.shared c.in-Err.refused.value.1
+    c.self.invariant absent same back c.in_ok-insert.ensures.updates c.remove.ensures.updates)

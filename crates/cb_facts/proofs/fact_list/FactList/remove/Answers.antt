@@ -1,14 +1,14 @@
 use Rattle.std.proofs.Common.{◌≡◌, sym, subst}
-use Rattle.indexmap.specs.IndexMap as index
-use Rattle.cb_facts.specs.Facts.{fact_eq}
+use Rattle.std.specs.BTreeMap.{get}
+use Rattle.cb_facts.specs.Facts.{fact_cmp}
 use Rattle.cb_facts.specs.FactLists.{IsFactBase, IsIndexed}
 use Rattle.cb_facts.proofs.FactListLaws.{fact_base, indexed-remove}
 use Rattle.cb_facts.proofs.fact_list.FactList.remove.Goals as goal
 
-indexed : (c : goal.After-drop-fact-inside) → IsIndexed c.remove.new.self.entries (index.get fact_eq c.swap_remove.new.self)
+indexed : (c : goal.After-drop-fact-inside) → IsIndexed c.remove.new.self.entries (get fact_cmp c.remove-in-Some.new.self)
 indexed c =
-    indexed-remove c.self.inside.facts c.remove.new.self c.self.inside.indices c.swap_remove.new.self c.args.ix c.in-Some.fact
-    c.self.invariant (sym c.in-Some.ensures.value) c.remove.ensures.updates c.swap_remove.ensures.updates c.remove.ensures.ordered
+    indexed-remove c.self.inside.facts c.remove.new.self c.self.inside.indices c.remove-in-Some.new.self c.args.ix c.in-Some.fact
+    c.self.invariant (sym c.in-Some.ensures.value) c.remove.ensures.updates c.remove-in-Some.ensures.updates c.remove.ensures.ordered
 
 pub invariant_of-self : goal.invariant_of-self
 invariant_of-self c = indexed c

@@ -3,9 +3,9 @@ use Rattle.std.proofs.lemmas.Bool.{eqb-true, eqb-false}
 use Rattle.std.proofs.lemmas.List.{nil_from_length, length_push}
 use Rattle.cb_forms.specs.Cuts.{item_readings, open_bytes}
 use Rattle.cb_forms.specs.Items.{ended_readings}
-use Rattle.cb_forms.specs.Places.{IsPlaceIn}
-use Rattle.cb_forms.proofs.OpenPartLaws.{place-goes, depth-next, kept-open, open-no_gap-push, reaches-item, reaches-comment}
-use Rattle.cb_forms.proofs.PlaceLaws.{place-push}
+use Rattle.cb_forms.specs.ScanStates.{IsStateIn}
+use Rattle.cb_forms.proofs.OpenPartLaws.{state-goes, depth-next, kept-open, open-no_gap-push, reaches-item, reaches-comment}
+use Rattle.cb_forms.proofs.ScanStateLaws.{state-push}
 use Rattle.cb_forms.proofs.open_part.OpenPart.go_on.Goals as goal
 
 none_kept : (v : Vec ℕ Global) (t : Bool) → t ≡ (vec_len v == 0) → t ≡ true → v.items ≡ []
@@ -23,7 +23,7 @@ returns-then-is_empty c =
 pub take_ended-requires : goal.take_ended-requires
 take_ended-requires c =
     let some = some_kept c.args.self.now.bytes c.is_empty.result c.is_empty.ensures c.if-is_empty.false in
-    let goes = place-goes c.args.self.now c.args.byte c.push.new.self.items c.requires.kept c.requires.takes some c.in_ok-push.ensures.items in
+    let goes = state-goes c.args.self.now c.args.byte c.push.new.self.items c.requires.kept c.requires.takes some c.in_ok-push.ensures.items in
     rw (c.after-self.ensures.mode, c.after-self.ensures.depth) goes.1
 
 pub returns : goal.returns
@@ -32,11 +32,11 @@ returns c =
     let b = c.args.byte in
     let some = some_kept old.bytes c.is_empty.result c.is_empty.ensures c.if-is_empty.false in
     let open_is = kept-open old.spelled.items old.bytes.items c.requires.kept.bytes_are some in
-    let goes = place-goes old b c.push.new.self.items c.requires.kept c.requires.takes some c.in_ok-push.ensures.items in
-    let at : IsPlaceIn (old.spelled.items ++ b ∷ []) c.after-self.result.mode c.after-self.result.depth = rw (c.after-self.ensures.mode, c.after-self.ensures.depth) (place-push old.spelled.items old.place.mode old.place.depth b c.requires.kept.place_is c.requires.takes) in
+    let goes = state-goes old b c.push.new.self.items c.requires.kept c.requires.takes some c.in_ok-push.ensures.items in
+    let at : IsStateIn (old.spelled.items ++ b ∷ []) c.after-self.result.mode c.after-self.result.depth = rw (c.after-self.ensures.mode, c.after-self.ensures.depth) (state-push old.spelled.items old.state.mode old.state.depth b c.requires.kept.state_is c.requires.takes) in
     let longer = length_push old.spelled.items b in
     let same = ap length open_is.1 in
-    let low = depth-next old.place.mode old.place.depth b in
+    let low = depth-next old.state.mode old.state.depth b in
     let deep = c.requires.kept.depth_fits in
     let fits : length (old.spelled.items ++ b ∷ []) ≤ c.args.limit = omega (arith, c.if-len-limit.false, c.len.ensures, old.bytes.ok.0) in
     let depth_fits : c.after-self.result.depth ≤ length (old.spelled.items ++ b ∷ []) = rw c.after-self.ensures.depth (omega arith) in

@@ -1,6 +1,6 @@
 use Rattle.std.proofs.Common.{◌≡◌, ◌≤◌, ℕ, ◌-◌, List, ◌++◌, length, take, ap, ◌∙◌, subst, arith}
 use Rattle.std.proofs.lemmas.List.{length-take-le, take-take}
-use Rattle.cb_forms.specs.Places.{StaysOpen}
+use Rattle.cb_forms.specs.ScanStates.{StaysOpen}
 use Rattle.cb_forms.proofs.RunLaws.{passed-open}
 use Rattle.cb_forms.proofs.open_part.OpenPart.stay_open.Goals as goal
 
@@ -9,12 +9,12 @@ returns c =
     let old = c.args.self.now in
     let s = c.args.bytes.now in
     let n = c.open_run-end.result.0 in
-    let place = c.open_run-end.result.1 in
+    let state = c.open_run-end.result.1 in
     let room = c.min-room.result in
     let low : n ≤ room = omega (arith, c.open_run-end.ensures.within, c.split_at.ensures.front_len) in
     let same : take n c.split_at.result.0.now ≡ take n s = ap (take n) c.split_at.ensures.front ∙ take-take n room s low in
     let run : c.split_at-2.result.0.now ≡ take n s = c.split_at-2.ensures.front ∙ same in
-    let P : List ℕ → Type 0 = λ run. StaysOpen old.place.mode old.place.depth run place.mode place.depth in
+    let P : List ℕ → Type 0 = λ run. StaysOpen old.state.mode old.state.depth run state.mode state.depth in
     let inside : n ≤ length s = omega (arith, c.min-room.ensures, low) in
     let long = length-take-le n s inside in
     let short : length (take n s) ≤ c.args.limit - length old.bytes.items = omega (arith, c.min-room.ensures, c.saturating_sub.ensures, c.len.ensures, old.bytes.ok.0, long, low) in

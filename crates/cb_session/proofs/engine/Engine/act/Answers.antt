@@ -1,16 +1,22 @@
-use Rattle.std.proofs.Common.{◌≡◌, Ok, Err, refl, ap, rules}
+use Rattle.std.proofs.Common.{◌≡◌, ◌∙◌, Ok, Err, refl, sym, ap, rules}
 use Rattle.cb_forms.specs.Trees.{reading_of}
 use Rattle.cb_requests.specs.Requests.{request_by, request_of}
 use Rattle.cb_templates.specs.Results.{Tells}
+use Rattle.cb_session.specs.Actions.{acted, performed_and_shown}
+use Rattle.cb_session.specs.Acts.{State}
 use Rattle.cb_session.proofs.ActLaws.{went_as, went_refused, acted-request}
 use Rattle.cb_session.proofs.engine.Engine.act.Goals as goal
 
 pub returns-in-Ok : goal.returns-in-Ok
 returns-in-Ok g c =
-    let is : request_of c.args.self.now.templates (reading_of c.args.item.now) ≡ Ok (request_by c.in-Ok.command) = search rules in
-    went_as g.K.Sink.writes _ _ _ _ _ _ _ refl (acted-request c.args.self.now (reading_of c.args.item.now) (request_by c.in-Ok.command) is) c.perform_and_show.ensures
+    let request = request_by c.in-Ok.command in
+    let is : request_of c.args.self.now.templates (reading_of c.args.item.now) ≡ Ok request = search rules in
+    went_as g.K.Sink.writes _ _ _ _ _ _ _ refl (acted-request c.args.self.now (reading_of c.args.item.now) request is ∙ ap (performed_and_shown request) (sym c.self.view_is)) c.perform_and_show.ensures
 
 pub returns-in-Err : goal.returns-in-Err
 returns-in-Err g c =
-    let tells : Tells c.in-Err.refused (λ f. request_of c.args.self.now.templates (reading_of c.args.item.now) ≡ Err f) = search rules in
-    went_as g.K.Sink.writes _ _ _ _ _ _ _ (ap Err c.from.ensures) refl (went_refused g.K.Sink.writes _ c.args.self.now (reading_of c.args.item.now) c.in-Err.refused c.requires tells)
+    let inside = c.self.inside in
+    let state : State = record { memory = inside.memory; templates = inside.relations; deffacts = inside.deffacts; is_faulted = inside.is_faulted } in
+    let reading = reading_of c.args.item.now in
+    let tells : Tells c.in-Err.refused (λ f. request_of inside.relations reading ≡ Err f) = search rules in
+    went_as g.K.Sink.writes _ _ _ _ _ _ _ (ap Err c.from.ensures) (ap (acted reading) (sym c.self.view_is)) (went_refused g.K.Sink.writes _ state reading c.in-Err.refused c.requires tells)

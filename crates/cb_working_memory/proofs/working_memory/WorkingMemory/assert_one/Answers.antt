@@ -1,4 +1,3 @@
-use Rattle.std.proofs.Common.{◌≡◌}
 use Rattle.cb_working_memory.proofs.MemoryLaws.{one-there, one-refused, one-added_as}
 use Rattle.cb_working_memory.proofs.working_memory.WorkingMemory.assert_one.Goals as goal
 
