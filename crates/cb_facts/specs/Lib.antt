@@ -4,6 +4,7 @@ pub mod FactLaws
 pub mod FactLists
 pub mod Facts
 pub mod RelationCounts
+pub mod Results
 pub mod SlotContents
 pub mod Texts
 pub mod Values

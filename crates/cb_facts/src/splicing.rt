@@ -72,7 +72,7 @@ fn add_each(fields: &mut Vec<Single>, more: &[Single]) -> Result<(), NoMemory>
 }
 
 /// A field as a value.
-fn value_of(field: Single) -> Value
+pub fn value_of(field: Single) -> Value
     ensures { result ≡ value_of_field field }
 {
     match field {

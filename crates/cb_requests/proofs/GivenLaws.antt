@@ -12,11 +12,11 @@ use Rattle.cb_requests.specs.FactForms.{all_slots, content_for, content_by, give
 use Rattle.cb_requests.specs.Laws.{followed_by}
 use Rattle.cb_facts.proofs.FactListLaws.{false-from_not}
 use Rattle.cb_templates.specs.Reserved.{is_reserved}
-use Rattle.cb_templates.specs.Results.{Tells, and_then, ok_then, with_first}
+use Rattle.cb_facts.specs.Results.{Tells, and_then, ok_then, with_first}
 use Rattle.cb_templates.specs.Slots.{SlotShape, slot_named}
 use Rattle.cb_templates.specs.Templates.{Templates, slots_of}
-use Rattle.cb_templates.specs.declared.refused.Refused.{Refused}
-use Rattle.cb_templates.specs.declared.refused.Refused.TheVariants as refused
+use Rattle.cb_facts.specs.declared.refused.Refused.{Refused}
+use Rattle.cb_facts.specs.declared.refused.Refused.TheVariants as refused
 
 -- a slot that is given
 abbrev Given : Type 0

@@ -10,7 +10,7 @@ use Rattle.cb_forms.specs.declared.token.Token.TheVariants as token
 use Rattle.cb_requests.specs.Heads.{head_of}
 use Rattle.cb_requests.specs.declared.heads.Head.{Head}
 use Rattle.cb_requests.specs.declared.heads.Head.TheVariants as head
-use Rattle.cb_templates.specs.Results.{with_first}
+use Rattle.cb_facts.specs.Results.{with_first}
 use Rattle.cb_facts.specs.Values.{constant_of}
 use Rattle.cb_facts.specs.declared.value.Value.{Value}
 

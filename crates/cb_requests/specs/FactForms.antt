@@ -9,7 +9,7 @@ use Rattle.cb_forms.specs.declared.fault.Fault.TheVariants.{FactDoesNotFit, NotI
 use Rattle.cb_requests.specs.Constants.{value_of}
 use Rattle.cb_facts.specs.FactExprs.{SlotContent, default, one, several, NamedSlots, ExprContent, fields, slots, FactExpr}
 use Rattle.cb_templates.specs.Reserved.{is_reserved}
-use Rattle.cb_templates.specs.Results.{ok_then, and_then, with_first}
+use Rattle.cb_facts.specs.Results.{ok_then, and_then, with_first}
 use Rattle.cb_templates.specs.Slots.{SlotShape, Types, allows_all, slot_named}
 use Rattle.cb_templates.specs.Templates.{Templates, slots_of}
 use Rattle.cb_facts.specs.declared.value.Value.{Value}

@@ -16,7 +16,7 @@ use Rattle.cb_requests.specs.declared.command.Command.{Command}
 use Rattle.cb_requests.specs.declared.command.Command.TheVariants as program
 use Rattle.cb_requests.specs.declared.heads.Head.{Head}
 use Rattle.cb_requests.specs.declared.heads.Head.TheVariants as head
-use Rattle.cb_templates.specs.Results.{ok_then}
+use Rattle.cb_facts.specs.Results.{ok_then}
 use Rattle.cb_templates.specs.Templates.{Templates, without_comment}
 use Rattle.cb_facts.specs.declared.value.Value.{Value}
 

@@ -3,16 +3,16 @@ ghost use Rattle.std.specs.Prelude.{◌≡◌};
 ghost use Rattle.cb_forms.specs.Members.{head_and_rest, members, symbol_of};
 ghost use Rattle.cb_forms.specs.Trees.{reading_of, tree_of};
 ghost use Rattle.cb_requests.specs.Requests.{request_by, assert_request, bare_request, request_of, deffacts_request, form_request, headed_request, named_channel, printout_request, retract_request};
-ghost use Rattle.cb_templates.specs.Results.{Settles};
+ghost use Rattle.cb_facts.specs.Results.{Settles};
 ghost use Rattle.std.specs.Option.{option_and_then};
 
 use crate::channel::Channel;
 use crate::constant::{read_constant, read_values};
 use crate::fact_form::read_facts;
 use crate::heads::{Head, read_head};
-use cb_facts::{FactExpr, Name, Names, Value};
+use cb_facts::{FactExpr, Name, Names, Refused, Value};
 use cb_forms::{Fault, Form, Item, split_head};
-use cb_templates::{Refused, Relations, without_comment};
+use cb_templates::{Relations, without_comment};
 
 /// What an item asks for.
 #[derive(Drop)]

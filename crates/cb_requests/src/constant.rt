@@ -3,15 +3,14 @@ ghost use Rattle.std.specs.Prelude.{◌≡◌};
 ghost use Rattle.cb_forms.specs.Members.{head_and_rest, members};
 ghost use Rattle.cb_forms.specs.Trees.{tree_of};
 ghost use Rattle.cb_requests.specs.Constants.{call_fault, headed_fault, token_fault, token_value, value_of, values_of};
-ghost use Rattle.cb_templates.specs.Results.{Returns, Settles};
+ghost use Rattle.cb_facts.specs.Results.{Returns, Settles};
 
 use crate::heads::{Head, read_head};
-use cb_facts::{Names, Value};
+use cb_facts::{Names, Refused, Value};
 use cb_forms::{Fault, Form, Token, split_head};
-use cb_templates::Refused;
 
 /// The values of forms, or the first fault.
-#[tactic(auto, using(cb_templates::proofs::Firsts::after_none, cb_templates::proofs::Firsts::after_all, cb_templates::proofs::Firsts::after_one))]
+#[tactic(auto, using(cb_facts::proofs::Firsts::after_none, cb_facts::proofs::Firsts::after_all, cb_facts::proofs::Firsts::after_one))]
 pub(crate) fn read_values(names: &mut Names, forms: &[Form]) -> Result<Vec<Value>, Refused>
     ensures { Settles (λ values. values.items) result (values_of (members forms.now)) }
 {

@@ -5,18 +5,18 @@ ghost use Rattle.cb_forms.specs.Trees.{tree_of};
 ghost use Rattle.cb_facts.specs.ExprContents.{expr_content};
 ghost use Rattle.cb_requests.specs.FactForms.{all_slots, allowed, begins_with_list, content_for, content_by, fact_of, facts_of, field_of, fields_of, given_or_default, is_equals, lone_field_of, named_slot, slot_content_of, slot_fields_of, slot_given, slots_given};
 ghost use Rattle.cb_facts.specs.SlotContents.{slot_content};
-ghost use Rattle.cb_templates.specs.Results.{Returns, Settles, and_then};
+ghost use Rattle.cb_facts.specs.Results.{Returns, Settles, and_then};
 ghost use Rattle.cb_templates.specs.Templates.{slots_of};
 
 use crate::constant::read_value;
 use crate::slot_exprs::SlotExprs;
-use cb_facts::{ContentExpr, FactExpr, Filling, Name, Names, SlotExpr, Value};
+use cb_facts::{ContentExpr, FactExpr, Filling, Name, Names, Refused, SlotExpr, Value};
 use cb_forms::{Fault, Form};
-use cb_templates::{Refused, Relations, Slot, Template, is_reserved};
+use cb_templates::{Relations, Slot, Template, is_reserved};
 use std::alloc::Global;
 
 /// The facts that forms are, by the templates of their relations, or the first fault.
-#[tactic(auto, using(cb_templates::proofs::Firsts::after_none, cb_templates::proofs::Firsts::after_all, cb_templates::proofs::Firsts::after_one))]
+#[tactic(auto, using(cb_facts::proofs::Firsts::after_none, cb_facts::proofs::Firsts::after_all, cb_facts::proofs::Firsts::after_one))]
 pub(crate) fn read_facts(
     names: &mut Names,
     relations: &Relations,
@@ -63,7 +63,7 @@ fn read_content(
 }
 
 /// The fields of an ordered fact, or the first fault.
-#[tactic(auto, using(cb_templates::proofs::Firsts::after_none, cb_templates::proofs::Firsts::after_all, cb_templates::proofs::Firsts::after_one))]
+#[tactic(auto, using(cb_facts::proofs::Firsts::after_none, cb_facts::proofs::Firsts::after_all, cb_facts::proofs::Firsts::after_one))]
 fn read_fields(names: &mut Names, forms: &[Form]) -> Result<Vec<Value>, Refused>
     ensures { Settles (λ fields. fields.items) result (fields_of (members forms.now)) }
 {
@@ -161,7 +161,7 @@ fn read_lone_field(names: &mut Names, slot: &Slot, forms: &[Form]) -> Result<Fil
 }
 
 /// All slots of a template, in its order: what is given for them, or else their defaults.
-#[tactic(auto, using(cb_templates::proofs::Firsts::after_none, cb_templates::proofs::Firsts::after_all, cb_templates::proofs::Firsts::after_one))]
+#[tactic(auto, using(cb_facts::proofs::Firsts::after_none, cb_facts::proofs::Firsts::after_all, cb_facts::proofs::Firsts::after_one))]
 fn complete(alloc: Global, slots: &[Slot], given: &SlotExprs) -> Result<Vec<SlotExpr>, Refused>
     ensures { Settles (λ all. all.items) result (all_slots slots.now given.now) }
 {
@@ -194,7 +194,7 @@ fn default_of(slot: &Slot) -> Result<Filling, Refused>
 }
 
 /// The values of a slot, each of its types, or the first fault.
-#[tactic(auto, using(cb_templates::proofs::Firsts::after_none, cb_templates::proofs::Firsts::after_all, cb_templates::proofs::Firsts::after_one))]
+#[tactic(auto, using(cb_facts::proofs::Firsts::after_none, cb_facts::proofs::Firsts::after_all, cb_facts::proofs::Firsts::after_one))]
 fn read_slot_fields(names: &mut Names, slot: &Slot, forms: &[Form]) -> Result<Vec<Value>, Refused>
     ensures { Settles (λ values. values.items) result
         (slot_fields_of slot.now.types (members forms.now)) }

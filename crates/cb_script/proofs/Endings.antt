@@ -13,8 +13,8 @@ use Rattle.cb_session.specs.declared.status.Ending.TheVariants as ending
 use Rattle.cb_session.specs.declared.status.Flow.{Flow}
 use Rattle.cb_session.specs.declared.status.Flow.TheVariants.{Ended}
 use Rattle.cb_session.specs.declared.status.Status.{Status}
-use Rattle.cb_session.specs.declared.status.Stop.{Stop}
-use Rattle.cb_session.specs.declared.status.Stop.TheVariants as stop
+use Rattle.cb_actions.specs.declared.stop.Stop.{Stop}
+use Rattle.cb_actions.specs.declared.stop.Stop.TheVariants as stop
 use Rattle.cb_session.proofs.RunLaws.{so_far-ended, so_far-grows, so_far-early}
 use Rattle.cb_session.proofs.ScriptLaws.{added-grown, end-grown}
 use Rattle.cb_script.specs.Outcomes.{cause_of, ended_as, stopped_as, failed_as, HasEnded, HasStopped, HasFailed}

@@ -8,7 +8,7 @@ use Rattle.cb_forms.specs.Trees.{Tree, atom, branch, trees_of}
 use Rattle.cb_forms.specs.Words.{token_of}
 use Rattle.cb_forms.specs.declared.token.Token.TheVariants as token
 use Rattle.cb_session.specs.Actions.{acted}
-use Rattle.cb_session.specs.Acts.{State, first_state}
+use Rattle.cb_session.specs.States.{State, first_state}
 use Rattle.cb_requests.specs.Heads.{is_refused}
 use Rattle.cb_session.specs.Transcripts.{begun, after_all, complete, executed, limit_status, so_far, status_of, transcript}
 use Rattle.cb_working_memory.specs.WorkingMemory.{greatest_index}

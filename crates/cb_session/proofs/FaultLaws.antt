@@ -9,15 +9,16 @@ use Rattle.cb_forms.specs.declared.fault.Fault.{Fault}
 use Rattle.cb_forms.specs.declared.fault.Fault.TheVariants.{WrongType}
 use Rattle.cb_requests.specs.Requests as asked
 use Rattle.cb_requests.specs.Requests.{Request, request_of}
-use Rattle.cb_session.specs.Acts.{State, Effect, give_or_fault, stop, become, follow, ◌>>=◌}
+use Rattle.cb_session.specs.States.{State}
+use Rattle.cb_actions.specs.Acts.{Effect, give_or_fault, stop, become, follow, ◌>>=◌}
 use Rattle.cb_session.specs.Actions.{is_name_in_use, asserted, retracted, without_value, performed, performed_and_shown, shown, acted}
 use Rattle.cb_working_memory.specs.Deffacts.{facts_in}
 use Rattle.cb_facts.specs.FactExprs.{fact_by}
 use Rattle.cb_session.specs.Laws.{TakesFactsAlone, EndsWithFault}
 use Rattle.cb_session.specs.Transcripts.{Run, concluded, executed}
 use Rattle.cb_working_memory.specs.WorkingMemory.{Memory, empty_memory, asserted_all, is_retractable, retracted_all, retracted_one, after_retracted, without}
-use Rattle.cb_session.specs.declared.act.Ended.{Ended}
-use Rattle.cb_session.specs.declared.act.Ended.TheVariants as ended
+use Rattle.cb_actions.specs.declared.act.Ended.{Ended}
+use Rattle.cb_actions.specs.declared.act.Ended.TheVariants as ended
 use Rattle.cb_requests.specs.declared.channel.Channel.{Channel}
 use Rattle.cb_working_memory.specs.declared.working_memory.Asserted.{Asserted}
 use Rattle.cb_working_memory.specs.declared.working_memory.Asserted.TheVariants.{All, Exhausted}
@@ -29,14 +30,14 @@ use Rattle.cb_facts.specs.declared.value.Value.{Value}
 use Rattle.cb_facts.specs.declared.value.Value.TheVariants as value
 
 -- what an item does, by its request or the fault of it
-abbrev done : State → Result Request Fault → Effect (Unit {0})
+abbrev done : State → Result Request Fault → Effect State (Unit {0})
 done s request = (give_or_fault request >>= performed_and_shown) s
 
-abbrev run_of : Effect (Unit {0}) → Run
+abbrev run_of : Effect State (Unit {0}) → Run
 run_of m = concluded m.state m.written m.answer
 
 -- an effect that ends with a fault leaves this state
-abbrev FaultLeaves : {A : Type 0} → State → Effect A → Type 0
+abbrev FaultLeaves : {A : Type 0} → State → Effect State A → Type 0
 FaultLeaves s m = (f : Fault) → m.answer ≡ Err (ended.Fault f) → m.state ≡ s
 
 template_leaves : (s : State) (told : Result Templates Fault) → FaultLeaves s ((give_or_fault told >>= (λ templates. become (record s { templates = templates }))) s)
@@ -83,7 +84,7 @@ done_leaves s (Ok request) other f h = done_state s request ∙ performed_leaves
 done_leaves s (Err e) other f h = refl
 
 -- at a fault the mark is all that the item's line adds
-marked : (m : Effect (Unit {0})) (f : Fault) → m.answer ≡ Err (ended.Fault f) → (run_of m).state ≡ record m.state { is_faulted = true }
+marked : (m : Effect State (Unit {0})) (f : Fault) → m.answer ≡ Err (ended.Fault f) → (run_of m).state ≡ record m.state { is_faulted = true }
 marked m f h = ap (λ (r : Result (Unit {0}) Ended). (concluded m.state m.written r).state) h
 
 pub fault_refused : (s : State) (r : Reading) (f : Fault) → request_of s.templates r ≡ Err f → (executed s r).state ≡ record s { is_faulted = true }

@@ -2,6 +2,6 @@ mod LineLaws
 mod FaultLaws
 pub mod RunLaws
 pub mod ScriptLaws
-mod ActLaws
+mod ItemLaws
 mod StepLaws
 mod Examples

@@ -10,7 +10,7 @@ use Rattle.cb_forms.specs.Trees.{Reading, reading_of}
 use Rattle.cb_forms.specs.declared.cut.Cut.{Cut}
 use Rattle.cb_forms.specs.declared.form.Item.{Item}
 use Rattle.cb_forms.proofs.FittingLaws.{fitting-whole}
-use Rattle.cb_session.specs.Acts.{State, first_state}
+use Rattle.cb_session.specs.States.{State, first_state}
 use Rattle.cb_session.specs.Lines.{too_long_line}
 use Rattle.cb_session.specs.Scripts.{from, cut_run, IsUnderWay}
 use Rattle.cb_session.specs.Transcripts.{Run, begun, joined, executed, after_status, after, after_all, too_long_status, too_long, so_far, complete, transcript, added, added_at_end}

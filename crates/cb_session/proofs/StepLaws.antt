@@ -12,15 +12,15 @@ use Rattle.cb_forms.specs.declared.form.Item.{Item}
 use Rattle.cb_io.specs.Histories.{Writes}
 use Rattle.cb_io.specs.Output.{OutState}
 use Rattle.cb_io.proofs.Putting.{puts_none, puts_nothing, puts_as}
-use Rattle.cb_session.specs.Acts.{State}
+use Rattle.cb_session.specs.States.{State}
 use Rattle.cb_session.specs.Scripts.{from, cut_run, IsUnderWay, Steps, Ends}
 use Rattle.cb_session.specs.Sessions.{SessionState, session_after}
 use Rattle.cb_session.specs.Transcripts.{after_all, executed, so_far, added}
-use Rattle.cb_session.specs.Went.{Executes}
+use Rattle.cb_session.specs.Executing.{Executes}
 use Rattle.cb_session.specs.declared.limits.Limits.{Limits}
 use Rattle.cb_session.specs.declared.status.Status.{Status}
-use Rattle.cb_session.specs.declared.status.Stop.{Stop}
-use Rattle.cb_session.specs.declared.status.Stop.TheVariants as stop
+use Rattle.cb_actions.specs.declared.stop.Stop.{Stop}
+use Rattle.cb_actions.specs.declared.stop.Stop.TheVariants as stop
 use Rattle.cb_session.proofs.ScriptLaws.{so_far-push, way-push, complete-end, added-joined, added-then, end-joined, ended-status, ended-adds, next-byte}
 
 if_ok : {T E : Type 0} (P Q : T → Type 0) (r : Result T E) → ((x : T) → P x → Q x) → IfOk r P → IfOk r Q

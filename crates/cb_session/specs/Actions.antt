@@ -6,7 +6,8 @@ use Rattle.std.specs.Str.{bytes_eq}
 use Rattle.cb_forms.specs.Members.{head_and_rest}
 use Rattle.cb_forms.specs.Trees.{Reading, Trees}
 use Rattle.cb_forms.specs.declared.fault.Fault.TheVariants.{NoSuchFact, WrongType}
-use Rattle.cb_session.specs.Acts.{State, first_state, Act, give, stop, give_or_fault, write, become, ◌>>=◌}
+use Rattle.cb_session.specs.States.{State, first_state}
+use Rattle.cb_actions.specs.Acts.{Act, give, stop, give_or_fault, write, become, ◌>>=◌}
 use Rattle.cb_working_memory.specs.Deffacts.{with_deffacts, facts_in, is_named_in_deffacts}
 use Rattle.cb_facts.specs.FactExprs.{fact_by}
 use Rattle.cb_session.specs.Lines.{value_line, fact_lines}
@@ -14,7 +15,8 @@ use Rattle.cb_session.specs.Printing.{printed}
 use Rattle.cb_requests.specs.Requests as request
 use Rattle.cb_requests.specs.Requests.{Request, request_of}
 use Rattle.cb_working_memory.specs.WorkingMemory.{Memory, empty_memory, asserted_all, is_retractable, retracted_all}
-use Rattle.cb_session.specs.declared.act.Ended.TheVariants as ended
+use Rattle.cb_actions.specs.declared.act.Ended.TheVariants as ended
+use Rattle.cb_actions.specs.declared.act.Limit.TheVariants as limit
 use Rattle.cb_working_memory.specs.declared.working_memory.Asserted.{Asserted}
 use Rattle.cb_working_memory.specs.declared.working_memory.Asserted.TheVariants.{All, Exhausted}
 use Rattle.cb_templates.specs.Templates.{defined}
@@ -30,25 +32,25 @@ abbrev pub is_name_in_use : State → Trees → Bool
 is_name_in_use s ts = option_map_or (λ split. is_in_use s split.0) (head_and_rest ts) false
 
 -- After facts were asserted: the address of the last, if there is one. Where no index was left, the script ends.
-abbrev pub asserted : Memory × Asserted → Act (Option Value)
+abbrev pub asserted : Memory × Asserted → Act State (Option Value)
 asserted (m, All last) s = record { state = record s { memory = m }; written = []; answer = Ok (option_map value.Fact last) }
-asserted (m, Exhausted) s = record { state = record s { memory = m }; written = []; answer = Err ended.Limit }
+asserted (m, Exhausted) s = record { state = record s { memory = m }; written = []; answer = Err (ended.Limit limit.Indices) }
 
 -- after facts were retracted: whether each index was one that a fact had
-abbrev pub retracted : Memory × Bool → Act (Option Value)
+abbrev pub retracted : Memory × Bool → Act State (Option Value)
 retracted (m, true) s = become (record s { memory = m }) s
 retracted (m, false) s = stop (ended.Fault NoSuchFact) (record s { memory = m })
 
 -- the facts that these values name are retracted; a value of another kind is reported before any is
-abbrev pub retract : List Value → Act (Option Value)
+abbrev pub retract : List Value → Act State (Option Value)
 retract values s = if list_all is_retractable values then retracted (retracted_all s.memory values) s else stop (ended.Fault WrongType) s
 
 -- the value of an item is forgotten
-abbrev pub without_value : Option Value → Act (Option Value)
+abbrev pub without_value : Option Value → Act State (Option Value)
 without_value v = give None
 
 -- what a request does, and its value if it has one
-abbrev pub performed : Request → Act (Option Value)
+abbrev pub performed : Request → Act State (Option Value)
 performed (request.show v) s = give (Some v) s
 performed (request.define_template ts) s =
     (give_or_fault (defined s.templates (is_name_in_use s ts) ts) >>= (λ templates. become (record s { templates = templates }))) s
@@ -66,13 +68,13 @@ shown_line None = []
 shown_line (Some v) = value_line v
 
 -- the value of an item is shown
-abbrev pub shown : Option Value → Act (Unit {0})
+abbrev pub shown : Option Value → Act State (Unit {0})
 shown v s = record { state = s; written = shown_line v; answer = Ok tt }
 
 -- a request is done, and then its value is shown
-abbrev pub performed_and_shown : Request → Act (Unit {0})
+abbrev pub performed_and_shown : Request → Act State (Unit {0})
 performed_and_shown request = performed request >>= shown
 
 -- an item: its request is read and done, and its value is shown
-unfoldable pub acted : Reading → Act (Unit {0})
+unfoldable pub acted : Reading → Act State (Unit {0})
 acted r s = (give_or_fault (request_of s.templates r) >>= performed_and_shown) s

@@ -5,8 +5,8 @@ use Rattle.cb_facts.specs.Facts.{FactValue}
 use Rattle.cb_forms.specs.Trees.{Reading}
 use Rattle.cb_forms.specs.declared.fault.Fault.{Fault}
 use Rattle.cb_session.specs.Actions.{acted}
-use Rattle.cb_session.specs.Acts.{State}
-use Rattle.cb_session.specs.declared.act.Ended.TheVariants as ended
+use Rattle.cb_session.specs.States.{State}
+use Rattle.cb_actions.specs.declared.act.Ended.TheVariants as ended
 
 -- an item ends with this fault
 abbrev pub EndsWithFault : State → Reading → Fault → Type 0

@@ -1,9 +1,9 @@
 pub mod Lines
 pub mod Printing
-pub mod Acts
+pub mod States
 pub mod Actions
 pub mod Transcripts
 pub mod Laws
-pub mod Went
+pub mod Executing
 pub mod Sessions
 pub mod Scripts

@@ -2,6 +2,8 @@
 use Rattle.std.specs.Prelude.{◌==◌, ℕ, ◌+◌, ◌-◌, ◌/◌, ◌%◌, List, [], ◌∷◌, ◌++◌, codes, length, replicate, if◌then◌else◌}
 use Rattle.std.specs.Fmt.{decimal}
 use Rattle.std.specs.List.{flat_map}
+use Rattle.cb_actions.specs.declared.act.Limit.{Limit}
+use Rattle.cb_actions.specs.declared.act.Limit.TheVariants.{Indices, Turns}
 use Rattle.cb_forms.specs.Faults.{number_of, text_of}
 use Rattle.cb_forms.specs.declared.fault.Fault.{Fault}
 use Rattle.cb_facts.specs.FactLists.{IndexedFacts}
@@ -45,6 +47,7 @@ fact_lines facts = flat_map fact_line facts ++ total_line (length facts)
 abbrev pub too_long_line : List ℕ
 too_long_line = codes "[CB91] form too long\n"
 
--- no index is left
-abbrev pub exhausted_line : List ℕ
-exhausted_line = codes "[CB94] numbers exhausted\n"
+-- a limit at which a script ends
+abbrev pub limit_line : Limit → List ℕ
+limit_line Indices = codes "[CB94] numbers exhausted\n"
+limit_line Turns = codes "[CB93] loop limit reached\n"

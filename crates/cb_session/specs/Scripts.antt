@@ -4,13 +4,13 @@ use Rattle.cb_forms.specs.Cutter.{Progress, readings_in}
 use Rattle.cb_forms.specs.Cuts.{cut_readings, is_too_long}
 use Rattle.cb_forms.specs.Items.{whole, over}
 use Rattle.cb_forms.specs.declared.cut.Cut.{Cut}
-use Rattle.cb_session.specs.Acts.{State}
+use Rattle.cb_session.specs.States.{State}
 use Rattle.cb_io.specs.Histories.{Writes}
 use Rattle.cb_io.specs.Output.{OutState, Puts}
 use Rattle.cb_session.specs.Transcripts.{Run, begun, after_all, too_long, so_far, complete, added, added_at_end}
-use Rattle.cb_session.specs.Went.{stop_extent}
+use Rattle.cb_actions.specs.Went.{stop_extent}
 use Rattle.cb_session.specs.declared.status.Status.{Status}
-use Rattle.cb_session.specs.declared.status.Stop.{Stop}
+use Rattle.cb_actions.specs.declared.stop.Stop.{Stop}
 use Rattle.cb_session.specs.declared.limits.Limits.{Limits}
 
 -- a run that begins in this state

@@ -2,11 +2,11 @@
 use Rattle.std.specs.Prelude.{ℕ, Bool, true, List, [], ◌∷◌, ◌++◌, Option, Some, None, Result, Ok, Err, length, drop, if◌then◌else◌}
 use Rattle.cb_forms.specs.Items.{whole, over, fitting}
 use Rattle.cb_forms.specs.Trees.{Reading}
-use Rattle.cb_session.specs.Acts.{State, first_state}
+use Rattle.cb_session.specs.States.{State, first_state}
 use Rattle.cb_session.specs.Actions.{acted}
-use Rattle.cb_session.specs.Lines.{fault_line, exhausted_line, too_long_line}
-use Rattle.cb_session.specs.declared.act.Ended.{Ended}
-use Rattle.cb_session.specs.declared.act.Ended.TheVariants as ended
+use Rattle.cb_session.specs.Lines.{fault_line, limit_line, too_long_line}
+use Rattle.cb_actions.specs.declared.act.Ended.{Ended}
+use Rattle.cb_actions.specs.declared.act.Ended.TheVariants as ended
 use Rattle.cb_session.specs.declared.limits.Limits.{Limits}
 use Rattle.cb_session.specs.declared.status.Ending.TheVariants.{Done, Limit}
 use Rattle.cb_session.specs.declared.status.Status.{Status}
@@ -28,7 +28,7 @@ limit_status = record { code = 4; ending = Limit }
 abbrev pub concluded : State → List ℕ → Result (Unit {0}) Ended → Run
 concluded s bytes (Ok _) = record { state = s; written = bytes; status = None }
 concluded s bytes (Err (ended.Fault f)) = record { state = record s { is_faulted = true }; written = bytes ++ fault_line f; status = None }
-concluded s bytes (Err ended.Limit) = record { state = s; written = bytes ++ exhausted_line; status = Some limit_status }
+concluded s bytes (Err (ended.Limit limit)) = record { state = s; written = bytes ++ limit_line limit; status = Some limit_status }
 
 -- what an item does to a script
 unfoldable pub executed : State → Reading → Run

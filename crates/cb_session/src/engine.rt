@@ -4,18 +4,19 @@ ghost use Rattle.cb_forms.specs.Members.{members};
 ghost use Rattle.cb_forms.specs.Trees.{atom, reading_of};
 ghost use Rattle.cb_io.specs.Output.{Puts};
 ghost use Rattle.cb_session.specs.Actions.{acted, is_in_use, is_name_in_use, performed, performed_and_shown, retract, shown_line};
-ghost use Rattle.cb_session.specs.Acts.{first_state};
+ghost use Rattle.cb_session.specs.States.{first_state};
 ghost use Rattle.cb_session.specs.Lines.{fault_line, value_line};
 ghost use Rattle.cb_requests.specs.Requests as request;
 ghost use Rattle.cb_requests.specs.Requests.{request_by};
 ghost use Rattle.cb_session.specs.Scripts.{cut_run};
 ghost use Rattle.cb_session.specs.Transcripts.{executed, limit_status};
-ghost use Rattle.cb_session.specs.Went.{Executes, Quietly, Went, stop_extent};
+ghost use Rattle.cb_session.specs.Executing.{Executes};
+ghost use Rattle.cb_actions.specs.Went.{Quietly, Went, stop_extent};
 
-use crate::act::{Break, Ended};
-use crate::line::{fault_line, put, put_fact_lines, put_text, value_line};
+use crate::line::{fault_line, limit_line, put_fact_lines, value_line};
 use crate::print::put_printed;
-use crate::status::{Status, Stop};
+use crate::status::Status;
+use cb_actions::{Break, Ended, Limit, Stop, put, put_text};
 use cb_facts::{FactExpr, Name, Names, Value};
 use cb_forms::{Cut, Fault, Form, Item, NoMemory, Out, Sink, Token, split_head};
 use cb_requests::{Channel, Command, read_command};
@@ -40,7 +41,7 @@ pub(crate) struct Engine {
 }
 
 impl Model for Engine {
-    ghost use Rattle.cb_session.specs.Acts.{State};
+    ghost use Rattle.cb_session.specs.States.{State};
 
     ghost Value = { State };
 
@@ -119,7 +120,7 @@ impl Engine {
         match self.act(item, out) {
             Ok(()) => Ok(None),
             Err(Break::Ended(Ended::Fault(fault))) => self.report(fault, out),
-            Err(Break::Ended(Ended::Limit)) => end_at_limit(b"[CB94] numbers exhausted\n", out),
+            Err(Break::Ended(Ended::Limit(limit))) => end_at_limit(limit_line(limit), out),
             Err(Break::Stop(stop)) => Err(stop),
         }
     }
@@ -229,7 +230,7 @@ impl Engine {
     {
         match self.memory.assert_all(None, facts)? {
             Asserted::All(last) => Ok(address(last)),
-            Asserted::Exhausted => Err(Break::Ended(Ended::Limit)),
+            Asserted::Exhausted => Err(Break::Ended(Ended::Limit(Limit::Indices))),
         }
     }
 
@@ -278,7 +279,7 @@ impl Engine {
         self.memory = WorkingMemory::new(self.alloc);
         match self.deffacts.assert_into(&mut self.memory)? {
             Asserted::All(_) => Ok(None),
-            Asserted::Exhausted => Err(Break::Ended(Ended::Limit)),
+            Asserted::Exhausted => Err(Break::Ended(Ended::Limit(Limit::Indices))),
         }
     }
 

@@ -5,7 +5,7 @@ ghost use Rattle.cb_forms.specs.Trees.{Reading};
 ghost use Rattle.cb_forms.specs.declared.fault.Fault.{Fault};
 ghost use Rattle.cb_requests.specs.Requests as request;
 ghost use Rattle.cb_requests.specs.Requests.{request_of};
-ghost use Rattle.cb_session.specs.Acts.{State};
+ghost use Rattle.cb_session.specs.States.{State};
 ghost use Rattle.cb_session.specs.Actions.{acted};
 ghost use Rattle.cb_session.specs.Laws.{EndsWithFault, TakesFactsAlone};
 ghost use Rattle.cb_session.specs.Transcripts.{begun, so_far, complete, executed, transcript};

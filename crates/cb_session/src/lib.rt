@@ -1,7 +1,6 @@
 //! Scripts carried out item by item, and their transcripts.
 #![tactic(auto)]
 
-mod act;
 mod engine;
 pub mod laws;
 mod limits;
@@ -10,6 +9,7 @@ mod print;
 mod session;
 mod status;
 
+pub use cb_actions::Stop;
 pub use limits::Limits;
 pub use session::Session;
-pub use status::{Ending, Flow, Status, Stop};
+pub use status::{Ending, Flow, Status};

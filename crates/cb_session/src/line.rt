@@ -1,11 +1,11 @@
 //! The lines of a transcript.
-ghost use Rattle.std.specs.Prelude.{◌≡◌, ◌++◌, IfOk, OnOk, List, ℕ, false};
+ghost use Rattle.std.specs.Prelude.{◌≡◌, ◌++◌, IfOk, OnOk, false};
 ghost use Rattle.std.specs.List.{flat_map};
 ghost use Rattle.cb_io.specs.Output.{Puts};
-ghost use Rattle.cb_session.specs.Lines.{fact_line, fact_lines, fault_line, left_in, many_line, total_line, value_line};
-ghost use Rattle.cb_session.specs.Went.{stop_extent};
+ghost use Rattle.cb_session.specs.Lines.{fact_line, fact_lines, fault_line, left_in, limit_line, many_line, total_line, value_line};
+ghost use Rattle.cb_actions.specs.Went.{stop_extent};
 
-use crate::status::Stop;
+use cb_actions::{Limit, Stop, put_text};
 use cb_facts::{Fact, FactList, Value, fact_text, quoted_text};
 use cb_forms::{Fault, NoMemory, Out, Sink};
 use itoa::Buffer;
@@ -24,6 +24,16 @@ pub(crate) fn fault_line(alloc: Global, fault: Fault) -> Result<Vec<u8>, NoMemor
     line.extend_from_slice(fault.text().as_bytes())?;
     line.push(b'\n')?;
     Ok(line)
+}
+
+/// The line of a limit.
+pub(crate) fn limit_line(limit: Limit) -> &'static [u8]
+    ensures { result.now ≡ limit_line limit }
+{
+    match limit {
+        Limit::Indices => b"[CB94] numbers exhausted\n",
+        Limit::Turns => b"[CB93] loop limit reached\n",
+    }
 }
 
 /// The line of a value that is shown.
@@ -56,32 +66,6 @@ fn put_each_line<K: Sink>(alloc: Global, facts: &FactList, out: &mut Out<K>) -> 
         put_text(fact_line(alloc, *ix, fact), out)?;
     }
     Ok(())
-}
-
-/// Puts bytes.
-pub(crate) fn put<K: Sink>(bytes: &[u8], out: &mut Out<K>) -> Result<(), Stop>
-    requires { out.old.fault ≡ false }
-    ensures { Puts K.writes out.old out.new (stop_extent result) bytes.now }
-{
-    match out.put(bytes) {
-        Ok(()) => Ok(()),
-        Err(_) => Err(Stop::WriteFault),
-    }
-}
-
-/// Puts a text, if there was memory for it.
-pub(crate) fn put_text<K: Sink>(
-    text: Result<Vec<u8>, NoMemory>,
-    out: &mut Out<K>,
-) -> Result<(), Stop>
-    requires { out.old.fault ≡ false }
-    ensures { (bytes : List ℕ) → IfOk text (λ t. t.items ≡ bytes)
-        → Puts K.writes out.old out.new (stop_extent result) bytes }
-{
-    match text {
-        Ok(text) => put(text.as_slice(), out),
-        Err(_) => Err(Stop::NoMemory),
-    }
 }
 
 fn fact_line(alloc: Global, ix: u64, fact: &Fact) -> Result<Vec<u8>, NoMemory>

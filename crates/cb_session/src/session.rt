@@ -5,11 +5,12 @@ ghost use Rattle.cb_io.specs.Output.{IsReady, OutState, Puts};
 ghost use Rattle.cb_session.specs.Scripts.{Ends, IsUnderWay, Steps};
 ghost use Rattle.cb_session.specs.Sessions.{HasTaken, flow_of, fresh_session, session_after};
 ghost use Rattle.cb_session.specs.Transcripts.{added, added_at_end, so_far, status_at_end, status_of};
-ghost use Rattle.cb_session.specs.Went.{extent_at, stop_extent};
+ghost use Rattle.cb_actions.specs.Went.{extent_at, stop_extent};
 
 use crate::engine::Engine;
 use crate::limits::Limits;
-use crate::status::{Ending, Flow, Status, Stop};
+use crate::status::{Ending, Flow, Status};
+use cb_actions::Stop;
 use cb_forms::{Cutter, History, Out, Sink};
 use cb_io::with_all;
 use std::alloc::Global;

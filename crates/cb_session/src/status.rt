@@ -1,8 +1,4 @@
 //! How a run goes and ends.
-ghost use Rattle.std.specs.Prelude.{◌≡◌};
-ghost use Rattle.cb_session.specs.declared.status.Stop.TheVariants as stop;
-
-use cb_forms::WriteFault;
 
 /// What ended a script.
 #[derive(Clone, Copy, Debug, PartialEq, Eq)]
@@ -39,29 +35,4 @@ pub enum Flow {
     GoOn,
     /// The script has ended.
     Ended(Status),
-}
-
-/// Why a script could not be carried out further.
-#[derive(Clone, Copy, Debug, PartialEq, Eq)]
-pub enum Stop {
-    /// A growth was refused.
-    NoMemory,
-    /// A write failed.
-    WriteFault,
-}
-
-impl From<cb_forms::NoMemory> for Stop {
-    ghost from_gives = { λ _ e. e ≡ stop.NoMemory };
-
-    fn from(_e: cb_forms::NoMemory) -> Stop {
-        Stop::NoMemory
-    }
-}
-
-impl From<WriteFault> for Stop {
-    ghost from_gives = { λ _ e. e ≡ stop.WriteFault };
-
-    fn from(_e: WriteFault) -> Stop {
-        Stop::WriteFault
-    }
 }

@@ -5,8 +5,8 @@ use Rattle.cb_forms.specs.Members.{call_of}
 use Rattle.cb_forms.specs.Trees.{Tree, Trees, tree}
 use Rattle.cb_forms.specs.declared.fault.Fault.{Fault}
 use Rattle.cb_forms.specs.declared.fault.Fault.TheVariants.{MalformedForm, NotInProfile}
-use Rattle.cb_templates.proofs.Firsts.{follows}
-use Rattle.cb_templates.specs.Results.{and_then, ok_then}
+use Rattle.cb_facts.proofs.Firsts.{follows}
+use Rattle.cb_facts.specs.Results.{and_then, ok_then}
 use Rattle.cb_templates.specs.SlotForms.{attribute_by, attributes_after, default_of, types_of, with_default, with_types}
 use Rattle.cb_templates.specs.Slots.{Types}
 use Rattle.cb_templates.specs.declared.attribute.Attributes.{Attributes}

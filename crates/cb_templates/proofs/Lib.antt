@@ -1,5 +1,4 @@
 pub mod AttributeLaws
-pub mod Firsts
 pub mod PlaceLaws
 pub mod SlotLaws
 mod TemplateLaws

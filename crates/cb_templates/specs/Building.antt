@@ -9,7 +9,7 @@ use Rattle.cb_facts.specs.Facts.{FactValue, ordered_fact, template_fact}
 use Rattle.cb_facts.specs.Values.{spliced, value_of_field, is_multifield}
 use Rattle.cb_facts.specs.declared.value.Value.{Value}
 use Rattle.cb_facts.specs.declared.value.Value.TheVariants as value
-use Rattle.cb_templates.specs.Results.{ok_then, with_first}
+use Rattle.cb_facts.specs.Results.{ok_then, with_first}
 use Rattle.cb_templates.specs.Slots.{GivenValues, SlotShape, slot_named}
 use Rattle.cb_templates.specs.Templates.{Templates, slots_of}
 use Rattle.cb_templates.specs.declared.parts.Parts.{Parts}

@@ -2,7 +2,6 @@ pub mod Building
 pub mod Laws
 pub mod Places
 pub mod Reserved
-pub mod Results
 pub mod SlotForms
 pub mod Slots
 pub mod Templates

@@ -11,7 +11,7 @@ use Rattle.cb_forms.specs.declared.token.Token.TheVariants as token
 use Rattle.cb_facts.specs.Values.{constant_of, spliced}
 use Rattle.cb_facts.specs.declared.value.Value.{Value}
 use Rattle.cb_facts.specs.declared.value.Value.TheVariants as value
-use Rattle.cb_templates.specs.Results.{ok_then, and_then, with_first}
+use Rattle.cb_facts.specs.Results.{ok_then, and_then, with_first}
 use Rattle.cb_templates.specs.Slots.{Types, allows_all, are_only, with_type, SlotShape, slot_named}
 use Rattle.cb_templates.specs.declared.attribute.Attributes.{Attributes}
 use Rattle.cb_templates.specs.declared.attribute.SlotDefault.{SlotDefault}

@@ -11,7 +11,7 @@ use Rattle.cb_forms.specs.declared.fault.Fault.{Fault}
 use Rattle.cb_forms.specs.declared.fault.Fault.TheVariants.{MalformedForm, TemplateInUse}
 use Rattle.cb_forms.specs.declared.token.Token.TheVariants as token
 use Rattle.cb_templates.specs.Reserved.{is_reserved}
-use Rattle.cb_templates.specs.Results.{ok_then, and_then}
+use Rattle.cb_facts.specs.Results.{ok_then, and_then}
 use Rattle.cb_templates.specs.SlotForms.{slot_by}
 use Rattle.cb_templates.specs.Slots.{SlotShape}
 

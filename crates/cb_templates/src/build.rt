@@ -4,15 +4,14 @@ ghost use Rattle.std.specs.List.{list_all};
 ghost use Rattle.cb_facts.specs.Facts.{ordered_fact};
 ghost use Rattle.cb_facts.specs.Values.{spliced, value_of_field};
 ghost use Rattle.cb_templates.specs.Building.{built, filled, fits, given_for, is_one, one_value, part_values, value_or_default, slots_built, takes};
-ghost use Rattle.cb_templates.specs.Results.{Returns, Settles};
+ghost use Rattle.cb_facts.specs.Results.{Returns, Settles};
 ghost use Rattle.cb_templates.specs.Slots.{slot_named};
 
 use crate::parts::{GivenSlot, GivenSlots, Parts};
-use crate::refused::Refused;
 use crate::relations::Relations;
 use crate::slot::Slot;
 use crate::template::Template;
-use cb_facts::{Fact, Multifield, Name, Value, is_multifield, splice, splice_values};
+use cb_facts::{Fact, Multifield, Name, Refused, Value, is_multifield, splice, splice_values};
 use cb_forms::{Fault, NoMemory};
 use std::alloc::Global;
 
@@ -132,7 +131,7 @@ fn is_one(values: &[Value]) -> bool
 }
 
 /// The slots of a template, each with its value.
-#[tactic(auto, using(crate::proofs::Firsts::after_none, crate::proofs::Firsts::after_all, crate::proofs::Firsts::after_one))]
+#[tactic(auto, using(cb_facts::proofs::Firsts::after_none, cb_facts::proofs::Firsts::after_all, cb_facts::proofs::Firsts::after_one))]
 fn fill(alloc: Global, slots: &[Slot], given: &GivenSlots) -> Result<Vec<(Name, Value)>, Refused>
     ensures { Settles (λ content. content.items) result (filled slots.now given.now) }
 {

@@ -1,16 +1,15 @@
 //! The relations that have a template.
 ghost use Rattle.std.specs.Prelude.{◌≡◌, [], None, Some, Ok, Err, MatchOption, IfErr, IfOk, OnOk, OnErr};
 ghost use Rattle.cb_forms.specs.Members.{head_and_rest, members};
-ghost use Rattle.cb_templates.specs.Results.{Returns, Settles};
+ghost use Rattle.cb_facts.specs.Results.{Returns, Settles};
 ghost use Rattle.cb_templates.specs.Templates.{defined, named_template, slots_after, slots_of, template_of};
 
 use crate::comment::without_comment;
-use crate::refused::Refused;
 use crate::reserved::is_reserved;
 use crate::slot::Slot;
 use crate::slot_form::read_slot;
 use crate::template::Template;
-use cb_facts::{Name, Names};
+use cb_facts::{Name, Names, Refused};
 use cb_forms::{Fault, Form, split_head};
 use std::alloc::Global;
 use std::collections::BTreeMap;

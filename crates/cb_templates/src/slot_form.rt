@@ -2,15 +2,14 @@
 ghost use Rattle.std.specs.Prelude.{◌≡◌, [], Ok, Err, IfOk, IfErr};
 ghost use Rattle.cb_forms.specs.Members.{call_of, head_and_rest, members};
 ghost use Rattle.cb_forms.specs.Trees.{tree_of};
-ghost use Rattle.cb_templates.specs.Results.{Returns};
+ghost use Rattle.cb_facts.specs.Results.{Returns};
 ghost use Rattle.cb_templates.specs.SlotForms.{derived, derived_one, finished, slot_defined, slot_by, slot_with};
 
 use crate::attribute::{Attributes, SlotDefault, read_attributes};
-use crate::refused::Refused;
 use crate::slot::{Slot, Types};
 use crate::slot_type::SlotType;
 use crate::template::Template;
-use cb_facts::{Multifield, Name, Names, Value};
+use cb_facts::{Multifield, Name, Names, Refused, Value};
 use cb_forms::{Fault, Form, NoMemory, split_head};
 
 /// The slot that a form is, after the slots of the template so far, or its first fault.

@@ -4,10 +4,10 @@
 #![tactic(auto)]
 
 pub use cb_facts::{
-    Content, Fact, FactList, Multifield, Name, Names, Single, Value, fact_text, is_among,
+    Content, Fact, FactList, Multifield, Name, Names, Refused, Single, Value, fact_text, is_among,
     plain_text, quoted_text, splice,
 };
 pub use cb_templates::{
-    GivenSlot, GivenSlots, Parts, Refused, Relations, Slot, Template, build_fact, build_slots,
-    find_given, find_slot, is_reserved, laws, without_comment,
+    GivenSlot, GivenSlots, Parts, Relations, Slot, Template, build_fact, build_slots, find_given,
+    find_slot, is_reserved, laws, without_comment,
 };

@@ -85,7 +85,7 @@ impl WorkingMemory {
     }
 
     /// Asserts a fact. Its index is the answer, or `None` where no index is left: then nothing has changed.
-    fn assert_one(&mut self, fact: Fact) -> Result<Option<u64>, NoMemory>
+    pub fn assert_one(&mut self, fact: Fact) -> Result<Option<u64>, NoMemory>
         ensures { IfOk result (λ ix. asserted_one self.old fact ≡ (self.new, ix)) }
     {
         if let Some(ix) = self.facts.find(&fact) {

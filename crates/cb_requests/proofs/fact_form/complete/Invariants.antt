@@ -1,6 +1,6 @@
 use Rattle.std.proofs.Common.{◌≡◌, drop}
 use Rattle.cb_requests.specs.FactForms.{all_slots}
-use Rattle.cb_templates.proofs.Firsts.{after_those}
+use Rattle.cb_facts.proofs.Firsts.{after_those}
 use Rattle.cb_requests.proofs.fact_form.complete.Given as goal
 
 abbrev pub invariant-loop-slot : goal.invariant-loop-slot

@@ -5,8 +5,8 @@ use Rattle.cb_forms.specs.Trees.{tree, tree_of}
 use Rattle.cb_forms.specs.declared.form.Form.{Form}
 use Rattle.cb_requests.specs.FactForms.{slots_given}
 use Rattle.cb_facts.specs.declared.fact_expr.SlotExpr.{SlotExpr}
-use Rattle.cb_templates.specs.Results.{Settles}
-use Rattle.cb_templates.specs.declared.refused.Refused.{Refused}
+use Rattle.cb_facts.specs.Results.{Settles}
+use Rattle.cb_facts.specs.declared.refused.Refused.{Refused}
 use Rattle.cb_requests.proofs.GivenLaws.{slots_fault}
 use Rattle.cb_requests.proofs.fact_form.read_slots.Goals as goal
 

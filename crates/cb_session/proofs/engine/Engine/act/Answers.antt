@@ -1,10 +1,11 @@
 use Rattle.std.proofs.Common.{◌≡◌, ◌∙◌, Ok, Err, refl, sym, ap, rules}
 use Rattle.cb_forms.specs.Trees.{reading_of}
 use Rattle.cb_requests.specs.Requests.{request_by, request_of}
-use Rattle.cb_templates.specs.Results.{Tells}
+use Rattle.cb_facts.specs.Results.{Tells}
 use Rattle.cb_session.specs.Actions.{acted, performed_and_shown}
-use Rattle.cb_session.specs.Acts.{State}
-use Rattle.cb_session.proofs.ActLaws.{went_as, went_refused, acted-request}
+use Rattle.cb_session.specs.States.{State}
+use Rattle.cb_actions.proofs.ActLaws.{went_as}
+use Rattle.cb_session.proofs.ItemLaws.{went_refused, acted-request}
 use Rattle.cb_session.proofs.engine.Engine.act.Goals as goal
 
 pub returns-in-Ok : goal.returns-in-Ok

@@ -1,5 +1,5 @@
 use Rattle.cb_forms.specs.Trees.{reading_of}
-use Rattle.cb_session.proofs.ActLaws.{executes-shown}
+use Rattle.cb_session.proofs.ItemLaws.{executes-shown}
 use Rattle.cb_session.proofs.engine.Engine.execute.Goals as goal
 
 pub returns-in-Some : goal.returns-in-Some

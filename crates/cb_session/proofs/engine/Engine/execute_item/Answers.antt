@@ -1,13 +1,15 @@
 use Rattle.std.proofs.Common.{◌≡◌, Err, sym, subst, rules}
 use Rattle.cb_forms.specs.Trees.{reading_of}
 use Rattle.cb_io.proofs.Putting.{puts_fine}
+use Rattle.cb_io.specs.Output.{Puts}
 use Rattle.cb_session.specs.Actions.{acted}
-use Rattle.cb_session.specs.Acts.{State}
+use Rattle.cb_session.specs.States.{State}
 use Rattle.cb_session.specs.Transcripts.{executed}
-use Rattle.cb_session.specs.Went.{Executes, Went}
-use Rattle.cb_session.specs.declared.act.Break.TheVariants as break
-use Rattle.cb_session.specs.declared.act.Ended.TheVariants as ended
-use Rattle.cb_session.proofs.ActLaws.{executes-done, executes-fault, executes-limit, executes-stopped}
+use Rattle.cb_session.specs.Executing.{Executes}
+use Rattle.cb_actions.specs.Went.{Went, stop_extent}
+use Rattle.cb_actions.specs.declared.act.Break.TheVariants as break
+use Rattle.cb_actions.specs.declared.act.Ended.TheVariants as ended
+use Rattle.cb_session.proofs.ItemLaws.{executes-done, executes-fault, executes-limit, executes-stopped}
 use Rattle.cb_session.proofs.engine.Engine.execute_item.Goals as goal
 
 pub report-requires : goal.report-requires
@@ -18,7 +20,7 @@ report-requires g c =
 
 pub end_at_limit-requires : goal.end_at_limit-requires
 end_at_limit-requires g c =
-    let r : c.act.result ≡ Err (break.Ended ended.Limit) = search rules in
+    let r : c.act.result ≡ Err (break.Ended (ended.Limit c.in-Err-Ended-Limit.limit)) = search rules in
     let h = subst (λ it. Went g.K.Sink.writes c.args.out.now c.act.new.out c.act.new.self it (acted (reading_of c.args.item.now) c.args.self.now)) r c.act.ensures in
     puts_fine g.K.Sink.writes _ _ _ h.puts
 
@@ -34,9 +36,10 @@ returns-in-Err-Ended-Fault g c =
 
 pub returns-in-Err-Ended-Limit : goal.returns-in-Err-Ended-Limit
 returns-in-Err-Ended-Limit g c =
-    let r : c.act.result ≡ Err (break.Ended ended.Limit) = search rules in
+    let r : c.act.result ≡ Err (break.Ended (ended.Limit c.in-Err-Ended-Limit.limit)) = search rules in
     let h = subst (λ it. Went g.K.Sink.writes c.args.out.now c.act.new.out c.act.new.self it (acted (reading_of c.args.item.now) c.args.self.now)) r c.act.ensures in
-    executes-limit g.K.Sink.writes _ _ _ c.args.self.now c.act.new.self (reading_of c.args.item.now) _ h c.end_at_limit.ensures.puts c.end_at_limit.ensures.status
+    let line = subst (λ it. Puts g.K.Sink.writes c.act.new.out c.end_at_limit.new.out (stop_extent c.end_at_limit.result) it) c.limit_line.ensures c.end_at_limit.ensures.puts in
+    executes-limit g.K.Sink.writes _ _ _ c.args.self.now c.act.new.self (reading_of c.args.item.now) _ c.in-Err-Ended-Limit.limit h line c.end_at_limit.ensures.status
 
 pub returns-in-Err-Stop : goal.returns-in-Err-Stop
 returns-in-Err-Stop g c =

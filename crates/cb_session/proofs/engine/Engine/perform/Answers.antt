@@ -3,7 +3,7 @@ use Rattle.cb_io.proofs.Putting.{puts_none}
 use Rattle.cb_session.specs.Actions.{performed}
 use Rattle.cb_requests.specs.Requests as request
 use Rattle.cb_requests.specs.Requests.{request_by}
-use Rattle.cb_session.proofs.ActLaws.{went_as, went_quietly}
+use Rattle.cb_actions.proofs.ActLaws.{went_as, went_quietly}
 use Rattle.cb_session.proofs.engine.Engine.perform.Goals as goal
 
 pub returns-in-Show : goal.returns-in-Show

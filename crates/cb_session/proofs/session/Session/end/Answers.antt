@@ -1,9 +1,9 @@
 use Rattle.std.proofs.Common.{◌≡◌, Err, sym, ap, ap₂, ◌∙◌, Bool, Option, refl, rules}
 use Rattle.cb_io.proofs.Putting.{puts_as}
-use Rattle.cb_session.specs.Acts.{State}
+use Rattle.cb_session.specs.States.{State}
 use Rattle.cb_session.specs.Sessions.{SessionState}
 use Rattle.cb_session.specs.Transcripts.{added_at_end, status_at_end, status_of}
-use Rattle.cb_session.specs.Went.{stop_extent}
+use Rattle.cb_actions.specs.Went.{stop_extent}
 use Rattle.cb_session.specs.declared.status.Status.{Status}
 use Rattle.cb_session.proofs.session.Session.end.Goals as goal
 

@@ -2,7 +2,7 @@ use Rattle.std.proofs.Common.{◌≡◌, ◌++◌, ◌∷◌, [], true, Err, is_
 use Rattle.cb_io.proofs.Putting.{puts_none, puts_as}
 use Rattle.cb_session.specs.Sessions.{SessionState}
 use Rattle.cb_session.specs.Transcripts.{added}
-use Rattle.cb_session.specs.Went.{stop_extent}
+use Rattle.cb_actions.specs.Went.{stop_extent}
 use Rattle.cb_session.proofs.StepLaws.{after-end-adds, none-of, taken-after-end}
 use Rattle.cb_session.proofs.session.Session.take.Goals as goal
 

@@ -1,0 +1,11 @@
+use Rattle.cb_actions.specs.Actions.{carried, carried_all}
+use Rattle.cb_actions.proofs.ActLaws.{follow_begins}
+use Rattle.cb_actions.proofs.WentLaws.{left_off}
+use Rattle.cb_actions.proofs.laws.the_first_action_comes_first.Goals as goal
+
+pub returns-clause-written : goal.returns-clause-written
+returns-clause-written c = λ t ts s.
+    let begins = follow_begins (carried t s).state (carried t s).written (carried t s).answer (λ v. carried_all v ts) in (begins.more, begins.is)
+
+pub returns-clause-ended : goal.returns-clause-ended
+returns-clause-ended c = λ t ts s e is. left_off (carried t s) e (λ v. carried_all v ts) is

@@ -1,0 +1,112 @@
+-- What each kind of action does with the values that it is given.
+use Rattle.std.specs.Prelude.{ℕ, zero, suc, Bool, true, false, List, [], ◌∷◌, ◌++◌, Option, Some, None, codes, if◌then◌else◌}
+use Rattle.std.specs.List.{list_all}
+use Rattle.cb_actions.specs.Acts.{Act, give, stop, give_or_fault, become, ◌>>=◌}
+use Rattle.cb_actions.specs.Printing.{printed_values}
+use Rattle.cb_actions.specs.Worlds.{World}
+use Rattle.cb_actions.specs.declared.act.Ended.TheVariants as ended
+use Rattle.cb_actions.specs.declared.act.Limit.TheVariants.{Indices, Turns}
+use Rattle.cb_exprs.specs.Bindings.{value_at, with_variable, with_global}
+use Rattle.cb_exprs.specs.Shapes.{Shape}
+use Rattle.cb_facts.specs.Facts.{FactValue}
+use Rattle.cb_facts.specs.declared.value.Value.{Value}
+use Rattle.cb_facts.specs.declared.value.Value.TheVariants as value
+use Rattle.cb_forms.specs.declared.fault.Fault.{Fault}
+use Rattle.cb_forms.specs.declared.fault.Fault.TheVariants.{NoSuchFact, UnboundVariable, UnknownGlobal, WrongType}
+use Rattle.cb_functions.specs.Applied.{applied}
+use Rattle.cb_functions.specs.Logic.{is_true, decides}
+use Rattle.cb_templates.specs.Building.{Given, PartValues, field_values, slot_values, built}
+use Rattle.cb_words.specs.declared.function.Function.{Function}
+use Rattle.cb_working_memory.specs.WorkingMemory.{Memory, asserted_one, is_retractable, retracted_all}
+
+-- a value that is there, or this fault
+abbrev pub found : Fault → Option Value → Act World (Option Value)
+found f None = stop (ended.Fault f)
+found f (Some v) = give (Some v)
+
+-- the value of a variable, and of a global variable
+abbrev pub looked_up : List ℕ → Act World (Option Value)
+looked_up x s = found UnboundVariable (value_at x s.env.variables) s
+
+abbrev pub global_looked_up : List ℕ → Act World (Option Value)
+global_looked_up x s = found UnknownGlobal (value_at x s.env.globals) s
+
+-- a value is wanted
+abbrev pub wanted : Option Value → Act World Value
+wanted None = stop (ended.Fault WrongType)
+wanted (Some v) = give v
+
+abbrev pub valued : Act World (Option Value) → Act World Value
+valued act = act >>= wanted
+
+-- whether a value counts as true
+abbrev pub tested : Act World (Option Value) → Act World Bool
+tested act = do
+  v ← valued act
+  give (is_true v)
+
+-- the arguments of a call of this function, if it is one, end with this value
+abbrev pub ends : Option Function → Value → Bool
+ends None v = false
+ends (Some f) v = decides f v
+
+-- a function without an effect, of these values
+abbrev pub called : Function → List Value → Act World (Option Value)
+called f vs = do
+  v ← give_or_fault (applied f vs)
+  give (Some v)
+
+-- slots, each with the one value that it is given
+abbrev pub each_given : List (List ℕ) → List Value → Given
+each_given (name ∷ names) (v ∷ vs) = (name, v ∷ []) ∷ each_given names vs
+each_given names vs = []
+
+-- what a fact is given with these values: its fields, or the slots of these names
+abbrev pub parts_of : Option (List (List ℕ)) → List Value → PartValues
+parts_of None vs = field_values vs
+parts_of (Some names) vs = slot_values (each_given names vs)
+
+-- After a fact was asserted: its address. Where no index was left, the script ends.
+abbrev pub addressed : Memory × Option ℕ → Act World (Option Value)
+addressed (m, Some ix) s = give (Some (value.Fact ix)) (record s { memory = m })
+addressed (m, None) s = stop (ended.Limit Indices) (record s { memory = m })
+
+abbrev pub added : FactValue → Act World (Option Value)
+added fact s = addressed (asserted_one s.memory fact) s
+
+-- a fact of this shape is built of these values and asserted
+abbrev pub asserted : Shape → List Value → Act World (Option Value)
+asserted shape vs s = (give_or_fault (built s.templates shape.relation (parts_of shape.slots vs)) >>= added) s
+
+-- after facts were retracted: whether each index was one that a fact had
+abbrev pub taken : Memory × Bool → Act World (Option Value)
+taken (m, true) s = become (record s { memory = m }) s
+taken (m, false) s = stop (ended.Fault NoSuchFact) (record s { memory = m })
+
+-- the facts that these values name are retracted; a value of another kind is reported before any is
+abbrev pub retracted : List Value → Act World (Option Value)
+retracted vs s = if list_all is_retractable vs then taken (retracted_all s.memory vs) s else stop (ended.Fault WrongType) s
+
+-- a variable has this value now, and so has a global variable
+abbrev pub bound : List ℕ → Value → Act World (Option Value)
+bound x v s = give (Some v) (record s { env = with_variable x v s.env })
+
+abbrev pub global_bound : List ℕ → Value → Act World (Option Value)
+global_bound x v s = give (Some v) (record s { env = with_global x v s.env })
+
+-- values on a line
+abbrev pub printed_line : List Value → List ℕ
+printed_line vs = printed_values vs ++ codes "\n"
+
+-- one of two acts
+abbrev pub chosen : {A : Type 0} → Bool → Act World A → Act World A → Act World A
+chosen true first second s = first s
+chosen false first second s = second s
+
+-- a turn is taken from these that are left; where none is, the script ends
+abbrev pub turn_of : ℕ → Act World (Unit {0})
+turn_of zero s = stop (ended.Limit Turns) s
+turn_of (suc n) s = give tt (record s { turns = n })
+
+abbrev pub turn : Act World (Unit {0})
+turn s = turn_of s.turns s

@@ -1,0 +1,6 @@
+pub mod Acts
+pub mod Went
+pub mod Printing
+pub mod Worlds
+pub mod Effects
+pub mod Actions

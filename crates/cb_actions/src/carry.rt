@@ -1,0 +1,156 @@
+//! Carrying out expressions.
+ghost use Rattle.std.specs.Prelude.{◌≡◌, [], None, OnOk, Some, false};
+ghost use Rattle.cb_actions.specs.Actions.{carried, carried_all, carried_values};
+ghost use Rattle.cb_actions.specs.Effects.{tested, valued};
+ghost use Rattle.cb_actions.specs.Went.{Went, listed};
+ghost use Rattle.cb_exprs.specs.Terms.{term_of, terms_of};
+ghost use Rattle.cb_functions.specs.Constants.{false_symbol};
+
+use crate::act::{Break, Ended};
+use crate::world::{World, constant, ends};
+use cb_exprs::{Channel, Expr};
+use cb_facts::Value;
+use cb_forms::{Fault, Out, Sink};
+use cb_functions::is_true;
+use cb_words::Function;
+
+impl World {
+    /// Carries out an expression. The answer is its value, if it has one.
+    ///
+    /// What it writes is put as it goes, so that what comes before a fault or a limit stands. Growth is refused as
+    /// `NoMemory`, and then a beginning of what it writes was put.
+    #[cycle(carrying)]
+    pub fn carry_out<K: Sink>(
+        &mut self,
+        expr: &Expr,
+        out: &mut Out<K>,
+    ) -> Result<Option<Value>, Break>
+        requires { out.old.fault ≡ false }
+        ensures went { Went K.writes out.old out.new self.new result
+            (carried (term_of expr.now) self.old) }
+        ensures fine { OnOk result (out.new.fault ≡ false) }
+    {
+        match expr {
+            Expr::Constant(value) => constant(value),
+            Expr::Variable(name) => self.variable(name),
+            Expr::Global(name) => self.global(name),
+            Expr::Call(function, args) => {
+                let values = self.carry_values(Some(*function), args, out)?;
+                self.call(*function, values.as_slice())
+            }
+            Expr::Assert(shape, parts) => {
+                let values = self.carry_values(None, parts, out)?;
+                self.assert(shape, values)
+            }
+            Expr::Retract(args) => {
+                let values = self.carry_values(None, args, out)?;
+                self.retract(values.as_slice())
+            }
+            Expr::Bind(name, value) => {
+                let value = self.carry_value(value, out)?;
+                self.bind(name, value)
+            }
+            Expr::BindGlobal(name, value) => {
+                let value = self.carry_value(value, out)?;
+                self.bind_global(name, value)
+            }
+            Expr::If(test, yes, no) => {
+                if self.holds(test, out)? {
+                    self.carry_out(yes, out)
+                } else {
+                    self.carry_out(no, out)
+                }
+            }
+            Expr::While(test, action) => {
+                while self.holds(test, out)? {
+                    self.take_turn()?;
+                    drop(self.carry_out(action, out)?);
+                }
+                Ok(Some(self.no()?))
+            }
+            Expr::Actions(actions) => self.carry_all(actions, out),
+            Expr::Printout(channel, args) => {
+                let values = self.carry_values(None, args, out)?;
+                self.print(*channel, values.as_slice(), out)
+            }
+            Expr::Print(args) => {
+                let values = self.carry_values(None, args, out)?;
+                self.print(Channel::Output, values.as_slice(), out)
+            }
+            Expr::Println(args) => {
+                let values = self.carry_values(None, args, out)?;
+                self.print_line(values.as_slice(), out)
+            }
+        }
+    }
+
+    /// The value of an expression; one that has none is CB17.
+    #[cycle(carrying)]
+    fn carry_value<K: Sink>(&mut self, expr: &Expr, out: &mut Out<K>) -> Result<Value, Break>
+        requires { out.old.fault ≡ false }
+        ensures went { Went K.writes out.old out.new self.new result
+            (valued (carried (term_of expr.now)) self.old) }
+        ensures fine { OnOk result (out.new.fault ≡ false) }
+    {
+        match self.carry_out(expr, out)? {
+            Some(value) => Ok(value),
+            None => Err(Break::Ended(Ended::Fault(Fault::WrongType))),
+        }
+    }
+
+    /// Whether the value of a test counts as true.
+    #[cycle(carrying)]
+    fn holds<K: Sink>(&mut self, test: &Expr, out: &mut Out<K>) -> Result<bool, Break>
+        requires { out.old.fault ≡ false }
+        ensures went { Went K.writes out.old out.new self.new result
+            (tested (carried (term_of test.now)) self.old) }
+        ensures fine { OnOk result (out.new.fault ≡ false) }
+    {
+        let value = self.carry_value(test, out)?;
+        Ok(is_true(&value))
+    }
+
+    /// The values of expressions, left to right. Those of a call of a function end with the first that decides it.
+    #[cycle(carrying)]
+    fn carry_values<K: Sink>(
+        &mut self,
+        function: Option<Function>,
+        exprs: &[Expr],
+        out: &mut Out<K>,
+    ) -> Result<Vec<Value>, Break>
+        requires { out.old.fault ≡ false }
+        ensures went { Went K.writes out.old out.new self.new (listed result)
+            (carried_values function [] (terms_of exprs.now) self.old) }
+        ensures fine { OnOk result (out.new.fault ≡ false) }
+    {
+        let mut values = self.no_values();
+        for expr in exprs {
+            let value = self.carry_value(expr, out)?;
+            let is_last = ends(function, &value);
+            values.push(value)?;
+            if is_last {
+                return Ok(values);
+            }
+        }
+        Ok(values)
+    }
+
+    /// Expressions, one after another. The answer is the last one's, and FALSE where there is none.
+    #[cycle(carrying)]
+    fn carry_all<K: Sink>(
+        &mut self,
+        exprs: &[Expr],
+        out: &mut Out<K>,
+    ) -> Result<Option<Value>, Break>
+        requires { out.old.fault ≡ false }
+        ensures went { Went K.writes out.old out.new self.new result
+            (carried_all (Some false_symbol) (terms_of exprs.now) self.old) }
+        ensures fine { OnOk result (out.new.fault ≡ false) }
+    {
+        let mut last = Some(self.no()?);
+        for expr in exprs {
+            last = self.carry_out(expr, out)?;
+        }
+        Ok(last)
+    }
+}

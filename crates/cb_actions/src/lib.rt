@@ -1,0 +1,18 @@
+//! Expressions with effects, carried out: what is done to a state and written, one act after another, and how it ends.
+//!
+//! `docs/ARCHITECTURE.md` says where the layer stands.
+#![tactic(auto)]
+
+mod act;
+mod carry;
+pub mod laws;
+mod output;
+mod print;
+mod stop;
+mod world;
+
+pub use act::{Break, Ended, Limit};
+pub use output::{put, put_text};
+pub use print::{put_printed, put_values};
+pub use stop::Stop;
+pub use world::World;

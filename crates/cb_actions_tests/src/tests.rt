@@ -1,0 +1,2 @@
+mod carrying;
+mod rows;

@@ -1,0 +1,197 @@
+//! Expressions carried out, one after another.
+use super::rows::expr;
+use cb_actions::{Break, Ended, Limit, World};
+use cb_exprs::Expr;
+use cb_facts::{Names, Refused, Value, quoted_text};
+use cb_forms::{Fault, Form, Item, MemSink, NoMemory, Out, read_items};
+use cb_functions::Constants;
+use std::alloc::Global;
+
+/// Forms, the turns that there are for them, and what comes of each: what it writes, and then its value on a line, or the
+/// number of its fault or limit.
+const ROWS: [(&str, u64, &str); 20] = [
+    // Loops, their turns, and the limit, within arguments too.
+    (
+        "(bind ?i 0)(while (< ?i 3) (do (bind ?i (+ ?i 1)) (println ?i)))?i",
+        3,
+        "0\n1\n2\n3\nFALSE\n3\n",
+    ),
+    (
+        "(bind ?i 0)(while (< ?i 3) (do (bind ?i (+ ?i 1)) (println ?i)))?i",
+        2,
+        "0\n1\n2\n[CB93]\n2\n",
+    ),
+    ("(while FALSE 1)(while 1 1)", 0, "FALSE\n[CB93]\n"),
+    (
+        "(bind ?i 0)(while (< ?i 2) (do (bind ?i (+ ?i 1)) (print ?i)))(println \"x\" (while TRUE 1))",
+        4,
+        "0\n12FALSE\n[CB93]\n",
+    ),
+    // Where a value is wanted, one that is missing is reported at once.
+    ("(if (print \"1\") (print \"2\") (do))", 0, "1[CB17]\n"),
+    ("(assert (a (print \"3\") (print \"4\")))", 0, "3[CB17]\n"),
+    ("(and (print \"5\") (print \"6\"))", 0, "5[CB17]\n"),
+    (
+        "(bind ?x (if TRUE (print \"7\") (do)))?x",
+        0,
+        "7[CB17]\n[CB11]\n",
+    ),
+    ("(retract (print \"8\") (print \"9\"))", 0, "8[CB17]\n"),
+    // The value of actions is that of the last.
+    (
+        "(do)(if FALSE 1 (do))(if 0 (do 1 2) 3)(do 1 (print 2))",
+        0,
+        "FALSE\nFALSE\n2\n2",
+    ),
+    // What decides a call.
+    (
+        "(and FALSE (print x))(or 1 (print x))(and 1 (do (print y) 2) FALSE (print x))(and 1 2)",
+        0,
+        "FALSE\nTRUE\nyFALSE\nTRUE\n",
+    ),
+    // What comes before a fault stands.
+    (
+        "(do (println \"x\") (println ?q) (bind ?q 1))?q(if TRUE (do (bind ?q 2) (div 1 0)) (do))?q",
+        0,
+        "x\n[CB11]\n[CB11]\n[CB19]\n2\n",
+    ),
+    (
+        "?*g*(bind ?*g* 1)?*g* ?g(bind ?g ?*g*)",
+        0,
+        "[CB12]\n1\n1\n[CB11]\n1\n",
+    ),
+    // All values come before anything is printed.
+    (
+        "(printout t \"a\" crlf 1 (create$ 2 b))(printout nil \"x\" (print y))(print tab)(println)",
+        0,
+        "a\n1(2 b)y[CB17]\n\t\n",
+    ),
+    (
+        "(println \"x\" (div 1 0))(println (if TRUE (do (print \"y\") 1) (do)))",
+        0,
+        "[CB19]\ny1\n",
+    ),
+    // Facts.
+    (
+        "(assert (a 1 (create$) (+ 1 1)))(assert (a 1 2))(assert (a))",
+        0,
+        "<Fact-1>\n<Fact-1>\n<Fact-2>\n",
+    ),
+    (
+        "(assert (p (a 1) (b red)))(assert (p (b red) (a 1)))(assert (p (a 1)))",
+        0,
+        "<Fact-1>\n<Fact-1>\n<Fact-2>\n",
+    ),
+    (
+        "(assert (p (c 1)))(assert (q (a 1)))(assert (p (a (create$ 1)) (b (do (println \"late\") 1))))",
+        0,
+        "[CB09]\n[CB09]\nlate\n[CB22]\n",
+    ),
+    // All arguments of `retract`, then their types, and then one fact after another.
+    (
+        "(assert (a))(retract * (assert (b)))(assert (c))(retract 3 3)(assert (d))(retract 4 a)(retract * 4)",
+        0,
+        "<Fact-1>\n<Fact-3>\n[CB20]\n<Fact-4>\n[CB17]\n[CB20]\n",
+    ),
+    (
+        "(assert (a))(retract (sym-cat \"*\"))(retract 1)(retract \"*\")",
+        0,
+        "<Fact-1>\n[CB20]\n[CB17]\n",
+    ),
+];
+
+/// The first row that does not go so.
+fn first_wrong(alloc: Global, rows: &[(&str, u64, &str)]) -> Result<Option<usize>, Refused> {
+    for (i, (text, turns, outcome)) in rows.iter().enumerate() {
+        if outcome_of(alloc, text.as_bytes(), *turns)?.as_slice() != outcome.as_bytes() {
+            return Ok(Some(i));
+        }
+    }
+    Ok(None)
+}
+
+/// What comes of the forms of a row.
+fn outcome_of(alloc: Global, text: &[u8], turns: u64) -> Result<Vec<u8>, Refused> {
+    let mut world = World::new(alloc, Constants::new(alloc)?, turns);
+    define(alloc, &mut world, b"p (slot a) (slot b)")?;
+    let mut outcome = Vec::new(alloc);
+    for item in read_items(alloc, text)?.as_slice() {
+        add_item(alloc, &mut world, item, &mut outcome)?;
+    }
+    Ok(outcome)
+}
+
+/// Defines a template.
+fn define(alloc: Global, world: &mut World, text: &[u8]) -> Result<(), Refused> {
+    let mut forms = Vec::new(alloc);
+    for item in read_items(alloc, text)? {
+        if let Item::Form(form) = item {
+            forms.push(form)?;
+        }
+    }
+    let mut names = Names::new(alloc);
+    world
+        .relations
+        .define_template(&mut names, forms.as_slice(), false)
+}
+
+fn add_item(
+    alloc: Global,
+    world: &mut World,
+    item: &Item,
+    outcome: &mut Vec<u8>,
+) -> Result<(), Refused> {
+    match item {
+        Item::Form(form) => add_outcome(alloc, world, &expr(alloc, form)?, outcome),
+        Item::Bad(fault) => Err(Refused::Fault(*fault)),
+    }
+}
+
+/// Carries an expression out, and adds what it writes and its answer.
+fn add_outcome(
+    alloc: Global,
+    world: &mut World,
+    expr: &Expr,
+    outcome: &mut Vec<u8>,
+) -> Result<(), Refused> {
+    let mut out = Out::new(MemSink::new(alloc, 100, 7, None)?);
+    let answer = world.carry_out(expr, &mut out);
+    if out.flush().is_ok() {
+        outcome.extend_from_slice(out.sink().bytes())?;
+    }
+    outcome.extend_from_slice(line(alloc, answer)?.as_slice())?;
+    Ok(())
+}
+
+/// An answer on a line; where there is no value, nothing.
+fn line(alloc: Global, answer: Result<Option<Value>, Break>) -> Result<Vec<u8>, NoMemory> {
+    match answer {
+        Ok(Some(value)) => value_line(alloc, &value),
+        Ok(None) => Ok(Vec::new(alloc)),
+        Err(Break::Ended(Ended::Fault(fault))) => number_line(alloc, fault.number()),
+        Err(Break::Ended(Ended::Limit(Limit::Turns))) => number_line(alloc, 93),
+        Err(Break::Ended(Ended::Limit(Limit::Indices))) => number_line(alloc, 94),
+        Err(Break::Stop(_)) => Err(NoMemory),
+    }
+}
+
+fn value_line(alloc: Global, value: &Value) -> Result<Vec<u8>, NoMemory> {
+    let mut line = quoted_text(alloc, value)?;
+    line.push(b'\n')?;
+    Ok(line)
+}
+
+fn number_line(alloc: Global, number: u8) -> Result<Vec<u8>, NoMemory> {
+    let mut line = Vec::new(alloc);
+    line.extend_from_slice(b"[CB")?;
+    line.push(b'0' + number / 10 % 10)?;
+    line.push(b'0' + number % 10)?;
+    line.extend_from_slice(b"]\n")?;
+    Ok(line)
+}
+
+#[test]
+fn carries_out(rt: HostRuntime) -> Result<(), Refused> {
+    assert!(rt; first_wrong(rt.alloc(), &ROWS)?.is_none());
+    Ok(())
+}

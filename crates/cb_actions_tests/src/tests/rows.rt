@@ -1,0 +1,138 @@
+//! Expressions from rows.
+use cb_exprs::{Channel, Expr, FactShape};
+use cb_facts::{Name, Names, Refused, Value};
+use cb_forms::{Form, Token, split_head};
+use cb_words::{Action, Head, read_head};
+use std::alloc::Global;
+
+/// The expression that a row writes. It is written as in a script, but that `if` and `while` have their parts alone, that
+/// `do` heads actions, and that a fact of the relation `p` or `q` gives slots.
+pub(crate) fn expr(alloc: Global, form: &Form) -> Result<Expr, Refused> {
+    match form {
+        Form::Atom(token) => atom(alloc, token),
+        Form::List(forms) => {
+            let Some((head, rest)) = forms.split_first() else {
+                return Err(Refused::NoMemory);
+            };
+            let mut parts = Vec::new(alloc);
+            for form in rest {
+                parts.push(expr(alloc, form)?)?;
+            }
+            headed(alloc, head, rest, parts)
+        }
+    }
+}
+
+/// A list with this head and these parts, which stand in a row so.
+fn headed(alloc: Global, head: &Form, rest: &[Form], parts: Vec<Expr>) -> Result<Expr, Refused> {
+    match read_head(head.symbol().ok_or(Refused::NoMemory)?) {
+        Some(Head::Function(function)) => Ok(Expr::Call(function, parts)),
+        Some(Head::Action(action)) => act(alloc, action, rest, parts),
+        _ => Ok(Expr::Actions(parts)),
+    }
+}
+
+/// An action with these parts, which stand in a row so.
+fn act(alloc: Global, action: Action, forms: &[Form], parts: Vec<Expr>) -> Result<Expr, Refused> {
+    match action {
+        Action::Assert => assert(alloc, forms, parts),
+        Action::Retract => Ok(Expr::Retract(parts)),
+        Action::Bind => bind(alloc, parts),
+        Action::If => choose(alloc, parts),
+        Action::While => repeat(alloc, parts),
+        Action::Printout => printout(alloc, forms, parts),
+        Action::Print => Ok(Expr::Print(parts)),
+        Action::Println => Ok(Expr::Println(parts)),
+    }
+}
+
+fn last(parts: &mut Vec<Expr>) -> Result<Expr, Refused> {
+    Ok(parts.pop().ok_or(Refused::NoMemory)?)
+}
+
+fn bind(alloc: Global, parts: Vec<Expr>) -> Result<Expr, Refused> {
+    let mut parts = parts;
+    let value = Box::new(alloc, last(&mut parts)?)?;
+    match last(&mut parts)? {
+        Expr::Variable(name) => Ok(Expr::Bind(name, value)),
+        Expr::Global(name) => Ok(Expr::BindGlobal(name, value)),
+        _ => Err(Refused::NoMemory),
+    }
+}
+
+fn choose(alloc: Global, parts: Vec<Expr>) -> Result<Expr, Refused> {
+    let mut parts = parts;
+    let no = Box::new(alloc, last(&mut parts)?)?;
+    let yes = Box::new(alloc, last(&mut parts)?)?;
+    Ok(Expr::If(Box::new(alloc, last(&mut parts)?)?, yes, no))
+}
+
+fn repeat(alloc: Global, parts: Vec<Expr>) -> Result<Expr, Refused> {
+    let mut parts = parts;
+    let action = Box::new(alloc, last(&mut parts)?)?;
+    Ok(Expr::While(Box::new(alloc, last(&mut parts)?)?, action))
+}
+
+/// The first part names the channel.
+fn printout(alloc: Global, forms: &[Form], parts: Vec<Expr>) -> Result<Expr, Refused> {
+    let mut values = Vec::new(alloc);
+    for (i, part) in parts.into_iter().enumerate() {
+        if i > 0 {
+            values.push(part)?;
+        }
+    }
+    Ok(Expr::Printout(channel(forms), values))
+}
+
+fn channel(forms: &[Form]) -> Channel {
+    match forms.first() {
+        Some(form) if form.symbol() == Some(b"nil".as_slice()) => Channel::Nowhere,
+        _ => Channel::Output,
+    }
+}
+
+/// The only part is the fact, as if its relation headed actions.
+fn assert(alloc: Global, forms: &[Form], parts: Vec<Expr>) -> Result<Expr, Refused> {
+    let mut parts = parts;
+    match last(&mut parts)? {
+        Expr::Actions(values) => Ok(Expr::Assert(shape(alloc, forms)?, values)),
+        _ => Err(Refused::NoMemory),
+    }
+}
+
+fn shape(alloc: Global, forms: &[Form]) -> Result<FactShape, Refused> {
+    let Some(Form::List(fact)) = forms.first() else {
+        return Err(Refused::NoMemory);
+    };
+    let (relation, members) = split_head(fact.as_slice()).ok_or(Refused::NoMemory)?;
+    let name = Name::new(alloc, relation)?;
+    if relation == b"p".as_slice() || relation == b"q".as_slice() {
+        return Ok(FactShape::with_slots(name, slot_names(alloc, members)?));
+    }
+    Ok(FactShape::ordered(name))
+}
+
+fn slot_names(alloc: Global, members: &[Form]) -> Result<Vec<Name>, Refused> {
+    let mut names = Vec::new(alloc);
+    for member in members {
+        let Form::List(forms) = member else {
+            return Err(Refused::NoMemory);
+        };
+        let (name, _) = split_head(forms.as_slice()).ok_or(Refused::NoMemory)?;
+        names.push(Name::new(alloc, name)?)?;
+    }
+    Ok(names)
+}
+
+fn atom(alloc: Global, token: &Token) -> Result<Expr, Refused> {
+    Ok(match token {
+        Token::Var(name) => Expr::Variable(Name::new(alloc, name.as_slice())?),
+        Token::Global(name) => Expr::Global(Name::new(alloc, name.as_slice())?),
+        _ => Expr::Constant(constant(alloc, token)?),
+    })
+}
+
+fn constant(alloc: Global, token: &Token) -> Result<Value, Refused> {
+    let mut names = Names::new(alloc);
+    Ok(Value::constant(&mut names, token)?.ok_or(Refused::NoMemory)?)
+}

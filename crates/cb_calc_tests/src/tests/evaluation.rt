@@ -1,0 +1,144 @@
+//! The values of expressions.
+use super::rows::{named, read};
+use cb_eval::eval;
+use cb_exprs::Env;
+use cb_facts::{Refused, Value, quoted_text};
+use cb_forms::NoMemory;
+use cb_functions::Constants;
+use std::alloc::Global;
+
+/// `?x` is 7 after it was 6, `?*g*` is 8 after it was 9, and `?gone` had a value.
+fn env(alloc: Global) -> Result<Env, NoMemory> {
+    let mut env = Env::new(alloc);
+    for (text, number) in [("x", 6), ("gone", 5), ("x", 7)] {
+        let (name, value) = named(alloc, text, number)?;
+        env.set(&name, value)?;
+    }
+    for number in [9, 8] {
+        let (name, value) = named(alloc, "g", number)?;
+        env.set_global(&name, value)?;
+    }
+    env.unset(&named(alloc, "gone", 0)?.0);
+    Ok(env)
+}
+
+/// Expressions, and their values.
+const VALUES: [(&str, &str); 19] = [
+    ("red", "red"),
+    ("\"a b\"", "\"a b\""),
+    ("?x", "7"),
+    ("?*g*", "8"),
+    ("(+ ?x ?*g*)", "15"),
+    ("(- 1 2 3)", "-4"),
+    ("(create$)", "()"),
+    ("(create$ 1 (create$ 2 ?x) ?x)", "(1 2 7 7)"),
+    ("(not FALSE)", "TRUE"),
+    ("(and 5)", "TRUE"),
+    ("(or FALSE)", "FALSE"),
+    // What an argument decides, those after it don't change, with or without a value.
+    ("(and FALSE (div 1 0))", "FALSE"),
+    ("(or 0 (div 1 0))", "TRUE"),
+    ("(and 1 FALSE (div 1 0))", "FALSE"),
+    ("(or FALSE 1 (div 1 0))", "TRUE"),
+    ("(and FALSE (div 1 0) (+ red 1))", "FALSE"),
+    (
+        "(or (and TRUE FALSE (div 1 0)) (not FALSE) (div 1 0))",
+        "TRUE",
+    ),
+    ("(and TRUE 1)", "TRUE"),
+    ("(or FALSE FALSE FALSE)", "FALSE"),
+];
+
+fn shown(alloc: Global, constants: &Constants, env: &Env, text: &str) -> Result<Vec<u8>, Refused> {
+    let expr = read(alloc, env, text.as_bytes())?;
+    let value = eval(alloc, constants, &expr, env)?;
+    Ok(quoted_text(alloc, &value)?)
+}
+
+fn first_wrong_value(alloc: Global, rows: &[(&str, &str)]) -> Result<Option<usize>, Refused> {
+    let constants = Constants::new(alloc)?;
+    let env = env(alloc)?;
+    for (i, (text, value)) in rows.iter().enumerate() {
+        if shown(alloc, &constants, &env, text)?.as_slice() != value.as_bytes() {
+            return Ok(Some(i));
+        }
+    }
+    Ok(None)
+}
+
+#[test]
+fn evaluates(rt: HostRuntime) -> Result<(), Refused> {
+    assert!(rt; first_wrong_value(rt.alloc(), &VALUES)?.is_none());
+    Ok(())
+}
+
+/// Expressions, and the numbers of their faults: the first counts, from left to right, and types come after all values.
+const FAULTS: [(&str, u8); 12] = [
+    ("?y", 11),
+    ("?gone", 11),
+    ("?g", 11),
+    ("?*x*", 12),
+    ("(+ ?y ?*h*)", 11),
+    ("(+ ?*h* ?y)", 12),
+    ("(+ red (div 1 0))", 19),
+    ("(+ red 2 (div 1 0) (+ red 1))", 19),
+    ("(+ (+ red 1) (div 1 0))", 17),
+    ("(and TRUE (div 1 0))", 19),
+    ("(or FALSE FALSE (div 1 0) TRUE)", 19),
+    ("(create$ 1 (+ red 1) (div 1 0))", 17),
+];
+
+fn number_of(outcome: Result<Value, Refused>) -> u8 {
+    match outcome {
+        Err(Refused::Fault(fault)) => fault.number(),
+        _ => 0,
+    }
+}
+
+fn outcome(alloc: Global, constants: &Constants, env: &Env, text: &str) -> Result<Value, Refused> {
+    let expr = read(alloc, env, text.as_bytes())?;
+    eval(alloc, constants, &expr, env)
+}
+
+fn first_wrong_fault(alloc: Global, rows: &[(&str, u8)]) -> Result<Option<usize>, Refused> {
+    let constants = Constants::new(alloc)?;
+    let env = env(alloc)?;
+    for (i, (text, number)) in rows.iter().enumerate() {
+        if number_of(outcome(alloc, &constants, &env, text)) != *number {
+            return Ok(Some(i));
+        }
+    }
+    Ok(None)
+}
+
+#[test]
+fn reports_the_first_fault(rt: HostRuntime) -> Result<(), Refused> {
+    assert!(rt; first_wrong_fault(rt.alloc(), &FAULTS)?.is_none());
+    Ok(())
+}
+
+/// So many sums, each in the one before.
+fn nested(alloc: Global, depth: usize) -> Result<Vec<u8>, NoMemory> {
+    let mut text = Vec::new(alloc);
+    for _ in 0..depth {
+        text.extend_from_slice(b"(+ 1 ".as_slice())?;
+    }
+    text.push(b'0')?;
+    for _ in 0..depth {
+        text.push(b')')?;
+    }
+    Ok(text)
+}
+
+fn is_sum(alloc: Global, depth: usize, sum: i64) -> Result<bool, Refused> {
+    let constants = Constants::new(alloc)?;
+    let env = Env::new(alloc);
+    let expr = read(alloc, &env, nested(alloc, depth)?.as_slice())?;
+    Ok(eval(alloc, &constants, &expr, &env)? == Value::Int(sum))
+}
+
+#[test]
+fn evaluates_what_is_nested_deep(rt: HostRuntime) -> Result<(), Refused> {
+    assert!(rt; is_sum(rt.alloc(), 199, 199)?);
+    Ok(())
+}

@@ -1,0 +1,9 @@
+//! The value of an expression without an effect.
+//!
+//! `docs/ARCHITECTURE.md` says where the layer stands.
+#![tactic(auto)]
+
+mod evaluation;
+pub mod laws;
+
+pub use evaluation::eval;

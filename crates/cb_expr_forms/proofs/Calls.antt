@@ -1,0 +1,89 @@
+-- Calls, by the word that they begin with.
+use Rattle.std.proofs.Common.{◌≡◌, ◌≢◌, ◌∙◌, ◌++◌, ℕ, Bool, true, false, not, List, [], ◌∷◌, Option, Some, None, Result, Ok, Err, arith, is_some, refl, sym, ap, ap₂, subst}
+use Rattle.std.specs.Prelude.{MatchResult}
+use Rattle.std.specs.Option.{unwrap_or}
+use Rattle.cb_expr_forms.specs.Actions.{action_of}
+use Rattle.cb_expr_forms.specs.ExprFaults.{action_faults, all_faults, arguments_fault, call_faults, facts_faults}
+use Rattle.cb_expr_forms.specs.ExprForms.{assertions, call_expr, exprs_of, no_expr}
+use Rattle.cb_expr_forms.specs.FaultLists.{first_of, unless}
+use Rattle.cb_expr_forms.specs.Plans.{HasPlan, IsCall, IsCallFault, IsHeaded, IsHeadedFault, called_expr, called_faults, plan_expr, plan_faults}
+use Rattle.cb_expr_forms.specs.Scopes.{Scope, may_act}
+use Rattle.cb_expr_forms.specs.declared.action_form.ActionForm.{ActionForm}
+use Rattle.cb_expr_forms.specs.declared.call_form.CallForm.{CallForm}
+use Rattle.cb_expr_forms.specs.declared.call_form.CallForm.TheVariants as form
+use Rattle.cb_expr_forms.specs.declared.scope.Side.{Side}
+use Rattle.cb_expr_forms.proofs.Heads.{headed}
+use Rattle.cb_facts.specs.Results.{Tells}
+use Rattle.cb_facts.specs.declared.refused.Refused.{Refused}
+use Rattle.cb_forms.specs.Members.{head_and_rest}
+use Rattle.cb_forms.specs.Trees.{atom, Trees, tree}
+use Rattle.cb_forms.specs.declared.token.Token.TheVariants as token
+use Rattle.cb_forms.specs.declared.fault.Fault.{Fault}
+use Rattle.cb_forms.specs.declared.fault.Fault.TheVariants.{NotInProfile}
+use Rattle.cb_exprs.specs.Terms.{Term}
+use Rattle.cb_templates.specs.Templates.{Templates}
+use Rattle.cb_words.specs.Words.{head_of}
+use Rattle.cb_words.specs.declared.head.Action.{Action}
+use Rattle.cb_words.specs.declared.head.Action.TheVariants as action
+use Rattle.cb_words.specs.declared.head.Head.{Head}
+use Rattle.cb_words.specs.declared.head.Head.TheVariants as head
+
+one_more : (side : Side) (name : List ℕ) (us : Trees) (r : Result CallForm Refused)
+    → MatchResult r (IsHeaded side (head_of name) us) (λ e. Tells e (IsHeadedFault side (head_of name) us))
+    → MatchResult r (IsCall side (tree (atom (token.Symbol name)) us)) (λ e. Tells e (IsCallFault side (tree (atom (token.Symbol name)) us)))
+one_more side name us (Ok c) h = (h.0, h.1, omega arith)
+one_more side name us (Err e) h = h
+
+-- a list that begins with a word
+pub by_head : (side : Side) (ts : Trees) (name : List ℕ) (us : Trees) (r : Result CallForm Refused) → head_and_rest ts ≡ Some (name, us)
+    → MatchResult r (IsHeaded side (head_of name) us) (λ e. Tells e (IsHeadedFault side (head_of name) us)) → MatchResult r (IsCall side ts) (λ e. Tells e (IsCallFault side ts))
+by_head side ts name us r h there = subst (λ it. MatchResult r (IsCall side it) (λ e. Tells e (IsCallFault side it))) (sym (headed ts name us h)) (one_more side name us r there)
+
+-- what the word names
+pub by_word : (side : Side) (word known : Option Head) (us : Trees) (r : Result CallForm Refused) → word ≡ known
+    → MatchResult r (IsHeaded side known us) (λ e. Tells e (IsHeadedFault side known us)) → MatchResult r (IsHeaded side word us) (λ e. Tells e (IsHeadedFault side word us))
+by_word side word known us r h there = subst (λ it. MatchResult r (IsHeaded side it us) (λ e. Tells e (IsHeadedFault side it us))) (sym h) there
+
+expr_other : (a : Action) (ts facts : List Term) (t : Term) → a ≢ action.Assert → action_of a ts ≡ Some t → call_expr (Some (head.Action a)) ts facts ≡ t
+expr_other action.Assert ts facts t other h = absurd (other refl)
+expr_other action.Retract ts facts t other h = ap (λ o. unwrap_or o no_expr) h
+expr_other action.Bind ts facts t other h = ap (λ o. unwrap_or o no_expr) h
+expr_other action.If ts facts t other h = ap (λ o. unwrap_or o no_expr) h
+expr_other action.While ts facts t other h = ap (λ o. unwrap_or o no_expr) h
+expr_other action.Printout ts facts t other h = ap (λ o. unwrap_or o no_expr) h
+expr_other action.Print ts facts t other h = ap (λ o. unwrap_or o no_expr) h
+expr_other action.Println ts facts t other h = ap (λ o. unwrap_or o no_expr) h
+
+faults_other : (s : Scope) (a : Action) (ts : Trees) (args facts : List Fault) → a ≢ action.Assert
+    → action_faults s a ts args facts ≡ unless (is_some (action_of a (exprs_of s.templates ts))) (arguments_fault a) ++ args
+faults_other s action.Assert ts args facts other = absurd (other refl)
+faults_other s action.Retract ts args facts other = refl
+faults_other s action.Bind ts args facts other = refl
+faults_other s action.If ts args facts other = refl
+faults_other s action.While ts args facts other = refl
+faults_other s action.Printout ts args facts other = refl
+faults_other s action.Print ts args facts other = refl
+faults_other s action.Println ts args facts other = refl
+
+allowed : (s : Scope) (side : Side) → may_act side ≡ true → s.side ≡ side → may_act s.side ≡ true
+allowed s side may is = ap may_act is ∙ may
+
+-- a call with an effect that has its arguments
+pub by_plan : (side : Side) (a : Action) (ts : Trees) (plan : ActionForm) → a ≢ action.Assert → may_act side ≡ true → HasPlan a ts (Some plan)
+    → IsHeaded side (Some (head.Action a)) ts (form.Action plan)
+by_plan side a ts plan other may has = (
+  λ t. expr_other a (exprs_of t ts) (assertions t ts) (plan_expr t plan) other (has.0 t),
+  λ s is.
+      ap (λ b. unless b NotInProfile ++ action_faults s a ts (all_faults s ts) (facts_faults s ts)) (allowed s side may is)
+      ∙ (faults_other s a ts (all_faults s ts) (facts_faults s ts) other
+      ∙ (ap (λ o. unless (is_some o) (arguments_fault a) ++ all_faults s ts) (has.0 s.templates) ∙ has.1 s)),
+  has.2,
+)
+
+-- one that hasn't
+pub by_no_plan : (side : Side) (a : Action) (ts : Trees) → a ≢ action.Assert → may_act side ≡ true → HasPlan a ts None → IsHeadedFault side (Some (head.Action a)) ts (arguments_fault a)
+by_no_plan side a ts other may has =
+    λ s is.
+    ap (λ b. first_of (unless b NotInProfile ++ action_faults s a ts (all_faults s ts) (facts_faults s ts))) (allowed s side may is)
+    ∙ (ap first_of (faults_other s a ts (all_faults s ts) (facts_faults s ts) other)
+    ∙ ap (λ o. first_of (unless (is_some o) (arguments_fault a) ++ all_faults s ts)) (has s.templates))

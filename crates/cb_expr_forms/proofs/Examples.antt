@@ -1,0 +1,147 @@
+-- Forms, and which expression each is or what is wrong with it.
+use Rattle.std.proofs.Common.{◌≡◌, ℕ, List, [], ◌∷◌, Option, Some, None, codes, pos, true, false, refl}
+use Rattle.cb_expr_forms.specs.Bound.{bound_in}
+use Rattle.cb_expr_forms.specs.ExprFaults.{faults_of}
+use Rattle.cb_expr_forms.specs.ExprForms.{expr_of}
+use Rattle.cb_expr_forms.specs.FaultLists.{first_of}
+use Rattle.cb_expr_forms.specs.Scopes.{Scope}
+use Rattle.cb_expr_forms.specs.declared.scope.Side.TheVariants.{Top, Plain}
+use Rattle.cb_exprs.specs.Terms.{constant, variable, call, assert, bind, choose, repeat, actions, no_terms, term}
+use Rattle.cb_facts.specs.declared.value.Value.TheVariants as value
+use Rattle.cb_forms.specs.Trees.{Tree, atom, branch, Trees, no_trees, tree}
+use Rattle.cb_forms.specs.declared.fault.Fault.TheVariants.{UnknownFunction, WrongArguments, MalformedForm, FactDoesNotFit, ValueNotAllowed, UnboundVariable, UnknownGlobal, NotInProfile}
+use Rattle.cb_forms.specs.declared.token.Token.TheVariants as token
+use Rattle.cb_templates.specs.Reserved.{is_reserved}
+use Rattle.cb_templates.specs.declared.slot_type.SlotType.TheVariants.{Integer}
+use Rattle.cb_words.specs.Words.{head_of}
+use Rattle.cb_words.specs.declared.function.Function.TheVariants.{Add, Create}
+
+abbrev word : List ℕ → Tree
+word bytes = atom (token.Symbol bytes)
+
+abbrev int : ℕ → Tree
+int n = atom (token.Int (pos n))
+
+abbrev var : List ℕ → Tree
+var name = atom (token.Var name)
+
+abbrev forms : List Tree → Trees
+forms [] = no_trees
+forms (t ∷ ts) = tree t (forms ts)
+
+abbrev list : List Tree → Tree
+list ts = branch (forms ts)
+
+-- a template with a slot of integers, which must be given, and a multislot of integers
+abbrev scope : Scope
+scope = record {
+  side = Top;
+  variables = codes "x" ∷ [];
+  globals = codes "g" ∷ [];
+  templates = (
+    codes "t",
+    record { name = codes "k"; is_multi = false; types = Some (Integer ∷ []); default = None } ∷ record { name = codes "m"; is_multi = true; types = Some (Integer ∷ []); default = Some (value.Multi []) } ∷ [],
+  ) ∷ [];
+}
+
+-- (+ 1 ?x)
+sum_is : expr_of [] (list (word (codes "+") ∷ int 1 ∷ var (codes "x") ∷ [])) ≡ call Add (term (constant (value.Int (pos 1))) (term (variable (codes "x")) no_terms))
+unfolding head_of
+sum_is = refl
+
+-- (+ 1), (bogus), (run), (1 2), (+ 1 ?)
+one_argument : first_of (faults_of scope (list (word (codes "+") ∷ int 1 ∷ []))) ≡ Some WrongArguments
+unfolding head_of
+one_argument = refl
+
+no_function : first_of (faults_of scope (list (word (codes "bogus") ∷ []))) ≡ Some UnknownFunction
+unfolding head_of
+no_function = refl
+
+a_command : first_of (faults_of scope (list (word (codes "+") ∷ int 1 ∷ list (word (codes "reset") ∷ []) ∷ []))) ≡ Some NotInProfile
+unfolding head_of
+a_command = refl
+
+no_word : first_of (faults_of scope (list (int 1 ∷ int 2 ∷ []))) ≡ Some MalformedForm
+no_word = refl
+
+wildcard : first_of (faults_of scope (list (word (codes "+") ∷ int 1 ∷ atom token.Any ∷ []))) ≡ Some MalformedForm
+unfolding head_of
+wildcard = refl
+
+-- (if TRUE then 1 else 2)
+if_is : expr_of [] (list (word (codes "if") ∷ word (codes "TRUE") ∷ word (codes "then") ∷ int 1 ∷ word (codes "else") ∷ int 2 ∷ []))
+    ≡ choose (constant (value.Symbol (codes "TRUE"))) (actions (term (constant (value.Int (pos 1))) no_terms)) (actions (term (constant (value.Int (pos 2))) no_terms))
+unfolding head_of
+if_is = refl
+
+-- (if TRUE then 1 else 2 else 3), (if (bogus) else 1)
+two_elses : first_of (faults_of scope (list (word (codes "if") ∷ word (codes "TRUE") ∷ word (codes "then") ∷ word (codes "else") ∷ word (codes "else") ∷ []))) ≡ Some WrongArguments
+unfolding head_of
+two_elses = refl
+
+no_then : first_of (faults_of scope (list (word (codes "if") ∷ list (word (codes "bogus") ∷ []) ∷ word (codes "else") ∷ []))) ≡ Some WrongArguments
+unfolding head_of
+no_then = refl
+
+-- (while do 1)
+while_is : expr_of [] (list (word (codes "while") ∷ word (codes "do") ∷ int 1 ∷ [])) ≡ repeat (constant (value.Symbol (codes "do"))) (actions (term (constant (value.Int (pos 1))) no_terms))
+unfolding head_of
+while_is = refl
+
+-- (bind ?x 1 2), (bind ?x), (bind ?*u* (bogus)), (bind ? 1)
+bind_is : expr_of [] (list (word (codes "bind") ∷ var (codes "x") ∷ int 1 ∷ int 2 ∷ []))
+    ≡ bind (codes "x") (call Create (term (constant (value.Int (pos 1))) (term (constant (value.Int (pos 2))) no_terms)))
+unfolding head_of
+bind_is = refl
+
+bind_nothing : first_of (faults_of scope (list (word (codes "bind") ∷ var (codes "x") ∷ []))) ≡ Some WrongArguments
+unfolding head_of
+bind_nothing = refl
+
+bind_unknown : first_of (faults_of scope (list (word (codes "bind") ∷ atom (token.Global (codes "u")) ∷ list (word (codes "bogus") ∷ []) ∷ []))) ≡ Some UnknownGlobal
+unfolding head_of
+bind_unknown = refl
+
+bind_wildcard : first_of (faults_of scope (list (word (codes "bind") ∷ atom token.Any ∷ int 1 ∷ []))) ≡ Some WrongArguments
+unfolding head_of
+bind_wildcard = refl
+
+-- (printout), (printout (bogus))
+no_channel : first_of (faults_of scope (list (word (codes "printout") ∷ []))) ≡ Some NotInProfile
+unfolding head_of
+no_channel = refl
+
+computed_channel : first_of (faults_of scope (list (word (codes "printout") ∷ list (word (codes "bogus") ∷ []) ∷ []))) ≡ Some NotInProfile
+unfolding head_of
+computed_channel = refl
+
+-- (create$ = (create$ 1)) and (assert (d = (create$ 1)))
+equals : first_of (faults_of scope (list (word (codes "create$") ∷ word (codes "=") ∷ list (word (codes "create$") ∷ int 1 ∷ []) ∷ []))) ≡ None
+unfolding head_of
+equals = refl
+
+equals_in_fact : first_of (faults_of scope (list (word (codes "assert") ∷ list (word (codes "d") ∷ word (codes "=") ∷ list (word (codes "create$") ∷ int 1 ∷ []) ∷ []) ∷ []))) ≡ Some NotInProfile
+unfolding head_of is_reserved
+equals_in_fact = refl
+
+-- (assert (t (k x (bogus)))), (assert (t (m x (bogus)))), (assert (t (m (bogus) x))), (assert (t (m 1)))
+slot_with_two : first_of (faults_of scope (list (word (codes "assert") ∷ list (word (codes "t") ∷ list (word (codes "k") ∷ word (codes "a") ∷ list (word (codes "bogus") ∷ []) ∷ []) ∷ []) ∷ []))) ≡ Some FactDoesNotFit
+unfolding head_of is_reserved
+slot_with_two = refl
+
+type_first : first_of (faults_of scope (list (word (codes "assert") ∷ list (word (codes "t") ∷ list (word (codes "m") ∷ word (codes "a") ∷ list (word (codes "bogus") ∷ []) ∷ []) ∷ []) ∷ []))) ≡ Some ValueNotAllowed
+unfolding head_of is_reserved
+type_first = refl
+
+call_first : first_of (faults_of scope (list (word (codes "assert") ∷ list (word (codes "t") ∷ list (word (codes "m") ∷ list (word (codes "bogus") ∷ []) ∷ word (codes "a") ∷ []) ∷ []) ∷ []))) ≡ Some UnknownFunction
+unfolding head_of is_reserved
+call_first = refl
+
+slot_not_given : first_of (faults_of scope (list (word (codes "assert") ∷ list (word (codes "t") ∷ list (word (codes "m") ∷ int 1 ∷ []) ∷ []) ∷ []))) ≡ Some FactDoesNotFit
+unfolding head_of is_reserved
+slot_not_given = refl
+
+-- (if TRUE then (foo (bind ?q)) (bind 1 ?r))
+bound_anywhere : bound_in (list (word (codes "if") ∷ list (word (codes "foo") ∷ list (word (codes "bind") ∷ var (codes "q") ∷ []) ∷ []) ∷ list (word (codes "bind") ∷ int 1 ∷ var (codes "r") ∷ []) ∷ [])) ≡ codes "q" ∷ []
+bound_anywhere = refl

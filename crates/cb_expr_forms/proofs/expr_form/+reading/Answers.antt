@@ -1,0 +1,89 @@
+use Rattle.std.proofs.Common.{◌≡◌, ◌≤◌, ◌<◌, ◌+◌, ◌*◌, ◌∙◌, ◌++◌, ◌∷◌, [], ℕ, List, Result, Err, Vec, Global, arith, ap, get_or, map, rules, subst, sym, drop}
+use Rattle.std.specs.Option.{option_and_then}
+use Rattle.cb_expr_forms.specs.ExprFaults.{all_faults, faults_of, slots_faults, value_faults, values_faults}
+use Rattle.cb_expr_forms.specs.ExprForms.{exprs_of, expr_of, slot_exprs, slot_names}
+use Rattle.cb_expr_forms.specs.FaultLists.{Reads, first_of}
+use Rattle.cb_expr_forms.specs.Plans.{IsSlotFault, filling_expr, filling_faults, if_expr, if_faults}
+use Rattle.cb_expr_forms.specs.Sizes.{tree_size, trees_size}
+use Rattle.cb_expr_forms.proofs.Faulty.{fails, fails_told, item_fits, next_slot}
+use Rattle.cb_expr_forms.proofs.Heads.{first_append}
+use Rattle.cb_exprs.specs.Terms.{Term, term_of}
+use Rattle.cb_exprs.specs.declared.expr.Expr.{Expr}
+use Rattle.cb_facts.specs.declared.name.Name.{Name}
+use Rattle.cb_facts.specs.declared.refused.Refused.{Refused}
+use Rattle.cb_forms.specs.Members.{members}
+use Rattle.cb_forms.specs.Trees.{tree_of}
+use Rattle.cb_expr_forms.proofs.expr_form.+reading.Goals as goal
+
+pub read_all-read_expr-requires : goal.read_all-read_expr-requires
+read_all-read_expr-requires t c =
+    let within = c.decreases in
+    let is : get_or c.args.forms.now c.loop-form.form-index c.form-item.result ≡ c.form-item.result = search rules in
+    let fits = item_fits c.args.forms.now c.loop-form.form-index c.form-item.result c.loop-form-test.true is in
+    let less : 8 * tree_size (tree_of c.form-item.result) < t = omega arith in
+    (less, tt)
+
+pub read_facts-read_fact-requires : goal.read_facts-read_fact-requires
+read_facts-read_fact-requires t c =
+    let within = c.decreases in
+    let is : get_or c.args.forms.now c.loop-form.form-index c.form-item.result ≡ c.form-item.result = search rules in
+    let fits = item_fits c.args.forms.now c.loop-form.form-index c.form-item.result c.loop-form-test.true is in
+    let less : 8 * tree_size (tree_of c.form-item.result) + 1 < t = omega arith in
+    (less, tt)
+
+pub read_slots-read_slot-requires : goal.read_slots-read_slot-requires
+read_slots-read_slot-requires t c =
+    let within = c.decreases in
+    let is : get_or c.args.forms.now c.loop-form.form-index c.form-item.result ≡ c.form-item.result = search rules in
+    let fits = item_fits c.args.forms.now c.loop-form.form-index c.form-item.result c.loop-form-test.true is in
+    let smaller = c.in_ok-slot.ensures.smaller in
+    (omega arith, tt)
+
+pub read_if-returns-in_err-read_all : goal.read_if-returns-in_err-read_all
+read_if-returns-in_err-read_all t c =
+    let s = c.args.scope.now in
+    let none = c.in_ok-read_expr.ensures.0 in
+    let r : c.from_residual-in_err-read_all.result ≡ Err c.in_err-read_all.field-0.0 = search rules in
+    let rest = all_faults s (members c.args.yes.now) ++ all_faults s (members c.args.no.now) in
+    let whole = if_faults s (tree_of c.args.test.now) (members c.args.yes.now) (members c.args.no.now) in
+    subst (λ (it : Result Expr Refused). Reads term_of it whole (if_expr s.templates (tree_of c.args.test.now) (members c.args.yes.now) (members c.args.no.now))) (sym r)
+    (fails (λ (es : Vec Expr Global). map term_of es.items) (exprs_of s.templates (members c.args.yes.now)) term_of _ c.in_err-read_all.field-0.0 (all_faults s (members c.args.yes.now)) whole
+    (λ f h. ap (λ fs. first_of (fs ++ rest)) none ∙ first_append (all_faults s (members c.args.yes.now)) (all_faults s (members c.args.no.now)) f h) c.in_err-read_all.ensures)
+
+pub read_slots-returns-in_err-slot : goal.read_slots-returns-in_err-slot
+read_slots-returns-in_err-slot t c =
+    let s = c.args.scope.now in
+    let slots = c.args.template.now in
+    let forms = c.args.forms.now in
+    let is : get_or forms c.loop-form.form-index c.form-item.result ≡ c.form-item.result = search rules in
+    let r : c.from_residual-in_err-slot.result ≡ Err c.in_err-slot.field-0.0 = search rules in
+    let view : Vec Name Global × Vec Expr Global → List (List ℕ) × List Term = λ p. (p.0.items, map term_of p.1.items) in
+    subst (λ (it : Result (Vec Name Global × Vec Expr Global) Refused). Reads view it (slots_faults s slots [] (members forms)) (slot_names (members forms), slot_exprs s.templates slots (members forms))) (sym r)
+    (fails_told view _ c.in_err-slot.field-0.0 (IsSlotFault slots c.loop-form.given (tree_of c.form-item.result)) (slots_faults s slots [] (members forms))
+    (λ f h. next_slot s slots c.loop-form.given forms c.loop-form.form-index c.form-item.result f c.loop-form-test.true is c.loop-form.invariant.0 (h s)) c.in_err-slot.ensures)
+
+pub read_slots-returns-in_err-read_slot : goal.read_slots-returns-in_err-read_slot
+read_slots-returns-in_err-read_slot t c =
+    let s = c.args.scope.now in
+    let slots = c.args.template.now in
+    let forms = c.args.forms.now in
+    let is : get_or forms c.loop-form.form-index c.form-item.result ≡ c.form-item.result = search rules in
+    let r : c.from_residual-in_err-read_slot.result ≡ Err c.in_err-read_slot.field-0.0 = search rules in
+    let view : Vec Name Global × Vec Expr Global → List (List ℕ) × List Term = λ p. (p.0.items, map term_of p.1.items) in
+    subst (λ (it : Result (Vec Name Global × Vec Expr Global) Refused). Reads view it (slots_faults s slots [] (members forms)) (slot_names (members forms), slot_exprs s.templates slots (members forms))) (sym r)
+    (fails term_of (filling_expr s.templates c.in_ok-slot.slot) view _ c.in_err-read_slot.field-0.0 (filling_faults s c.in_ok-slot.slot) (slots_faults s slots [] (members forms))
+    (λ f h. next_slot s slots c.loop-form.given forms c.loop-form.form-index c.form-item.result f c.loop-form-test.true is c.loop-form.invariant.0 (ap first_of (c.in_ok-slot.ensures.faults_are s) ∙ h))
+    c.in_err-read_slot.ensures)
+
+pub read_values-returns-in_err-read_value : goal.read_values-returns-in_err-read_value
+read_values-returns-in_err-read_value t c =
+    let s = c.args.scope.now in
+    let types = option_and_then (λ it. it.now.types) c.args.slot in
+    let first = tree_of c.in-Some.first.now in
+    let following = members c.in-Some.following.now in
+    let r : c.from_residual-in_err-read_value.result ≡ Err c.in_err-read_value.field-0.0 = search rules in
+    subst (λ (it : Result (Vec Expr Global) Refused). Reads (λ es. map term_of es.items) it (values_faults s types (members c.args.forms.now)) (exprs_of s.templates (members c.args.forms.now))) (sym r)
+    (fails term_of (expr_of s.templates first) (λ (es : Vec Expr Global). map term_of es.items) _ c.in_err-read_value.field-0.0 (value_faults s types first following) (values_faults s types (members c.args.forms.now))
+    (λ f h.
+    ap first_of (sym c.loop-first.invariant.0 ∙ ap (λ fs. values_faults s types (members fs)) c.in-Some.ensures.cases.0) ∙ first_append (value_faults s types first following) (values_faults s types following) f h)
+    c.in_err-read_value.ensures)

@@ -1,0 +1,86 @@
+-- What a call with an effect is, by its arguments.
+use Rattle.std.specs.Prelude.{◌||◌, ℕ, Bool, true, false, not, List, [], ◌∷◌, Option, Some, None, codes, option_map, if◌then◌else◌}
+use Rattle.std.specs.List.{list_any}
+use Rattle.std.specs.Str.{bytes_eq}
+use Rattle.cb_exprs.specs.Terms.{Term, constant, variable, global, call, retract, bind, bind_global, choose, repeat, actions, printout, print, println, terms}
+use Rattle.cb_exprs.specs.declared.channel.Channel.{Channel}
+use Rattle.cb_exprs.specs.declared.channel.Channel.TheVariants as channel
+use Rattle.cb_facts.specs.declared.value.Value.TheVariants as value
+use Rattle.cb_words.specs.declared.function.Function.TheVariants as function
+use Rattle.cb_words.specs.declared.head.Action.{Action}
+use Rattle.cb_words.specs.declared.head.Action.TheVariants as action
+
+-- the argument is this word
+abbrev pub is_word : List ℕ → Term → Bool
+is_word word (constant (value.Symbol bytes)) = bytes_eq bytes word
+is_word word t = false
+
+-- the value of several expressions: a multifield, unless there is one
+abbrev pub joined : List Term → Term
+joined (t ∷ []) = t
+joined ts = call function.Create (terms ts)
+
+-- `(bind ?name value ..)`, `(bind ?*name* value ..)`
+abbrev pub bind_of : List Term → Option Term
+bind_of (variable x ∷ t ∷ ts) = Some (bind x (joined (t ∷ ts)))
+bind_of (global x ∷ t ∷ ts) = Some (bind_global x (joined (t ∷ ts)))
+bind_of ts = None
+
+abbrev pub is_else : Term → Bool
+is_else t = is_word (codes "else") t
+
+-- the actions up to the first `else`, and those after it
+abbrev pub before_else : List Term → List Term
+before_else [] = []
+before_else (t ∷ ts) = if is_else t then [] else t ∷ before_else ts
+
+abbrev pub after_else : List Term → List Term
+after_else [] = []
+after_else (t ∷ ts) = if is_else t then ts else after_else ts
+
+-- the actions of an `if`, among which `else` stands at most once
+abbrev pub branches : Term → List Term → Option Term
+branches test ts =
+    if list_any is_else (after_else ts) then None else Some (choose test (actions (terms (before_else ts))) (actions (terms (after_else ts))))
+
+-- `(if test then action .. else action ..)`
+abbrev pub if_of : List Term → Option Term
+if_of (test ∷ word ∷ ts) = if is_word (codes "then") word then branches test ts else None
+if_of ts = None
+
+-- the actions of a `while`, before which `do` may stand
+abbrev pub after_do : List Term → List Term
+after_do [] = []
+after_do (t ∷ ts) = if is_word (codes "do") t then ts else t ∷ ts
+
+-- `(while test do action ..)`
+abbrev pub while_of : List Term → Option Term
+while_of [] = None
+while_of (test ∷ ts) = Some (repeat test (actions (terms (after_do ts))))
+
+-- the channel of a name
+abbrev pub named_channel : List ℕ → Option Channel
+named_channel name =
+    if bytes_eq name (codes "t") || bytes_eq name (codes "stdout") then Some channel.Output else (
+    if bytes_eq name (codes "nil") then Some channel.Nowhere else None)
+
+-- `(printout channel value ..)`
+abbrev pub printout_of : List Term → Option Term
+printout_of (constant (value.Symbol name) ∷ ts) = option_map (λ on. printout on (terms ts)) (named_channel name)
+printout_of ts = None
+
+-- `(retract value ..)`
+abbrev pub retract_of : List Term → Option Term
+retract_of [] = None
+retract_of ts = Some (retract (terms ts))
+
+-- a call with an effect, where the number and the shape of its arguments are right; an `assert` has facts and no arguments
+abbrev pub action_of : Action → List Term → Option Term
+action_of action.Assert ts = None
+action_of action.Retract ts = retract_of ts
+action_of action.Bind ts = bind_of ts
+action_of action.If ts = if_of ts
+action_of action.While ts = while_of ts
+action_of action.Printout ts = printout_of ts
+action_of action.Print ts = Some (print (terms ts))
+action_of action.Println ts = Some (println (terms ts))

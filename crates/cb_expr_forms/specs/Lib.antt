@@ -1,0 +1,9 @@
+pub mod Actions
+pub mod Bound
+pub mod ExprFaults
+pub mod ExprForms
+pub mod FaultLists
+pub mod Laws
+pub mod Plans
+pub mod Scopes
+pub mod Sizes

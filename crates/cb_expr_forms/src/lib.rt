@@ -1,0 +1,19 @@
+//! Expressions and facts as they are written: which one a form is, or its first fault.
+//!
+//! `docs/ARCHITECTURE.md` says where the layer stands.
+#![tactic(auto)]
+
+mod action_form;
+mod bound;
+mod call_form;
+mod expr_form;
+pub mod laws;
+mod name_list;
+mod scope;
+mod slot_form;
+mod words;
+
+pub use bound::bound_variables;
+pub use expr_form::{read_expr, read_fact};
+pub use name_list::NameList;
+pub use scope::{Scope, Side};

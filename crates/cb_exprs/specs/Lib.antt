@@ -1,0 +1,5 @@
+pub mod Bindings
+pub mod Codes
+pub mod FactTerms
+pub mod Shapes
+pub mod Terms

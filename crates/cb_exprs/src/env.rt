@@ -1,0 +1,82 @@
+//! The values that variables and global variables have.
+ghost use Rattle.std.specs.Prelude.{◌≡◌, None, IsOk, IsSome, OnOk, OnErr, option_copied};
+ghost use Rattle.cb_exprs.specs.Bindings.{no_bindings, value_at, with_global, with_variable, without_variable};
+
+use crate::values::Values;
+use cb_facts::{Name, Value};
+use cb_forms::NoMemory;
+use std::alloc::Global;
+use std::marker::Model;
+
+/// The values that variables and global variables have. A variable and a global variable of one name are two.
+///
+/// A value is found in logarithmic time, whatever the names are.
+///
+/// Contracts see the pairs of a name and its value, those of the variables and those of the globals, each in the order of
+/// the names.
+#[derive(Drop)]
+pub struct Env {
+    variables: Values,
+    globals: Values,
+}
+
+impl Model for Env {
+    ghost use Rattle.cb_exprs.specs.Bindings.{Bindings};
+
+    ghost Value = { Bindings };
+
+    ghost view = { λ e. record { variables = e.variables; globals = e.globals } };
+}
+
+impl Env {
+    /// No variable has a value. It takes no memory yet.
+    pub fn new(alloc: Global) -> Env
+        ensures { result ≡ no_bindings }
+    {
+        Env {
+            variables: Values::new(alloc),
+            globals: Values::new(alloc),
+        }
+    }
+
+    /// The value of a variable, or `None` where it has none.
+    pub fn get(&self, name: &Name) -> Option<&Value>
+        ensures { option_copied result ≡ value_at name.now self.now.variables }
+    {
+        self.variables.get(name)
+    }
+
+    /// Gives a variable a value, in place of the one that it has, if it has one. Growth is refused as `NoMemory`, and then
+    /// nothing has changed; a variable that has a value takes no memory, and is not refused.
+    pub fn set(&mut self, name: &Name, value: Value) -> Result<(), NoMemory>
+        ensures ok { OnOk result (self.new ≡ with_variable name.now value self.old) }
+        ensures err { OnErr result (self.new ≡ self.old) }
+        ensures known { IsSome (value_at name.now self.old.variables) → IsOk result }
+    {
+        self.variables.set(name, value)
+    }
+
+    /// Takes the value of a variable away, if it has one. It takes no memory.
+    pub fn unset(&mut self, name: &Name)
+        ensures taken { self.new ≡ without_variable name.now self.old }
+        ensures gone { value_at name.now self.new.variables ≡ None }
+    {
+        self.variables.unset(name);
+    }
+
+    /// The value of a global variable, or `None` where it has none.
+    pub fn global(&self, name: &Name) -> Option<&Value>
+        ensures { option_copied result ≡ value_at name.now self.now.globals }
+    {
+        self.globals.get(name)
+    }
+
+    /// Gives a global variable a value, as `set` does a variable.
+    pub fn set_global(&mut self, name: &Name, value: Value) -> Result<(), NoMemory>
+        ensures ok { OnOk result (self.new ≡ with_global name.now value self.old) }
+        ensures err { OnErr result (self.new ≡ self.old) }
+        ensures known { IsSome (value_at name.now self.old.globals) → IsOk result }
+    {
+        self.globals.set(name, value)
+    }
+}

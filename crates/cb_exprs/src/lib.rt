@@ -1,0 +1,18 @@
+//! What expressions are, and what the variables of a script have.
+//!
+//! `docs/ARCHITECTURE.md` says where the layer stands.
+#![tactic(auto)]
+
+mod channel;
+mod env;
+mod expr;
+mod fact_expr;
+mod fact_shape;
+pub mod laws;
+mod values;
+
+pub use channel::Channel;
+pub use env::Env;
+pub use expr::Expr;
+pub use fact_expr::FactExpr;
+pub use fact_shape::FactShape;

@@ -1,0 +1,62 @@
+-- Arithmetic. An integer is from -2^63 up to and with 2^63 - 1.
+use Rattle.std.specs.Prelude.{◌==◌, ◌^◌, ℤ, pos, negsuc, ◌+ℤ◌, ◌-ℤ◌, ◌*ℤ◌, Bool, List, [], ◌∷◌, Result, Ok, Err, if◌then◌else◌, int_div, int_rem, nat_lt, unsigned_abs}
+use Rattle.std.specs.Int.{int_max, int_min}
+use Rattle.cb_forms.specs.declared.fault.Fault.{Fault}
+use Rattle.cb_forms.specs.declared.fault.Fault.TheVariants.{DivisionByZero, IntegerOverflow, WrongType}
+use Rattle.cb_facts.specs.Results.{and_then, ok_then}
+use Rattle.cb_facts.specs.declared.value.Value.{Value}
+use Rattle.cb_facts.specs.declared.value.Value.TheVariants as value
+use Rattle.cb_functions.specs.Arguments.{integer_of, integers_of, only_of}
+
+-- a number fits 64 bits with a sign; `negsuc n` is -(n + 1)
+abbrev pub fits : ℤ → Bool
+fits (pos n) = nat_lt n (2 ^ 63)
+fits (negsuc n) = nat_lt n (2 ^ 63)
+
+abbrev pub fitting : ℤ → Result ℤ Fault
+fitting n = if fits n then Ok n else Err IntegerOverflow
+
+-- what is made of two numbers
+abbrev pub Operator : Type 0
+Operator = ℤ → ℤ → Result ℤ Fault
+
+abbrev pub sum : Operator
+sum n m = fitting (n +ℤ m)
+
+abbrev pub difference : Operator
+difference n m = fitting (n -ℤ m)
+
+abbrev pub product : Operator
+product n m = fitting (n *ℤ m)
+
+-- truncated toward zero
+abbrev pub quotient : Operator
+quotient n d = if unsigned_abs d == 0 then Err DivisionByZero else fitting (int_div n d)
+
+-- with the sign of the dividend
+abbrev pub remainder : Operator
+remainder n d = if unsigned_abs d == 0 then Err DivisionByZero else Ok (int_rem n d)
+
+abbrev pub least : Operator
+least n m = Ok (int_min n m)
+
+abbrev pub greatest : Operator
+greatest n m = Ok (int_max n m)
+
+-- a number with each of the others, from left to right
+abbrev pub with_others : Operator → ℤ → List ℤ → Result ℤ Fault
+with_others operator n [] = Ok n
+with_others operator n (m ∷ ms) = and_then (operator n m) (λ next. with_others operator next ms)
+
+-- the numbers from left to right
+abbrev pub left_to_right : Operator → List ℤ → Result ℤ Fault
+left_to_right operator [] = Err WrongType
+left_to_right operator (n ∷ ns) = with_others operator n ns
+
+-- the integers from left to right, once all values are known to be integers
+abbrev pub calculated : Operator → List Value → Result Value Fault
+calculated operator vs = ok_then value.Int (and_then (integers_of vs) (left_to_right operator))
+
+-- the only value, an integer, without its sign
+abbrev pub magnitude : List Value → Result Value Fault
+magnitude vs = ok_then value.Int (and_then (and_then (only_of vs) integer_of) (λ n. fitting (pos (unsigned_abs n))))

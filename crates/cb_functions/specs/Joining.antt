@@ -1,0 +1,26 @@
+-- Texts joined.
+use Rattle.std.specs.Prelude.{ℕ, Bool, true, false, List, Result, Ok, Err, if◌then◌else◌}
+use Rattle.std.specs.List.{flat_map, list_all}
+use Rattle.cb_forms.specs.declared.fault.Fault.{Fault}
+use Rattle.cb_forms.specs.declared.fault.Fault.TheVariants.{WrongType}
+use Rattle.cb_facts.specs.Results.{ok_then}
+use Rattle.cb_facts.specs.Texts.{plain_bytes}
+use Rattle.cb_facts.specs.declared.value.Value.{Value}
+use Rattle.cb_facts.specs.declared.value.Value.TheVariants as value
+
+-- symbols, strings and integers can be joined
+abbrev pub is_joinable : Value → Bool
+is_joinable (value.Symbol bytes) = true
+is_joinable (value.Str bytes) = true
+is_joinable (value.Int n) = true
+is_joinable v = false
+
+-- the texts that values are printed with, one after another
+abbrev pub joined : List Value → Result (List ℕ) Fault
+joined vs = if list_all is_joinable vs then Ok (flat_map plain_bytes vs) else Err WrongType
+
+abbrev pub joined_string : List Value → Result Value Fault
+joined_string vs = ok_then value.Str (joined vs)
+
+abbrev pub joined_symbol : List Value → Result Value Fault
+joined_symbol vs = ok_then value.Symbol (joined vs)

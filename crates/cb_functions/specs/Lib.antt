@@ -1,0 +1,11 @@
+pub mod Applied
+pub mod Arguments
+pub mod Arithmetic
+pub mod Comparison
+pub mod Constants
+pub mod Joining
+pub mod Logic
+pub mod Multifields
+pub mod Numbers
+pub mod Operations
+pub mod TypeTests

@@ -1,0 +1,20 @@
+//! The functions without an effect: what each returns for the values of its arguments.
+//!
+//! `docs/ARCHITECTURE.md` says where the layer stands.
+#![tactic(auto)]
+
+mod arguments;
+mod arithmetic;
+mod calls;
+mod comparison;
+mod constants;
+mod joining;
+mod laws;
+mod logic;
+mod multifields;
+mod numbers;
+mod type_tests;
+
+pub use calls::apply;
+pub use constants::Constants;
+pub use logic::{decides, is_true};

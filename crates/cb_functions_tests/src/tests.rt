@@ -1,0 +1,4 @@
+mod fields;
+mod numbers;
+mod rows;
+mod truths;

@@ -1,0 +1,111 @@
+-- The words of the language, and what each names as the head of a list.
+use Rattle.std.specs.Prelude.{ℕ, List, [], ◌∷◌, ◌++◌, Option, codes, map}
+use Rattle.std.specs.Map.{lookup}
+use Rattle.std.specs.Str.{bytes_eq}
+use Rattle.cb_words.specs.declared.function.Function.TheVariants as function
+use Rattle.cb_words.specs.declared.head.Action.TheVariants as action
+use Rattle.cb_words.specs.declared.head.Command.TheVariants as command
+use Rattle.cb_words.specs.declared.head.Construct.TheVariants as construct
+use Rattle.cb_words.specs.declared.head.Head.{Head}
+use Rattle.cb_words.specs.declared.head.Head.TheVariants as head
+
+-- a word and what it names
+abbrev pub Rows : Type 0
+Rows = List (List ℕ × Head)
+
+-- constructs
+abbrev pub constructs : Rows
+constructs =
+    (codes "deftemplate", head.Construct construct.Deftemplate) ∷
+    (codes "deffacts", head.Construct construct.Deffacts) ∷
+    (codes "defglobal", head.Construct construct.Defglobal) ∷ []
+
+-- functions with an effect
+abbrev pub actions : Rows
+actions =
+    (codes "assert", head.Action action.Assert) ∷
+    (codes "retract", head.Action action.Retract) ∷
+    (codes "bind", head.Action action.Bind) ∷
+    (codes "if", head.Action action.If) ∷
+    (codes "while", head.Action action.While) ∷
+    (codes "printout", head.Action action.Printout) ∷
+    (codes "print", head.Action action.Print) ∷
+    (codes "println", head.Action action.Println) ∷ []
+
+-- commands
+abbrev pub commands : Rows
+commands =
+    (codes "facts", head.Command command.Facts) ∷
+    (codes "reset", head.Command command.Reset) ∷
+    (codes "clear", head.Command command.Clear) ∷ []
+
+-- functions without an effect
+abbrev pub functions : Rows
+functions =
+    (codes "+", head.Function function.Add) ∷
+    (codes "-", head.Function function.Subtract) ∷
+    (codes "*", head.Function function.Multiply) ∷
+    (codes "div", head.Function function.Div) ∷
+    (codes "mod", head.Function function.Mod) ∷
+    (codes "=", head.Function function.Equal) ∷
+    (codes "<>", head.Function function.NotEqual) ∷
+    (codes "<", head.Function function.Less) ∷
+    (codes ">", head.Function function.Greater) ∷
+    (codes "<=", head.Function function.LessOrEqual) ∷
+    (codes ">=", head.Function function.GreaterOrEqual) ∷
+    (codes "eq", head.Function function.Eq) ∷
+    (codes "neq", head.Function function.Neq) ∷
+    (codes "and", head.Function function.And) ∷
+    (codes "or", head.Function function.Or) ∷
+    (codes "not", head.Function function.Not) ∷
+    (codes "min", head.Function function.Min) ∷
+    (codes "max", head.Function function.Max) ∷
+    (codes "abs", head.Function function.Abs) ∷
+    (codes "create$", head.Function function.Create) ∷
+    (codes "nth$", head.Function function.Nth) ∷
+    (codes "length$", head.Function function.Length) ∷
+    (codes "member$", head.Function function.Member) ∷
+    (codes "first$", head.Function function.First) ∷
+    (codes "rest$", head.Function function.Rest) ∷
+    (codes "str-cat", head.Function function.StrCat) ∷
+    (codes "sym-cat", head.Function function.SymCat) ∷
+    (codes "integerp", head.Function function.Integerp) ∷
+    (codes "numberp", head.Function function.Numberp) ∷
+    (codes "symbolp", head.Function function.Symbolp) ∷
+    (codes "stringp", head.Function function.Stringp) ∷
+    (codes "lexemep", head.Function function.Lexemep) ∷
+    (codes "multifieldp", head.Function function.Multifieldp) ∷
+    (codes "evenp", head.Function function.Evenp) ∷
+    (codes "oddp", head.Function function.Oddp) ∷ []
+
+-- words that are known and not carried out yet
+abbrev pub planned_words : List (List ℕ)
+planned_words =
+    codes "defrule" ∷ codes "run" ∷ codes "agenda" ∷ codes "rules" ∷ codes "undefrule" ∷ codes "watch" ∷
+    codes "unwatch" ∷ codes "set-strategy" ∷ codes "exit" ∷ codes "halt" ∷ []
+
+-- other words of CLIPS that are known and not carried out
+abbrev pub refused_words : List (List ℕ)
+refused_words =
+    codes "/" ∷ codes "**" ∷ codes "float" ∷ codes "integer" ∷ codes "round" ∷ codes "sqrt" ∷ codes "random" ∷
+    codes "seed" ∷ codes "gensym" ∷ codes "gensym*" ∷ codes "defmodule" ∷ codes "focus" ∷ codes "deffunction" ∷
+    codes "defgeneric" ∷ codes "defmethod" ∷ codes "defclass" ∷ codes "definstances" ∷
+    codes "defmessage-handler" ∷ codes "load" ∷ codes "load*" ∷ codes "batch" ∷ codes "batch*" ∷ codes "bload" ∷
+    codes "bsave" ∷ codes "save" ∷ codes "open" ∷ codes "close" ∷ codes "read" ∷ codes "readline" ∷
+    codes "format" ∷ codes "loop-for-count" ∷ codes "foreach" ∷ codes "progn" ∷ codes "progn$" ∷ codes "switch" ∷
+    codes "break" ∷ codes "return" ∷ codes "duplicate" ∷ codes "modify" ∷ codes "fact-index" ∷
+    codes "fact-slot-value" ∷ codes "refresh" ∷ codes "matches" ∷ codes "set-break" ∷ codes "remove-break" ∷
+    codes "show-breaks" ∷ codes "set-fact-duplication" ∷ codes "get-strategy" ∷ codes "undeftemplate" ∷
+    codes "undeffacts" ∷ codes "undefglobal" ∷ codes "list-defrules" ∷ codes "list-deftemplates" ∷
+    codes "list-deffacts" ∷ codes "ppdefrule" ∷ codes "ppfact" ∷ codes "eval" ∷ codes "build" ∷ codes "funcall" ∷
+    codes "expand$" ∷ codes "explode$" ∷ codes "implode$" ∷ codes "subseq$" ∷ codes "delete$" ∷ codes "insert$" ∷
+    codes "replace$" ∷ codes "str-index" ∷ codes "str-length" ∷ codes "str-compare" ∷ codes "sub-string" ∷
+    codes "upcase" ∷ codes "lowcase" ∷ []
+
+-- every word
+abbrev pub words : Rows
+words = constructs ++ (actions ++ (commands ++ (functions ++ map (λ word. (word, head.Refused)) (planned_words ++ refused_words))))
+
+-- what the word names as the head of a list, if it names anything
+unfoldable pub head_of : List ℕ → Option Head
+head_of word = lookup (bytes_eq word) words

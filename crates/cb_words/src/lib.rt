@@ -1,0 +1,12 @@
+//! The words of the language: what the symbol that a list begins with names.
+//!
+//! All readers ask the one table here, in `words.rt`. `docs/ARCHITECTURE.md` says where the layer stands.
+#![tactic(auto)]
+
+mod function;
+mod head;
+mod words;
+
+pub use function::{Arity, Function};
+pub use head::{Action, Command, Construct, Head};
+pub use words::read_head;
