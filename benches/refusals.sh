@@ -70,6 +70,12 @@ red "a \"b\" c\\" -007 ?x ?*g* & () (bogus)
 (assert (a) (b) (c))(retract 2)(retract 2)(facts)(retract *)(assert (d))(retract 4 x)(retract 4 5)
 (deftemplate t (slot a (type FLOAT)))(deftemplate t (slot a) (slot a))(deftemplate t (slot a (default x) (type INTEGER)))(deftemplate t (slot a (default (f))))(deftemplate test)
 (assert (a ?) (b))(assert (a 1.5))(assert (a 99999999999999999999))(assert 3)(assert (and))(reset 1)(clear 1)(retract)(retract a)(run)
+(defglobal ?*n* = 1 ?*m* = (create$ a "b" ?*n*))(bind ?x 1 2 (+ ?*n* 1))?x (bind ?*n* (length$ ?x))(defglobal ?*n* = 7 ?*o* = (div 1 0))?*n* ?*o* (reset)?*n* ?x
+(bind ?i 0)(while (< ?i 5) do (bind ?i (+ ?i 1)) (if (= (mod ?i 2) 0) then (print ?i " ") else (println "odd " ?i)))(while (> ?i 0) (bind ?i (- ?i 1)))?i
+(deftemplate p (slot n) (multislot m))(assert (p (n (* 2 3)) (m (create$ 1 "two") (sym-cat t 3))) (q (str-cat "a" 1 b)))(facts)(retract (assert (r (sym-cat "x" 1))) 1)(facts)
+(deffacts d (a (+ ?*n* 1)))(defglobal ?*n* = 4)(deffacts d (a (+ ?*n* 1) (rest$ (create$ x "y z" 3))))(reset)(facts)(bind ?*n* 9)(reset)(facts)
+(str-cat a "b" 3)(sym-cat "a b" c -4)(rest$ (create$ 1 2 3))(first$ (create$ a b c))(nth$ 2 (create$ a "b c"))(nth$ 9 (create$ a))(and TRUE FALSE (div 1 0))(or FALSE 3)(not 3)(member$ b (create$ a b))(length$ (create$ a (create$ b c)))
+(println (create$ 1 "two" three) " " (+ 1 a))(if (bind ?y (create$)) then ?y)(assert (bind ?z))(bind ?q)(print ?u (bind ?u 1))(max 1 2 3)(eq a a)(neq a b)(while FALSE)
 (assert (1 (2 (3 (4 "5" (6))))))(assert (a (b)))((((((((((x))))))))))) (printout t (+ 1 2) crlf)(not closed
 END
     # Enough facts for the tables to grow.

@@ -1,5 +1,5 @@
 -- What a call that carried something out left, and calls that were refused memory.
-use Rattle.std.proofs.Common.{◌≡◌, false, Result, Ok, Err, OnOk, refl, sym, ap, ◌∙◌}
+use Rattle.std.proofs.Common.{◌≡◌, false, Result, Ok, Err, OnOk, refl, sym, ap, subst, ◌∙◌}
 use Rattle.cb_actions.specs.Acts.{Effect, Act, follow}
 use Rattle.cb_actions.specs.Went.{Went}
 use Rattle.cb_actions.specs.declared.act.Break.{Break}
@@ -26,6 +26,12 @@ module _ {K S A : Type 0} (writes : K → Writes) where
 
   pub went_state : (o o1 : OutState K) (s : S) (a : A) (m : Effect S A) → Went writes o o1 s (Ok a) m → s ≡ m.state
   went_state o o1 s a m h = h.answers.0
+
+  -- the same state
+  pub went_at : (o o1 : OutState K) (s s' : S) (r : Result A Break) (m : Effect S A) → s' ≡ s → Went writes o o1 s r m → Went writes o o1 s' r m
+  went_at o o1 s s' r m same h =
+      let P : S → Type 0 = λ it. Went writes o o1 it r m in
+      subst P (sym same) h
 
 module _ {K S A B : Type 0} (writes : K → Writes) where
   -- memory was refused after a call that answered

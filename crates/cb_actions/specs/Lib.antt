@@ -4,3 +4,5 @@ pub mod Printing
 pub mod Worlds
 pub mod Effects
 pub mod Actions
+pub mod Definitions
+pub mod Laws

@@ -3,7 +3,7 @@ ghost use Rattle.std.specs.Prelude.{◌≡◌, [], None, OnOk, Some, false};
 ghost use Rattle.cb_actions.specs.Actions.{carried, carried_all, carried_values};
 ghost use Rattle.cb_actions.specs.Effects.{tested, valued};
 ghost use Rattle.cb_actions.specs.Went.{Went, listed};
-ghost use Rattle.cb_exprs.specs.Terms.{term_of, terms_of};
+ghost use Rattle.cb_exprs.specs.Terms.{call, term_of, terms_of};
 ghost use Rattle.cb_functions.specs.Constants.{false_symbol};
 
 use crate::act::{Break, Ended};
@@ -11,7 +11,7 @@ use crate::world::{World, constant, ends};
 use cb_exprs::{Channel, Expr};
 use cb_facts::Value;
 use cb_forms::{Fault, Out, Sink};
-use cb_functions::is_true;
+use cb_functions::{decides, is_true};
 use cb_words::Function;
 
 impl World {
@@ -34,10 +34,7 @@ impl World {
             Expr::Constant(value) => constant(value),
             Expr::Variable(name) => self.variable(name),
             Expr::Global(name) => self.global(name),
-            Expr::Call(function, args) => {
-                let values = self.carry_values(Some(*function), args, out)?;
-                self.call(*function, values.as_slice())
-            }
+            Expr::Call(function, args) => self.carry_call(*function, args, out),
             Expr::Assert(shape, parts) => {
                 let values = self.carry_values(None, parts, out)?;
                 self.assert(shape, values)
@@ -84,6 +81,32 @@ impl World {
         }
     }
 
+    /// What a function returns for these arguments.
+    #[cycle(carrying)]
+    fn carry_call<K: Sink>(
+        &mut self,
+        function: Function,
+        args: &[Expr],
+        out: &mut Out<K>,
+    ) -> Result<Option<Value>, Break>
+        requires { out.old.fault ≡ false }
+        ensures went { Went K.writes out.old out.new self.new result
+            (carried (call function (terms_of args.now)) self.old) }
+        ensures fine { OnOk result (out.new.fault ≡ false) }
+    {
+        // Most calls have two arguments, and need no vector.
+        if let [first, second] = args {
+            let first = self.carry_value(first, out)?;
+            if decides(function, &first) {
+                return self.call(function, &[first]);
+            }
+            let second = self.carry_value(second, out)?;
+            return self.call(function, &[first, second]);
+        }
+        let values = self.carry_values(Some(function), args, out)?;
+        self.call(function, values.as_slice())
+    }
+
     /// The value of an expression; one that has none is CB17.
     #[cycle(carrying)]
     fn carry_value<K: Sink>(&mut self, expr: &Expr, out: &mut Out<K>) -> Result<Value, Break>
@@ -112,7 +135,7 @@ impl World {
 
     /// The values of expressions, left to right. Those of a call of a function end with the first that decides it.
     #[cycle(carrying)]
-    fn carry_values<K: Sink>(
+    pub(crate) fn carry_values<K: Sink>(
         &mut self,
         function: Option<Function>,
         exprs: &[Expr],

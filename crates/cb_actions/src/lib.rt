@@ -5,6 +5,8 @@
 
 mod act;
 mod carry;
+mod deffacts;
+mod globals;
 pub mod laws;
 mod output;
 mod print;

@@ -1,19 +1,25 @@
 //! What actions see and change, and what each kind of action does with the values that it is given.
-ghost use Rattle.std.specs.Prelude.{◌≡◌, [], ◌∷◌, false, IfOk, Some};
+ghost use Rattle.std.specs.Prelude.{◌≡◌, [], false, IfOk, OnOk, Some, ◌∷◌};
+ghost use Rattle.cb_forms.specs.Members.{members};
+ghost use Rattle.cb_facts.specs.Results.{Returns};
+ghost use Rattle.cb_eval.specs.Evaluation.{value_of};
+ghost use Rattle.cb_exprs.specs.Terms.{term_of};
 ghost use Rattle.cb_actions.specs.Acts.{give, write};
+ghost use Rattle.cb_actions.specs.Definitions.{template_defined};
 ghost use Rattle.cb_actions.specs.Effects.{added, asserted, bound, called, each_given, ends, global_bound, global_looked_up, looked_up, parts_of, printed_line, retracted, turn};
 ghost use Rattle.cb_actions.specs.Printing.{printed};
 ghost use Rattle.cb_actions.specs.Went.{Quietly, Went};
-ghost use Rattle.cb_actions.specs.Worlds.{World as State, fresh_world};
+ghost use Rattle.cb_actions.specs.Worlds.{World as State, cleared, first_world, without_facts, without_variables};
 ghost use Rattle.cb_functions.specs.Constants.{false_symbol};
 ghost use Rattle.cb_templates.specs.Building.{part_values};
 
 use crate::act::{Break, Ended, Limit};
 use crate::output::put;
 use crate::print::{put_printed, put_values};
-use cb_exprs::{Channel, Env, FactShape};
-use cb_facts::{Fact, Name, Value};
-use cb_forms::{Fault, NoMemory, Out, Sink};
+use cb_eval::eval;
+use cb_exprs::{Channel, Env, Expr, FactShape};
+use cb_facts::{Fact, Name, Names, Refused, Value};
+use cb_forms::{Fault, Form, NoMemory, Out, Sink};
 use cb_functions::{Constants, apply, decides};
 use cb_templates::{GivenSlot, Parts, Relations, build_fact};
 use cb_words::Function;
@@ -23,19 +29,16 @@ use std::marker::Model;
 
 /// What actions see and change. After `NoMemory` it may be any.
 ///
-/// Contracts see the record of these four.
+/// Contracts see the record of the facts, the templates, the values, and the turns that are left.
 #[derive(Drop)]
 pub struct World {
     alloc: Global,
-    constants: Constants,
-    /// The facts.
-    pub memory: WorkingMemory,
-    /// The templates.
-    pub relations: Relations,
-    /// The values of the variables and the globals.
-    pub env: Env,
-    /// How many turns are left to all loops together.
-    pub turns: u64,
+    /// The symbols that functions return, made when the first is wanted.
+    constants: Option<Constants>,
+    memory: WorkingMemory,
+    relations: Relations,
+    env: Env,
+    turns: u64,
 }
 
 impl Model for World {
@@ -47,18 +50,105 @@ impl Model for World {
 }
 
 impl World {
-    /// No facts, no templates and no values, and this many turns for loops.
-    pub fn new(alloc: Global, constants: Constants, turns: u64) -> World
-        ensures { result ≡ fresh_world turns }
+    /// No facts, no templates and no values, and this many turns for loops. It takes no memory yet.
+    pub fn new(alloc: Global, turns: u64) -> World
+        ensures { result ≡ first_world turns }
     {
         World {
             alloc,
-            constants,
+            constants: None,
             memory: WorkingMemory::new(alloc),
             relations: Relations::new(alloc),
             env: Env::new(alloc),
             turns,
         }
+    }
+
+    /// The allocator.
+    pub(crate) fn alloc(&self) -> Global {
+        self.alloc
+    }
+
+    /// The facts.
+    pub fn memory(&self) -> &WorkingMemory
+        ensures { result.now ≡ self.now.memory }
+    {
+        &self.memory
+    }
+
+    /// The templates.
+    pub fn relations(&self) -> &Relations
+        ensures { result.now ≡ self.now.templates }
+    {
+        &self.relations
+    }
+
+    /// The values of the variables and the globals.
+    pub fn env(&self) -> &Env
+        ensures { result.now ≡ self.now.env }
+    {
+        &self.env
+    }
+
+    /// Defines a template, as `Relations::define_template` does.
+    pub fn define_template(
+        &mut self,
+        names: &mut Names,
+        forms: &[Form],
+        in_use: bool,
+    ) -> Result<Option<Value>, Break>
+        ensures { Quietly self.new result (template_defined in_use (members forms.now) self.old) }
+    {
+        self.relations.define_template(names, forms, in_use)?;
+        Ok(None)
+    }
+
+    /// Takes the values of all variables away. The globals keep theirs.
+    pub fn drop_variables(&mut self)
+        ensures { self.new ≡ without_variables self.old }
+    {
+        self.env.drop_variables(self.alloc);
+    }
+
+    /// Takes all facts away. The next index is 1.
+    pub fn drop_facts(&mut self)
+        ensures { self.new ≡ without_facts self.old }
+    {
+        self.memory = WorkingMemory::new(self.alloc);
+    }
+
+    /// Takes the facts, the templates and all values away. The turns that are left stay.
+    pub fn clear(&mut self)
+        ensures { self.new ≡ cleared self.old }
+    {
+        self.memory = WorkingMemory::new(self.alloc);
+        self.relations = Relations::new(self.alloc);
+        self.env = Env::new(self.alloc);
+    }
+
+    /// The value of an expression without an effect, as `cb_eval::eval` returns it.
+    pub fn value(&mut self, expr: &Expr) -> Result<Value, Refused>
+        ensures value { Returns result (value_of (term_of expr.now) self.old.env) }
+        ensures same { self.new ≡ self.old }
+    {
+        let constants = made(self.alloc, &mut self.constants)?;
+        eval(self.alloc, constants, expr, &self.env)
+    }
+
+    /// The value of an expression without an effect, where the variables and the globals have these values.
+    pub(crate) fn value_in(&mut self, expr: &Expr, env: &Env) -> Result<Value, Refused>
+        ensures value { Returns result (value_of (term_of expr.now) env.now) }
+        ensures same { self.new ≡ self.old }
+    {
+        let constants = made(self.alloc, &mut self.constants)?;
+        eval(self.alloc, constants, expr, env)
+    }
+
+    /// Gives the variables and the globals these values in place of all that they have.
+    pub(crate) fn replace_env(&mut self, env: Env)
+        ensures { self.new ≡ record self.old { env = env } }
+    {
+        self.env = env;
     }
 
     /// The value of a variable.
@@ -82,10 +172,11 @@ impl World {
     }
 
     /// FALSE.
-    pub(crate) fn no(&self) -> Result<Value, NoMemory>
-        ensures { IfOk result (λ value. value ≡ false_symbol) }
+    pub(crate) fn no(&mut self) -> Result<Value, NoMemory>
+        ensures value { IfOk result (λ value. value ≡ false_symbol) }
+        ensures same { self.new ≡ self.old }
     {
-        self.constants.truth(false)
+        made(self.alloc, &mut self.constants)?.truth(false)
     }
 
     /// No values yet.
@@ -96,10 +187,15 @@ impl World {
     }
 
     /// What a function without an effect returns for these values.
-    pub(crate) fn call(&self, function: Function, values: &[Value]) -> Result<Option<Value>, Break>
-        ensures { Quietly self.now result (called function values.now self.now) }
+    pub(crate) fn call(
+        &mut self,
+        function: Function,
+        values: &[Value],
+    ) -> Result<Option<Value>, Break>
+        ensures { Quietly self.new result (called function values.now self.old) }
     {
-        let value = apply(self.alloc, &self.constants, function, values)?;
+        let constants = made(self.alloc, &mut self.constants)?;
+        let value = apply(self.alloc, constants, function, values)?;
         Ok(Some(value))
     }
 
@@ -198,6 +294,14 @@ impl World {
         put(b"\n", out)?;
         Ok(None)
     }
+}
+
+/// The symbols that functions return. They are made if they are not there yet.
+fn made(alloc: Global, constants: &mut Option<Constants>) -> Result<&Constants, NoMemory> {
+    if constants.is_none() {
+        *constants = Some(Constants::new(alloc)?);
+    }
+    constants.as_ref().ok_or(NoMemory)
 }
 
 /// The value of a constant.

@@ -1,4 +1,4 @@
-//! Tests of the public surface of `cb_exprs` and `cb_eval`.
+//! Tests of the public surface of `cb_calc`.
 //!
 //! A test compares all rows of a `const` at once; the functions that read rows stand in `rows.rt`.
 #![tactic(auto)]

@@ -1,12 +1,12 @@
 -- Calls, by the word that they begin with.
-use Rattle.std.proofs.Common.{◌≡◌, ◌≢◌, ◌∙◌, ◌++◌, ℕ, Bool, true, false, not, List, [], ◌∷◌, Option, Some, None, Result, Ok, Err, arith, is_some, refl, sym, ap, ap₂, subst}
+use Rattle.std.proofs.Common.{◌≡◌, ◌≢◌, ◌∙◌, ◌++◌, ℕ, true, List, Option, Some, None, Result, Ok, Err, arith, is_some, refl, sym, ap, subst}
 use Rattle.std.specs.Prelude.{MatchResult}
 use Rattle.std.specs.Option.{unwrap_or}
 use Rattle.cb_expr_forms.specs.Actions.{action_of}
-use Rattle.cb_expr_forms.specs.ExprFaults.{action_faults, all_faults, arguments_fault, call_faults, facts_faults}
+use Rattle.cb_expr_forms.specs.ExprFaults.{action_faults, all_faults, arguments_fault, facts_faults}
 use Rattle.cb_expr_forms.specs.ExprForms.{assertions, call_expr, exprs_of, no_expr}
 use Rattle.cb_expr_forms.specs.FaultLists.{first_of, unless}
-use Rattle.cb_expr_forms.specs.Plans.{HasPlan, IsCall, IsCallFault, IsHeaded, IsHeadedFault, called_expr, called_faults, plan_expr, plan_faults}
+use Rattle.cb_expr_forms.specs.Plans.{HasPlan, IsCall, IsCallFault, IsHeaded, IsHeadedFault, plan_expr}
 use Rattle.cb_expr_forms.specs.Scopes.{Scope, may_act}
 use Rattle.cb_expr_forms.specs.declared.action_form.ActionForm.{ActionForm}
 use Rattle.cb_expr_forms.specs.declared.call_form.CallForm.{CallForm}
@@ -21,7 +21,6 @@ use Rattle.cb_forms.specs.declared.token.Token.TheVariants as token
 use Rattle.cb_forms.specs.declared.fault.Fault.{Fault}
 use Rattle.cb_forms.specs.declared.fault.Fault.TheVariants.{NotInProfile}
 use Rattle.cb_exprs.specs.Terms.{Term}
-use Rattle.cb_templates.specs.Templates.{Templates}
 use Rattle.cb_words.specs.Words.{head_of}
 use Rattle.cb_words.specs.declared.head.Action.{Action}
 use Rattle.cb_words.specs.declared.head.Action.TheVariants as action

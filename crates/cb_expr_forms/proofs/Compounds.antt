@@ -1,13 +1,11 @@
 -- A list is none of the expressions that an atom is.
-use Rattle.std.proofs.Common.{◌≡◌, ◌||◌, ℕ, Bool, true, false, List, [], ◌∷◌, Option, Some, None, codes, refl, option_map, if◌then◌else◌}
+use Rattle.std.proofs.Common.{◌≡◌, ℕ, Bool, true, false, List, [], ◌∷◌, Option, Some, None, codes, refl, option_map, if◌then◌else◌}
 use Rattle.std.specs.List.{list_any}
 use Rattle.std.specs.Option.{unwrap_or}
-use Rattle.std.specs.Str.{bytes_eq}
-use Rattle.cb_expr_forms.specs.Actions.{is_word, joined, branches, before_else, after_else, is_else, bind_of, if_of, while_of, retract_of, printout_of, named_channel, action_of}
+use Rattle.cb_expr_forms.specs.Actions.{is_word, branches, after_else, is_else, bind_of, if_of, while_of, retract_of, printout_of, named_channel, action_of}
 use Rattle.cb_expr_forms.specs.ExprForms.{no_expr, list_expr, call_expr, exprs_of, assertions}
 use Rattle.cb_exprs.specs.Terms.{Term, constant, variable, global, call, assert, retract, bind, bind_global, choose, repeat, actions, printout, print, println}
 use Rattle.cb_exprs.specs.declared.channel.Channel.{Channel}
-use Rattle.cb_facts.specs.declared.value.Value.{Value}
 use Rattle.cb_facts.specs.declared.value.Value.TheVariants as value
 use Rattle.cb_forms.specs.Trees.{atom, branch, Trees, no_trees, tree}
 use Rattle.cb_forms.specs.declared.token.Token.TheVariants as token

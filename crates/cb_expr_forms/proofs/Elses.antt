@@ -1,5 +1,5 @@
 -- The actions of an `if`, cut at the first `else`.
-use Rattle.std.proofs.Common.{◌≡◌, ◌∙◌, ◌||◌, ◌++◌, ℕ, ◌+◌, ◌≤◌, arith, Bool, true, false, List, [], ◌∷◌, codes, length, take, refl, sym, ap, ap₂, subst, append_assoc, if◌then◌else◌}
+use Rattle.std.proofs.Common.{◌≡◌, ◌∙◌, ◌||◌, ◌++◌, ℕ, ◌+◌, ◌≤◌, arith, Bool, true, false, List, [], ◌∷◌, codes, length, take, refl, sym, ap, ap₂, append_assoc, if◌then◌else◌}
 use Rattle.std.proofs.Math.Seq.{take-append_seam}
 use Rattle.std.proofs.lemmas.List.Folds.{list_any-append}
 use Rattle.std.specs.List.{list_any}
@@ -11,8 +11,7 @@ use Rattle.cb_expr_forms.specs.Sizes.{tree_size, trees_size}
 use Rattle.cb_expr_forms.proofs.Heads.{word_symbol}
 use Rattle.cb_exprs.specs.Terms.{Term}
 use Rattle.cb_forms.specs.Members.{members}
-use Rattle.cb_forms.specs.Trees.{Tree, atom, branch, tree, tree_of}
-use Rattle.cb_forms.specs.declared.fault.Fault.{Fault}
+use Rattle.cb_forms.specs.Trees.{Tree, atom, branch, tree_of}
 use Rattle.cb_forms.specs.declared.form.Form.{Form}
 use Rattle.cb_forms.specs.declared.token.Token.TheVariants as token
 use Rattle.cb_templates.specs.Templates.{Templates}

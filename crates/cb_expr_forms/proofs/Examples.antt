@@ -1,15 +1,15 @@
 -- Forms, and which expression each is or what is wrong with it.
-use Rattle.std.proofs.Common.{◌≡◌, ℕ, List, [], ◌∷◌, Option, Some, None, codes, pos, true, false, refl}
+use Rattle.std.proofs.Common.{◌≡◌, ℕ, List, [], ◌∷◌, Some, None, codes, pos, true, false, refl}
 use Rattle.cb_expr_forms.specs.Bound.{bound_in}
 use Rattle.cb_expr_forms.specs.ExprFaults.{faults_of}
 use Rattle.cb_expr_forms.specs.ExprForms.{expr_of}
 use Rattle.cb_expr_forms.specs.FaultLists.{first_of}
 use Rattle.cb_expr_forms.specs.Scopes.{Scope}
-use Rattle.cb_expr_forms.specs.declared.scope.Side.TheVariants.{Top, Plain}
-use Rattle.cb_exprs.specs.Terms.{constant, variable, call, assert, bind, choose, repeat, actions, no_terms, term}
+use Rattle.cb_expr_forms.specs.declared.scope.Side.TheVariants.{Top}
+use Rattle.cb_exprs.specs.Terms.{constant, variable, call, bind, choose, repeat, actions, no_terms, term}
 use Rattle.cb_facts.specs.declared.value.Value.TheVariants as value
 use Rattle.cb_forms.specs.Trees.{Tree, atom, branch, Trees, no_trees, tree}
-use Rattle.cb_forms.specs.declared.fault.Fault.TheVariants.{UnknownFunction, WrongArguments, MalformedForm, FactDoesNotFit, ValueNotAllowed, UnboundVariable, UnknownGlobal, NotInProfile}
+use Rattle.cb_forms.specs.declared.fault.Fault.TheVariants.{UnknownFunction, WrongArguments, MalformedForm, FactDoesNotFit, ValueNotAllowed, UnknownGlobal, NotInProfile}
 use Rattle.cb_forms.specs.declared.token.Token.TheVariants as token
 use Rattle.cb_templates.specs.Reserved.{is_reserved}
 use Rattle.cb_templates.specs.declared.slot_type.SlotType.TheVariants.{Integer}

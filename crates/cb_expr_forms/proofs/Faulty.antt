@@ -1,5 +1,5 @@
 -- A part that has a fault.
-use Rattle.std.proofs.Common.{◌≡◌, ◌≤◌, ◌<◌, ◌+◌, ◌∙◌, ◌++◌, ℕ, suc, zero, List, [], ◌∷◌, Option, Some, None, Result, Ok, Err, arith, drop, get_or, length, refl, sym, ap, subst}
+use Rattle.std.proofs.Common.{◌≡◌, ◌≤◌, ◌<◌, ◌+◌, ◌∙◌, ℕ, suc, zero, List, [], ◌∷◌, Some, Err, arith, drop, get_or, length, sym, ap}
 use Rattle.std.proofs.lemmas.List.{at_drop_more}
 use Rattle.cb_expr_forms.specs.ExprFaults.{slot_faults, slots_faults}
 use Rattle.cb_expr_forms.specs.FaultLists.{Reads, first_of}

@@ -1,6 +1,5 @@
 -- Forms by the symbol that they begin with.
-use Rattle.std.proofs.Common.{◌≡◌, ◌∙◌, ◌++◌, ℕ, suc, Bool, true, false, List, [], ◌∷◌, Option, Some, None, length, refl, ap, sym}
-use Rattle.std.specs.Option.{option_map}
+use Rattle.std.proofs.Common.{◌≡◌, ◌++◌, ℕ, suc, List, [], ◌∷◌, Option, Some, None, length, refl, ap}
 use Rattle.cb_expr_forms.specs.Actions.{is_word}
 use Rattle.cb_expr_forms.specs.ExprFaults.{count, fact_faults, is_symbol, list_faults, slot_faults}
 use Rattle.cb_expr_forms.specs.ExprForms.{expr_of, list_expr}

@@ -1,5 +1,5 @@
 -- An `if`, by its test, the word `then` and its actions.
-use Rattle.std.proofs.Common.{◌≡◌, ◌∙◌, ◌++◌, ◌+◌, ◌≤◌, arith, ℕ, Bool, true, false, List, [], ◌∷◌, Option, Some, None, codes, refl, sym, ap, ap₂, if◌then◌else◌}
+use Rattle.std.proofs.Common.{◌≡◌, ◌∙◌, ◌++◌, ◌+◌, ◌≤◌, arith, true, false, List, ◌∷◌, Some, None, codes, refl, sym, ap, ap₂, if◌then◌else◌}
 use Rattle.std.specs.List.{list_any}
 use Rattle.cb_expr_forms.specs.Actions.{before_else, after_else, branches, if_of, is_else}
 use Rattle.cb_expr_forms.specs.ExprFaults.{all_faults, faults_of, is_symbol}
@@ -9,10 +9,9 @@ use Rattle.cb_expr_forms.specs.Scopes.{Scope}
 use Rattle.cb_expr_forms.specs.Sizes.{tree_size, trees_size}
 use Rattle.cb_expr_forms.proofs.Elses.{symbol_fine}
 use Rattle.cb_expr_forms.proofs.Heads.{word_symbol}
-use Rattle.cb_exprs.specs.Terms.{Term, choose, actions, terms}
+use Rattle.cb_exprs.specs.Terms.{choose, actions, terms}
 use Rattle.cb_forms.specs.Members.{members}
 use Rattle.cb_forms.specs.Trees.{tree_of}
-use Rattle.cb_forms.specs.declared.fault.Fault.{Fault}
 use Rattle.cb_forms.specs.declared.form.Form.{Form}
 use Rattle.cb_templates.specs.Templates.{Templates}
 

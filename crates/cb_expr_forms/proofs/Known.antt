@@ -9,7 +9,7 @@ use Rattle.cb_facts.proofs.FactListLaws.{false-from_not}
 use Rattle.cb_facts.specs.declared.value.Value.{Value}
 use Rattle.cb_templates.specs.Places.{place_in}
 
-same_words : (n k : List ℕ) → bytes_eq n k ≡ bytes_eq k n
+pub same_words : (n k : List ℕ) → bytes_eq n k ≡ bytes_eq k n
 same_words n k = same (bytes_eq n k) refl where
   same : (t : Bool) → bytes_eq n k ≡ t → t ≡ bytes_eq k n
   same true h = sym ((bytes_eq-Decides k n).1 (sym ((bytes_eq-Decides n k).0 h)))

@@ -8,3 +8,4 @@ pub mod Ifs
 pub mod Known
 pub mod PlanLaws
 pub mod RightLaws
+pub mod SlotLaws

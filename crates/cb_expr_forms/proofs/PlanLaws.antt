@@ -1,14 +1,14 @@
 -- What of a form is read next.
-use Rattle.std.proofs.Common.{◌≡◌, ◌∙◌, ◌||◌, ◌++◌, ℕ, Bool, true, false, not, List, [], ◌∷◌, Option, Some, None, Result, Ok, Err, arith, refl, sym, ap, ap₂, subst, if◌then◌else◌}
+use Rattle.std.proofs.Common.{◌≡◌, ◌∙◌, ◌++◌, ℕ, Bool, true, false, not, List, [], ◌∷◌, Option, Some, None, Result, Ok, Err, arith, refl, sym, ap, ap₂, subst, if◌then◌else◌}
 use Rattle.std.proofs.lemmas.Slice.Eq.{bytes_eq-Decides}
 use Rattle.std.specs.Prelude.{MatchResult}
 use Rattle.std.specs.List.{list_all}
 use Rattle.std.specs.Str.{bytes_eq}
-use Rattle.cb_expr_forms.specs.ExprFaults.{slot_by, type_faults, values_faults, slot_faults}
-use Rattle.cb_expr_forms.specs.ExprForms.{slot_expr, exprs_of, given_slot}
+use Rattle.cb_expr_forms.specs.ExprFaults.{slot_by, type_faults, values_faults}
+use Rattle.cb_expr_forms.specs.ExprForms.{slot_expr, exprs_of}
 use Rattle.cb_expr_forms.specs.FaultLists.{first_of, unless}
-use Rattle.cb_expr_forms.specs.Plans.{IsFact, IsSlot, IsSlotFault, IsFilling, IsFillingFault, content_by, slot_of, filling_expr, filling_faults}
-use Rattle.cb_expr_forms.specs.Scopes.{Scope, is_known}
+use Rattle.cb_expr_forms.specs.Plans.{IsFact, IsSlot, IsSlotFault, IsFilling, IsFillingFault, content_by}
+use Rattle.cb_expr_forms.specs.Scopes.{is_known}
 use Rattle.cb_expr_forms.specs.declared.slot_form.SlotForm.{SlotForm}
 use Rattle.cb_expr_forms.proofs.Heads.{called}
 use Rattle.cb_exprs.specs.Terms.{Term, constant, variable, global, call, assert, retract, bind, bind_global, choose, repeat, actions, printout, print, println}
@@ -17,15 +17,12 @@ use Rattle.cb_facts.specs.Values.{fields_in}
 use Rattle.cb_facts.specs.declared.refused.Refused.{Refused}
 use Rattle.cb_facts.specs.declared.refused.Refused.TheVariants as refused
 use Rattle.cb_facts.specs.declared.single.Single.{Single}
-use Rattle.cb_facts.specs.declared.value.Value.{Value}
 use Rattle.cb_forms.specs.Members.{call_of}
 use Rattle.cb_forms.specs.Trees.{Tree, branch, Trees, tree, atom}
-use Rattle.cb_forms.specs.declared.fault.Fault.{Fault}
 use Rattle.cb_forms.specs.declared.fault.Fault.TheVariants.{FactDoesNotFit, ValueNotAllowed}
 use Rattle.cb_forms.specs.declared.token.Token.TheVariants as token
 use Rattle.cb_templates.specs.Reserved.{is_reserved}
-use Rattle.cb_templates.specs.Slots.{SlotShape, allows, allows_all, slot_named}
-use Rattle.cb_templates.specs.Templates.{Templates}
+use Rattle.cb_templates.specs.Slots.{SlotShape, allows, slot_named}
 
 -- a fact of a relation
 pub is_fact : (t : Tree) (relation : List ℕ) (ts : Trees) → call_of t ≡ Some (relation, ts) → is_reserved relation ≡ false → IsFact t relation ts
@@ -45,37 +42,27 @@ named_so : (slots : List SlotShape) (name : List ℕ) (s : SlotShape) → slot_n
 named_so [] name s h = absurd (cc)
 named_so (r ∷ slots) name s h = found_so (bytes_eq r.name name) r s (slot_named slots name) name h (λ e. (bytes_eq-Decides r.name name).0 e) (λ g. named_so slots name s g)
 
--- a slot that the template has and that is not given yet, with its values
-pub is_slot : (slots : List SlotShape) (given : List (List ℕ)) (t : Tree) (name : List ℕ) (ts : Trees) (slot : SlotShape) (r : Result SlotForm Refused)
-    → call_of t ≡ Some (name, ts) → slot_named slots name ≡ Some slot → is_known given slot.name ≡ false
-    → MatchResult r (IsFilling slot ts) (λ e. Tells e (IsFillingFault slot ts)) → MatchResult r (IsSlot slots given t) (λ e. Tells e (IsSlotFault slots given t))
-is_slot slots given t name ts slot (Ok c) h has new filling =
+-- a slot that the template has, with its values
+pub is_slot : (slots : List SlotShape) (given : List (List ℕ)) (t : Tree) (name : List ℕ) (ts : Trees) (slot : SlotShape) (is_given : Bool) (r : Result SlotForm Refused)
+    → call_of t ≡ Some (name, ts) → slot_named slots name ≡ Some slot → is_given ≡ is_known given slot.name
+    → MatchResult r (IsFilling slot is_given ts) (λ e. Tells e (IsFillingFault slot is_given ts)) → MatchResult r (IsSlot slots given t) (λ e. Tells e (IsSlotFault slots given t))
+is_slot slots given t name ts slot is_given (Ok c) h has known filling =
     let same : slot.name ≡ name = named_so slots name slot has in
-    let fresh : is_known given name ≡ false = ap (is_known given) (sym same) ∙ new in
+    let so : is_known given name ≡ is_given = ap (is_known given) (sym same) ∙ sym known in
     let there : IsSlot slots given (branch (tree (atom (token.Symbol name)) ts)) c = record {
       name_is = sym same ∙ sym filling.slot_is;
       expr_is = λ templates. ap (λ o. slot_expr o (exprs_of templates ts)) has ∙ filling.expr_is templates;
-      faults_are = λ s. ap₂ (λ o b. slot_by o b ts (λ types. values_faults s types ts)) has fresh ∙ filling.faults_are s;
+      faults_are = λ s. ap₂ (λ o b. slot_by o b ts (λ types. values_faults s types ts)) has so ∙ filling.faults_are s;
       smaller = let less = filling.smaller in omega arith;
     } in
     subst (λ it. IsSlot slots given it c) (sym (called t name ts h)) there
-is_slot slots given t name ts slot (Err (refused.Fault f)) h has new filling =
+is_slot slots given t name ts slot is_given (Err (refused.Fault f)) h has known filling =
     let same : slot.name ≡ name = named_so slots name slot has in
-    let fresh : is_known given name ≡ false = ap (is_known given) (sym same) ∙ new in
+    let so : is_known given name ≡ is_given = ap (is_known given) (sym same) ∙ sym known in
     let there : IsSlotFault slots given (branch (tree (atom (token.Symbol name)) ts)) f =
-    λ s. ap₂ (λ o b. first_of (slot_by o b ts (λ types. values_faults s types ts))) has fresh ∙ filling s in
+    λ s. ap₂ (λ o b. first_of (slot_by o b ts (λ types. values_faults s types ts))) has so ∙ filling s in
     subst (λ it. IsSlotFault slots given it f) (sym (called t name ts h)) there
-is_slot slots given t name ts slot (Err refused.NoMemory) h has new filling = tt
-
--- a slot that is given already
-pub is_repeated : (slots : List SlotShape) (given : List (List ℕ)) (t : Tree) (name : List ℕ) (ts : Trees) (slot : SlotShape)
-    → call_of t ≡ Some (name, ts) → slot_named slots name ≡ Some slot → is_known given slot.name ≡ true → IsSlotFault slots given t FactDoesNotFit
-is_repeated slots given t name ts slot h has old =
-    let same : slot.name ≡ name = named_so slots name slot has in
-    let known : is_known given name ≡ true = ap (is_known given) (sym same) ∙ old in
-    let there : IsSlotFault slots given (branch (tree (atom (token.Symbol name)) ts)) FactDoesNotFit =
-    λ s. ap₂ (λ o b. first_of (slot_by o b ts (λ types. values_faults s types ts))) has known in
-    subst (λ it. IsSlotFault slots given it FactDoesNotFit) (sym (called t name ts h)) there
+is_slot slots given t name ts slot is_given (Err refused.NoMemory) h has known filling = tt
 
 any_field : (fields : List Single) → list_all (allows None) fields ≡ true
 any_field [] = refl

@@ -1,16 +1,34 @@
--- Arguments that have no fault, and the first that has one.
-use Rattle.std.proofs.Common.{◌≡◌, ◌↔◌, ◌∙◌, ◌++◌, List, [], ◌∷◌, Some, refl, ap, sym}
-use Rattle.cb_expr_forms.specs.ExprFaults.{all_faults, faults_of}
-use Rattle.cb_expr_forms.specs.FaultLists.{first_of}
-use Rattle.cb_expr_forms.specs.Laws.{AreRight, followed_by}
+-- Arguments, calls, facts and fields that have no fault, and the first that has one.
+use Rattle.std.proofs.Common.{◌≡◌, ◌↔◌, ◌∙◌, ◌++◌, ◌&&◌, Bool, true, false, not, List, [], ◌∷◌, Option, Some, None, refl, ap, ap₂, sym}
+use Rattle.cb_expr_forms.specs.ExprFaults.{all_faults, begins_with_list, call_faults, count, equals_faults, faults_of, is_equals, type_faults, values_faults}
+use Rattle.cb_expr_forms.specs.ExprForms.{expr_of}
+use Rattle.cb_expr_forms.specs.FaultLists.{first_of, unless}
+use Rattle.cb_expr_forms.specs.Laws.{AreFaultless, AreRight, NoListAfterEquals, followed_by}
 use Rattle.cb_expr_forms.specs.Scopes.{Scope}
 use Rattle.cb_expr_forms.proofs.Heads.{first_append}
+use Rattle.cb_expr_forms.proofs.PlanLaws.{any_type}
 use Rattle.cb_forms.specs.Trees.{Tree, Trees, no_trees, tree}
 use Rattle.cb_forms.specs.declared.fault.Fault.{Fault}
+use Rattle.cb_forms.specs.declared.fault.Fault.TheVariants.{NotInProfile, WrongArguments}
+use Rattle.cb_words.specs.Arities.{arity_of, takes}
+use Rattle.cb_words.specs.declared.function.Function.{Function}
+use Rattle.cb_words.specs.declared.head.Head.{Head}
+use Rattle.cb_words.specs.declared.head.Head.TheVariants as head
 
-both_none : (xs ys : List Fault) → xs ++ ys ≡ [] → (xs ≡ []) × (ys ≡ [])
+pub both_none : (xs ys : List Fault) → xs ++ ys ≡ [] → (xs ≡ []) × (ys ≡ [])
 both_none [] ys h = (refl, h)
 both_none (x ∷ xs) ys h = absurd (cc)
+
+pub none_both : (xs ys : List Fault) → xs ≡ [] → ys ≡ [] → xs ++ ys ≡ []
+none_both xs ys h k = ap₂ (λ us vs. us ++ vs) h k
+
+pub holds : (b : Bool) (f : Fault) → unless b f ≡ [] → b ≡ true
+holds true f h = refl
+holds false f h = absurd (cc)
+
+pub holds_not : (b : Bool) (f : Fault) → unless (not b) f ≡ [] → b ≡ false
+holds_not true f h = absurd (cc)
+holds_not false f h = refl
 
 pub right_all : (s : Scope) (ts : Trees) → all_faults s ts ≡ [] → AreRight s ts
 right_all s no_trees h = tt
@@ -18,10 +36,40 @@ right_all s (tree t ts) h = let parts = both_none (faults_of s t) (all_faults s 
 
 pub all_right : (s : Scope) (ts : Trees) → AreRight s ts → all_faults s ts ≡ []
 all_right s no_trees h = refl
-all_right s (tree t ts) h = ap (λ fs. fs ++ all_faults s ts) h.0 ∙ all_right s ts h.1
+all_right s (tree t ts) h = none_both (faults_of s t) (all_faults s ts) h.0 (all_right s ts h.1)
 
-pub first_reported : (s : Scope) (before : Trees) (t : Tree) (after : Trees) (f : Fault) → AreRight s before → first_of (faults_of s t) ≡ Some f
-    → first_of (all_faults s (followed_by before (tree t after))) ≡ Some f
-first_reported s no_trees t after f right h = first_append (faults_of s t) (all_faults s after) f h
-first_reported s (tree u us) t after f right h =
-    ap (λ fs. first_of (fs ++ all_faults s (followed_by us (tree t after)))) right.0 ∙ first_reported s us t after f right.1 h
+-- of forms, the faults of one after another: the first that has a fault is reported
+pub first_reported : (faults : Tree → List Fault) (all : Trees → List Fault) (next : (t : Tree) (ts : Trees) → all (tree t ts) ≡ faults t ++ all ts)
+    (before : Trees) (t : Tree) (after : Trees) (f : Fault) → AreFaultless faults before → first_of (faults t) ≡ Some f → first_of (all (followed_by before (tree t after))) ≡ Some f
+first_reported faults all next no_trees t after f right h = ap first_of (next t after) ∙ first_append (faults t) (all after) f h
+first_reported faults all next (tree u us) t after f right h =
+    let rest = followed_by us (tree t after) in
+    ap first_of (next u rest) ∙ ap (λ fs. first_of (fs ++ all rest)) right.0 ∙ first_reported faults all next us t after f right.1 h
+
+-- a call of a function without an effect, by what its word names
+pub call_right : (s : Scope) (word : Option Head) (f : Function) (args : Trees) (facts : List Fault) → word ≡ Some (head.Function f)
+    → (call_faults s word args (all_faults s args) facts ≡ []) ↔ ((takes (arity_of f) (count args) ≡ true) × AreRight s args)
+call_right s word f args facts is =
+    let enough = takes (arity_of f) (count args) in
+    let so : call_faults s word args (all_faults s args) facts ≡ unless enough WrongArguments ++ all_faults s args = ap (λ o. call_faults s o args (all_faults s args) facts) is in (
+      λ h. let parts = both_none (unless enough WrongArguments) (all_faults s args) (sym so ∙ h) in (holds enough WrongArguments parts.0, right_all s args parts.1),
+      λ h. so ∙ none_both (unless enough WrongArguments) (all_faults s args) (ap (λ b. unless b WrongArguments) h.0) (all_right s args h.1),
+    )
+
+-- fields of an ordered fact
+pub fields_right : (s : Scope) (ts : Trees) → values_faults s None ts ≡ [] → AreRight s ts × NoListAfterEquals ts
+fields_right s no_trees h = (tt, tt)
+fields_right s (tree t ts) h =
+    let types = type_faults None (expr_of s.templates t) in
+    let parts = both_none (equals_faults t ts ++ (faults_of s t ++ types)) (values_faults s None ts) h in
+    let here = both_none (equals_faults t ts) (faults_of s t ++ types) parts.0 in
+    let rest = fields_right s ts parts.1 in
+    (((both_none (faults_of s t) types here.1).0, rest.0), (holds_not (is_equals t && begins_with_list ts) NotInProfile here.0, rest.1))
+
+pub right_fields : (s : Scope) (ts : Trees) → AreRight s ts → NoListAfterEquals ts → values_faults s None ts ≡ []
+right_fields s no_trees right free = refl
+right_fields s (tree t ts) right free =
+    let types = type_faults None (expr_of s.templates t) in
+    let equals : equals_faults t ts ≡ [] = ap (λ b. unless (not b) NotInProfile) free.0 in
+    none_both (equals_faults t ts ++ (faults_of s t ++ types)) (values_faults s None ts)
+    (none_both (equals_faults t ts) (faults_of s t ++ types) equals (none_both (faults_of s t) types right.0 (any_type (expr_of s.templates t)))) (right_fields s ts right.1 free.1)

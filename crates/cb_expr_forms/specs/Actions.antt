@@ -1,5 +1,5 @@
 -- What a call with an effect is, by its arguments.
-use Rattle.std.specs.Prelude.{◌||◌, ℕ, Bool, true, false, not, List, [], ◌∷◌, Option, Some, None, codes, option_map, if◌then◌else◌}
+use Rattle.std.specs.Prelude.{◌||◌, ℕ, Bool, false, List, [], ◌∷◌, Option, Some, None, codes, option_map, if◌then◌else◌}
 use Rattle.std.specs.List.{list_any}
 use Rattle.std.specs.Str.{bytes_eq}
 use Rattle.cb_exprs.specs.Terms.{Term, constant, variable, global, call, retract, bind, bind_global, choose, repeat, actions, printout, print, println, terms}

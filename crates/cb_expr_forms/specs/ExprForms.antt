@@ -1,5 +1,5 @@
 -- Which expression a form is, and which fact. Where the form has a fault it is any.
-use Rattle.std.specs.Prelude.{ℕ, Bool, List, [], ◌∷◌, Option, Some, None, if◌then◌else◌}
+use Rattle.std.specs.Prelude.{ℕ, List, [], ◌∷◌, Option, Some, None, if◌then◌else◌}
 use Rattle.std.specs.Option.{unwrap_or}
 use Rattle.cb_expr_forms.specs.Actions.{action_of}
 use Rattle.cb_exprs.specs.FactTerms.{FactTerm}
@@ -12,7 +12,6 @@ use Rattle.cb_templates.specs.Slots.{SlotShape, slot_named}
 use Rattle.cb_templates.specs.Templates.{Templates, slots_of}
 use Rattle.cb_words.specs.Words.{head_of}
 use Rattle.cb_words.specs.declared.function.Function.TheVariants as function
-use Rattle.cb_words.specs.declared.head.Action.{Action}
 use Rattle.cb_words.specs.declared.head.Action.TheVariants as action
 use Rattle.cb_words.specs.declared.head.Head.{Head}
 use Rattle.cb_words.specs.declared.head.Head.TheVariants as head

@@ -1,5 +1,5 @@
 -- What a call with an effect is and what is wrong with its arguments, once their number and shape are known to be right.
-use Rattle.std.specs.Prelude.{◌≡◌, ◌≤◌, ◌<◌, ℕ, List, [], ◌++◌, false, Option, Some, None}
+use Rattle.std.specs.Prelude.{◌≡◌, ◌≤◌, ◌<◌, ℕ, Bool, List, [], ◌++◌, Option, Some, None}
 use Rattle.cb_expr_forms.specs.Actions.{action_of, joined}
 use Rattle.cb_expr_forms.specs.ExprFaults.{call_faults, token_faults, faults_of, all_faults, list_faults, facts_faults, fact_faults, content_faults, slot_faults, slot_by, slots_faults, value_faults, values_faults}
 use Rattle.cb_expr_forms.specs.ExprForms.{call_expr, expr_of, exprs_of, list_expr, assertions, fact_of, fact_with, given_slot, slot_expr, slot_exprs, slot_name, slot_names}
@@ -138,13 +138,13 @@ pub record IsSlot (slots : List SlotShape) (given : List (List ℕ)) (t : Tree) 
 abbrev pub IsSlotFault : List SlotShape → List (List ℕ) → Tree → Fault → Type 0
 IsSlotFault slots given t f = (s : Scope) → first_of (slot_faults s slots given t) ≡ Some f
 
--- these are the values of a slot
-pub record IsFilling (slot : SlotShape) (ts : Trees) (c : SlotForm) : Type 0 where
+-- these are the values of a slot, which may be given already
+pub record IsFilling (slot : SlotShape) (is_given : Bool) (ts : Trees) (c : SlotForm) : Type 0 where
   pub slot_is : slot_of c ≡ slot.name
   pub expr_is : (templates : Templates) → slot_expr (Some slot) (exprs_of templates ts) ≡ filling_expr templates c
-  pub faults_are : (s : Scope) → slot_by (Some slot) false ts (λ types. values_faults s types ts) ≡ filling_faults s c
+  pub faults_are : (s : Scope) → slot_by (Some slot) is_given ts (λ types. values_faults s types ts) ≡ filling_faults s c
   pub smaller : filling_size c ≤ trees_size ts
 
 -- this is their first fault
-abbrev pub IsFillingFault : SlotShape → Trees → Fault → Type 0
-IsFillingFault slot ts f = (s : Scope) → first_of (slot_by (Some slot) false ts (λ types. values_faults s types ts)) ≡ Some f
+abbrev pub IsFillingFault : SlotShape → Bool → Trees → Fault → Type 0
+IsFillingFault slot is_given ts f = (s : Scope) → first_of (slot_by (Some slot) is_given ts (λ types. values_faults s types ts)) ≡ Some f

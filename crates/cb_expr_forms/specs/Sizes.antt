@@ -1,5 +1,5 @@
 -- How large forms are: reading ends, since it goes on with smaller ones.
-use Rattle.std.specs.Prelude.{ℕ, ◌+◌, suc, zero}
+use Rattle.std.specs.Prelude.{ℕ, ◌+◌}
 use Rattle.cb_expr_forms.specs.declared.action_form.ActionForm.{ActionForm}
 use Rattle.cb_expr_forms.specs.declared.action_form.ActionForm.TheVariants as program
 use Rattle.cb_expr_forms.specs.declared.call_form.CallForm.{CallForm}

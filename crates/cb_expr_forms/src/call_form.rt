@@ -38,6 +38,7 @@ pub(crate) fn split_call<'a>(side: Side, forms: &'a [Form]) -> Result<CallForm<'
     }
 }
 
+#[tactic(auto, using(crate::proofs::Heads::count_members))]
 fn split_function<'a>(function: Function, args: &'a [Form]) -> Result<CallForm<'a>, Refused>
     ensures { (side : Side) → MatchResult result
         (IsHeaded side (Some (Head.Function function)) (members args.now))

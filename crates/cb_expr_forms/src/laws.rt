@@ -1,11 +1,19 @@
-//! Laws of expressions as they are written, each the contract of a function that does nothing.
-ghost use Rattle.std.specs.Prelude.{◌≡◌, ◌↔◌, [], Some};
-ghost use Rattle.cb_expr_forms.specs.ExprFaults.{all_faults, faults_of};
+//! Laws of expressions and facts as they are written, each the contract of a function that does nothing.
+ghost use Rattle.std.specs.Prelude.{◌≡◌, ◌↔◌, ℕ, List, [], None, Some, false, true, IsPermutation};
+ghost use Rattle.cb_expr_forms.specs.ExprFaults.{all_faults, are_filled, count, fact_faults, facts_faults, faults_of, slot_faults};
+ghost use Rattle.cb_expr_forms.specs.ExprForms.{fact_of, slot_names};
 ghost use Rattle.cb_expr_forms.specs.FaultLists.{first_of};
-ghost use Rattle.cb_expr_forms.specs.Laws.{AreRight, followed_by};
+ghost use Rattle.cb_expr_forms.specs.Laws.{AreFaultless, AreRight, GiveSlots, GiveTheSame, NoListAfterEquals, followed_by, list_of};
 ghost use Rattle.cb_expr_forms.specs.Scopes.{Scope};
-ghost use Rattle.cb_forms.specs.Trees.{Tree, Trees, tree};
+ghost use Rattle.cb_forms.specs.Trees.{Tree, Trees, tree, trees_of};
 ghost use Rattle.cb_forms.specs.declared.fault.Fault.{Fault};
+ghost use Rattle.cb_templates.specs.Reserved.{is_reserved};
+ghost use Rattle.cb_templates.specs.Slots.{SlotShape};
+ghost use Rattle.cb_templates.specs.Templates.{slots_of};
+ghost use Rattle.cb_words.specs.Arities.{arity_of, takes};
+ghost use Rattle.cb_words.specs.Words.{head_of};
+ghost use Rattle.cb_words.specs.declared.function.Function.{Function};
+ghost use Rattle.cb_words.specs.declared.head.Head.TheVariants as head;
 
 /// Arguments have no fault exactly where each of them, by itself, has none.
 pub fn arguments_are_right_one_by_one()
@@ -17,4 +25,60 @@ pub fn what_follows_a_fault_does_not_matter()
     ensures { (s : Scope) (before : Trees) (t : Tree) (after : Trees) (f : Fault)
         → AreRight s before → first_of (faults_of s t) ≡ Some f
         → first_of (all_faults s (followed_by before (tree t after))) ≡ Some f }
+{}
+
+/// A call of a function without an effect has no fault exactly where the function takes so many arguments and each argument,
+/// by itself, has none.
+pub fn a_call_is_right_where_its_parts_are()
+    ensures { (s : Scope) (name : List ℕ) (f : Function) (args : Trees)
+        → head_of name ≡ Some (head.Function f)
+        → (faults_of s (list_of name args) ≡ [])
+        ↔ ((takes (arity_of f) (count args) ≡ true) × AreRight s args) }
+{}
+
+/// Of the facts of an `assert`, the first that has a fault is reported: what follows it does not matter.
+pub fn what_follows_a_wrong_fact_does_not_matter()
+    ensures { (s : Scope) (before : Trees) (t : Tree) (after : Trees) (f : Fault)
+        → AreFaultless (fact_faults s) before → first_of (fact_faults s t) ≡ Some f
+        → first_of (facts_faults s (followed_by before (tree t after))) ≡ Some f }
+{}
+
+/// A fact of a relation without a template has no fault exactly where the relation is not reserved, each field, by itself,
+/// has none, and no list follows the symbol `=`.
+pub fn an_ordered_fact_is_right_where_its_fields_are()
+    ensures { (s : Scope) (relation : List ℕ) (fields : Trees)
+        → slots_of s.templates relation ≡ None
+        → (fact_faults s (list_of relation fields) ≡ [])
+        ↔ ((is_reserved relation ≡ false) × (AreRight s fields × NoListAfterEquals fields)) }
+{}
+
+/// A fact of a relation with a template has no fault exactly where the relation is not reserved, each slot, by itself, has
+/// none, no slot is given twice, and each slot of the template is given or has a default.
+pub fn a_fact_is_right_where_its_slots_are()
+    ensures { (s : Scope) (relation : List ℕ) (slots : List SlotShape) (forms : Trees)
+        → slots_of s.templates relation ≡ Some slots
+        → (fact_faults s (list_of relation forms) ≡ [])
+        ↔ ((is_reserved relation ≡ false)
+        × (GiveSlots s slots forms × (are_filled slots (slot_names forms) ≡ true))) }
+{}
+
+/// Of the slots that a fact gives, the first that has a fault is reported: what follows it does not matter. A slot that is
+/// given twice has its fault where it is given again.
+pub fn what_follows_a_wrong_slot_does_not_matter()
+    ensures { (s : Scope) (relation : List ℕ) (slots : List SlotShape)
+        (before : Trees) (t : Tree) (after : Trees) (f : Fault)
+        → is_reserved relation ≡ false → slots_of s.templates relation ≡ Some slots
+        → GiveSlots s slots before → first_of (slot_faults s slots (slot_names before) t) ≡ Some f
+        → first_of (fact_faults s (list_of relation (followed_by before (tree t after)))) ≡ Some f }
+{}
+
+/// The slots of a fact may stand in any order: a fact without a fault has none with its slots in another order either, and
+/// gives the same slots the same values. They are evaluated in the order in which they stand.
+pub fn slots_may_stand_in_any_order()
+    ensures { (s : Scope) (relation : List ℕ) (slots : List SlotShape) (forms others : List Tree)
+        → slots_of s.templates relation ≡ Some slots → IsPermutation forms others
+        → fact_faults s (list_of relation (trees_of forms)) ≡ []
+        → (fact_faults s (list_of relation (trees_of others)) ≡ [])
+        × GiveTheSame (fact_of s.templates (list_of relation (trees_of forms)))
+        (fact_of s.templates (list_of relation (trees_of others))) }
 {}

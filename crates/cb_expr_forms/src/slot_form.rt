@@ -61,16 +61,21 @@ pub(crate) fn split_slot<'a>(
     let Some(slot) = template.find(&names.name(name)?) else {
         return Err(Refused::Fault(Fault::FactDoesNotFit));
     };
-    if given.has(slot.name()) {
-        return Err(Refused::Fault(Fault::FactDoesNotFit));
-    }
-    split_values(slot, forms)
+    split_values(slot, given.has(slot.name()), forms)
 }
 
-fn split_values<'a>(slot: &'a Slot, forms: &'a [Form]) -> Result<SlotForm<'a>, Refused>
-    ensures { MatchResult result (IsFilling slot.now (members forms.now))
-        (λ r. Tells r (IsFillingFault slot.now (members forms.now))) }
+/// The same by the slot, whether it is among these names, and the values that the form gives it.
+fn split_values<'a>(
+    slot: &'a Slot,
+    is_given: bool,
+    forms: &'a [Form],
+) -> Result<SlotForm<'a>, Refused>
+    ensures { MatchResult result (IsFilling slot.now is_given (members forms.now))
+        (λ r. Tells r (IsFillingFault slot.now is_given (members forms.now))) }
 {
+    if is_given {
+        return Err(Refused::Fault(Fault::FactDoesNotFit));
+    }
     if slot.multi() {
         return Ok(SlotForm::Several(slot, forms));
     }

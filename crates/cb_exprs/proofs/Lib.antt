@@ -1,2 +1,4 @@
+pub mod Ordered
 pub mod TermLaws
+pub mod Trees
 pub mod ValueLaws

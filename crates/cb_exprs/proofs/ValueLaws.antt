@@ -1,14 +1,8 @@
 -- The values of names: a name's value by the order of names, a value more, and one less.
-use Rattle.std.proofs.Common.{◌≡◌, ◌≢◌, ◌∙◌, ℕ, Bool, true, false, cond, List, [], ◌∷◌, Option, Some, None, IsSome, refl, sym, ap, subst}
-use Rattle.std.proofs.lemmas.Map.{lookup-none}
-use Rattle.std.proofs.lemmas.Map.Entries.{none_below_head}
-use Rattle.std.proofs.lemmas.Map.Keys.{sorted_tail}
+use Rattle.std.proofs.Common.{◌≡◌, ◌≢◌, ◌∙◌, ℕ, Bool, true, false, cond, List, [], ◌∷◌, Option, Some, refl, sym, ap}
 use Rattle.std.proofs.lemmas.Map.Lookups.{exact_bytes}
-use Rattle.std.specs.BTreeMap.{is_at}
 use Rattle.std.specs.Cmp.{IsEquivalence}
-use Rattle.std.specs.Cmp.Lexicographic.{slice_cmp, texts_ties, bytes_decides, nat_list_cmp_total, nat_list_eq_equiv}
-use Rattle.std.specs.List.Sorted.{IsStrictlySortedBy}
-use Rattle.std.specs.Map.{keys_of, lookup, remove_entry, set_value}
+use Rattle.std.specs.Cmp.Lexicographic.{slice_cmp, texts_ties, bytes_decides, nat_list_eq_equiv}
 use Rattle.std.specs.Ordering.{is_eq, match_ordering, nat_cmp}
 use Rattle.std.specs.Str.{bytes_eq}
 use Rattle.std.specs.declared.cmp.Ordering.{Ordering}
@@ -18,27 +12,6 @@ use Rattle.cb_facts.specs.declared.value.Value.{Value}
 
 abbrev order : List ℕ → List ℕ → Ordering
 order = slice_cmp nat_cmp
-
-pub value_by_order : (name : List ℕ) (values : Values) → lookup (is_at (order name)) values ≡ value_at name values
-value_by_order name values = λ i. lookup (λ k. sym (texts_ties name k) i) values
-
-pub removed_by_order : (name : List ℕ) (values : Values) → remove_entry (is_at (order name)) values ≡ without_value name values
-removed_by_order name values = λ i. remove_entry (λ k. sym (texts_ties name k) i) values
-
-place : (r : Ordering) (e : List ℕ × Value) (es set put : Values) (name : List ℕ) (v : Value) → (r ≡ Less → ⊥) → (r ≡ Greater → set ≡ put)
-    → cond (is_eq r) ((e.0, v) ∷ es) (e ∷ set) ≡ match_ordering r ((name, v) ∷ e ∷ es) ((e.0, v) ∷ es) (e ∷ put)
-place Less e es set put name v never same = absurd (never refl)
-place Equal e es set put name v never same = refl
-place Greater e es set put name v never same = ap (λ l. e ∷ l) (same refl)
-
--- a value written in place of the one that the name has
-pub set_in_place : (values : Values) (name : List ℕ) (v : Value) → IsStrictlySortedBy order (keys_of values) → IsSome (lookup (is_at (order name)) values)
-    → set_value (is_at (order name)) values v ≡ with_value name v values
-set_in_place [] name v s h = let never : false ≡ true = h in cc
-set_in_place (e ∷ es) name v s h =
-    place (order name e.0) e es (set_value (is_at (order name)) es v) (with_value name v es) name v
-    (λ less. let never : false ≡ true = subst IsSome (lookup-none (is_at (order name)) (e ∷ es) (none_below_head nat_list_cmp_total name e es s less)) h in cc)
-    (λ greater. set_in_place es name v (sorted_tail order e.0 (keys_of es) s) (subst (λ r. IsSome (cond (is_eq r) (Some e.1) (lookup (is_at (order name)) es))) greater h))
 
 settle : (r : Ordering) (here there : Bool) (rest put : Option Value) (v w : Value) → (r ≡ Equal → here ≡ there) → (r ≡ Greater → there ≡ true → here ≡ false) → put ≡ cond here (Some v) rest
     → match_ordering r (cond here (Some v) (cond there (Some w) rest)) (cond there (Some v) rest) (cond there (Some w) put) ≡ cond here (Some v) (cond there (Some w) rest)
@@ -97,8 +70,3 @@ value_at_left (e ∷ es) name other apart =
     through (bytes_eq name e.0) other e es (without_value name es)
     ∙ passed (bytes_eq name e.0) (bytes_eq other e.0) e.1 (value_at other es) (value_at other (without_value name es))
     (λ is. ap (bytes_eq other) (sym ((bytes_decides name e.0).0 is)) ∙ names_differ other name apart) (value_at_left es name other apart)
-
--- a name that isn't found has no value
-pub unknown : (entries : Values) (name : List ℕ) (values : Values) → entries ≡ values → lookup (is_at (order name)) entries ≡ None → IsSome (value_at name values) → ⊥
-unknown entries name values same none has =
-    let never : false ≡ true = subst IsSome (sym (ap (value_at name) same) ∙ sym (value_by_order name entries) ∙ none) has in cc

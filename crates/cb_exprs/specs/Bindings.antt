@@ -1,5 +1,5 @@
 -- Which values names have.
-use Rattle.std.specs.Prelude.{ℕ, List, [], Option}
+use Rattle.std.specs.Prelude.{ℕ, List, [], ◌∷◌, Option}
 use Rattle.std.specs.BTreeMap.{insert_entry}
 use Rattle.std.specs.Cmp.Lexicographic.{slice_cmp}
 use Rattle.std.specs.Map.{lookup, remove_entry}
@@ -33,6 +33,11 @@ no_bindings = record { variables = []; globals = [] }
 
 abbrev pub with_variable : List ℕ → Value → Bindings → Bindings
 with_variable name v env = record env { variables = with_value name v env.variables }
+
+-- the variables have these values, given one after another
+abbrev pub with_variables : List (List ℕ × Value) → Bindings → Bindings
+with_variables [] env = env
+with_variables ((name, v) ∷ more) env = with_variables more (with_variable name v env)
 
 abbrev pub without_variable : List ℕ → Bindings → Bindings
 without_variable name env = record env { variables = without_value name env.variables }

@@ -1,16 +1,17 @@
 //! The values that variables and global variables have.
-ghost use Rattle.std.specs.Prelude.{◌≡◌, None, IsOk, IsSome, OnOk, OnErr, option_copied};
-ghost use Rattle.cb_exprs.specs.Bindings.{no_bindings, value_at, with_global, with_variable, without_variable};
+ghost use Rattle.std.specs.Prelude.{◌≡◌, [], None, IfOk, OnOk, OnErr, option_copied};
+ghost use Rattle.cb_exprs.specs.Bindings.{no_bindings, value_at, with_global, with_variable, with_variables, without_variable};
 
 use crate::values::Values;
 use cb_facts::{Name, Value};
 use cb_forms::NoMemory;
-use std::alloc::Global;
+use std::alloc::{AllocError, Global};
 use std::marker::Model;
 
 /// The values that variables and global variables have. A variable and a global variable of one name are two.
 ///
-/// A value is found in logarithmic time, whatever the names are.
+/// A value is found in logarithmic time, whatever the names are. A clone shares all values until one of the two changes: it
+/// takes no memory, and is refused only where the count of sharers is full.
 ///
 /// Contracts see the pairs of a name and its value, those of the variables and those of the globals, each in the order of
 /// the names.
@@ -26,6 +27,16 @@ impl Model for Env {
     ghost Value = { Bindings };
 
     ghost view = { λ e. record { variables = e.variables; globals = e.globals } };
+}
+
+impl Clone for Env {
+    ghost is_clone = { λ env copy. copy ≡ env };
+
+    fn clone(&self) -> Result<Env, AllocError> {
+        let variables = self.variables.clone()?;
+        let globals = self.globals.clone()?;
+        Ok(Env { variables, globals })
+    }
 }
 
 impl Env {
@@ -47,21 +58,41 @@ impl Env {
     }
 
     /// Gives a variable a value, in place of the one that it has, if it has one. Growth is refused as `NoMemory`, and then
-    /// nothing has changed; a variable that has a value takes no memory, and is not refused.
+    /// nothing has changed; a variable that has a value takes no memory where no clone shares the way to it.
     pub fn set(&mut self, name: &Name, value: Value) -> Result<(), NoMemory>
         ensures ok { OnOk result (self.new ≡ with_variable name.now value self.old) }
         ensures err { OnErr result (self.new ≡ self.old) }
-        ensures known { IsSome (value_at name.now self.old.variables) → IsOk result }
     {
         self.variables.set(name, value)
     }
 
-    /// Takes the value of a variable away, if it has one. It takes no memory.
-    pub fn unset(&mut self, name: &Name)
-        ensures taken { self.new ≡ without_variable name.now self.old }
-        ensures gone { value_at name.now self.new.variables ≡ None }
+    /// These values in which variables have these values more, one given after another: of two values of one variable the
+    /// later one counts. It shares with these what it does not change. Growth is refused as `NoMemory`.
+    pub fn with(&self, bindings: Vec<(Name, Value)>) -> Result<Env, NoMemory>
+        ensures ok { IfOk result (λ env. env ≡ with_variables bindings.items self.now) }
     {
-        self.variables.unset(name);
+        let mut env = self.clone()?;
+        for (name, value) in bindings {
+            env.set(&name, value)?;
+        }
+        Ok(env)
+    }
+
+    /// Takes the value of a variable away, if it has one. Growth is refused as `NoMemory`, and then nothing has changed; a
+    /// variable that has no value takes no memory.
+    pub fn unset(&mut self, name: &Name) -> Result<(), NoMemory>
+        ensures taken { OnOk result (self.new ≡ without_variable name.now self.old) }
+        ensures gone { OnOk result (value_at name.now self.new.variables ≡ None) }
+        ensures err { OnErr result (self.new ≡ self.old) }
+    {
+        self.variables.unset(name)
+    }
+
+    /// Takes the values of all variables away. The globals keep theirs.
+    pub fn drop_variables(&mut self, alloc: Global)
+        ensures { self.new ≡ record { variables = []; globals = self.old.globals } }
+    {
+        self.variables = Values::new(alloc);
     }
 
     /// The value of a global variable, or `None` where it has none.
@@ -75,7 +106,6 @@ impl Env {
     pub fn set_global(&mut self, name: &Name, value: Value) -> Result<(), NoMemory>
         ensures ok { OnOk result (self.new ≡ with_global name.now value self.old) }
         ensures err { OnErr result (self.new ≡ self.old) }
-        ensures known { IsSome (value_at name.now self.old.globals) → IsOk result }
     {
         self.globals.set(name, value)
     }

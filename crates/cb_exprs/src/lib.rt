@@ -8,7 +8,9 @@ mod env;
 mod expr;
 mod fact_expr;
 mod fact_shape;
+mod global_expr;
 pub mod laws;
+mod tree;
 mod values;
 
 pub use channel::Channel;
@@ -16,3 +18,4 @@ pub use env::Env;
 pub use expr::Expr;
 pub use fact_expr::FactExpr;
 pub use fact_shape::FactShape;
+pub use global_expr::GlobalExpr;

@@ -1,27 +1,46 @@
 //! The values that names have.
-ghost use Rattle.std.specs.Prelude.{◌≡◌, [], None, IsOk, IsSome, OnOk, OnErr, option_copied};
+ghost use Rattle.std.specs.Prelude.{◌≡◌, [], None, OnErr, OnOk, option_copied};
 ghost use Rattle.cb_exprs.specs.Bindings.{value_at, with_value, without_value};
 
+use crate::tree::Tree;
 use cb_facts::{Name, Value};
 use cb_forms::NoMemory;
-use std::alloc::Global;
-use std::collections::BTreeMap;
+use std::alloc::{AllocError, Global};
 use std::marker::Model;
 
 /// Names, each with its value, found in logarithmic time, whatever the names are.
 ///
+/// A clone shares all of it until one of the two changes. It takes no memory, and is refused only where the count of sharers
+/// is full.
+///
 /// Contracts see the list of the pairs, in the order of the names.
 #[derive(Drop)]
 pub(crate) struct Values {
-    by_name: BTreeMap<Name, Value>,
+    alloc: Global,
+    by_name: Tree,
 }
 
 impl Model for Values {
     ghost use Rattle.cb_exprs.specs.Bindings.{Values as Pairs};
+    ghost use Rattle.cb_exprs.specs.Trees.{IsOrdered, pairs_of};
 
     ghost Value = { Pairs };
 
-    ghost view = { λ v. v.by_name.entries };
+    ghost view = { λ v. pairs_of v.by_name };
+
+    ghost invariant = { λ v. IsOrdered (pairs_of v.by_name) };
+}
+
+impl Clone for Values {
+    ghost is_clone = { λ values copy. copy ≡ values };
+
+    fn clone(&self) -> Result<Values, AllocError> {
+        let by_name = self.by_name.clone()?;
+        Ok(Values {
+            alloc: self.alloc,
+            by_name,
+        })
+    }
 }
 
 impl Values {
@@ -30,7 +49,8 @@ impl Values {
         ensures { result ≡ [] }
     {
         Values {
-            by_name: BTreeMap::new(alloc),
+            alloc,
+            by_name: Tree::Empty,
         }
     }
 
@@ -42,26 +62,31 @@ impl Values {
     }
 
     /// Gives a name a value, in place of the one that it has, if it has one. Growth is refused as `NoMemory`, and then
-    /// nothing has changed; a name that has a value takes no memory, and is not refused.
+    /// nothing has changed; a name that has a value takes no memory where no clone shares the way to it.
     pub(crate) fn set(&mut self, name: &Name, value: Value) -> Result<(), NoMemory>
         ensures ok { OnOk result (self.new ≡ with_value name.now value self.old) }
         ensures err { OnErr result (self.new ≡ self.old) }
-        ensures known { IsSome (value_at name.now self.old) → IsOk result }
     {
-        if let Some(place) = self.by_name.get_mut(name) {
-            *place = value;
+        let Err(value) = self.by_name.write(name, value) else {
             return Ok(());
-        }
-        let shared = name.clone()?;
-        self.by_name.insert(shared, value)?;
+        };
+        let by_name = self.by_name.with(self.alloc, name, value)?;
+        self.by_name = by_name;
         Ok(())
     }
 
-    /// Takes the value of a name away, if it has one.
-    pub(crate) fn unset(&mut self, name: &Name)
-        ensures taken { self.new ≡ without_value name.now self.old }
-        ensures gone { value_at name.now self.new ≡ None }
+    /// Takes the value of a name away, if it has one. Growth is refused as `NoMemory`, and then nothing has changed; a name
+    /// that has no value takes no memory.
+    pub(crate) fn unset(&mut self, name: &Name) -> Result<(), NoMemory>
+        ensures taken { OnOk result (self.new ≡ without_value name.now self.old) }
+        ensures gone { OnOk result (value_at name.now self.new ≡ None) }
+        ensures err { OnErr result (self.new ≡ self.old) }
     {
-        self.by_name.remove(name);
+        if self.by_name.get(name).is_none() {
+            return Ok(());
+        }
+        let by_name = self.by_name.without(self.alloc, name)?;
+        self.by_name = by_name;
+        Ok(())
     }
 }

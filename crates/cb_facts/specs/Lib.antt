@@ -1,10 +1,7 @@
-pub mod ExprContents
-pub mod FactExprs
 pub mod FactLaws
 pub mod FactLists
 pub mod Facts
 pub mod RelationCounts
 pub mod Results
-pub mod SlotContents
 pub mod Texts
 pub mod Values

@@ -5,7 +5,6 @@
 #![tactic(auto)]
 
 mod fact;
-mod fact_expr;
 mod fact_list;
 mod fields;
 mod multifield;
@@ -20,7 +19,6 @@ mod value;
 mod words;
 
 pub use fact::{Content, Fact};
-pub use fact_expr::{ContentExpr, FactExpr, Filling, SlotExpr};
 pub use fact_list::FactList;
 pub use multifield::Multifield;
 pub use name::Name;

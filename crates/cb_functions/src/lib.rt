@@ -9,7 +9,7 @@ mod calls;
 mod comparison;
 mod constants;
 mod joining;
-mod laws;
+pub mod laws;
 mod logic;
 mod multifields;
 mod numbers;

@@ -1,2 +1,3 @@
-mod GivenLaws
-mod PlaceLaws
+mod Examples
+pub mod GlobalLaws
+pub mod Globals

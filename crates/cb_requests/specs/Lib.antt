@@ -1,5 +1,4 @@
-pub mod Constants
-pub mod FactForms
-pub mod Heads
 pub mod Laws
+pub mod Reads
 pub mod Requests
+pub mod Splits

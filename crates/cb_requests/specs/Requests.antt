@@ -1,113 +1,95 @@
 -- What an item of a script asks for, or its first fault.
-use Rattle.std.specs.Prelude.{◌||◌, ℕ, List, Option, Some, None, Result, Ok, Err, codes, if◌then◌else◌}
-use Rattle.std.specs.Option.{option_and_then}
-use Rattle.std.specs.Str.{bytes_eq}
-use Rattle.cb_forms.specs.Members.{head_and_rest, members, symbol_of}
-use Rattle.cb_forms.specs.Trees.{Tree, atom, branch, Trees, no_trees, tree, Reading}
+use Rattle.std.specs.Prelude.{ℕ, List, [], Option, Some, None, Result, Ok, Err}
+use Rattle.cb_exprs.specs.Bindings.{Bindings}
+use Rattle.cb_exprs.specs.FactTerms.{FactTerm}
+use Rattle.cb_exprs.specs.GlobalTerms.{GlobalTerm}
+use Rattle.cb_exprs.specs.Terms.{Term, term_of}
+use Rattle.cb_facts.specs.Results.{ok_then}
+use Rattle.cb_forms.specs.Members.{call_of, head_and_rest, members}
+use Rattle.cb_forms.specs.Trees.{Tree, Trees, no_trees, tree, Reading}
 use Rattle.cb_forms.specs.declared.fault.Fault.{Fault}
-use Rattle.cb_forms.specs.declared.fault.Fault.TheVariants.{UnknownFunction, WrongArguments, MalformedForm, NotInProfile}
-use Rattle.cb_requests.specs.Constants.{token_value, values_of}
-use Rattle.cb_facts.specs.FactExprs.{FactExpr}
-use Rattle.cb_requests.specs.FactForms.{facts_of}
-use Rattle.cb_requests.specs.Heads.{head_of}
-use Rattle.cb_requests.specs.declared.channel.Channel.{Channel}
-use Rattle.cb_requests.specs.declared.channel.Channel.TheVariants as channel
+use Rattle.cb_forms.specs.declared.fault.Fault.TheVariants.{WrongArguments, MalformedForm}
+use Rattle.cb_requests.specs.Reads.{top_scope, plain_scope, expr_in, facts_in, globals_in}
 use Rattle.cb_requests.specs.declared.command.Command.{Command}
 use Rattle.cb_requests.specs.declared.command.Command.TheVariants as program
-use Rattle.cb_requests.specs.declared.heads.Head.{Head}
-use Rattle.cb_requests.specs.declared.heads.Head.TheVariants as head
-use Rattle.cb_facts.specs.Results.{ok_then}
 use Rattle.cb_templates.specs.Templates.{Templates, without_comment}
-use Rattle.cb_facts.specs.declared.value.Value.{Value}
+use Rattle.cb_words.specs.Words.{head_of}
+use Rattle.cb_words.specs.declared.head.Command.{Command as Word}
+use Rattle.cb_words.specs.declared.head.Command.TheVariants as word
+use Rattle.cb_words.specs.declared.head.Construct.{Construct}
+use Rattle.cb_words.specs.declared.head.Construct.TheVariants as construct
+use Rattle.cb_words.specs.declared.head.Head.{Head}
+use Rattle.cb_words.specs.declared.head.Head.TheVariants as head
 
--- what an item asks for: a constant to show, a construct to define, a command or a call to carry out
+-- what an item asks for: an expression to carry out, a construct to define, or a command
 pub data Request : Type 0 where
-  -- to show a value
-  show : Value → Request
+  -- to carry out an expression, and to show its value
+  act : Term → Request
   -- to define the template that is written after `deftemplate`
   define_template : Trees → Request
   -- to keep facts under a name for `reset`
-  define_deffacts : List ℕ → List FactExpr → Request
-  assert : List FactExpr → Request
-  retract : List Value → Request
+  define_deffacts : List ℕ → List FactTerm → Request
+  -- to define globals, one after another
+  define_globals : List GlobalTerm → Request
   list_facts : Request
-  -- to print values on a channel
-  print : Channel → List Value → Request
   reset : Request
   clear : Request
 
 -- what a `Command` of the program asks for
 abbrev pub request_by : Command → Request
-request_by (program.Show v) = show v
+request_by (program.Act expr) = act (term_of expr)
 request_by (program.DefineTemplate forms) = define_template (members forms.now)
 request_by (program.DefineDeffacts name facts) = define_deffacts name facts.items
-request_by (program.Assert facts) = assert facts.items
-request_by (program.Retract values) = retract values.items
+request_by (program.DefineGlobals globals) = define_globals globals.items
 request_by program.ListFacts = list_facts
-request_by (program.Print on values) = print on values.items
 request_by program.Reset = reset
 request_by program.Clear = clear
 
--- the channel of a name
-abbrev pub named_channel : List ℕ → Option Channel
-named_channel name =
-    if bytes_eq name (codes "t") || bytes_eq name (codes "stdout") then Some channel.Output else (
-    if bytes_eq name (codes "nil") then Some channel.Nowhere else None)
+-- a form that is no construct and no command
+abbrev pub act_request : Templates → Bindings → Tree → Result Request Fault
+act_request templates env t = ok_then act (expr_in (top_scope templates env t) t)
 
 -- `(deffacts name "comment" fact ..)`, by its name and what follows
-abbrev pub deffacts_request : Templates → Option (List ℕ × Trees) → Result Request Fault
-deffacts_request templates None = Err MalformedForm
-deffacts_request templates (Some (name, facts)) = ok_then (define_deffacts name) (facts_of templates (without_comment facts))
+abbrev pub deffacts_request : Templates → Bindings → Option (List ℕ × Trees) → Result Request Fault
+deffacts_request templates env None = Err MalformedForm
+deffacts_request templates env (Some (name, ts)) = ok_then (define_deffacts name) (facts_in (plain_scope templates env []) (without_comment ts))
 
--- `(assert fact ..)`
-abbrev pub assert_request : Templates → Trees → Result Request Fault
-assert_request templates no_trees = Err WrongArguments
-assert_request templates (tree fact facts) = ok_then assert (facts_of templates (tree fact facts))
+-- `(defglobal ?*name* = expression ..)`, by what follows its head: any number
+abbrev pub globals_request : Templates → Bindings → Trees → Result Request Fault
+globals_request templates env ts = ok_then define_globals (globals_in templates env [] ts)
 
--- `(retract value ..)`
-abbrev pub retract_request : Trees → Result Request Fault
-retract_request no_trees = Err WrongArguments
-retract_request (tree t ts) = ok_then retract (values_of (tree t ts))
+-- a construct, by what follows its head
+abbrev pub construct_request : Templates → Bindings → Construct → Trees → Result Request Fault
+construct_request templates env construct.Deftemplate ts = Ok (define_template ts)
+construct_request templates env construct.Deffacts ts = deffacts_request templates env (head_and_rest ts)
+construct_request templates env construct.Defglobal ts = globals_request templates env ts
 
--- `(facts)`, `(reset)`, `(clear)`
-abbrev pub bare_request : Request → Trees → Result Request Fault
-bare_request command no_trees = Ok command
-bare_request command (tree t ts) = Err WrongArguments
+abbrev pub named_request : Word → Request
+named_request word.Facts = list_facts
+named_request word.Reset = reset
+named_request word.Clear = clear
 
--- values on a channel, if it is one
-abbrev pub print_request : Option Channel → Trees → Result Request Fault
-print_request None ts = Err NotInProfile
-print_request (Some on) ts = ok_then (print on) (values_of ts)
+-- a command, which takes no arguments
+abbrev pub command_request : Word → Trees → Result Request Fault
+command_request name no_trees = Ok (named_request name)
+command_request name (tree t ts) = Err WrongArguments
 
--- `(printout channel value ..)`
-abbrev pub printout_request : Trees → Result Request Fault
-printout_request no_trees = Err NotInProfile
-printout_request (tree on values) = print_request (option_and_then named_channel (symbol_of on)) values
+-- a list, by what the symbol that it begins with names and by what follows that
+abbrev pub headed_request : Templates → Bindings → Tree → Option Head → Trees → Result Request Fault
+headed_request templates env t (Some (head.Construct name)) ts = construct_request templates env name ts
+headed_request templates env t (Some (head.Command name)) ts = command_request name ts
+headed_request templates env t h ts = act_request templates env t
 
--- a construct or a call, by its head
-abbrev pub call_request : Templates → Head → Trees → Result Request Fault
-call_request templates head.Deftemplate ts = Ok (define_template ts)
-call_request templates head.Deffacts ts = deffacts_request templates (head_and_rest ts)
-call_request templates head.Assert ts = assert_request templates ts
-call_request templates head.Retract ts = retract_request ts
-call_request templates head.Facts ts = bare_request list_facts ts
-call_request templates head.Printout ts = printout_request ts
-call_request templates head.Reset ts = bare_request reset ts
-call_request templates head.Clear ts = bare_request clear ts
-call_request templates head.Refused ts = Err NotInProfile
-call_request templates head.Unknown ts = Err UnknownFunction
+-- a form, by the symbol that it begins with, where it is such a list
+abbrev pub called_request : Templates → Bindings → Tree → Option (List ℕ × Trees) → Result Request Fault
+called_request templates env t None = act_request templates env t
+called_request templates env t (Some (name, ts)) = headed_request templates env t (head_of name) ts
 
--- a list, by the symbol that it begins with
-abbrev pub headed_request : Templates → Option (List ℕ × Trees) → Result Request Fault
-headed_request templates None = Err MalformedForm
-headed_request templates (Some (name, ts)) = call_request templates (head_of name) ts
+-- a construct, a command or an expression
+abbrev pub form_request : Templates → Bindings → Tree → Result Request Fault
+form_request templates env t = called_request templates env t (call_of t)
 
--- a form: a constant to show, a construct or a call
-abbrev pub form_request : Templates → Tree → Result Request Fault
-form_request templates (atom t) = ok_then show (token_value t)
-form_request templates (branch ts) = headed_request templates (head_and_rest ts)
-
--- an item, where these relations have a template
-abbrev pub request_of : Templates → Reading → Result Request Fault
-request_of templates (Ok t) = form_request templates t
-request_of templates (Err f) = Err f
+-- an item, where these relations have a template and these variables and globals a value
+abbrev pub request_of : Templates → Bindings → Reading → Result Request Fault
+request_of templates env (Ok t) = form_request templates env t
+request_of templates env (Err f) = Err f

@@ -1,52 +1,49 @@
 //! What items ask for.
-ghost use Rattle.std.specs.Prelude.{◌≡◌};
-ghost use Rattle.cb_forms.specs.Members.{head_and_rest, members, symbol_of};
-ghost use Rattle.cb_forms.specs.Trees.{reading_of, tree_of};
-ghost use Rattle.cb_requests.specs.Requests.{request_by, assert_request, bare_request, request_of, deffacts_request, form_request, headed_request, named_channel, printout_request, retract_request};
 ghost use Rattle.cb_facts.specs.Results.{Settles};
-ghost use Rattle.std.specs.Option.{option_and_then};
+ghost use Rattle.cb_forms.specs.Members.{head_and_rest, members};
+ghost use Rattle.cb_forms.specs.Trees.{reading_of, tree_of};
+ghost use Rattle.cb_requests.specs.Requests.{act_request, command_request, construct_request, deffacts_request, form_request, globals_request, request_by, request_of};
 
-use crate::channel::Channel;
-use crate::constant::{read_constant, read_values};
-use crate::fact_form::read_facts;
-use crate::heads::{Head, read_head};
-use cb_facts::{FactExpr, Name, Names, Refused, Value};
+use crate::fact_list::read_kept_facts;
+use crate::global_list::read_globals;
+use crate::top_expr::read_top;
+use cb_exprs::{Env, Expr, FactExpr, GlobalExpr};
+use cb_facts::{Name, Names, Refused};
 use cb_forms::{Fault, Form, Item, split_head};
 use cb_templates::{Relations, without_comment};
+use cb_words::{Command as Word, Construct, Head, read_head};
 
 /// What an item asks for.
 #[derive(Drop)]
 pub enum Command<'a> {
-    /// To show a value.
-    Show(Value),
+    /// To carry out an expression, and to show its value.
+    Act(Expr),
     /// To define the template that these forms are, which follow `deftemplate`.
     DefineTemplate(&'a [Form]),
     /// To keep facts under a name for `reset`.
     DefineDeffacts(Name, Vec<FactExpr>),
-    /// To assert facts, one after another.
-    Assert(Vec<FactExpr>),
-    /// To retract the facts that values name.
-    Retract(Vec<Value>),
+    /// To define globals, one after another.
+    DefineGlobals(Vec<GlobalExpr>),
     /// To list the facts.
     ListFacts,
-    /// To print values.
-    Print(Channel, Vec<Value>),
     /// To begin anew with the facts that are kept for it.
     Reset,
-    /// To drop the facts, the templates and each `deffacts`.
+    /// To drop the facts, the variables and all that is defined.
     Clear,
 }
 
-/// The command that an item is, where these relations have a template, or its first fault (`docs/LANGUAGE.md`, "Faults").
+/// The command that an item is, where these relations have a template and these variables and globals a value, or its
+/// first fault (`docs/LANGUAGE.md`, "Faults").
 pub fn read_command<'a>(
     names: &mut Names,
     relations: &Relations,
+    env: &Env,
     item: &'a Item,
 ) -> Result<Command<'a>, Refused>
-    ensures { Settles request_by result (request_of relations.now (reading_of item.now)) }
+    ensures { Settles request_by result (request_of relations.now env.now (reading_of item.now)) }
 {
     match item {
-        Item::Form(form) => read_form(names, relations, form),
+        Item::Form(form) => read_form(names, relations, env, form),
         Item::Bad(fault) => Err(Refused::Fault(*fault)),
     }
 }
@@ -54,115 +51,90 @@ pub fn read_command<'a>(
 fn read_form<'a>(
     names: &mut Names,
     relations: &Relations,
+    env: &Env,
     form: &'a Form,
 ) -> Result<Command<'a>, Refused>
-    ensures { Settles request_by result (form_request relations.now (tree_of form.now)) }
+    ensures { Settles request_by result (form_request relations.now env.now (tree_of form.now)) }
 {
-    match form {
-        Form::Atom(token) => Ok(Command::Show(read_constant(names, token)?)),
-        Form::List(forms) => read_list(names, relations, forms),
+    let Some((name, args)) = form.call() else {
+        return read_act(names, relations, env, form);
+    };
+    match read_head(name) {
+        Some(Head::Construct(construct)) => {
+            read_construct(names, relations, env, construct, args)
+        }
+        Some(Head::Command(word)) => read_bare(word, args),
+        _ => read_act(names, relations, env, form),
     }
 }
 
-fn read_list<'a>(
+/// An expression.
+fn read_act<'a>(
     names: &mut Names,
     relations: &Relations,
-    forms: &'a [Form],
+    env: &Env,
+    form: &Form,
+) -> Result<Command<'a>, Refused>
+    ensures { Settles request_by result (act_request relations.now env.now (tree_of form.now)) }
+{
+    Ok(Command::Act(read_top(names, relations, env, form)?))
+}
+
+/// A command, which takes no arguments.
+fn read_bare<'a>(word: Word, args: &'a [Form]) -> Result<Command<'a>, Refused>
+    ensures { Settles request_by result (command_request word (members args.now)) }
+{
+    if let Some(_) = args.split_first() {
+        return Err(Refused::Fault(Fault::WrongArguments));
+    }
+    match word {
+        Word::Facts => Ok(Command::ListFacts),
+        Word::Reset => Ok(Command::Reset),
+        Word::Clear => Ok(Command::Clear),
+    }
+}
+
+fn read_construct<'a>(
+    names: &mut Names,
+    relations: &Relations,
+    env: &Env,
+    construct: Construct,
+    args: &'a [Form],
 ) -> Result<Command<'a>, Refused>
     ensures { Settles request_by result
-        (headed_request relations.now (head_and_rest (members forms.now))) }
+        (construct_request relations.now env.now construct (members args.now)) }
 {
-    let Some((name, args)) = split_head(forms) else {
-        return Err(Refused::Fault(Fault::MalformedForm));
-    };
-    match read_head(name) {
-        Head::Deftemplate => Ok(Command::DefineTemplate(args)),
-        Head::Deffacts => read_deffacts(names, relations, args),
-        Head::Assert => read_assert(names, relations, args),
-        Head::Retract => read_retract(names, args),
-        Head::Facts => read_bare(Command::ListFacts, args),
-        Head::Printout => read_printout(names, args),
-        Head::Reset => read_bare(Command::Reset, args),
-        Head::Clear => read_bare(Command::Clear, args),
-        Head::Refused => Err(Refused::Fault(Fault::NotInProfile)),
-        Head::Unknown => Err(Refused::Fault(Fault::UnknownFunction)),
+    match construct {
+        Construct::Deftemplate => Ok(Command::DefineTemplate(args)),
+        Construct::Deffacts => read_deffacts(names, relations, env, args),
+        Construct::Defglobal => read_defglobal(names, relations, env, args),
     }
 }
 
 fn read_deffacts<'a>(
     names: &mut Names,
     relations: &Relations,
+    env: &Env,
     args: &'a [Form],
 ) -> Result<Command<'a>, Refused>
     ensures { Settles request_by result
-        (deffacts_request relations.now (head_and_rest (members args.now))) }
+        (deffacts_request relations.now env.now (head_and_rest (members args.now))) }
 {
     let Some((name, forms)) = split_head(args) else {
         return Err(Refused::Fault(Fault::MalformedForm));
     };
-    let facts = read_facts(names, relations, without_comment(forms))?;
+    let facts = read_kept_facts(names, relations, env, without_comment(forms))?;
     Ok(Command::DefineDeffacts(names.name(name)?, facts))
 }
 
-fn read_assert<'a>(
+fn read_defglobal<'a>(
     names: &mut Names,
     relations: &Relations,
+    env: &Env,
     args: &'a [Form],
 ) -> Result<Command<'a>, Refused>
-    ensures { Settles request_by result (assert_request relations.now (members args.now)) }
-{
-    let Some(_) = args.split_first() else {
-        return Err(Refused::Fault(Fault::WrongArguments));
-    };
-    Ok(Command::Assert(read_facts(names, relations, args)?))
-}
-
-fn read_retract<'a>(names: &mut Names, args: &'a [Form]) -> Result<Command<'a>, Refused>
-    ensures { Settles request_by result (retract_request (members args.now)) }
-{
-    let Some(_) = args.split_first() else {
-        return Err(Refused::Fault(Fault::WrongArguments));
-    };
-    Ok(Command::Retract(read_values(names, args)?))
-}
-
-/// A command that takes no arguments.
-fn read_bare<'a>(command: Command<'a>, args: &'a [Form]) -> Result<Command<'a>, Refused>
     ensures { Settles request_by result
-        (bare_request (request_by command.entry) (members args.now)) }
+        (globals_request relations.now env.now (members args.now)) }
 {
-    match args.split_first() {
-        None => Ok(command),
-        Some(_) => Err(Refused::Fault(Fault::WrongArguments)),
-    }
-}
-
-fn read_printout<'a>(names: &mut Names, args: &'a [Form]) -> Result<Command<'a>, Refused>
-    ensures { Settles request_by result (printout_request (members args.now)) }
-{
-    let Some((first, values)) = args.split_first() else {
-        return Err(Refused::Fault(Fault::NotInProfile));
-    };
-    let Some(channel) = read_channel(first) else {
-        return Err(Refused::Fault(Fault::NotInProfile));
-    };
-    Ok(Command::Print(channel, read_values(names, values)?))
-}
-
-fn read_channel(form: &Form) -> Option<Channel>
-    ensures { result ≡ option_and_then named_channel (symbol_of (tree_of form.now)) }
-{
-    named_channel(form.symbol()?)
-}
-
-fn named_channel(name: &[u8]) -> Option<Channel>
-    ensures { result ≡ named_channel name.now }
-{
-    if name == b"t".as_slice() || name == b"stdout".as_slice() {
-        return Some(Channel::Output);
-    }
-    if name == b"nil".as_slice() {
-        return Some(Channel::Nowhere);
-    }
-    None
+    Ok(Command::DefineGlobals(read_globals(names, relations, env, args)?))
 }

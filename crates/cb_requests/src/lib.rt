@@ -1,13 +1,12 @@
-//! What the items of a script ask for: commands and constructs as they are read, or their first faults.
+//! What the items of a script ask for: constructs, commands and expressions as they are read, or their first faults.
+//!
+//! `docs/ARCHITECTURE.md` says where the layer stands.
 #![tactic(auto)]
 
-mod channel;
 mod command;
-mod constant;
-mod fact_form;
-mod heads;
+mod fact_list;
+mod global_list;
 pub mod laws;
-mod slot_exprs;
+mod top_expr;
 
-pub use channel::Channel;
 pub use command::{Command, read_command};

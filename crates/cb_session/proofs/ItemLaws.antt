@@ -111,17 +111,17 @@ unfolding executed acted
 executed-symbol s r name is = ap (executed s) is
 
 -- an item whose request is read
-pub acted-request : (s : State) (r : Reading) (request : Request) → request_of s.templates r ≡ Ok request → acted r s ≡ performed_and_shown request s
+pub acted-request : (s : State) (r : Reading) (request : Request) → request_of s.world.templates s.world.env r ≡ Ok request → acted r s ≡ performed_and_shown request s
 unfolding acted
 acted-request s r request is = ap (λ it. follow (give_or_fault it s).state (give_or_fault it s).written (give_or_fault it s).answer performed_and_shown) is
 
-acted-fault : (s : State) (r : Reading) (f : Fault) → request_of s.templates r ≡ Err f → acted r s ≡ record { state = s; written = []; answer = Err (ended.Fault f) }
+acted-fault : (s : State) (r : Reading) (f : Fault) → request_of s.world.templates s.world.env r ≡ Err f → acted r s ≡ record { state = s; written = []; answer = Err (ended.Fault f) }
 unfolding acted
 acted-fault s r f is = ap (λ it. follow (give_or_fault it s).state (give_or_fault it s).written (give_or_fault it s).answer performed_and_shown) is
 
 module _ {K : Type 0} (writes : K → Writes) (o : OutState K) (s : State) (r : Reading) where
   -- an item whose request is refused
-  pub went_refused : (refusal : Refused) → o.fault ≡ false → Tells refusal (λ f. request_of s.templates r ≡ Err f) → Went {K = K} {S = State} {A = Unit {0}} writes o o s (Err (broken_by refusal)) (acted r s)
+  pub went_refused : (refusal : Refused) → o.fault ≡ false → Tells refusal (λ f. request_of s.world.templates s.world.env r ≡ Err f) → Went {K = K} {S = State} {A = Unit {0}} writes o o s (Err (broken_by refusal)) (acted r s)
   went_refused (refused.Fault f) fine tells = went_as writes o o s _ _ _ _ refl (acted-fault s r f tells) (record { puts = puts_none writes o fine; answers = (refl, refl) })
   went_refused refused.NoMemory fine tells = record { puts = puts_nothing writes o (acted r s).written fine; answers = tt }
 

@@ -56,26 +56,26 @@ pub grows-long : (run : Run) → Grows run.written (too_long run).written
 grows-long run = grows-long_status run.status run
 
 -- the run so far, by whether an item is too long
-pub so_far-fits : (l : Limits) (p : List ℕ) → over l.max_form p ≡ false → so_far l p ≡ after_all begun (whole p)
+pub so_far-fits : (l : Limits) (p : List ℕ) → over l.max_form p ≡ false → so_far l p ≡ after_all (begun l) (whole p)
 unfolding so_far
-so_far-fits l p h = ap (λ t. if t then too_long (after_all begun (fitting l.max_form p)) else after_all begun (whole p)) h
+so_far-fits l p h = ap (λ t. if t then too_long (after_all (begun l) (fitting l.max_form p)) else after_all (begun l) (whole p)) h
 
-pub so_far-long : (l : Limits) (p : List ℕ) → over l.max_form p ≡ true → so_far l p ≡ too_long (after_all begun (fitting l.max_form p))
+pub so_far-long : (l : Limits) (p : List ℕ) → over l.max_form p ≡ true → so_far l p ≡ too_long (after_all (begun l) (fitting l.max_form p))
 unfolding so_far
-so_far-long l p h = ap (λ t. if t then too_long (after_all begun (fitting l.max_form p)) else after_all begun (whole p)) h
+so_far-long l p h = ap (λ t. if t then too_long (after_all (begun l) (fitting l.max_form p)) else after_all (begun l) (whole p)) h
 
-pub complete-fits : (l : Limits) (s : List ℕ) → over l.max_form s ≡ false → complete l s ≡ after_all begun (items s)
+pub complete-fits : (l : Limits) (s : List ℕ) → over l.max_form s ≡ false → complete l s ≡ after_all (begun l) (items s)
 unfolding complete
-complete-fits l s h = ap (λ t. if t then too_long (after_all begun (fitting l.max_form s)) else after_all begun (fitting l.max_form s)) h ∙ ap (after_all begun) (fitting-items l.max_form s h)
+complete-fits l s h = ap (λ t. if t then too_long (after_all (begun l) (fitting l.max_form s)) else after_all (begun l) (fitting l.max_form s)) h ∙ ap (after_all (begun l)) (fitting-items l.max_form s h)
 
-pub complete-long : (l : Limits) (s : List ℕ) → over l.max_form s ≡ true → complete l s ≡ too_long (after_all begun (fitting l.max_form s))
+pub complete-long : (l : Limits) (s : List ℕ) → over l.max_form s ≡ true → complete l s ≡ too_long (after_all (begun l) (fitting l.max_form s))
 unfolding complete
-complete-long l s h = ap (λ t. if t then too_long (after_all begun (fitting l.max_form s)) else after_all begun (fitting l.max_form s)) h
+complete-long l s h = ap (λ t. if t then too_long (after_all (begun l) (fitting l.max_form s)) else after_all (begun l) (fitting l.max_form s)) h
 
 -- what fits, after what has ended
-fitting-run : (l : Limits) (p r : List ℕ) → over l.max_form p ≡ false → (more : List Reading) × (after_all begun (fitting l.max_form (p ++ r)) ≡ after_all (after_all begun (whole p)) more)
+fitting-run : (l : Limits) (p r : List ℕ) → over l.max_form p ≡ false → (more : List Reading) × (after_all (begun l) (fitting l.max_form (p ++ r)) ≡ after_all (after_all (begun l) (whole p)) more)
 fitting-run l p r fits =
-    let begins = whole-fitting l.max_form p r fits in (begins.more, ap (after_all begun) begins.is ∙ after_all-append begun (whole p) begins.more)
+    let begins = whole-fitting l.max_form p r fits in (begins.more, ap (after_all (begun l)) begins.is ∙ after_all-append (begun l) (whole p) begins.more)
 
 -- however the script goes on, what is written so far is a beginning of all
 pub so_far-grows : (l : Limits) (p r : List ℕ) → Grows (so_far l p).written (complete l (p ++ r)).written
@@ -83,15 +83,15 @@ unfolding so_far complete
 so_far-grows l p r = elim (cases_Bool (over l.max_form p)) [
   | inl long ↦
       let long' = over-kept_all l.max_form p r long in
-      let same : complete l (p ++ r) ≡ so_far l p = complete-long l (p ++ r) long' ∙ (ap (λ xs. too_long (after_all begun xs)) (fitting-kept l.max_form p r long) ∙ sym (so_far-long l p long)) in
+      let same : complete l (p ++ r) ≡ so_far l p = complete-long l (p ++ r) long' ∙ (ap (λ xs. too_long (after_all (begun l) xs)) (fitting-kept l.max_form p r long) ∙ sym (so_far-long l p long)) in
       grows-same (so_far l p).written (complete l (p ++ r)).written (ap (λ it. it.written) same)
   | inr fits ↦
       let more = fitting-run l p r fits in
-      let here = after_all begun (whole p) in
-      let grown : Grows here.written (after_all begun (fitting l.max_form (p ++ r))).written = subst (λ (it : Run). Grows here.written it.written) (sym more.1) (grows-all here more.0) in
-      let P : Bool → Type 0 = λ t. Grows here.written (if t then too_long (after_all begun (fitting l.max_form (p ++ r))) else after_all begun (fitting l.max_form (p ++ r))).written in
+      let here = after_all (begun l) (whole p) in
+      let grown : Grows here.written (after_all (begun l) (fitting l.max_form (p ++ r))).written = subst (λ (it : Run). Grows here.written it.written) (sym more.1) (grows-all here more.0) in
+      let P : Bool → Type 0 = λ t. Grows here.written (if t then too_long (after_all (begun l) (fitting l.max_form (p ++ r))) else after_all (begun l) (fitting l.max_form (p ++ r))).written in
       let all : P (over l.max_form (p ++ r)) = elim (over l.max_form (p ++ r)) as P [
-        | true ↦ grows-trans here.written (after_all begun (fitting l.max_form (p ++ r))).written (too_long (after_all begun (fitting l.max_form (p ++ r)))).written grown (grows-long (after_all begun (fitting l.max_form (p ++ r))))
+        | true ↦ grows-trans here.written (after_all (begun l) (fitting l.max_form (p ++ r))).written (too_long (after_all (begun l) (fitting l.max_form (p ++ r)))).written grown (grows-long (after_all (begun l) (fitting l.max_form (p ++ r))))
         | false ↦ grown
       ] in
       subst (λ (it : Run). Grows it.written (complete l (p ++ r)).written) (sym (so_far-fits l p fits)) all
@@ -103,18 +103,18 @@ unfolding so_far complete
 so_far-ended l p r status ended = elim (cases_Bool (over l.max_form p)) [
   | inl long ↦
       let long' = over-kept_all l.max_form p r long in
-      let same = ap (λ xs. too_long (after_all begun xs)) (fitting-kept l.max_form p r long) ∙ sym (so_far-long l p long) in
+      let same = ap (λ xs. too_long (after_all (begun l) xs)) (fitting-kept l.max_form p r long) ∙ sym (so_far-long l p long) in
       (so_far-long l (p ++ r) long' ∙ same, complete-long l (p ++ r) long' ∙ same)
   | inr fits ↦
-      let here = after_all begun (whole p) in
+      let here = after_all (begun l) (whole p) in
       let is = so_far-fits l p fits in
       let over_here : here.status ≡ Some status = ap (λ it. it.status) (sym is) ∙ ended in
       let more = fitting-run l p r fits in
-      let rest : after_all begun (fitting l.max_form (p ++ r)) ≡ here = more.1 ∙ after_all-ended here status more.0 over_here in
-      let long_rest : too_long (after_all begun (fitting l.max_form (p ++ r))) ≡ here = ap too_long rest ∙ too_long-ended here status over_here in
+      let rest : after_all (begun l) (fitting l.max_form (p ++ r)) ≡ here = more.1 ∙ after_all-ended here status more.0 over_here in
+      let long_rest : too_long (after_all (begun l) (fitting l.max_form (p ++ r))) ≡ here = ap too_long rest ∙ too_long-ended here status over_here in
       let wholes = whole-more p r in
-      let whole_rest : after_all begun (whole (p ++ r)) ≡ here = ap (after_all begun) wholes.is ∙ (after_all-append begun (whole p) wholes.more ∙ after_all-ended here status wholes.more over_here) in
-      let P : Bool → Type 0 = λ t. ((if t then too_long (after_all begun (fitting l.max_form (p ++ r))) else after_all begun (whole (p ++ r))) ≡ here) × ((if t then too_long (after_all begun (fitting l.max_form (p ++ r))) else after_all begun (fitting l.max_form (p ++ r))) ≡ here) in
+      let whole_rest : after_all (begun l) (whole (p ++ r)) ≡ here = ap (after_all (begun l)) wholes.is ∙ (after_all-append (begun l) (whole p) wholes.more ∙ after_all-ended here status wholes.more over_here) in
+      let P : Bool → Type 0 = λ t. ((if t then too_long (after_all (begun l) (fitting l.max_form (p ++ r))) else after_all (begun l) (whole (p ++ r))) ≡ here) × ((if t then too_long (after_all (begun l) (fitting l.max_form (p ++ r))) else after_all (begun l) (fitting l.max_form (p ++ r))) ≡ here) in
       let both : P (over l.max_form (p ++ r)) = elim (over l.max_form (p ++ r)) as P [ true ↦ (long_rest, long_rest) | false ↦ (whole_rest, rest) ] in
       (both.0 ∙ sym is, both.1 ∙ sym is)
 ]
@@ -125,21 +125,21 @@ unfolding so_far
 so_far-grows_far l p r = elim (cases_Bool (over l.max_form p)) [
   | inl long ↦
       let long' = over-kept_all l.max_form p r long in
-      let same : so_far l (p ++ r) ≡ so_far l p = so_far-long l (p ++ r) long' ∙ (ap (λ xs. too_long (after_all begun xs)) (fitting-kept l.max_form p r long) ∙ sym (so_far-long l p long)) in
+      let same : so_far l (p ++ r) ≡ so_far l p = so_far-long l (p ++ r) long' ∙ (ap (λ xs. too_long (after_all (begun l) xs)) (fitting-kept l.max_form p r long) ∙ sym (so_far-long l p long)) in
       grows-same (so_far l p).written (so_far l (p ++ r)).written (ap (λ it. it.written) same)
   | inr fits ↦
       let more = fitting-run l p r fits in
       let wholes = whole-more p r in
-      let here = after_all begun (whole p) in
-      let whole_is : after_all begun (whole (p ++ r)) ≡ after_all here wholes.more = ap (after_all begun) wholes.is ∙ after_all-append begun (whole p) wholes.more in
-      let one : Grows here.written (too_long (after_all begun (fitting l.max_form (p ++ r)))).written = grows-trans here.written (after_all begun (fitting l.max_form (p ++ r))).written (too_long (after_all begun (fitting l.max_form (p ++ r)))).written (subst (λ (it : Run). Grows here.written it.written) (sym more.1) (grows-all here more.0)) (grows-long (after_all begun (fitting l.max_form (p ++ r)))) in
-      let two : Grows here.written (after_all begun (whole (p ++ r))).written = subst (λ (it : Run). Grows here.written it.written) (sym whole_is) (grows-all here wholes.more) in
-      let P : Bool → Type 0 = λ t. Grows here.written (if t then too_long (after_all begun (fitting l.max_form (p ++ r))) else after_all begun (whole (p ++ r))).written in
+      let here = after_all (begun l) (whole p) in
+      let whole_is : after_all (begun l) (whole (p ++ r)) ≡ after_all here wholes.more = ap (after_all (begun l)) wholes.is ∙ after_all-append (begun l) (whole p) wholes.more in
+      let one : Grows here.written (too_long (after_all (begun l) (fitting l.max_form (p ++ r)))).written = grows-trans here.written (after_all (begun l) (fitting l.max_form (p ++ r))).written (too_long (after_all (begun l) (fitting l.max_form (p ++ r)))).written (subst (λ (it : Run). Grows here.written it.written) (sym more.1) (grows-all here more.0)) (grows-long (after_all (begun l) (fitting l.max_form (p ++ r)))) in
+      let two : Grows here.written (after_all (begun l) (whole (p ++ r))).written = subst (λ (it : Run). Grows here.written it.written) (sym whole_is) (grows-all here wholes.more) in
+      let P : Bool → Type 0 = λ t. Grows here.written (if t then too_long (after_all (begun l) (fitting l.max_form (p ++ r))) else after_all (begun l) (whole (p ++ r))).written in
       let all : P (over l.max_form (p ++ r)) = elim (over l.max_form (p ++ r)) as P [ true ↦ one | false ↦ two ] in
       subst (λ (it : Run). Grows it.written (so_far l (p ++ r)).written) (sym (so_far-fits l p fits)) all
 ]
 
-pub so_far-none : (l : Limits) → so_far l [] ≡ begun
+pub so_far-none : (l : Limits) → so_far l [] ≡ begun l
 unfolding so_far over whole parts
 so_far-none l = refl
 
@@ -168,12 +168,12 @@ long-early : (o : Option Status) (run : Run) → o ≡ run.status → IsEarly ru
 long-early None run is early = λ status h done. let same : limit_status ≡ status = cc in (let no : limit_status.ending ≡ ending.Done = ap (λ it. it.ending) same ∙ done in cc)
 long-early (Some status) run is early = early
 
-begun-early : IsEarly begun.status
-begun-early status h = absurd (cc)
+begun-early : (l : Limits) → IsEarly (begun l).status
+begun-early l status h = absurd (cc)
 
 pub so_far-early : (l : Limits) (p : List ℕ) (status : Status) → (so_far l p).status ≡ Some status → status.ending ≢ ending.Done
 unfolding so_far
 so_far-early l p = elim (cases_Bool (over l.max_form p)) [
-  | inl long ↦ subst (λ (it : Run). IsEarly it.status) (sym (so_far-long l p long)) (long-early (after_all begun (fitting l.max_form p)).status (after_all begun (fitting l.max_form p)) refl (all-early begun (fitting l.max_form p) begun-early))
-  | inr fits ↦ subst (λ (it : Run). IsEarly it.status) (sym (so_far-fits l p fits)) (all-early begun (whole p) begun-early)
+  | inl long ↦ subst (λ (it : Run). IsEarly it.status) (sym (so_far-long l p long)) (long-early (after_all (begun l) (fitting l.max_form p)).status (after_all (begun l) (fitting l.max_form p)) refl (all-early (begun l) (fitting l.max_form p) (begun-early l)))
+  | inr fits ↦ subst (λ (it : Run). IsEarly it.status) (sym (so_far-fits l p fits)) (all-early (begun l) (whole p) (begun-early l))
 ]

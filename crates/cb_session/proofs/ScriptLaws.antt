@@ -86,8 +86,8 @@ module _ (l : Limits) (fed : List ℕ) (cutter : Progress) (state : State) (way 
   pub way-status : (so_far l fed).status ≡ None
   way-status = ap (λ it. it.status) (so_far-fits l fed way.fits) ∙ way.goes
 
-  way-start : joined (after_all begun (whole fed)) (from state) ≡ after_all begun (whole fed)
-  way-start = ap (λ it. joined (after_all begun (whole fed)) (from it)) way.state_is ∙ joined-from (after_all begun (whole fed)) way.goes
+  way-start : joined (after_all (begun l) (whole fed)) (from state) ≡ after_all (begun l) (whole fed)
+  way-start = ap (λ it. joined (after_all (begun l) (whole fed)) (from it)) way.state_is ∙ joined-from (after_all (begun l) (whole fed)) way.goes
 
   -- one more byte, by what it completes
   pub so_far-push : (cutter' : Progress) (b : ℕ) (given : Cut) → cutter'.limit ≡ cutter.limit → cutter'.stepped ≡ cutter.stepped ++ b ∷ [] → cutter'.given ≡ cutter.given ++ cut_items given
@@ -96,7 +96,7 @@ module _ (l : Limits) (fed : List ℕ) (cutter : Progress) (state : State) (way 
   so_far-push cutter' b given limit stepped items whole_is long_is =
       let n = l.max_form in
       let p = fed in
-      let here = after_all begun (whole p) in
+      let here = after_all (begun l) (whole p) in
       let bytes : cutter'.stepped ≡ p ++ b ∷ [] = stepped ∙ ap (λ it. it ++ b ∷ []) way.stepped in
       let far : joined (so_far l p) (cut_run state given) ≡ joined here (cut_run state given) = ap (λ it. joined it (cut_run state given)) (so_far-fits l p way.fits) in
       let over_is : over cutter'.limit cutter'.stepped ≡ over n (p ++ b ∷ []) = ap (λ it. over it cutter'.stepped) (limit ∙ way.limit) ∙ ap (over n) bytes in
@@ -104,13 +104,13 @@ module _ (l : Limits) (fed : List ℕ) (cutter : Progress) (state : State) (way 
         | inl e ↦
             let long : over n (p ++ b ∷ []) ≡ true = sym over_is ∙ (sym long_is ∙ e) in
             let run_is : cut_run state given ≡ too_long (from state) = ap (λ t. if t then too_long (from state) else after_all (from state) (cut_readings given)) e in
-            so_far-long l (p ++ b ∷ []) long ∙ (ap (λ xs. too_long (after_all begun xs)) (fitting-whole n p b way.some way.fits long)
+            so_far-long l (p ++ b ∷ []) long ∙ (ap (λ xs. too_long (after_all (begun l) xs)) (fitting-whole n p b way.some way.fits long)
             ∙ (ap too_long (sym way-start) ∙ (sym (joined-long_status (from state).status here (from state)) ∙ (ap (joined here) (sym run_is) ∙ sym far))))
         | inr e ↦
             let fits : over n (p ++ b ∷ []) ≡ false = sym over_is ∙ (sym long_is ∙ e) in
             let run_is : cut_run state given ≡ after_all (from state) (cut_readings given) = ap (λ t. if t then too_long (from state) else after_all (from state) (cut_readings given)) e in
             let wholes : whole (p ++ b ∷ []) ≡ whole p ++ cut_readings given = ap whole (sym bytes) ∙ (sym (whole_is (sym long_is ∙ e)) ∙ (ap readings_in items ∙ (map-append reading_of cutter.given (cut_items given) ∙ ap (λ it. it ++ cut_readings given) way.given))) in
-            so_far-fits l (p ++ b ∷ []) fits ∙ (ap (after_all begun) wholes ∙ (after_all-append begun (whole p) (cut_readings given)
+            so_far-fits l (p ++ b ∷ []) fits ∙ (ap (after_all (begun l)) wholes ∙ (after_all-append (begun l) (whole p) (cut_readings given)
             ∙ (ap (λ it. after_all it (cut_readings given)) (sym way-start) ∙ (sym (joined-all here (from state) (cut_readings given)) ∙ (ap (joined here) (sym run_is) ∙ sym far)))))
       ]
 
@@ -128,8 +128,8 @@ module _ (l : Limits) (fed : List ℕ) (cutter : Progress) (state : State) (way 
         fine = fine;
         fits = sym (ap₂ over (limit ∙ way.limit) bytes) ∙ fits;
         given = all;
-        state_is = way.state_is ∙ ap (λ xs. (after_all begun xs).state) same;
-        goes = ap (λ xs. (after_all begun xs).status) (sym same) ∙ way.goes;
+        state_is = way.state_is ∙ ap (λ xs. (after_all (begun l) xs).state) same;
+        goes = ap (λ xs. (after_all (begun l) xs).status) (sym same) ∙ way.goes;
       }
 
   -- the same of any first bytes of these, none too
@@ -145,25 +145,25 @@ module _ (l : Limits) (fed : List ℕ) (cutter : Progress) (state : State) (way 
   pub run-nothing : (q : List ℕ) (cutter' : Progress) → IsUnderWay l (fed ++ q) cutter' state → cutter'.given ≡ cutter.given → added l fed q ≡ []
   run-nothing q cutter' way' given =
       let same : whole fed ≡ whole (fed ++ q) = sym way.given ∙ (ap readings_in (sym given) ∙ way'.given) in
-      added-joined l fed q (from state) (so_far-fits l (fed ++ q) way'.fits ∙ (ap (after_all begun) (sym same) ∙ (sym way-start ∙ ap (λ it. joined it (from state)) (sym (so_far-fits l fed way.fits)))))
+      added-joined l fed q (from state) (so_far-fits l (fed ++ q) way'.fits ∙ (ap (after_all (begun l)) (sym same) ∙ (sym way-start ∙ ap (λ it. joined it (from state)) (sym (so_far-fits l fed way.fits)))))
 
   -- the run of a whole script, by the item that is open at its end
   pub complete-end : (item : Option Item) → (over cutter.limit cutter.stepped ≡ false → readings_in cutter.given ++ item_readings item ≡ items cutter.stepped)
       → complete l fed ≡ joined (so_far l fed) (after_all (from state) (item_readings item))
   complete-end item ends =
-      let here = after_all begun (whole fed) in
+      let here = after_all (begun l) (whole fed) in
       let far : joined (so_far l fed) (after_all (from state) (item_readings item)) ≡ joined here (after_all (from state) (item_readings item)) = ap (λ it. joined it (after_all (from state) (item_readings item))) (so_far-fits l fed way.fits) in
       let over_is : over cutter.limit cutter.stepped ≡ over l.max_form fed = ap (λ it. over it cutter.stepped) way.limit ∙ ap (over l.max_form) way.stepped in
       let all : items fed ≡ whole fed ++ item_readings item = ap items (sym way.stepped) ∙ (sym (ends (over_is ∙ way.fits)) ∙ ap (λ it. it ++ item_readings item) way.given) in
-      complete-fits l fed way.fits ∙ (ap (after_all begun) all ∙ (after_all-append begun (whole fed) (item_readings item)
+      complete-fits l fed way.fits ∙ (ap (after_all (begun l)) all ∙ (after_all-append (begun l) (whole fed) (item_readings item)
       ∙ (ap (λ it. after_all it (item_readings item)) (sym way-start) ∙ (sym (joined-all here (from state) (item_readings item)) ∙ sym far))))
 
-start_way : (l : Limits) (cutter : Progress) (state : State) → cutter ≡ fresh_progress l.max_form → state ≡ first_state → 1 ≤ l.max_form → IsUnderWay l [] cutter state
+start_way : (l : Limits) (cutter : Progress) (state : State) → cutter ≡ fresh_progress l.max_form → state ≡ first_state l → 1 ≤ l.max_form → IsUnderWay l [] cutter state
 unfolding over whole parts
 start_way l cutter state fresh first some = rw (fresh, first) (record { limit = refl; stepped = refl; some = some; fine = refl; fits = refl; given = refl; state_is = refl; goes = refl })
 
 -- before the first byte
-pub way-start_of : (l : Limits) (cutter : Progress) (state : State) → cutter ≡ fresh_progress l.max_form → state ≡ first_state → 1 ≤ l.max_form → IsUnderWay l [] cutter state
+pub way-start_of : (l : Limits) (cutter : Progress) (state : State) → cutter ≡ fresh_progress l.max_form → state ≡ first_state l → 1 ≤ l.max_form → IsUnderWay l [] cutter state
 way-start_of l cutter state fresh first some = start_way l cutter state fresh first some
 
 long_status : (o : Option Status) (run : Run) → (too_long_status o run).status ≡ None → run.status ≡ o → ⊥
@@ -172,7 +172,7 @@ long_status (Some status) run h e = cc
 
 -- an item that is too long ends the script
 long-ends : (l : Limits) (p : List ℕ) → over l.max_form p ≡ true → (so_far l p).status ≡ None → ⊥
-long-ends l p long goes = long_status (after_all begun (fitting l.max_form p)).status (after_all begun (fitting l.max_form p)) (ap (λ it. it.status) (sym (so_far-long l p long)) ∙ goes) refl
+long-ends l p long goes = long_status (after_all (begun l) (fitting l.max_form p)).status (after_all (begun l) (fitting l.max_form p)) (ap (λ it. it.status) (sym (so_far-long l p long)) ∙ goes) refl
 
 -- where a byte ends nothing, the script goes on after it
 pub way-push : (l : Limits) (fed : List ℕ) (cutter cutter' : Progress) (state state' : State) (b : ℕ) (given : Cut) → IsUnderWay l fed cutter state → cutter'.limit ≡ cutter.limit → cutter'.stepped ≡ cutter.stepped ++ b ∷ [] → cutter'.given ≡ cutter.given ++ cut_items given
@@ -188,7 +188,7 @@ way-push l fed cutter cutter' state state' b given way limit stepped items whole
       | inl long ↦ absurd (long-ends l p' long goes)
       | inr e ↦ e
     ] in
-    let far : so_far l p' ≡ after_all begun (whole p') = so_far-fits l p' fits in
+    let far : so_far l p' ≡ after_all (begun l) (whole p') = so_far-fits l p' fits in
     record {
       limit = limit ∙ way.limit;
       stepped = bytes;

@@ -1,6 +1,7 @@
 pub mod Lines
-pub mod Printing
 pub mod States
+pub mod Globals
+pub mod GlobalPlaces
 pub mod Actions
 pub mod Transcripts
 pub mod Laws

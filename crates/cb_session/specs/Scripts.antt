@@ -30,8 +30,8 @@ pub record IsUnderWay (limits : Limits) (fed : List ℕ) (cutter : Progress) (st
   pub fine : cutter.failed ≡ false
   pub fits : over limits.max_form fed ≡ false
   pub given : readings_in cutter.given ≡ whole fed
-  pub state_is : state ≡ (after_all begun (whole fed)).state
-  pub goes : (after_all begun (whole fed)).status ≡ None
+  pub state_is : state ≡ (after_all (begun limits) (whole fed)).state
+  pub goes : (after_all (begun limits) (whole fed)).status ≡ None
 
 -- A byte more of a script that goes on: what it adds was put, and it goes on after it unless it has ended with it.
 pub record Steps {K : Type 0} (writes : K → Writes) (old new : OutState K) (limits : Limits) (fed : List ℕ) (byte : ℕ) (cutter : Progress) (state : State)

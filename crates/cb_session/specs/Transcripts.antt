@@ -17,8 +17,8 @@ pub record Run : Type 0 where
   pub written : List ℕ
   pub status : Option Status
 
-abbrev pub begun : Run
-begun = record { state = first_state; written = []; status = None }
+abbrev pub begun : Limits → Run
+begun limits = record { state = first_state limits; written = []; status = None }
 
 abbrev pub limit_status : Status
 limit_status = record { code = 4; ending = Limit }
@@ -65,12 +65,12 @@ status_at_end (Some status) is_faulted = status
 
 -- The script p, so far: each item that has ended is carried out, up to one that is too long.
 unfoldable pub so_far : Limits → List ℕ → Run
-so_far limits p = if over limits.max_form p then too_long (after_all begun (fitting limits.max_form p)) else after_all begun (whole p)
+so_far limits p = if over limits.max_form p then too_long (after_all (begun limits) (fitting limits.max_form p)) else after_all (begun limits) (whole p)
 
 -- the whole script s
 unfoldable pub complete : Limits → List ℕ → Run
 complete limits s =
-    if over limits.max_form s then too_long (after_all begun (fitting limits.max_form s)) else after_all begun (fitting limits.max_form s)
+    if over limits.max_form s then too_long (after_all (begun limits) (fitting limits.max_form s)) else after_all (begun limits) (fitting limits.max_form s)
 
 -- what a script writes
 abbrev pub transcript : Limits → List ℕ → List ℕ

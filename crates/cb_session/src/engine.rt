@@ -1,64 +1,69 @@
 //! Carrying out items.
-ghost use Rattle.std.specs.Prelude.{◌≡◌, IfSome, Ok, None, Some, IfOk, false, true, option_map};
+ghost use Rattle.std.specs.Prelude.{◌≡◌, IfSome, Ok, None, Some, IfOk, OnOk, false, true};
+ghost use Rattle.cb_actions.specs.Went.{Quietly, Went, stop_extent};
+ghost use Rattle.cb_exprs.specs.Terms.{term_of};
 ghost use Rattle.cb_forms.specs.Members.{members};
 ghost use Rattle.cb_forms.specs.Trees.{atom, reading_of};
 ghost use Rattle.cb_io.specs.Output.{Puts};
-ghost use Rattle.cb_session.specs.Actions.{acted, is_in_use, is_name_in_use, performed, performed_and_shown, retract, shown_line};
-ghost use Rattle.cb_session.specs.States.{first_state};
-ghost use Rattle.cb_session.specs.Lines.{fault_line, value_line};
 ghost use Rattle.cb_requests.specs.Requests as request;
 ghost use Rattle.cb_requests.specs.Requests.{request_by};
-ghost use Rattle.cb_session.specs.Scripts.{cut_run};
-ghost use Rattle.cb_session.specs.Transcripts.{executed, limit_status};
+ghost use Rattle.cb_session.specs.Actions.{acted, is_in_use, is_name_in_use, performed, performed_and_shown, shown_line};
 ghost use Rattle.cb_session.specs.Executing.{Executes};
-ghost use Rattle.cb_actions.specs.Went.{Quietly, Went, stop_extent};
+ghost use Rattle.cb_session.specs.Lines.{fault_line, value_line};
+ghost use Rattle.cb_session.specs.Scripts.{cut_run};
+ghost use Rattle.cb_session.specs.States.{state_with};
+ghost use Rattle.cb_session.specs.Transcripts.{executed, limit_status};
 
+use crate::globals::GlobalTable;
 use crate::line::{fault_line, limit_line, put_fact_lines, value_line};
-use crate::print::put_printed;
+use crate::reset::reset_world;
 use crate::status::Status;
-use cb_actions::{Break, Ended, Limit, Stop, put, put_text};
-use cb_facts::{FactExpr, Name, Names, Value};
+use cb_actions::{Break, Ended, Stop, World, put, put_text};
+use cb_exprs::{Expr, FactExpr, GlobalExpr};
+use cb_facts::{Name, Names, Value};
 use cb_forms::{Cut, Fault, Form, Item, NoMemory, Out, Sink, Token, split_head};
-use cb_requests::{Channel, Command, read_command};
-use cb_templates::Relations;
-use cb_working_memory::{Asserted, DeffactsTable, WorkingMemory, are_retractable};
+use cb_requests::{Command, read_command};
+use cb_working_memory::DeffactsTable;
 use std::alloc::Global;
 use std::marker::Model;
 
-/// What is kept from item to item: the facts, the templates, the facts of each `deffacts`, and whether a fault line was
-/// written. The names that were read are kept too, so that one that is read again takes no more memory: nothing that is
-/// written depends on them.
+/// What is kept from item to item: what actions see and change, the facts of each `deffacts`, the initial expressions of
+/// the globals, and whether a fault line was written. The names that were read are kept too, so that one that is read
+/// again takes no more memory: nothing that is written depends on them.
 ///
 /// After `NoMemory` it may be any.
 #[derive(Drop)]
 pub(crate) struct Engine {
     alloc: Global,
     names: Names,
-    memory: WorkingMemory,
-    relations: Relations,
+    world: World,
     deffacts: DeffactsTable,
+    globals: GlobalTable,
     is_faulted: bool,
 }
 
 impl Model for Engine {
-    ghost use Rattle.cb_session.specs.States.{State};
+    ghost use Rattle.std.specs.Coded.{codes};
+    ghost use Rattle.cb_session.specs.States.{State, state_code};
 
     ghost Value = { State };
 
-    ghost view = { λ e. record { memory = e.memory; templates = e.relations; deffacts = e.deffacts; is_faulted = e.is_faulted } };
+    ghost coded = { state_code (Prim.hlevel codes) (Prim.hlevel codes) (Prim.hlevel codes) (Prim.hlevel codes) };
+
+    ghost view = { λ e. record { world = e.world; deffacts = e.deffacts; globals = e.globals; is_faulted = e.is_faulted } };
 }
 
 impl Engine {
-    /// An engine before the first item.
-    pub(crate) fn new(alloc: Global) -> Engine
-        ensures { result ≡ first_state }
+    /// An engine before the first item. All loops together may take so many turns.
+    pub(crate) fn new(alloc: Global, turns: u64) -> Engine
+        ensures { result ≡ state_with turns }
     {
         Engine {
             alloc,
             names: Names::new(alloc),
-            memory: WorkingMemory::new(alloc),
-            relations: Relations::new(alloc),
+            world: World::new(alloc, turns),
             deffacts: DeffactsTable::new(alloc),
+            globals: GlobalTable::new(alloc),
             is_faulted: false,
         }
     }
@@ -145,7 +150,12 @@ impl Engine {
         ensures { Went K.writes out.old out.new self.new result
             (acted (reading_of item.now) self.old) }
     {
-        match read_command(&mut self.names, &self.relations, item) {
+        match read_command(
+            &mut self.names,
+            self.world.relations(),
+            self.world.env(),
+            item,
+        ) {
             Ok(command) => self.perform_and_show(command, out),
             Err(refused) => Err(Break::from(refused)),
         }
@@ -176,16 +186,23 @@ impl Engine {
             (performed (request_by command.entry) self.old) }
     {
         match command {
-            Command::Show(value) => Ok(Some(value)),
+            Command::Act(expr) => self.carry_out(&expr, out),
             Command::DefineTemplate(forms) => self.define_template(forms),
             Command::DefineDeffacts(name, facts) => self.define_deffacts(name, facts),
-            Command::Assert(facts) => self.assert(facts.as_slice()),
-            Command::Retract(values) => self.retract(values.as_slice()),
+            Command::DefineGlobals(globals) => self.define_globals(globals),
             Command::ListFacts => self.list_facts(out),
-            Command::Print(channel, values) => self.print(channel, values.as_slice(), out),
-            Command::Reset => self.reset(),
+            Command::Reset => self.reset(out),
             Command::Clear => self.clear(),
         }
+    }
+
+    /// Carries out an expression. The answer is its value, if it has one.
+    fn carry_out<K: Sink>(&mut self, expr: &Expr, out: &mut Out<K>) -> Result<Option<Value>, Break>
+        requires { out.old.fault ≡ false }
+        ensures { Went K.writes out.old out.new self.new result
+            (performed (request.act (term_of expr.now)) self.old) }
+    {
+        self.world.carry_out(expr, out)
     }
 
     /// Defines the template that these forms write.
@@ -194,9 +211,7 @@ impl Engine {
             (performed (request.define_template (members forms.now)) self.old) }
     {
         let in_use = self.is_name_in_use(forms)?;
-        self.relations
-            .define_template(&mut self.names, forms, in_use)?;
-        Ok(None)
+        self.world.define_template(&mut self.names, forms, in_use)
     }
 
     /// Whether the relation that a template is written for is in use.
@@ -212,7 +227,7 @@ impl Engine {
     fn is_in_use(&self, relation: &Name) -> bool
         ensures { result ≡ is_in_use self.now relation.now }
     {
-        self.memory.mentions(relation) || self.deffacts.mentions(relation)
+        self.world.memory().mentions(relation) || self.deffacts.mentions(relation)
     }
 
     /// Keeps facts under a name for `reset`.
@@ -224,26 +239,13 @@ impl Engine {
         Ok(None)
     }
 
-    /// Asserts facts, each before the next. The answer is the address of the last.
-    fn assert(&mut self, facts: &[FactExpr]) -> Result<Option<Value>, Break>
-        ensures { Quietly self.new result (performed (request.assert facts.now) self.old) }
+    /// Gives globals their values, and keeps the expressions for `reset`.
+    fn define_globals(&mut self, globals: Vec<GlobalExpr>) -> Result<Option<Value>, Break>
+        ensures { Quietly self.new result
+            (performed (request.define_globals globals.items) self.old) }
     {
-        match self.memory.assert_all(None, facts)? {
-            Asserted::All(last) => Ok(address(last)),
-            Asserted::Exhausted => Err(Break::Ended(Ended::Limit(Limit::Indices))),
-        }
-    }
-
-    /// Retracts the facts that values name.
-    fn retract(&mut self, values: &[Value]) -> Result<Option<Value>, Break>
-        ensures { Quietly self.new result (retract values.now self.old) }
-    {
-        if !are_retractable(values) {
-            return Err(Break::Ended(Ended::Fault(Fault::WrongType)));
-        }
-        if !self.memory.retract_all(values) {
-            return Err(Break::Ended(Ended::Fault(Fault::NoSuchFact)));
-        }
+        drop(self.world.define_globals(globals.as_slice())?);
+        self.globals.define_all(globals)?;
         Ok(None)
     }
 
@@ -253,43 +255,31 @@ impl Engine {
         ensures { Went K.writes out.old out.new self.new result
             (performed request.list_facts self.old) }
     {
-        put_fact_lines(self.alloc, self.memory.facts(), out)?;
+        put_fact_lines(self.alloc, self.world.memory().facts(), out)?;
         Ok(None)
     }
 
-    /// Prints values on a channel.
-    fn print<K: Sink>(
-        &mut self,
-        channel: Channel,
-        values: &[Value],
-        out: &mut Out<K>,
-    ) -> Result<Option<Value>, Break>
+    /// Begins anew with the initial values of the globals and the facts of each `deffacts`.
+    fn reset<K: Sink>(&mut self, out: &mut Out<K>) -> Result<Option<Value>, Break>
         requires { out.old.fault ≡ false }
         ensures { Went K.writes out.old out.new self.new result
-            (performed (request.print channel values.now) self.old) }
+            (performed request.reset self.old) }
     {
-        put_printed(self.alloc, channel, values, out)?;
-        Ok(None)
+        reset_world(
+            &mut self.world,
+            self.globals.as_slice(),
+            &self.deffacts,
+            out,
+        )
     }
 
-    /// Drops all facts, and asserts those of each `deffacts`, under indices from 1.
-    fn reset(&mut self) -> Result<Option<Value>, Break>
-        ensures { Quietly self.new result (performed request.reset self.old) }
-    {
-        self.memory = WorkingMemory::new(self.alloc);
-        match self.deffacts.assert_into(&mut self.memory)? {
-            Asserted::All(_) => Ok(None),
-            Asserted::Exhausted => Err(Break::Ended(Ended::Limit(Limit::Indices))),
-        }
-    }
-
-    /// Forgets the facts, the templates and each `deffacts`.
+    /// Forgets all but the turns that are left and whether a fault line was written.
     fn clear(&mut self) -> Result<Option<Value>, Break>
         ensures { Quietly self.new result (performed request.clear self.old) }
     {
-        self.memory = WorkingMemory::new(self.alloc);
-        self.relations = Relations::new(self.alloc);
+        self.world.clear();
         self.deffacts = DeffactsTable::new(self.alloc);
+        self.globals = GlobalTable::new(self.alloc);
         self.names = Names::new(self.alloc);
         Ok(None)
     }
@@ -339,11 +329,4 @@ fn show<K: Sink>(alloc: Global, value: Option<Value>, out: &mut Out<K>) -> Resul
         Some(value) => put_text(value_line(alloc, &value), out),
         None => Ok(()),
     }
-}
-
-/// The address of a fact.
-fn address(ix: Option<u64>) -> Option<Value>
-    ensures { result ≡ option_map Value.Fact ix }
-{
-    ix.map(Value::Fact)
 }

@@ -2,10 +2,11 @@
 #![tactic(auto)]
 
 mod engine;
+mod globals;
 pub mod laws;
 mod limits;
 mod line;
-mod print;
+mod reset;
 mod session;
 mod status;
 

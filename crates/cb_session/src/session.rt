@@ -49,8 +49,8 @@ impl Session {
     {
         Session {
             cutter: Cutter::new(alloc, limits.max_form),
+            engine: Engine::new(alloc, limits.max_turns),
             limits,
-            engine: Engine::new(alloc),
             status: None,
             stop: None,
             fed: History::new(),

@@ -8,8 +8,10 @@ use std::alloc::Global;
 mod calls;
 mod facts;
 mod faults;
+mod globals;
 mod groups;
 mod heads;
+mod loops;
 mod printout;
 mod retract;
 mod templates;
@@ -31,6 +33,8 @@ const CB12: &[u8] = b"[CB12] unknown global variable\n";
 const CB14: &[u8] = b"[CB14] not in this profile\n";
 
 const CB17: &[u8] = b"[CB17] wrong type\n";
+
+const CB19: &[u8] = b"[CB19] division by zero\n";
 
 const CB20: &[u8] = b"[CB20] no such fact\n";
 
@@ -60,7 +64,7 @@ const FAULTY: Status = Status {
 const LIMITS: Limits = Limits {
     max_form: 64,
     max_firings: 0,
-    max_turns: 0,
+    max_turns: 3,
 };
 
 /// The first of these scripts that doesn't go so.

@@ -35,7 +35,7 @@ either n m = search rules
 named_any : (relation : List ℕ) (table : DeffactsTable) → is_named_in_deffacts relation table ≡ nat_lt 0 (sum_by (names_in relation) table)
 named_any relation [] = refl
 named_any relation (g ∷ table) =
-    ap₂ (λ s t. s || t) (any_counted (λ e. bytes_eq e.relation relation) g.1) (named_any relation table)
+    ap₂ (λ s t. s || t) (any_counted (λ e. bytes_eq e.shape.relation relation) g.1) (named_any relation table)
     ∙ either (names_in relation g) (sum_by (names_in relation) table) ∙ ap (nat_lt 0) (sym (sum_by-cons (names_in relation) g table))
 
 pub group_any : (table : DeffactsTable) (counts : Counts) (relation : List ℕ) → AreCounted counts table → nat_lt 0 (count_of counts relation) ≡ is_named_in_deffacts relation table

@@ -1,9 +1,9 @@
 -- What is asserted takes nothing away: the facts that are there keep their indices, and a new fact has an index that none had.
-use Rattle.std.proofs.Common.{◌≡◌, ◌≢◌, ◌≤◌, ◌+◌, ◌∙◌, ℕ, Bool, true, false, List, [], ◌∷◌, Option, Some, None, Ordering, Less, Equal, Greater, refl, sym, ap, arith, nat_lt, cond, if◌then◌else◌}
+use Rattle.std.proofs.Common.{◌≡◌, ◌≢◌, ◌+◌, ◌∙◌, ℕ, Bool, true, false, [], ◌∷◌, Option, Some, None, Ordering, Less, Equal, Greater, refl, sym, ap, arith, nat_lt, cond, if◌then◌else◌}
 use Rattle.std.specs.BTreeMap.{is_at}
 use Rattle.std.specs.Ordering.{is_eq, nat_cmp, match_ordering}
 use Rattle.cb_working_memory.specs.Laws.{NoneAfter, Keeps}
-use Rattle.cb_working_memory.specs.WorkingMemory.{Memory, greatest_index, grown, asserted_beside, asserted_one, after_one, asserted_all, index_of}
+use Rattle.cb_working_memory.specs.WorkingMemory.{Memory, greatest_index, grown, asserted_beside, asserted_one, index_of}
 use Rattle.cb_facts.proofs.FactListLaws.{is_at-Decides, false-from_not}
 use Rattle.cb_facts.specs.FactLists.{IndexedFacts, fact_at, with_fact}
 use Rattle.cb_facts.specs.Facts.{FactValue}
@@ -43,19 +43,6 @@ one : (m : Memory) (fact : FactValue) (at : Option ℕ) → NoneAfter m → Keep
 one m fact (Some ix) none = itself m none
 one m fact None none = one_if m fact (nat_lt m.last greatest_index) none
 
-joined : (m n o : Memory) → Keeps m n → Keeps n o → Keeps m o
-joined m n o first second = record {
-  rises = let a : m.last ≤ n.last = first.rises in let b : n.last ≤ o.last = second.rises in omega arith;
-  same = λ ix upto. let a : m.last ≤ n.last = first.rises in second.same ix (omega arith) ∙ first.same ix upto;
-  none_after = second.none_after;
-}
-
-after : (m : Memory) (o : Memory × Option ℕ) (facts : List FactValue) → Keeps m o.0
-    → ((n : Memory) (ix : Option ℕ) → NoneAfter n → Keeps n (asserted_all n ix facts).0) → Keeps m (after_one o (λ n ix. asserted_all n ix facts)).0
-after m (n, Some ix) facts first more = joined m n (asserted_all n (Some ix) facts).0 first (more n (Some ix) first.none_after)
-after m (n, None) facts first more = first
-
 -- An assertion changes nothing up to the last index.
-pub keeps_all : (facts : List FactValue) (m : Memory) (last : Option ℕ) → NoneAfter m → Keeps m (asserted_all m last facts).0
-keeps_all [] m last none = itself m none
-keeps_all (fact ∷ facts) m last none = after m (asserted_one m fact) facts (one m fact (index_of m.facts fact) none) (λ n ix none_after. keeps_all facts n ix none_after)
+pub keeps_others : (m : Memory) (fact : FactValue) → NoneAfter m → Keeps m (asserted_one m fact).0
+keeps_others m fact none = one m fact (index_of m.facts fact) none

@@ -1,8 +1,6 @@
--- The assertion of one fact, and of one list of facts after another.
-use Rattle.std.proofs.Common.{◌≡◌, ◌≤◌, ◌<◌, ◌+◌, ◌++◌, ℕ, true, false, List, [], ◌∷◌, Option, Some, None, refl, sym, ap, ◌∙◌, nat_lt, rules, if◌then◌else◌}
-use Rattle.cb_working_memory.specs.WorkingMemory.{Memory, greatest_index, grown, asserted_beside, asserted_one, after_one, asserted_all}
-use Rattle.cb_working_memory.specs.declared.working_memory.Asserted.{Asserted}
-use Rattle.cb_working_memory.specs.declared.working_memory.Asserted.TheVariants.{All, Exhausted}
+-- The assertion of a fact.
+use Rattle.std.proofs.Common.{◌≡◌, ◌≤◌, ◌<◌, ◌+◌, ℕ, true, false, Some, None, sym, ap, ◌∙◌, nat_lt, rules, if◌then◌else◌}
+use Rattle.cb_working_memory.specs.WorkingMemory.{Memory, greatest_index, grown, asserted_beside, asserted_one}
 use Rattle.cb_working_memory.proofs.IndexLaws.{index_of-there, index_of-absent}
 use Rattle.cb_facts.specs.FactLists.{IndexedFacts, fact_at, with_fact, IsAbsent, IsFactBase}
 use Rattle.cb_facts.specs.Facts.{FactValue}
@@ -28,17 +26,3 @@ pub one-added_as : (m : Memory) (fact : FactValue) (new : IndexedFacts) → IsFa
     → asserted_one m fact ≡ (record { facts = new; last = m.last + 1 }, Some (m.last + 1))
 one-added_as m fact new base absent room added =
     one-added m fact base absent room ∙ ap (λ (facts : IndexedFacts). (record { facts = facts; last = m.last + 1 }, Some (m.last + 1))) (sym added)
-
--- what follows the assertion of some facts
-abbrev pub then_all : Memory × Asserted → List FactValue → Memory × Asserted
-then_all (m, All last) facts = asserted_all m last facts
-then_all (m, Exhausted) facts = (m, Exhausted)
-
-one_then : (o : Memory × Option ℕ) (xs ys : List FactValue) → ((n : Memory) (ix : Option ℕ) → asserted_all n ix (xs ++ ys) ≡ then_all (asserted_all n ix xs) ys)
-    → after_one o (λ n ix. asserted_all n ix (xs ++ ys)) ≡ then_all (after_one o (λ n ix. asserted_all n ix xs)) ys
-one_then (m, Some ix) xs ys more = more m (Some ix)
-one_then (m, None) xs ys more = refl
-
-pub all_append : (m : Memory) (last : Option ℕ) (xs ys : List FactValue) → asserted_all m last (xs ++ ys) ≡ then_all (asserted_all m last xs) ys
-all_append m last [] ys = refl
-all_append m last (x ∷ xs) ys = one_then (asserted_one m x) xs ys (λ n ix. all_append n ix xs ys)

@@ -6,11 +6,11 @@ use Rattle.std.specs.List.Sorted.{IsStrictlySortedBy}
 use Rattle.std.specs.Map.{keys_of, lookup}
 use Rattle.std.specs.Ordering.{nat_cmp}
 use Rattle.std.specs.declared.cmp.Ordering.TheVariants.{Greater}
-use Rattle.cb_facts.specs.FactExprs.{FactExpr}
+use Rattle.cb_exprs.specs.FactTerms.{FactTerm}
 
 -- a name and its facts
 abbrev pub Group : Type 0
-Group = List ℕ × List FactExpr
+Group = List ℕ × List FactTerm
 
 -- each group after its number
 abbrev pub NumberedGroups : Type 0

@@ -1,8 +1,6 @@
 -- The working memory: facts, asserted and retracted one after another.
 use Rattle.std.specs.Prelude.{ℕ, ◌+◌, Bool, true, false, List, [], ◌∷◌, Option, Some, None, codes, pos, negsuc, is_some, nat_lt, if◌then◌else◌}
 use Rattle.std.specs.Str.{bytes_eq}
-use Rattle.cb_working_memory.specs.declared.working_memory.Asserted.{Asserted}
-use Rattle.cb_working_memory.specs.declared.working_memory.Asserted.TheVariants.{All, Exhausted}
 use Rattle.cb_facts.specs.FactLists.{IndexedFacts, fact_at, with_fact, without_fact}
 use Rattle.cb_facts.specs.Facts.{FactValue, fact_eq}
 use Rattle.cb_facts.specs.declared.value.Value.{Value}
@@ -36,17 +34,6 @@ asserted_beside m fact None = if nat_lt m.last greatest_index then (grown m fact
 
 abbrev pub asserted_one : Memory → FactValue → Memory × Option ℕ
 asserted_one m fact = asserted_beside m fact (index_of m.facts fact)
-
--- what follows the assertion of a fact
-abbrev pub after_one : Memory × Option ℕ → (Memory → Option ℕ → Memory × Asserted) → Memory × Asserted
-after_one (m, Some ix) next = next m (Some ix)
-after_one (m, None) next = (m, Exhausted)
-
--- Facts asserted, one after another, where the one before them has the index `last`: the memory after them, and the index of
--- the one asserted last. Where no index is left, those after are not asserted.
-abbrev pub asserted_all : Memory → Option ℕ → List FactValue → Memory × Asserted
-asserted_all m last [] = (m, All last)
-asserted_all m last (fact ∷ facts) = after_one (asserted_one m fact) (λ n ix. asserted_all n ix facts)
 
 -- without the fact with the index
 abbrev pub without : Memory → ℕ → Memory

@@ -1,16 +1,16 @@
 //! The facts that `deffacts` keeps for `reset`.
-ghost use Rattle.std.specs.Prelude.{◌≡◌, ◌++◌, ◌∷◌, [], None, IfOk, OnOk};
+ghost use Rattle.std.specs.Prelude.{◌≡◌, ◌++◌, ◌∷◌, [], None, OnOk};
 ghost use Rattle.std.specs.Map.{lookup, remove_entry};
 ghost use Rattle.std.specs.Str.{bytes_eq};
-ghost use Rattle.cb_working_memory.specs.Deffacts.{facts_in, is_named_in_deffacts, with_deffacts};
+ghost use Rattle.cb_working_memory.specs.Deffacts.{is_named_in_deffacts, with_deffacts};
 ghost use Rattle.cb_working_memory.specs.GroupCounts.{AreCounted, HasLess, HasMore, IsLessByGroup};
-ghost use Rattle.cb_working_memory.specs.WorkingMemory.{asserted_all};
 
 use crate::groups::{Deffacts, Groups};
-use crate::working_memory::{Asserted, WorkingMemory};
-use cb_facts::{FactExpr, Name, RelationCounts};
+use cb_exprs::FactExpr;
+use cb_facts::{Name, RelationCounts};
 use cb_forms::NoMemory;
 use std::alloc::Global;
+use std::collections::btree_map::Values;
 use std::marker::Model;
 
 /// The facts of each `deffacts`, by its name, in the order of their definition.
@@ -26,10 +26,13 @@ pub struct DeffactsTable {
 }
 
 impl Model for DeffactsTable {
-    ghost use Rattle.cb_working_memory.specs.Deffacts.{DeffactsTable as Table};
+    ghost use Rattle.std.specs.Coded.{codes};
+    ghost use Rattle.cb_working_memory.specs.Deffacts.{DeffactsTable as Table, table_code};
     ghost use Rattle.cb_working_memory.specs.GroupCounts.{AreCounted};
 
     ghost Value = { Table };
+
+    ghost coded = { table_code (Prim.hlevel codes) (Prim.hlevel codes) (Prim.hlevel codes) };
 
     ghost view = { λ g. g.groups };
 
@@ -68,20 +71,11 @@ impl DeffactsTable {
         self.counts.count(relation) > 0
     }
 
-    /// Asserts all facts of the groups, in order.
-    #[tactic(auto, using(crate::proofs::MemoryLaws::all_append))]
-    pub fn assert_into(&self, memory: &mut WorkingMemory) -> Result<Asserted, NoMemory>
-        ensures { IfOk result
-            (λ told. asserted_all memory.old None (facts_in self.now) ≡ (memory.new, told)) }
+    /// The groups, in order.
+    pub fn iter(&self) -> Values<'_, u64, Deffacts>
+        ensures { result ≡ self.now }
     {
-        let mut last = None;
-        for group in self.groups.iter() {
-            match memory.assert_all(last, group.facts())? {
-                Asserted::All(ix) => last = ix,
-                Asserted::Exhausted => return Ok(Asserted::Exhausted),
-            }
-        }
-        Ok(Asserted::All(last))
+        self.groups.iter()
     }
 }
 
@@ -109,7 +103,7 @@ fn remove_all(counts: &mut RelationCounts, facts: &[FactExpr])
     ensures { HasLess counts.old counts.new facts.now }
 {
     for fact in facts {
-        counts.remove(fact.relation());
+        counts.remove(fact.shape().relation());
     }
 }
 
@@ -134,7 +128,7 @@ fn add_all(counts: &mut RelationCounts, facts: &[FactExpr]) -> Result<(), NoMemo
     ensures { OnOk result (HasMore counts.old counts.new facts.now) }
 {
     for fact in facts {
-        counts.add(fact.relation())?;
+        counts.add(fact.shape().relation())?;
     }
     Ok(())
 }

@@ -6,7 +6,8 @@ ghost use Rattle.std.specs.Option.{unwrap_or};
 ghost use Rattle.std.specs.Str.{bytes_eq};
 ghost use Rattle.cb_working_memory.specs.Groups.{Group, IsAfterAll};
 
-use cb_facts::{FactExpr, Name};
+use cb_exprs::FactExpr;
+use cb_facts::Name;
 use cb_forms::NoMemory;
 use std::alloc::Global;
 use std::collections::BTreeMap;
@@ -17,22 +18,26 @@ use std::marker::Model;
 ///
 /// Contracts see the pair of the name and the list of the facts.
 #[derive(Drop)]
-pub(crate) struct Deffacts {
+pub struct Deffacts {
     name: Name,
     facts: Vec<FactExpr>,
 }
 
 impl Model for Deffacts {
+    ghost use Rattle.std.specs.Coded.{codes};
+    ghost use Rattle.cb_working_memory.specs.Deffacts.{group_code};
     ghost use Rattle.cb_working_memory.specs.Groups.{Group};
 
     ghost Value = { Group };
+
+    ghost coded = { group_code (Prim.hlevel codes) (Prim.hlevel codes) (Prim.hlevel codes) };
 
     ghost view = { λ g. (g.name, g.facts.items) };
 }
 
 impl Deffacts {
     /// The facts.
-    pub(crate) fn facts(&self) -> &[FactExpr]
+    pub fn facts(&self) -> &[FactExpr]
         ensures { result.now ≡ self.now.1 }
     {
         self.facts.as_slice()
@@ -55,10 +60,13 @@ impl Model for Groups {
     ghost use Rattle.std.specs.Cmp.Lexicographic.{slice_cmp};
     ghost use Rattle.std.specs.Map.{values_of};
     ghost use Rattle.std.specs.Ordering.{nat_cmp};
-    ghost use Rattle.cb_working_memory.specs.Deffacts.{DeffactsTable as Table};
+    ghost use Rattle.std.specs.Coded.{codes};
+    ghost use Rattle.cb_working_memory.specs.Deffacts.{DeffactsTable as Table, table_code};
     ghost use Rattle.cb_working_memory.specs.Groups.{AreNumbered};
 
     ghost Value = { Table };
+
+    ghost coded = { table_code (Prim.hlevel codes) (Prim.hlevel codes) (Prim.hlevel codes) };
 
     ghost view = { λ g. values_of g.groups.entries };
 

@@ -8,4 +8,5 @@ pub mod laws;
 mod working_memory;
 
 pub use deffacts::DeffactsTable;
-pub use working_memory::{Asserted, WorkingMemory, are_retractable};
+pub use groups::Deffacts;
+pub use working_memory::{WorkingMemory, are_retractable};

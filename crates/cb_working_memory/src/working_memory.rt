@@ -1,29 +1,18 @@
 //! The working memory.
-ghost use Rattle.std.specs.Prelude.{◌≡◌, ◌≤◌, [], false, None, Some, IfOk, is_some, map, if◌then◌else◌};
+ghost use Rattle.std.specs.Prelude.{◌≡◌, ◌≤◌, [], false, None, Some, IfOk, is_some, if◌then◌else◌};
 ghost use Rattle.std.specs.List.{list_any, list_all};
 ghost use Rattle.std.specs.Str.{bytes_eq};
-ghost use Rattle.cb_working_memory.specs.Deffacts.{has_relation};
-ghost use Rattle.cb_facts.specs.FactExprs.{fact_by};
-ghost use Rattle.cb_working_memory.specs.WorkingMemory.{asserted_all, asserted_one, empty_memory, is_retractable, retracted_all, retracted_one, without};
+ghost use Rattle.cb_working_memory.specs.WorkingMemory.{asserted_one, empty_memory, is_retractable, retracted_all, retracted_one, without};
 ghost use Rattle.cb_facts.specs.FactLists.{fact_at};
 
 use crate::counted_facts::CountedFacts;
-use cb_facts::{Fact, FactExpr, FactList, Name, Value};
+use cb_facts::{Fact, FactList, Name, Value};
 use cb_forms::NoMemory;
 use std::alloc::Global;
 use std::marker::Model;
 
 /// The greatest index that a fact may have.
 const GREATEST_INDEX: u64 = 9_223_372_036_854_775_807;
-
-/// What came of asserting facts, one after another.
-#[derive(Clone, Copy, Debug, PartialEq, Eq)]
-pub enum Asserted {
-    /// All were asserted, the last under this index; there is none where there was no fact.
-    All(Option<u64>),
-    /// No index was left.
-    Exhausted,
-}
 
 /// The facts that are there, by their indices, and the index that was given last.
 ///
@@ -63,25 +52,6 @@ impl WorkingMemory {
         ensures { result.now ≡ self.now.facts }
     {
         self.facts.facts()
-    }
-
-    /// Asserts facts, one after another; the one before them has the index `last`, if there is one.
-    pub fn assert_all(
-        &mut self,
-        last: Option<u64>,
-        facts: &[FactExpr],
-    ) -> Result<Asserted, NoMemory>
-        ensures { IfOk result
-            (λ told. asserted_all self.old last (map fact_by facts.now) ≡ (self.new, told)) }
-    {
-        let mut last = last;
-        for fact in facts {
-            match self.assert_one(fact.build(self.alloc)?)? {
-                Some(ix) => last = Some(ix),
-                None => return Ok(Asserted::Exhausted),
-            }
-        }
-        Ok(Asserted::All(last))
     }
 
     /// Asserts a fact. Its index is the answer, or `None` where no index is left: then nothing has changed.

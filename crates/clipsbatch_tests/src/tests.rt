@@ -1,7 +1,10 @@
+mod calc_rows;
 mod examples;
 mod fault_rows;
 mod first_rows;
+mod functions;
 mod language;
+mod orders;
 mod pieces;
 mod rows;
 mod runs;

@@ -4,7 +4,6 @@ use cb_actions::{Break, Ended, Limit, World};
 use cb_exprs::Expr;
 use cb_facts::{Names, Refused, Value, quoted_text};
 use cb_forms::{Fault, Form, Item, MemSink, NoMemory, Out, read_items};
-use cb_functions::Constants;
 use std::alloc::Global;
 
 /// Forms, the turns that there are for them, and what comes of each: what it writes, and then its value on a line, or the
@@ -112,7 +111,7 @@ fn first_wrong(alloc: Global, rows: &[(&str, u64, &str)]) -> Result<Option<usize
 
 /// What comes of the forms of a row.
 fn outcome_of(alloc: Global, text: &[u8], turns: u64) -> Result<Vec<u8>, Refused> {
-    let mut world = World::new(alloc, Constants::new(alloc)?, turns);
+    let mut world = World::new(alloc, turns);
     define(alloc, &mut world, b"p (slot a) (slot b)")?;
     let mut outcome = Vec::new(alloc);
     for item in read_items(alloc, text)?.as_slice() {
@@ -130,9 +129,10 @@ fn define(alloc: Global, world: &mut World, text: &[u8]) -> Result<(), Refused> 
         }
     }
     let mut names = Names::new(alloc);
-    world
-        .relations
-        .define_template(&mut names, forms.as_slice(), false)
+    match world.define_template(&mut names, forms.as_slice(), false) {
+        Ok(_) => Ok(()),
+        Err(_) => Err(Refused::NoMemory),
+    }
 }
 
 fn add_item(

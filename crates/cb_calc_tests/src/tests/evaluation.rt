@@ -1,10 +1,8 @@
 //! The values of expressions.
 use super::rows::{named, read};
-use cb_eval::eval;
-use cb_exprs::Env;
+use cb_calc::{Constants, Env, eval};
 use cb_facts::{Refused, Value, quoted_text};
 use cb_forms::NoMemory;
-use cb_functions::Constants;
 use std::alloc::Global;
 
 /// `?x` is 7 after it was 6, `?*g*` is 8 after it was 9, and `?gone` had a value.
@@ -18,8 +16,17 @@ fn env(alloc: Global) -> Result<Env, NoMemory> {
         let (name, value) = named(alloc, "g", number)?;
         env.set_global(&name, value)?;
     }
-    env.unset(&named(alloc, "gone", 0)?.0);
+    env.unset(&named(alloc, "gone", 0)?.0)?;
     Ok(env)
+}
+
+/// `?x` is 3 after it was 1, and `?y` is 2, with what `env` has.
+fn with_more(alloc: Global, env: &Env) -> Result<Env, NoMemory> {
+    let mut bindings = Vec::new(alloc);
+    for (text, number) in [("x", 1), ("y", 2), ("x", 3)] {
+        bindings.push(named(alloc, text, number)?)?;
+    }
+    env.with(bindings)
 }
 
 /// Expressions, and their values.
@@ -55,11 +62,14 @@ fn shown(alloc: Global, constants: &Constants, env: &Env, text: &str) -> Result<
     Ok(quoted_text(alloc, &value)?)
 }
 
-fn first_wrong_value(alloc: Global, rows: &[(&str, &str)]) -> Result<Option<usize>, Refused> {
+fn first_wrong_value(
+    alloc: Global,
+    env: &Env,
+    rows: &[(&str, &str)],
+) -> Result<Option<usize>, Refused> {
     let constants = Constants::new(alloc)?;
-    let env = env(alloc)?;
     for (i, (text, value)) in rows.iter().enumerate() {
-        if shown(alloc, &constants, &env, text)?.as_slice() != value.as_bytes() {
+        if shown(alloc, &constants, env, text)?.as_slice() != value.as_bytes() {
             return Ok(Some(i));
         }
     }
@@ -68,7 +78,26 @@ fn first_wrong_value(alloc: Global, rows: &[(&str, &str)]) -> Result<Option<usiz
 
 #[test]
 fn evaluates(rt: HostRuntime) -> Result<(), Refused> {
-    assert!(rt; first_wrong_value(rt.alloc(), &VALUES)?.is_none());
+    let env = env(rt.alloc())?;
+    assert!(rt; first_wrong_value(rt.alloc(), &env, &VALUES)?.is_none());
+    Ok(())
+}
+
+/// Expressions, and their values where variables have more values.
+const VALUES_WITH_MORE: [(&str, &str); 3] = [("?x", "3"), ("?y", "2"), ("(+ ?x ?*g*)", "11")];
+
+#[test]
+fn more_values_are_seen(rt: HostRuntime) -> Result<(), Refused> {
+    let env = with_more(rt.alloc(), &env(rt.alloc())?)?;
+    assert!(rt; first_wrong_value(rt.alloc(), &env, &VALUES_WITH_MORE)?.is_none());
+    Ok(())
+}
+
+#[test]
+fn more_values_are_not_seen_below(rt: HostRuntime) -> Result<(), Refused> {
+    let env = env(rt.alloc())?;
+    drop(with_more(rt.alloc(), &env)?);
+    assert!(rt; first_wrong_value(rt.alloc(), &env, &VALUES)?.is_none());
     Ok(())
 }
 

@@ -1,6 +1,6 @@
 //! Which forms are expressions, and the first faults of others.
 use super::rows::read;
-use cb_exprs::{Env, Expr};
+use cb_calc::{Env, Expr};
 use cb_facts::Refused;
 use std::alloc::Global;
 

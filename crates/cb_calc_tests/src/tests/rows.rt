@@ -1,6 +1,5 @@
 //! Expressions from rows.
-use cb_expr_forms::{NameList, Scope, Side, bound_variables, read_expr};
-use cb_exprs::{Env, Expr};
+use cb_calc::{Env, Expr, NameList, Scope, Side, bound_variables, read_expr};
 use cb_facts::{Name, Names, Refused, Value};
 use cb_forms::{Form, Item, NoMemory, read_items};
 use cb_templates::Relations;

@@ -7,7 +7,7 @@ const HEADS: [Row; 1] = [Row {
         (b"(nothing ?x)", CB06),
         (b"(test)", CB06),
         (b"(defrule r =>)", CB14),
-        (b"(+ 1 2)", CB14),
+        (b"(+ 1 2)", b"3\n"),
         (b"(lowcase a)", CB14),
         (b"(facts 1)", CB07),
         (b"(clear (reset))", CB07),

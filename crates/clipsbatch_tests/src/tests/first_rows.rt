@@ -121,8 +121,8 @@ pub(super) const FIRST_ROWS: [Row; 20] = [
     Row {
         name: "items that are no value",
         steps: &[
-            (b"?x ", b"[CB11] unbound variable\n"),
-            (b"?*g* ", b"[CB12] unknown global variable\n"),
+            (b"?x ", CB11),
+            (b"?*g* ", CB12),
             (b"? ", CB08),
             (b"&", CB08),
             (b" ()", CB08),

@@ -1,7 +1,7 @@
-//! The examples of `docs/LANGUAGE.md`, in its order.
+//! The other examples of `docs/LANGUAGE.md`, in its order.
 use super::rows::{Example, WITH_A_FAULT, WITHOUT_FAULT};
 
-pub(super) const LANGUAGE: [Example; 8] = [
+pub(super) const LANGUAGE: [Example; 12] = [
     Example {
         name: "shows values",
         script: b"?x
@@ -18,7 +18,7 @@ $?rest
 [CB11] unbound variable
 [CB11] unbound variable
 [CB11] unbound variable
-[CB14] not in this profile
+1
 [CB12] unknown global variable
 [CB08] malformed form
 ",
@@ -154,6 +154,50 @@ For a total of 1 fact.
         outcome: WITH_A_FAULT,
     },
     Example {
+        name: "shows computed facts",
+        script: b"(deftemplate order
+    (slot item (type SYMBOL))
+    (slot count (type INTEGER))
+    (multislot marks))
+(defglobal ?*dozen* = 12)
+(bind ?marks red (create$ \"new\" 3))
+(assert (order (count (* 2 ?*dozen*)) (item egg) (marks ?marks end)))
+(assert (colors ?marks (+ 1 1)))
+(assert (order (item (str-cat \"egg\" 2)) (count many)))
+(assert (order (item (str-cat \"egg\" 2)) (count (sym-cat many))))
+(assert (order (count (create$ 1)) (item (if TRUE then (println \"evaluated\") egg))))
+(assert (sum (bind ?n 3)) (twice (* 2 ?n)) (half (div ?n 0)) (later))
+(assert (parent (assert (child))))
+(assert (sum = (+ 1 2)))
+(assert (sum =))
+(assert (box (width 3)))
+(facts)
+",
+        written: b"(red \"new\" 3)
+<Fact-1>
+<Fact-2>
+[CB10] value not allowed in slot
+<Fact-3>
+evaluated
+[CB22] one value wanted
+[CB19] division by zero
+<Fact-7>
+[CB14] not in this profile
+<Fact-8>
+[CB06] unknown function
+f-1     (order (item egg) (count 24) (marks red \"new\" 3 end))
+f-2     (colors red \"new\" 3 2)
+f-3     (order (item \"egg2\") (count many) (marks))
+f-4     (sum 3)
+f-5     (twice 6)
+f-6     (child)
+f-7     (parent <Fact-6>)
+f-8     (sum =)
+For a total of 8 facts.
+",
+        outcome: WITH_A_FAULT,
+    },
+    Example {
         name: "shows facts and printing",
         script: b"(assert (color red) (size \"X L\" 40))
 (assert (color red))
@@ -172,6 +216,35 @@ blue
 \"x\"
 ",
         outcome: WITHOUT_FAULT,
+    },
+    Example {
+        name: "shows printing",
+        script: b"(println \"sum\" tab (+ 9 1))
+(print \"three\" crlf \"four\")
+(println)
+(printout stdout (create$ \"a b\" crlf) (sym-cat cr lf))
+(printout nil \"x\" (bind ?seen yes))
+?seen
+(print \"begun, \")
+(println \"not printed \" (div 1 0))
+(printout nil (println \"printed\") \"x\")
+(printout)
+(printout \"t\" 1)
+(printout ?seen 1)
+",
+        written: b"sum\t10
+three
+four
+(\"a b\" crlf)
+yes
+begun, [CB19] division by zero
+printed
+[CB17] wrong type
+[CB14] not in this profile
+[CB14] not in this profile
+[CB14] not in this profile
+",
+        outcome: WITH_A_FAULT,
     },
     Example {
         name: "shows deffacts reset and clear",
@@ -215,6 +288,47 @@ For a total of 1 fact.
         outcome: WITH_A_FAULT,
     },
     Example {
+        name: "shows a reset of globals",
+        script: b"(defglobal ?*rooms* = 2)
+(deffacts house (rooms ?*rooms*) (doors (* 3 (+ ?*rooms* 1))))
+(deffacts note (doors 9) (by \"Ann\"))
+(reset)
+(facts)
+(bind ?seen (assert (visitor \"Bob\")))
+(defglobal ?*rooms* = none)
+(reset)
+(facts)
+?seen
+(bind ?seen 1)
+(defglobal ?*rooms* = 3)
+(defglobal ?*floors* = (div 12 ?*rooms*))
+(defglobal ?*rooms* = 0)
+(reset)
+(facts)
+?seen
+(deffacts house (rooms ?n))
+(deffacts house (rooms (bind ?n 1)))
+",
+        written: b"f-1     (rooms 2)
+f-2     (doors 9)
+f-3     (by \"Ann\")
+For a total of 3 facts.
+<Fact-4>
+[CB17] wrong type
+f-1     (rooms none)
+For a total of 1 fact.
+[CB11] unbound variable
+1
+[CB19] division by zero
+f-1     (rooms none)
+For a total of 1 fact.
+1
+[CB11] unbound variable
+[CB14] not in this profile
+",
+        outcome: WITH_A_FAULT,
+    },
+    Example {
         name: "shows retractions",
         script: b"(assert (a) (b) (c) (d))
 (retract 2)
@@ -251,6 +365,28 @@ For a total of 2 facts.
 [CB20] no such fact
 <Fact-6>
 <Fact-1>
+",
+        outcome: WITH_A_FAULT,
+    },
+    Example {
+        name: "shows computed retractions",
+        script: b"(bind ?a (assert (a)))
+(bind ?b (assert (b)) 3)
+(assert (c) (d))
+(retract ?a)
+(retract ?a (+ 1 1))
+(retract (nth$ 2 ?b) ?b)
+(retract ?*f* x)
+(retract (nth$ 2 ?b) (div 1 0))
+(retract * (assert (e)))
+(facts)
+",
+        written: b"<Fact-1>
+(<Fact-2> 3)
+<Fact-4>
+[CB17] wrong type
+[CB12] unknown global variable
+[CB19] division by zero
 ",
         outcome: WITH_A_FAULT,
     },

@@ -5,12 +5,14 @@ use cb_run::{Cause, Outcome};
 pub(super) type Step = (&'static [u8], &'static [u8]);
 
 /// A script in steps, and how it ends.
+#[derive(Clone, Copy)]
 pub(super) struct Row {
     pub(super) name: &'static str,
     pub(super) steps: &'static [Step],
     /// The bytes after the steps, which write nothing before the script's end, and what that end writes.
     pub(super) rest: Step,
     pub(super) max_form: usize,
+    pub(super) max_turns: u64,
     pub(super) outcome: Outcome,
 }
 
@@ -38,6 +40,7 @@ pub(super) const CLEAN: Row = Row {
     steps: &[],
     rest: (b"", b""),
     max_form: 1000,
+    max_turns: 1000,
     outcome: WITHOUT_FAULT,
 };
 
@@ -47,7 +50,7 @@ pub(super) const FAULTY: Row = Row {
     ..CLEAN
 };
 
-/// A script with an item that is longer than the limit. It ends with the last byte of the steps.
+/// A script that ends at a limit, with the last byte of the steps.
 pub(super) const LIMITED: Row = Row {
     outcome: AT_A_LIMIT,
     ..CLEAN
@@ -63,6 +66,10 @@ pub(super) const CB09: &[u8] = b"[CB09] fact does not fit its template\n";
 
 pub(super) const CB10: &[u8] = b"[CB10] value not allowed in slot\n";
 
+pub(super) const CB11: &[u8] = b"[CB11] unbound variable\n";
+
+pub(super) const CB12: &[u8] = b"[CB12] unknown global variable\n";
+
 pub(super) const CB14: &[u8] = b"[CB14] not in this profile\n";
 
 pub(super) const CB17: &[u8] = b"[CB17] wrong type\n";
@@ -70,6 +77,8 @@ pub(super) const CB17: &[u8] = b"[CB17] wrong type\n";
 pub(super) const CB20: &[u8] = b"[CB20] no such fact\n";
 
 pub(super) const CB23: &[u8] = b"[CB23] template in use\n";
+
+pub(super) const CB93: &[u8] = b"[CB93] loop limit reached\n";
 
 /// A whole script, all that it writes, and how it ends.
 pub(super) struct Example {

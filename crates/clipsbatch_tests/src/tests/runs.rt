@@ -2,10 +2,13 @@
 ghost use Rattle.std.specs.Prelude.{◌<◌, ◌≤◌};
 ghost use Rattle.cb_io.specs.Output.{IsReady};
 
+use super::calc_rows::CALC_ROWS;
 use super::examples::EXAMPLES;
 use super::fault_rows::FAULT_ROWS;
 use super::first_rows::FIRST_ROWS;
+use super::functions::FUNCTIONS;
 use super::language::LANGUAGE;
+use super::orders::ORDERS;
 use super::pieces::{TwoPieces, Whole, joined, steps_in, written_by};
 use super::rows::{AT_A_LIMIT, Example, Row};
 use super::template_rows::TEMPLATE_ROWS;
@@ -14,7 +17,7 @@ use cb_run::{Cause, Outcome, run};
 use cb_session::Limits;
 use std::alloc::Global;
 
-/// All rows.
+/// All rows but those that compute.
 const ROWS: [&[Row]; 3] = [&FIRST_ROWS, &TEMPLATE_ROWS, &FAULT_ROWS];
 
 /// What is done with each row.
@@ -54,12 +57,20 @@ fn form_limit(max_form: usize) -> usize
     max_form
 }
 
-fn limits(max_form: usize) -> Limits {
+/// This number, if loops may take so many turns.
+fn turn_limit(max_turns: u64) -> u64
+    ensures { result ≤ 1000000000000 }
+{
+    max_turns.min(1_000_000_000_000)
+}
+
+fn limits(max_form: usize, max_turns: u64) -> Limits {
     let max_form = form_limit(max_form);
+    let max_turns = turn_limit(max_turns);
     Limits {
         max_form,
         max_firings: 1000,
-        max_turns: 1000,
+        max_turns,
     }
 }
 
@@ -67,6 +78,7 @@ fn limits(max_form: usize) -> Limits {
 #[derive(Clone, Copy)]
 struct Want<'a> {
     max_form: usize,
+    max_turns: u64,
     written: &'a [u8],
     outcome: Outcome,
 }
@@ -76,11 +88,11 @@ fn outcome_of<S: Source>(
     alloc: Global,
     source: &mut S,
     out: &mut Out<MemSink>,
-    max_form: usize,
+    want: Want<'_>,
 ) -> Outcome
     requires { IsReady out.old }
 {
-    run(alloc, source, out, limits(max_form))
+    run(alloc, source, out, limits(want.max_form, want.max_turns))
 }
 
 /// Whether a run that ended so and wrote this is as it should be.
@@ -91,7 +103,7 @@ fn is_as_wanted(outcome: Outcome, written: &[u8], want: Want<'_>) -> bool {
 /// Whether a run over these ends goes so.
 fn goes<S: Source>(alloc: Global, source: &mut S, sink: MemSink, want: Want<'_>) -> bool {
     let mut out = Out::new(sink);
-    let outcome = outcome_of(alloc, source, &mut out, want.max_form);
+    let outcome = outcome_of(alloc, source, &mut out, want);
     is_as_wanted(outcome, out.sink().bytes(), want)
 }
 
@@ -124,6 +136,7 @@ fn comes_in_pieces(alloc: Global, row: &Row, whole: &Whole) -> Result<bool, NoMe
     let script = whole.script.as_slice();
     let want = Want {
         max_form: row.max_form,
+        max_turns: row.max_turns,
         written: whole.written.as_slice(),
         outcome: row.outcome,
     };
@@ -157,6 +170,7 @@ fn stops_at_each_write(alloc: Global, row: &Row, whole: &Whole) -> Result<bool, 
     for taken in 0..whole.written.len() {
         let want = Want {
             max_form: row.max_form,
+            max_turns: row.max_turns,
             written: &whole.written[..taken],
             outcome: WRITE_FAULT,
         };
@@ -193,6 +207,7 @@ fn stops_after_blocks(
     let (written, outcome) = stopped_after(alloc, row, blocks.saturating_mul(block))?;
     let want = Want {
         max_form: row.max_form,
+        max_turns: row.max_turns,
         written: written.as_slice(),
         outcome,
     };
@@ -231,6 +246,7 @@ fn ends_before_a_read(
     let script = whole.script.as_slice();
     let want = Want {
         max_form: row.max_form,
+        max_turns: row.max_turns,
         written: whole.written.as_slice(),
         outcome: row.outcome,
     };
@@ -285,7 +301,7 @@ fn first_wrong_of_all(alloc: Global, trial: Trial) -> Result<Option<&'static str
             return Ok(wrong);
         }
     }
-    Ok(None)
+    first_wrong(alloc, &CALC_ROWS, trial)
 }
 
 #[test]
@@ -310,6 +326,7 @@ fn stops_at_a_failed_read(rt: HostRuntime) -> Result<(), NoMemory> {
 fn shows(alloc: Global, example: &Example) -> Result<bool, NoMemory> {
     let want = Want {
         max_form: 2000,
+        max_turns: 1000,
         written: example.written,
         outcome: example.outcome,
     };
@@ -338,8 +355,20 @@ fn carries_the_scripts_of_examples_out(rt: HostRuntime) -> Result<(), NoMemory> 
 }
 
 #[test]
+fn keeps_to_the_order_of_the_language(rt: HostRuntime) -> Result<(), NoMemory> {
+    assert_eq!(rt; first_untrue(rt.alloc(), &ORDERS)?, None);
+    Ok(())
+}
+
+#[test]
 fn carries_the_scripts_of_the_language_out(rt: HostRuntime) -> Result<(), NoMemory> {
     assert_eq!(rt; first_untrue(rt.alloc(), &LANGUAGE)?, None);
+    Ok(())
+}
+
+#[test]
+fn carries_the_scripts_that_compute_out(rt: HostRuntime) -> Result<(), NoMemory> {
+    assert_eq!(rt; first_untrue(rt.alloc(), &FUNCTIONS)?, None);
     Ok(())
 }
 
@@ -348,6 +377,7 @@ fn hands_on_before_it_reads_on(alloc: Global) -> Result<bool, NoMemory> {
     let mut source = TwoPieces::new(b"abcd", b" (assert (a))");
     let want = Want {
         max_form: 3,
+        max_turns: 0,
         written: b"[CB91] form too long\n",
         outcome: AT_A_LIMIT,
     };
@@ -373,7 +403,7 @@ enum End {
 fn end_of_run(alloc: Global, script: &[u8], sink: MemSink, want: Want<'_>) -> End {
     let mut out = Out::new(sink);
     let mut source = MemSource::new(script, 7, None);
-    let outcome = outcome_of(alloc, &mut source, &mut out, want.max_form);
+    let outcome = outcome_of(alloc, &mut source, &mut out, want);
     end_by(outcome, out.sink().bytes(), want)
 }
 
@@ -393,6 +423,7 @@ fn end_of_row(alloc: Global, row: &Row) -> Result<End, NoMemory> {
     let whole = joined(alloc, row)?;
     let want = Want {
         max_form: row.max_form,
+        max_turns: row.max_turns,
         written: whole.written.as_slice(),
         outcome: row.outcome,
     };
@@ -422,7 +453,7 @@ fn one_is_refused_at_most(alloc: Global) -> bool {
             None => return false,
         }
     }
-    all <= 1
+    refused_of(alloc, &CALC_ROWS).is_some_and(|refused| all.saturating_add(refused) <= 1)
 }
 
 // `rt try --test --fail-alloc N` refuses the Nth growth of each test, and the other tests of these scripts fail then. Here

@@ -1,12 +1,9 @@
-use Rattle.std.proofs.Common.{◌≡◌, ◌∙◌, ◌+◌, ◌++◌, ◌∷◌, [], arith, List, ap, sym, append_assoc, subst, rules, length}
+use Rattle.std.proofs.Common.{◌≡◌, ◌∙◌, ◌+◌, ◌++◌, ◌∷◌, [], arith, ap, sym, append_assoc, subst, length}
 use Rattle.std.proofs.lemmas.List.{append-nil, length-append, nil_from_length}
-use Rattle.cb_expr_forms.specs.Actions.{after_else}
 use Rattle.cb_expr_forms.specs.ExprForms.{exprs_of}
 use Rattle.cb_expr_forms.specs.Sizes.{trees_size}
 use Rattle.cb_expr_forms.proofs.Elses.{HasNoElse, cut_after, cut_before, cut_faults, cut_sizes, no_else_more, whole_after, whole_before}
 use Rattle.cb_forms.specs.Members.{members}
-use Rattle.cb_forms.specs.declared.form.Form.{Form}
-use Rattle.cb_templates.specs.Templates.{Templates}
 use Rattle.cb_expr_forms.proofs.action_form.split_else.Goals as goal
 
 pub returns-then-is_symbol-clause-before : goal.returns-then-is_symbol-clause-before

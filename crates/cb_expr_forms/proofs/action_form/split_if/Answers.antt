@@ -1,4 +1,4 @@
-use Rattle.std.proofs.Common.{◌≡◌, ◌∙◌, sym}
+use Rattle.std.proofs.Common.{◌∙◌, sym}
 use Rattle.cb_expr_forms.proofs.Ifs.{if_faults_are, if_fits, is_if, not_if}
 use Rattle.cb_expr_forms.proofs.action_form.split_if.Goals as goal
 

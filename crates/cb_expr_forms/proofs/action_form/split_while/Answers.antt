@@ -1,4 +1,4 @@
-use Rattle.std.proofs.Common.{◌≡◌, ◌∙◌, ◌++◌, ap, sym, Some}
+use Rattle.std.proofs.Common.{◌∙◌, ◌++◌, ap, sym, Some}
 use Rattle.cb_expr_forms.specs.Actions.{while_of}
 use Rattle.cb_expr_forms.specs.ExprFaults.{all_faults, faults_of}
 use Rattle.cb_expr_forms.specs.ExprForms.{expr_of, exprs_of}

@@ -1,4 +1,4 @@
-use Rattle.std.proofs.Common.{◌≡◌, ◌∙◌, Some, ap, sym}
+use Rattle.std.proofs.Common.{◌∙◌, Some, ap, sym}
 use Rattle.cb_expr_forms.proofs.Calls.{by_no_plan}
 use Rattle.cb_forms.specs.Members.{members}
 use Rattle.cb_expr_forms.proofs.call_form.split_other.Goals as goal

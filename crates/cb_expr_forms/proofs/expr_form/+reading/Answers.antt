@@ -1,10 +1,10 @@
-use Rattle.std.proofs.Common.{◌≡◌, ◌≤◌, ◌<◌, ◌+◌, ◌*◌, ◌∙◌, ◌++◌, ◌∷◌, [], ℕ, List, Result, Err, Vec, Global, arith, ap, get_or, map, rules, subst, sym, drop}
+use Rattle.std.proofs.Common.{◌≡◌, ◌<◌, ◌+◌, ◌*◌, ◌∙◌, ◌++◌, [], ℕ, List, Result, Err, Vec, Global, arith, ap, get_or, map, rules, subst, sym}
 use Rattle.std.specs.Option.{option_and_then}
-use Rattle.cb_expr_forms.specs.ExprFaults.{all_faults, faults_of, slots_faults, value_faults, values_faults}
+use Rattle.cb_expr_forms.specs.ExprFaults.{all_faults, slots_faults, value_faults, values_faults}
 use Rattle.cb_expr_forms.specs.ExprForms.{exprs_of, expr_of, slot_exprs, slot_names}
 use Rattle.cb_expr_forms.specs.FaultLists.{Reads, first_of}
 use Rattle.cb_expr_forms.specs.Plans.{IsSlotFault, filling_expr, filling_faults, if_expr, if_faults}
-use Rattle.cb_expr_forms.specs.Sizes.{tree_size, trees_size}
+use Rattle.cb_expr_forms.specs.Sizes.{tree_size}
 use Rattle.cb_expr_forms.proofs.Faulty.{fails, fails_told, item_fits, next_slot}
 use Rattle.cb_expr_forms.proofs.Heads.{first_append}
 use Rattle.cb_exprs.specs.Terms.{Term, term_of}

@@ -1,4 +1,4 @@
-use Rattle.std.proofs.Common.{◌≡◌, ◌∙◌, refl, ap}
+use Rattle.std.proofs.Common.{◌∙◌, refl, ap}
 use Rattle.std.specs.Option.{option_and_then}
 use Rattle.cb_expr_forms.specs.ExprFaults.{type_faults}
 use Rattle.cb_expr_forms.proofs.PlanLaws.{any_type}

@@ -1,4 +1,4 @@
-use Rattle.std.proofs.Common.{◌≡◌, ◌∙◌, Bool, true, false, is_some, ap, rules, sym}
+use Rattle.std.proofs.Common.{◌≡◌, ◌∙◌, true, false, is_some, ap, rules, sym}
 use Rattle.cb_expr_forms.proofs.Known.{known_left, known_right}
 use Rattle.cb_exprs.specs.Bindings.{value_at}
 use Rattle.cb_expr_forms.proofs.scope.has_variable.Goals as goal

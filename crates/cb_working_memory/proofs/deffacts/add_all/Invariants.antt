@@ -4,4 +4,4 @@ use Rattle.cb_working_memory.proofs.deffacts.add_all.Given as goal
 
 abbrev pub invariant-loop-fact : goal.invariant-loop-fact
 invariant-loop-fact l =
-    (q : List ℕ) → count_of l.counts q + naming (λ e. e.relation) (drop l.fact-index l.facts) q ≡ count_of l.initial.counts q + naming (λ e. e.relation) l.facts q
+    (q : List ℕ) → count_of l.counts q + naming (λ e. e.shape.relation) (drop l.fact-index l.facts) q ≡ count_of l.initial.counts q + naming (λ e. e.shape.relation) l.facts q

@@ -3,4 +3,4 @@ use Rattle.cb_facts.specs.RelationCounts.{count_of, naming}
 use Rattle.cb_working_memory.proofs.deffacts.remove_all.Given as goal
 
 abbrev pub invariant-loop-fact : goal.invariant-loop-fact
-invariant-loop-fact l = (q : List ℕ) → count_of l.counts q ≡ count_of l.initial.counts q - naming (λ e. e.relation) (take l.fact-index l.facts) q
+invariant-loop-fact l = (q : List ℕ) → count_of l.counts q ≡ count_of l.initial.counts q - naming (λ e. e.shape.relation) (take l.fact-index l.facts) q

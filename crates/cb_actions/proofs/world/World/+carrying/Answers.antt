@@ -10,13 +10,15 @@ use Rattle.cb_actions.specs.declared.act.Break.TheVariants as break
 use Rattle.cb_actions.specs.declared.act.Ended.TheVariants as ended
 use Rattle.cb_actions.specs.declared.stop.Stop.TheVariants as stop
 use Rattle.cb_actions.proofs.ActLaws.{went_then, went_off, went_quietly, went_as}
+use Rattle.cb_actions.proofs.CallLaws.{first_off, first_decides, second_off, both_then, call_off, call_then}
 use Rattle.cb_actions.proofs.LoopLaws.{all_then, all_off, values_then, values_end, values_off, values_refused, test_off, test_fails, test_refused, turn_off, action_off, round_then, turns_fall}
-use Rattle.cb_actions.proofs.WentLaws.{went_unbegun, went_fine, went_ok}
+use Rattle.cb_actions.proofs.WentLaws.{went_at, went_unbegun, went_fine, went_ok}
 use Rattle.cb_exprs.specs.Terms.{constant, variable, global, call, assert, retract, bind, bind_global, choose, repeat, actions, printout, print, println, term_of, terms_of}
 use Rattle.cb_exprs.specs.declared.expr.Expr.{Expr}
 use Rattle.cb_exprs.proofs.TermLaws.{of_constant, of_variable, of_global, of_call, of_assert, of_retract, of_bind, of_bind_global, of_if, of_while, of_actions, of_printout, of_print, of_println}
 use Rattle.cb_facts.specs.declared.value.Value.{Value}
 use Rattle.cb_forms.specs.declared.fault.Fault.TheVariants.{WrongType}
+use Rattle.cb_functions.specs.Constants.{false_symbol}
 use Rattle.cb_functions.specs.Logic.{is_true}
 use Rattle.cb_actions.proofs.world.World.+carrying.Goals as goal
 
@@ -28,13 +30,14 @@ carry_all-returns-in_err-no-clause-went g t c =
 pub carry_all-returns-in_err-last-clause-went : goal.carry_all-returns-in_err-last-clause-went
 carry_all-returns-in_err-last-clause-went g t c =
     let r : c.from_residual-in_err-last.result ≡ Err c.in_err-last.field-0.0 = search rules in
-    went_as g.K.Sink.writes _ _ _ _ _ _ _ r refl (c.loop-expr.invariant.goes _ _ _ (all_off g.K.Sink.writes c.args.exprs.now c.loop-expr.expr-index c.expr-item.result c.expr-item.is c.loop-expr-test.true _ _ _ _ c.loop-expr.last _ c.in_err-last.ensures.went))
+    let same = ap (carried_all (Some false_symbol) (terms_of c.args.exprs.now)) (sym c.in_ok-no.ensures.same) in
+    went_as g.K.Sink.writes _ _ _ _ _ _ _ r same (c.loop-expr.invariant.goes _ _ _ (all_off g.K.Sink.writes c.args.exprs.now c.loop-expr.expr-index c.expr-item.result c.expr-item.is c.loop-expr-test.true _ _ _ _ c.loop-expr.last _ c.in_err-last.ensures.went))
 
 pub carry_all-loop-expr-init : goal.carry_all-loop-expr-init
 carry_all-loop-expr-init g t c =
     record {
       fine = c.requires;
-      goes = λ o s r h. subst (λ it. Went g.K.Sink.writes c.args.out.now o s r (carried_all (Some it) (terms_of c.args.exprs.now) c.args.self.now)) c.in_ok-no.ensures h;
+      goes = λ o s r h. subst (λ it. Went g.K.Sink.writes c.args.out.now o s r (carried_all (Some it) (terms_of c.args.exprs.now) c.no.new.self)) c.in_ok-no.ensures.value h;
     }
 
 pub carry_all-loop-expr-preserved : goal.carry_all-loop-expr-preserved
@@ -47,7 +50,8 @@ carry_all-loop-expr-preserved g t c =
 pub carry_all-returns-clause-went : goal.carry_all-returns-clause-went
 carry_all-returns-clause-went g t c =
     let none : drop c.loop-expr.expr-index c.args.exprs.now ≡ [] = drop_all c.loop-expr.expr-index c.args.exprs.now c.loop-expr-test.false in
-    c.loop-expr.invariant.goes _ _ _ (went_quietly g.K.Sink.writes c.loop-expr.out c.loop-expr.self (Ok c.loop-expr.last) _ c.loop-expr.invariant.fine (ap (λ it. carried_all c.loop-expr.last (terms_of it) c.loop-expr.self) none))
+    let same = ap (carried_all (Some false_symbol) (terms_of c.args.exprs.now)) (sym c.in_ok-no.ensures.same) in
+    went_as g.K.Sink.writes _ _ _ _ _ _ _ refl same (c.loop-expr.invariant.goes _ _ _ (went_quietly g.K.Sink.writes c.loop-expr.out c.loop-expr.self (Ok c.loop-expr.last) _ c.loop-expr.invariant.fine (ap (λ it. carried_all c.loop-expr.last (terms_of it) c.loop-expr.self) none)))
 
 pub carry_values-returns-in_err-value-clause-went : goal.carry_values-returns-in_err-value-clause-went
 carry_values-returns-in_err-value-clause-went g t c =
@@ -116,21 +120,45 @@ carry_out-returns-in-Global-clause-went g t c =
     let e : term_of c.args.expr.now ≡ global c.in-Global.name = ap term_of c.in-Global.is ∙ of_global _ in
     went_as g.K.Sink.writes _ _ _ _ _ _ _ refl (ap (λ it. carried it c.args.self.now) e) (went_quietly g.K.Sink.writes c.args.out.now c.args.self.now _ (global_looked_up c.in-Global.name c.args.self.now) c.requires c.global.ensures)
 
-pub carry_out-returns-in_err-values-in-Call-clause-went : goal.carry_out-returns-in_err-values-in-Call-clause-went
-carry_out-returns-in_err-values-in-Call-clause-went g t c =
-    let r : c.from_residual.result ≡ Err c.in_err-values-in-Call.field-0.0 = search rules in
-    let e : term_of c.args.expr.now ≡ call c.in-Call.function (terms_of c.deref.result.now) = ap term_of c.in-Call.is ∙ (of_call _ _ ∙ ap (λ it. call c.in-Call.function (terms_of it)) (sym c.deref.ensures.value)) in
-    went_as g.K.Sink.writes _ _ _ _ _ _ _ r (ap (λ it. carried it c.args.self.now) e) (went_off g.K.Sink.writes _ _ _ _ _ (called c.in-Call.function) c.in_err-values-in-Call.ensures.went)
+pub carry_call-returns-in_err-first-clause-went : goal.carry_call-returns-in_err-first-clause-went
+carry_call-returns-in_err-first-clause-went g t c =
+    let r : c.from_residual.result ≡ Err c.in_err-first.field-0.0 = search rules in
+    went_as g.K.Sink.writes _ _ _ _ _ _ _ r refl (first_off g.K.Sink.writes c.args.function c.args.args.now c.first-item.result c.second-item.result c.first-item.is c.second-item.is c.in-len2.len_at_least c.in-len2.len_below _ _ _ _ _ c.in_err-first.ensures.went)
 
-pub carry_out-returns-in_ok-values-in-Call-clause-went : goal.carry_out-returns-in_ok-values-in-Call-clause-went
-carry_out-returns-in_ok-values-in-Call-clause-went g t c =
+pub carry_call-returns-then-decides-clause-went : goal.carry_call-returns-then-decides-clause-went
+carry_call-returns-then-decides-clause-went g t c =
+    let last = sym c.decides.ensures ∙ c.if-decides.true in
+    first_decides g.K.Sink.writes c.args.function c.args.args.now c.first-item.result c.second-item.result c.first-item.is c.second-item.is c.in-len2.len_at_least c.in-len2.len_below _ _ _ _ _ _ _ last c.in_ok-first.ensures.went c.call.ensures
+
+pub carry_call-returns-in_err-second-clause-went : goal.carry_call-returns-in_err-second-clause-went
+carry_call-returns-in_err-second-clause-went g t c =
+    let r : c.from_residual-in_err-second.result ≡ Err c.in_err-second.field-0.0 = search rules in
+    let more = sym c.decides.ensures ∙ c.if-decides.false in
+    went_as g.K.Sink.writes _ _ _ _ _ _ _ r refl (second_off g.K.Sink.writes c.args.function c.args.args.now c.first-item.result c.second-item.result c.first-item.is c.second-item.is c.in-len2.len_at_least c.in-len2.len_below _ _ _ _ _ _ _ _ more c.in_ok-first.ensures.went c.in_err-second.ensures.went)
+
+pub carry_call-returns-in-len2-clause-went : goal.carry_call-returns-in-len2-clause-went
+carry_call-returns-in-len2-clause-went g t c =
+    let more = sym c.decides.ensures ∙ c.if-decides.false in
+    both_then g.K.Sink.writes c.args.function c.args.args.now c.first-item.result c.second-item.result c.first-item.is c.second-item.is c.in-len2.len_at_least c.in-len2.len_below _ _ _ _ _ _ _ _ _ _ more c.in_ok-first.ensures.went c.in_ok-second.ensures.went c.call-in-len2.ensures
+
+pub carry_call-returns-in_err-values-clause-went : goal.carry_call-returns-in_err-values-clause-went
+carry_call-returns-in_err-values-clause-went g t c =
+    let r : c.from_residual-in_err-values.result ≡ Err c.in_err-values.field-0.0 = search rules in
+    went_as g.K.Sink.writes _ _ _ _ _ _ _ r refl (call_off g.K.Sink.writes c.args.function c.args.args.now _ _ _ _ _ c.in_err-values.ensures.went)
+
+pub carry_call-returns-clause-went : goal.carry_call-returns-clause-went
+carry_call-returns-clause-went g t c =
+    let q = subst (λ it. Quietly c.call-2.new.self c.call-2.result (called c.args.function it c.carry_values.new.self)) c.as_slice.ensures.value c.call-2.ensures in
+    call_then g.K.Sink.writes c.args.function c.args.args.now _ _ _ _ _ _ _ c.in_ok-values.ensures.went q
+
+pub carry_out-returns-in-Call-clause-went : goal.carry_out-returns-in-Call-clause-went
+carry_out-returns-in-Call-clause-went g t c =
     let e : term_of c.args.expr.now ≡ call c.in-Call.function (terms_of c.deref.result.now) = ap term_of c.in-Call.is ∙ (of_call _ _ ∙ ap (λ it. call c.in-Call.function (terms_of it)) (sym c.deref.ensures.value)) in
-    let q : Quietly c.carry_values.new.self c.call.result (called c.in-Call.function c.in_ok-values-in-Call.values.items c.carry_values.new.self) = subst (λ it. Quietly c.carry_values.new.self c.call.result (called c.in-Call.function it c.carry_values.new.self)) c.as_slice.ensures.value c.call.ensures in
-    went_as g.K.Sink.writes _ _ _ _ _ _ _ refl (ap (λ it. carried it c.args.self.now) e) (went_then g.K.Sink.writes _ _ _ _ _ _ _ _ (called c.in-Call.function) c.in_ok-values-in-Call.ensures.went (went_quietly g.K.Sink.writes _ _ _ _ (went_fine g.K.Sink.writes _ _ _ _ _ c.in_ok-values-in-Call.ensures.went) q))
+    went_as g.K.Sink.writes _ _ _ _ _ _ _ refl (ap (λ it. carried it c.args.self.now) e) c.carry_call.ensures.went
 
 pub carry_out-returns-in_err-values-in-Assert-clause-went : goal.carry_out-returns-in_err-values-in-Assert-clause-went
 carry_out-returns-in_err-values-in-Assert-clause-went g t c =
-    let r : c.from_residual-in_err-values-in-Assert.result ≡ Err c.in_err-values-in-Assert.field-0.0 = search rules in
+    let r : c.from_residual.result ≡ Err c.in_err-values-in-Assert.field-0.0 = search rules in
     let e : term_of c.args.expr.now ≡ assert c.in-Assert.shape (terms_of c.deref-in-Assert.result.now) = ap term_of c.in-Assert.is ∙ (of_assert _ _ ∙ ap (λ it. assert c.in-Assert.shape (terms_of it)) (sym c.deref-in-Assert.ensures.value)) in
     went_as g.K.Sink.writes _ _ _ _ _ _ _ r (ap (λ it. carried it c.args.self.now) e) (went_off g.K.Sink.writes _ _ _ _ _ (asserted c.in-Assert.shape) c.in_err-values-in-Assert.ensures.went)
 
@@ -148,7 +176,7 @@ carry_out-returns-in_err-values-in-Retract-clause-went g t c =
 pub carry_out-returns-in_ok-values-in-Retract-clause-went : goal.carry_out-returns-in_ok-values-in-Retract-clause-went
 carry_out-returns-in_ok-values-in-Retract-clause-went g t c =
     let e : term_of c.args.expr.now ≡ retract (terms_of c.deref-in-Retract.result.now) = ap term_of c.in-Retract.is ∙ (of_retract _ ∙ ap (λ it. retract (terms_of it)) (sym c.deref-in-Retract.ensures.value)) in
-    let q : Quietly c.retract.new.self c.retract.result (retracted c.in_ok-values-in-Retract.values.items c.carry_values-in-Retract.new.self) = subst (λ it. Quietly c.retract.new.self c.retract.result (retracted it c.carry_values-in-Retract.new.self)) c.as_slice-in-Retract.ensures.value c.retract.ensures in
+    let q : Quietly c.retract.new.self c.retract.result (retracted c.in_ok-values-in-Retract.values.items c.carry_values-in-Retract.new.self) = subst (λ it. Quietly c.retract.new.self c.retract.result (retracted it c.carry_values-in-Retract.new.self)) c.as_slice.ensures.value c.retract.ensures in
     went_as g.K.Sink.writes _ _ _ _ _ _ _ refl (ap (λ it. carried it c.args.self.now) e) (went_then g.K.Sink.writes _ _ _ _ _ _ _ _ retracted c.in_ok-values-in-Retract.ensures.went (went_quietly g.K.Sink.writes _ _ _ _ (went_fine g.K.Sink.writes _ _ _ _ _ c.in_ok-values-in-Retract.ensures.went) q))
 
 pub carry_out-returns-in_err-values-in-Printout-clause-went : goal.carry_out-returns-in_err-values-in-Printout-clause-went
@@ -267,7 +295,7 @@ carry_out-returns-in_err-no-in-While-clause-went g t c =
 pub carry_out-returns-in_ok-no-in-While-clause-went : goal.carry_out-returns-in_ok-no-in-While-clause-went
 carry_out-returns-in_ok-no-in-While-clause-went g t c =
     let e : term_of c.args.expr.now ≡ repeat (term_of c.deref-in-loop-self.result.now) (term_of c.in-While.action.value) = ap term_of c.in-While.is ∙ (of_while _ _ ∙ ap (λ it. repeat (term_of it) (term_of c.in-While.action.value)) (sym c.deref-in-loop-self.ensures)) in
-    c.loop-self.invariant.goes _ _ _ (went_as g.K.Sink.writes _ _ _ _ _ _ _ refl (ap (λ it. carried it c.loop-self.self) e) (test_fails g.K.Sink.writes (term_of c.deref-in-loop-self.result.now) (term_of c.in-While.action.value) c.loop-self.self _ _ _ _ c.in_ok-no-in-While.ensures (went_as g.K.Sink.writes _ _ _ _ (Ok false) _ _ (ap Ok (sym c.if-branch-2.false)) refl c.in_ok-holds-in-While.ensures.went)))
+    c.loop-self.invariant.goes _ _ _ (went_at g.K.Sink.writes _ _ _ _ _ _ c.in_ok-no-in-While.ensures.same (went_as g.K.Sink.writes _ _ _ _ _ _ _ refl (ap (λ it. carried it c.loop-self.self) e) (test_fails g.K.Sink.writes (term_of c.deref-in-loop-self.result.now) (term_of c.in-While.action.value) c.loop-self.self _ _ _ _ c.in_ok-no-in-While.ensures.value (went_as g.K.Sink.writes _ _ _ _ (Ok false) _ _ (ap Ok (sym c.if-branch-2.false)) refl c.in_ok-holds-in-While.ensures.went))))
 
 pub carry_out-returns-in_err-take_turn-in-While-clause-went : goal.carry_out-returns-in_err-take_turn-in-While-clause-went
 carry_out-returns-in_err-take_turn-in-While-clause-went g t c =

@@ -1,4 +1,4 @@
-use Rattle.std.proofs.Common.{◌≡◌, ◌∙◌, Bool, true, false, is_some, ap, subst, rules, sym}
+use Rattle.std.proofs.Common.{◌≡◌, ◌∙◌, true, false, is_some, ap, subst, rules, sym}
 use Rattle.cb_expr_forms.specs.Scopes.{Scope as View, is_known}
 use Rattle.cb_expr_forms.proofs.Known.{known_left, known_right}
 use Rattle.cb_exprs.specs.Bindings.{value_at}

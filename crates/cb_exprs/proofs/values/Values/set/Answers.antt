@@ -1,18 +1,12 @@
-use Rattle.std.proofs.Common.{◌∙◌, IsSome, ap, refl, subst, sym}
-use Rattle.cb_exprs.proofs.ValueLaws.{set_in_place, unknown}
-use Rattle.cb_exprs.specs.Bindings.{with_value}
+use Rattle.std.proofs.Common.{subst, sym}
+use Rattle.cb_exprs.specs.Trees.{IsOrdered}
+use Rattle.cb_exprs.proofs.Ordered.{ordered_with}
 use Rattle.cb_exprs.proofs.values.Values.set.Goals as goal
 
-pub returns-in-Some-clause-ok : goal.returns-in-Some-clause-ok
-returns-in-Some-clause-ok c =
-    (c.get_mut.follows.holds c.args.value).0
-    ∙ set_in_place c.self.inside.by_name.entries c.args.name.now c.args.value c.in-Some.ensures.ordered (subst IsSome c.in-Some.ensures.value refl)
-    ∙ ap (with_value c.args.name.now c.args.value) c.self.view_is
+pub invariant_of-self : goal.invariant_of-self
+invariant_of-self c = subst IsOrdered (sym (c.in_default.ensures.ok c.self.invariant)) (ordered_with _ _ _ c.self.invariant)
 
-pub returns-in_err-shared-clause-known : goal.returns-in_err-shared-clause-known
-returns-in_err-shared-clause-known c =
-    λ has. absurd (unknown c.self.inside.by_name.entries c.args.name.now c.args.self.now c.self.view_is (sym c.in_default.ensures.value) has)
-
-pub returns-in_err-insert-clause-known : goal.returns-in_err-insert-clause-known
-returns-in_err-insert-clause-known c =
-    λ has. absurd (unknown c.self.inside.by_name.entries c.args.name.now c.args.self.now c.self.view_is (sym c.in_default.ensures.value) has)
+pub invariant_of-self-2 : goal.invariant_of-self-2
+invariant_of-self-2 c =
+    let ordered = subst IsOrdered (sym c.in-Err.ensures.err) c.self.invariant in
+    subst IsOrdered (sym (c.in_ok-by_name.ensures ordered)) (ordered_with _ _ _ ordered)

@@ -1,11 +1,17 @@
-use Rattle.std.proofs.Common.{◌∙◌, ap, sym}
-use Rattle.cb_exprs.proofs.ValueLaws.{removed_by_order, value_by_order}
-use Rattle.cb_exprs.specs.Bindings.{without_value}
+use Rattle.std.proofs.Common.{◌≡◌, ◌∙◌, None, ap, rules, subst, sym}
+use Rattle.cb_exprs.specs.Bindings.{value_at}
+use Rattle.cb_exprs.specs.Trees.{IsOrdered, pairs_of}
+use Rattle.cb_exprs.proofs.Ordered.{ordered_without, value_gone, without_absent}
 use Rattle.cb_exprs.proofs.values.Values.unset.Goals as goal
 
-pub returns-clause-taken : goal.returns-clause-taken
-returns-clause-taken c =
-    c.remove.ensures.entries ∙ removed_by_order c.args.name.now c.self.inside.by_name.entries ∙ ap (without_value c.args.name.now) c.self.view_is
+pub returns-then-is_none-clause-taken : goal.returns-then-is_none-clause-taken
+returns-then-is_none-clause-taken c =
+    let none : value_at c.args.name.now c.args.self.now ≡ None = search rules in
+    sym (without_absent c.args.self.now c.args.name.now none)
+
+pub invariant_of-self : goal.invariant_of-self
+invariant_of-self c = subst IsOrdered (sym (c.in_ok-by_name.ensures c.self.invariant)) (ordered_without _ _ c.self.invariant)
 
 pub returns-clause-gone : goal.returns-clause-gone
-returns-clause-gone c = sym (value_by_order c.args.name.now c.remove.new.self.entries) ∙ c.remove.ensures.updates.1
+returns-clause-gone c =
+    ap (value_at c.args.name.now) (c.in_ok-by_name.ensures c.self.invariant) ∙ value_gone (pairs_of c.self.inside.by_name) c.args.name.now c.self.invariant

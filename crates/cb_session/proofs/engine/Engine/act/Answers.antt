@@ -11,13 +11,13 @@ use Rattle.cb_session.proofs.engine.Engine.act.Goals as goal
 pub returns-in-Ok : goal.returns-in-Ok
 returns-in-Ok g c =
     let request = request_by c.in-Ok.command in
-    let is : request_of c.args.self.now.templates (reading_of c.args.item.now) ≡ Ok request = search rules in
+    let is : request_of c.args.self.now.world.templates c.args.self.now.world.env (reading_of c.args.item.now) ≡ Ok request = search rules in
     went_as g.K.Sink.writes _ _ _ _ _ _ _ refl (acted-request c.args.self.now (reading_of c.args.item.now) request is ∙ ap (performed_and_shown request) (sym c.self.view_is)) c.perform_and_show.ensures
 
 pub returns-in-Err : goal.returns-in-Err
 returns-in-Err g c =
     let inside = c.self.inside in
-    let state : State = record { memory = inside.memory; templates = inside.relations; deffacts = inside.deffacts; is_faulted = inside.is_faulted } in
+    let state : State = record { world = inside.world; deffacts = inside.deffacts; globals = inside.globals; is_faulted = inside.is_faulted } in
     let reading = reading_of c.args.item.now in
-    let tells : Tells c.in-Err.refused (λ f. request_of inside.relations reading ≡ Err f) = search rules in
+    let tells : Tells c.in-Err.refused (λ f. request_of inside.world.templates inside.world.env reading ≡ Err f) = search rules in
     went_as g.K.Sink.writes _ _ _ _ _ _ _ (ap Err c.from.ensures) (ap (acted reading) (sym c.self.view_is)) (went_refused g.K.Sink.writes _ state reading c.in-Err.refused c.requires tells)

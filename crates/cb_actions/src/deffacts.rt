@@ -1,0 +1,64 @@
+//! Facts that were read, asserted.
+ghost use Rattle.std.specs.Prelude.{◌≡◌, OnOk, false};
+ghost use Rattle.cb_actions.specs.Actions.{carried};
+ghost use Rattle.cb_actions.specs.Definitions.{all_asserted};
+ghost use Rattle.cb_actions.specs.Went.{Went};
+ghost use Rattle.cb_exprs.specs.Terms.{assert};
+ghost use Rattle.cb_working_memory.specs.Deffacts.{facts_in};
+
+use crate::act::Break;
+use crate::world::World;
+use cb_exprs::FactExpr;
+use cb_facts::Value;
+use cb_forms::{Out, Sink};
+use cb_working_memory::DeffactsTable;
+
+impl World {
+    /// Asserts the facts of each `deffacts`, in order, up to the first that ends with a fault or at a limit. There is no
+    /// answer.
+    pub fn assert_deffacts<K: Sink>(
+        &mut self,
+        deffacts: &DeffactsTable,
+        out: &mut Out<K>,
+    ) -> Result<Option<Value>, Break>
+        requires { out.old.fault ≡ false }
+        ensures went { Went K.writes out.old out.new self.new result
+            (all_asserted (facts_in deffacts.now) self.old) }
+        ensures fine { OnOk result (out.new.fault ≡ false) }
+    {
+        for group in deffacts.iter() {
+            drop(self.assert_facts(group.facts(), out)?);
+        }
+        Ok(None)
+    }
+
+    fn assert_facts<K: Sink>(
+        &mut self,
+        facts: &[FactExpr],
+        out: &mut Out<K>,
+    ) -> Result<Option<Value>, Break>
+        requires { out.old.fault ≡ false }
+        ensures went { Went K.writes out.old out.new self.new result
+            (all_asserted facts.now self.old) }
+        ensures fine { OnOk result (out.new.fault ≡ false) }
+    {
+        for fact in facts {
+            drop(self.assert_fact(fact, out)?);
+        }
+        Ok(None)
+    }
+
+    fn assert_fact<K: Sink>(
+        &mut self,
+        fact: &FactExpr,
+        out: &mut Out<K>,
+    ) -> Result<Option<Value>, Break>
+        requires { out.old.fault ≡ false }
+        ensures went { Went K.writes out.old out.new self.new result
+            (carried (assert fact.now.shape fact.now.values) self.old) }
+        ensures fine { OnOk result (out.new.fault ≡ false) }
+    {
+        let values = self.carry_values(None, fact.values(), out)?;
+        self.assert(fact.shape(), values)
+    }
+}

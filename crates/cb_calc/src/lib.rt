@@ -1,0 +1,11 @@
+//! Expressions: the words of the language, what expressions are, how they are read, and their values.
+//!
+//! All of it stands in `cb_words`, `cb_functions`, `cb_exprs`, `cb_expr_forms` and `cb_eval`. `docs/ARCHITECTURE.md` says where
+//! the layers stand.
+#![tactic(auto)]
+
+pub use cb_eval::eval;
+pub use cb_expr_forms::{NameList, Scope, Side, bound_variables, read_expr, read_fact};
+pub use cb_exprs::{Channel, Env, Expr, FactExpr, FactShape, GlobalExpr};
+pub use cb_functions::{Constants, apply, decides, is_true};
+pub use cb_words::{Action, Arity, Command, Construct, Function, Head, read_head};

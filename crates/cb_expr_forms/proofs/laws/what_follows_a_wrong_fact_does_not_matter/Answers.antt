@@ -1,0 +1,7 @@
+use Rattle.std.proofs.Common.{refl}
+use Rattle.cb_expr_forms.specs.ExprFaults.{fact_faults, facts_faults}
+use Rattle.cb_expr_forms.proofs.RightLaws.{first_reported}
+use Rattle.cb_expr_forms.proofs.laws.what_follows_a_wrong_fact_does_not_matter.Goals as goal
+
+pub returns : goal.returns
+returns c = λ s before t after f right h. first_reported (fact_faults s) (facts_faults s) (λ u us. refl) before t after f right h

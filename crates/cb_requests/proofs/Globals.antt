@@ -1,0 +1,13 @@
+-- The first of the globals that a `defglobal` gives.
+use Rattle.std.proofs.Common.{◌≡◌, ◌∙◌, ◌++◌, ℕ, List, [], ◌∷◌, Option, Some, ap}
+use Rattle.cb_forms.specs.Members.{members}
+use Rattle.cb_forms.specs.Trees.{Tree, tree, tree_of}
+use Rattle.cb_forms.specs.declared.form.Form.{Form}
+use Rattle.cb_requests.specs.Reads.{expr_in, global_then, globals_in, name_given, plain_scope}
+use Rattle.cb_requests.specs.Splits.{IsGlobal}
+
+pub is_global : (first : Tree) (forms rest others : List Form) (word form : Form) (name : List ℕ)
+    → forms ≡ word ∷ rest → rest ≡ form ∷ others → name_given first (tree_of word) ≡ Some name → IsGlobal first (members forms) name (tree_of form) (members others)
+is_global first forms rest others word form name e d n templates env given =
+    ap (λ fs. globals_in templates env given (tree first (members fs))) (e ∙ ap (λ r. word ∷ r) d)
+    ∙ ap (λ (o : Option (List ℕ)). global_then o (expr_in (plain_scope templates env given) (tree_of form)) (λ k. globals_in templates env (given ++ k ∷ []) (members others))) n

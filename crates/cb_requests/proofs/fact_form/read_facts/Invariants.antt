@@ -1,8 +1,0 @@
-use Rattle.std.proofs.Common.{◌≡◌, drop}
-use Rattle.cb_forms.specs.Members.{members}
-use Rattle.cb_requests.specs.FactForms.{facts_of}
-use Rattle.cb_facts.proofs.Firsts.{after_those}
-use Rattle.cb_requests.proofs.fact_form.read_facts.Given as goal
-
-abbrev pub invariant-loop-form : goal.invariant-loop-form
-invariant-loop-form l = after_those l.facts.items (facts_of l.relations (members (drop l.form-index l.forms))) ≡ facts_of l.relations (members l.forms)

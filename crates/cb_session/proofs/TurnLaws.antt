@@ -1,0 +1,90 @@
+-- The turns that are left never rise from item to item.
+use Rattle.std.proofs.Common.{◌≡◌, ◌≤◌, ℕ, Bool, true, false, List, [], ◌∷◌, Option, Some, None, Result, Ok, Err, arith, if◌then◌else◌}
+use Rattle.cb_actions.proofs.Falling.{Falls, falls_then}
+use Rattle.cb_actions.proofs.TurnLaws.{turns_left, never_rises, template_falls, globals_fall, anew_falls, facts_fall}
+use Rattle.cb_actions.specs.Acts.{Act, give_or_fault, ◌>>=◌}
+use Rattle.cb_actions.specs.Definitions.{all_asserted, all_evaluated, globals_defined}
+use Rattle.cb_actions.specs.Worlds.{World}
+use Rattle.cb_actions.specs.declared.act.Ended.{Ended}
+use Rattle.cb_actions.specs.declared.act.Ended.TheVariants as ended
+use Rattle.cb_exprs.specs.FactTerms.{FactTerm}
+use Rattle.cb_exprs.specs.GlobalTerms.{GlobalTerm}
+use Rattle.cb_forms.specs.Items.{fitting, over}
+use Rattle.cb_forms.specs.Trees.{Reading}
+use Rattle.cb_forms.specs.declared.fault.Fault.{Fault}
+use Rattle.cb_requests.specs.Requests as asked
+use Rattle.cb_requests.specs.Requests.{Request, request_of}
+use Rattle.cb_session.specs.Actions.{acted, initials_kept, is_name_in_use, on_world, performed, performed_and_shown, reset_to, shown, started_over}
+use Rattle.cb_session.specs.States.{State}
+use Rattle.cb_session.specs.Transcripts.{Run, after, after_all, after_status, begun, complete, concluded, executed, too_long, too_long_status}
+use Rattle.cb_session.specs.declared.limits.Limits.{Limits}
+use Rattle.cb_session.specs.declared.status.Status.{Status}
+use Rattle.cb_working_memory.specs.Deffacts.{facts_in}
+
+-- the turns that are left
+abbrev left : State → ℕ
+left s = s.world.turns
+
+reset_falls : (gs : List GlobalTerm) (facts : List FactTerm) → Falls turns_left (reset_to gs facts)
+reset_falls gs facts =
+    falls_then turns_left (all_evaluated gs) (λ _. started_over >>= (λ _. all_asserted facts)) (anew_falls gs)
+    (λ _. falls_then turns_left started_over (λ _. all_asserted facts) (λ s. omega arith) (λ _. facts_fall facts))
+
+performed_falls : (request : Request) → Falls left (performed request)
+performed_falls (asked.act t) s = never_rises t s.world
+performed_falls (asked.define_template ts) s = template_falls (is_name_in_use s ts) ts s.world
+performed_falls (asked.define_deffacts name facts) s = omega arith
+performed_falls (asked.define_globals gs) s = falls_then left (on_world (globals_defined gs)) (λ _. initials_kept gs) (λ u. globals_fall gs u.world) (λ _ u. omega arith) s
+performed_falls asked.list_facts s = omega arith
+performed_falls asked.reset s = reset_falls s.globals (facts_in s.deffacts) s.world
+performed_falls asked.clear s = omega arith
+
+read_falls : (r : Result Request Fault) → Falls left (give_or_fault r)
+read_falls (Ok request) s = omega arith
+read_falls (Err f) s = omega arith
+
+acted_falls : (r : Reading) → Falls left (acted r)
+unfolding acted
+acted_falls r s =
+    let request = request_of s.world.templates s.world.env r in
+    falls_then left (give_or_fault request) performed_and_shown (read_falls request) (λ it. falls_then left (performed it) shown (performed_falls it) (λ v u. omega arith)) s
+
+concluded_falls : (s : State) (w : List ℕ) (r : Result (Unit {0}) Ended) → left (concluded s w r).state ≤ left s
+concluded_falls s w (Ok v) = omega arith
+concluded_falls s w (Err (ended.Fault f)) = omega arith
+concluded_falls s w (Err (ended.Limit limit)) = omega arith
+
+pub item_falls : (s : State) (r : Reading) → (executed s r).state.world.turns ≤ s.world.turns
+unfolding executed
+item_falls s r =
+    let now = concluded_falls (acted r s).state (acted r s).written (acted r s).answer in
+    let before = acted_falls r s in
+    omega arith
+
+-- items, one after another
+after_falls : (status : Option Status) (run : Run) (item : Reading) → left (after_status status run item).state ≤ left run.state
+after_falls None run item = item_falls run.state item
+after_falls (Some status) run item = omega arith
+
+all_fall : (run : Run) (items : List Reading) → left (after_all run items).state ≤ left run.state
+all_fall run [] = omega arith
+all_fall run (item ∷ items) =
+    let now = all_fall (after run item) items in
+    let before = after_falls run.status run item in
+    omega arith
+
+too_long_falls : (status : Option Status) (run : Run) → left (too_long_status status run).state ≤ left run.state
+too_long_falls None run = omega arith
+too_long_falls (Some status) run = omega arith
+
+script_by : (b : Bool) (limits : Limits) (items : List Reading) → left (if b then too_long (after_all (begun limits) items) else after_all (begun limits) items).state ≤ limits.max_turns
+script_by true limits items =
+    let run = after_all (begun limits) items in
+    let now = too_long_falls run.status run in
+    let before = all_fall (begun limits) items in
+    omega arith
+script_by false limits items = all_fall (begun limits) items
+
+pub script_falls : (limits : Limits) (s : List ℕ) → (complete limits s).state.world.turns ≤ limits.max_turns
+unfolding complete
+script_falls limits s = script_by (over limits.max_form s) limits (fitting limits.max_form s)

@@ -1,0 +1,29 @@
+//! What `reset` does.
+ghost use Rattle.std.specs.Prelude.{◌≡◌, false};
+ghost use Rattle.cb_actions.specs.Went.{Went};
+ghost use Rattle.cb_session.specs.Actions.{reset_to};
+ghost use Rattle.cb_working_memory.specs.Deffacts.{facts_in};
+
+use cb_actions::{Break, World};
+use cb_exprs::GlobalExpr;
+use cb_facts::Value;
+use cb_forms::{Out, Sink};
+use cb_working_memory::DeffactsTable;
+
+/// Gives each global its initial value anew, drops the variables and the facts, and asserts the facts of each `deffacts`.
+/// Growth is refused as `NoMemory`.
+pub(crate) fn reset_world<K: Sink>(
+    world: &mut World,
+    globals: &[GlobalExpr],
+    deffacts: &DeffactsTable,
+    out: &mut Out<K>,
+) -> Result<Option<Value>, Break>
+    requires { out.old.fault ≡ false }
+    ensures { Went K.writes out.old out.new world.new result
+        (reset_to globals.now (facts_in deffacts.now) world.old) }
+{
+    drop(world.evaluate_anew(globals)?);
+    world.drop_variables();
+    world.drop_facts();
+    world.assert_deffacts(deffacts, out)
+}

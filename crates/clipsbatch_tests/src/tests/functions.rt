@@ -1,0 +1,307 @@
+//! The examples of `docs/LANGUAGE.md` on expressions, functions, variables and control, in its order.
+use super::rows::{AT_A_LIMIT, Example, WITH_A_FAULT, WITHOUT_FAULT};
+
+pub(super) const FUNCTIONS: [Example; 7] = [
+    Example {
+        name: "shows expressions",
+        script: b"(+ 1 (* 2 3))
+(create$ red \"X L\" (create$ 3 (- 3 4)))
+(create$)
+(str-cat \"Total: \" (+ 1 2))
+(+ 9223372036854775807 1 many)
+(+ 9223372036854775807 1 -1)
+(+ (div 1 0) (abs many))
+(list 1 2)
+(+ 1 (print \"one \") (print \"two \"))
+(eq (assert (age 7)) 1)
+",
+        written: b"7
+(red \"X L\" 3 -1)
+()
+\"Total: 3\"
+[CB17] wrong type
+[CB18] integer overflow
+[CB19] division by zero
+[CB06] unknown function
+one [CB17] wrong type
+FALSE
+",
+        outcome: WITH_A_FAULT,
+    },
+    Example {
+        name: "shows faults of expressions",
+        script: b"(+ (print \"not carried out\") (bogus))
+(+ (bogus ?x) ?y)
+(+ ?y (bogus))
+(+ ?*limit* &)
+(not (not))
+(max ())
+(max (1 2))
+(max (facts))
+(max (halt))
+(bogus (+ 1) ?)
+",
+        written: b"[CB06] unknown function
+[CB06] unknown function
+[CB11] unbound variable
+[CB12] unknown global variable
+[CB07] wrong arguments
+[CB08] malformed form
+[CB08] malformed form
+[CB14] not in this profile
+[CB14] not in this profile
+[CB06] unknown function
+",
+        outcome: WITH_A_FAULT,
+    },
+    Example {
+        name: "shows each function",
+        script: b"(+ 1 2 -5)
+(- 10 3 2)
+(* 2 3 -4)
+(div -7 2)
+(mod -7 3)
+(= 2 2 3)
+(<> 1 2 2)
+(< 1 3 2)
+(> 3 2 1)
+(<= 1 1 2)
+(>= 2 3)
+(eq red \"red\")
+(neq red blue \"red\")
+(and FALSE (div 1 0))
+(or 3 (div 1 0))
+(not 0)
+(min 3 -1 2)
+(max 3 -1 2)
+(abs -12)
+(create$ a (create$ \"b\" 3))
+(nth$ 2 (create$ a b c))
+(length$ (create$ a b c))
+(member$ \"b\" (create$ a \"b\" b))
+(first$ (create$ a b c))
+(rest$ (create$ a b c))
+(str-cat \"no. \" 7 a)
+(sym-cat lamp - 7)
+(integerp 7)
+(numberp \"7\")
+(symbolp red)
+(stringp red)
+(lexemep \"red\")
+(multifieldp (create$))
+(evenp -4)
+(oddp 0)
+",
+        written: b"-2
+5
+-24
+-3
+-1
+FALSE
+TRUE
+FALSE
+TRUE
+TRUE
+FALSE
+FALSE
+TRUE
+FALSE
+TRUE
+FALSE
+-1
+3
+12
+(a \"b\" 3)
+b
+3
+2
+(a)
+(b c)
+\"no. 7a\"
+lamp-7
+TRUE
+FALSE
+TRUE
+FALSE
+TRUE
+TRUE
+TRUE
+FALSE
+",
+        outcome: WITHOUT_FAULT,
+    },
+    Example {
+        name: "shows faults and ends of functions",
+        script: b"(+ 9223372036854775807 1)
+(* -9223372036854775808 -1)
+(- -9223372036854775808 1)
+(abs -9223372036854775808)
+(div -9223372036854775808 -1)
+(mod -9223372036854775808 -1)
+(mod 7 -3)
+(div 7 0)
+(mod 7 0)
+(div 1 0 a)
+(nth$ 0 (create$ a b))
+(nth$ 3 (create$ a b))
+(nth$ a b)
+(member$ c (create$ a b))
+(member$ (create$ a) (create$ a b))
+(length$ a)
+(first$ (create$))
+(str-cat a (create$ b))
+(sym-cat a \" \" b)
+(str-cat cr lf)
+(= 1 1 \"a\")
+(not nil FALSE)
+",
+        written: b"[CB18] integer overflow
+[CB18] integer overflow
+[CB18] integer overflow
+[CB18] integer overflow
+[CB18] integer overflow
+0
+1
+[CB19] division by zero
+[CB19] division by zero
+[CB17] wrong type
+nil
+nil
+[CB17] wrong type
+FALSE
+[CB17] wrong type
+[CB17] wrong type
+()
+[CB17] wrong type
+a b
+\"crlf\"
+[CB17] wrong type
+[CB07] wrong arguments
+",
+        outcome: WITH_A_FAULT,
+    },
+    Example {
+        name: "shows variables",
+        script: b"(bind ?x (+ ?x 1))
+(bind ?x 4)
+(bind ?x (+ ?x 1))
+$?x
+(bind $?rest a \"b\" (create$ 3 4))
+(length$ ?rest)
+(bind ?none (create$))
+(if TRUE then (println \"before\") (println ?later) (bind ?later 1))
+(if FALSE then (bind ?later 1))
+?later
+(println \"not written\" ?later)
+(bind ?x 9 (create$))
+(bind ? 1)
+(bind x 1)
+(bind ?x)
+(reset)
+?x
+",
+        written: b"[CB11] unbound variable
+4
+5
+5
+(a \"b\" 3 4)
+4
+()
+before
+[CB11] unbound variable
+FALSE
+[CB11] unbound variable
+[CB11] unbound variable
+(9)
+[CB07] wrong arguments
+[CB07] wrong arguments
+[CB07] wrong arguments
+[CB11] unbound variable
+",
+        outcome: WITH_A_FAULT,
+    },
+    Example {
+        name: "shows global variables",
+        script: b"(defglobal ?*width* = 4 ?*area* = (* ?*width* 3))
+?*area*
+(bind ?*width* 10)
+?*area*
+(reset)
+?*width*
+(defglobal ?*width* = (+ ?*area* 1))
+?*width*
+(bind ?*area* 20)
+(reset)
+?*width*
+?*area*
+(defglobal ?*a* = 1 ?*b* = (div 1 0))
+?*a*
+(defglobal ?*a* = (bogus) b)
+(defglobal ?*a* = 1 b)
+(defglobal ?*a* 1)
+(defglobal ?*a* = ?*a*)
+(defglobal ?*a* = ?x)
+(defglobal ?*a* = (print \"1\"))
+(bind ?*a* (bogus))
+(clear)
+?*width*
+",
+        written: b"12
+10
+12
+4
+13
+20
+21
+63
+[CB19] division by zero
+[CB12] unknown global variable
+[CB06] unknown function
+[CB08] malformed form
+[CB08] malformed form
+[CB12] unknown global variable
+[CB11] unbound variable
+[CB14] not in this profile
+[CB12] unknown global variable
+[CB12] unknown global variable
+",
+        outcome: WITH_A_FAULT,
+    },
+    Example {
+        name: "shows control",
+        script: b"(if (> 2 1) then (println \"yes\") more else less)
+(if (> 1 2) then more else \"less\")
+(if (> 1 2) then more)
+(if TRUE then)
+(if TRUE then more (println \"no value\"))
+(create$ (if TRUE then (println \"no value\")))
+(bind ?i 0)
+(while (< ?i 3) do (print ?i \" \") (bind ?i (+ ?i 1)))
+(while (> ?i 3) (div 1 0))
+(if FALSE then a else else)
+(if (> 2 1) (println \"yes\"))
+(while)
+(if else then a else b)
+(while TRUE do (bind ?i (+ ?i 1)))
+(println \"not reached\")
+",
+        written: b"yes
+more
+\"less\"
+FALSE
+FALSE
+no value
+no value
+[CB17] wrong type
+0
+0 1 2 FALSE
+FALSE
+[CB07] wrong arguments
+[CB07] wrong arguments
+[CB07] wrong arguments
+a
+[CB93] loop limit reached
+",
+        outcome: AT_A_LIMIT,
+    },
+];
