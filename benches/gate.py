@@ -1,8 +1,8 @@
 #!/usr/bin/env python3
 """Runs the gate and adds up the processor time of its parts. Run it at the repository's top, on a quiet machine.
 
-Each `rattle` process that runs while the gate does is looked at every fifth of a second, by the system's own count of
-its processor time. Where it stands says what it is for: the proof of a crate, its tests, its must-fail edits, or a
+Each `rattle` process that the gate started is looked at every fifth of a second, by the system's own count of its
+processor time. Where it stands says what it is for: the proof of a crate, its tests, its must-fail edits, or a
 program. What a process takes after its last look is lost, so the sum falls short by some hundredths.
 """
 import collections
@@ -15,18 +15,29 @@ import time
 TICKS = os.sysconf("SC_CLK_TCK")
 
 
-def looks(top):
+def stat(pid):
+    """What the system notes of a process, from its state on."""
+    return open(f"/proc/{pid}/stat").read().rsplit(")", 1)[1].split()
+
+
+def is_below(pid, top):
+    """Whether a process was started by another one, or by one that it started."""
+    while pid != "1" and pid != "0":
+        if pid == top:
+            return True
+        pid = stat(pid)[1]
+    return False
+
+
+def looks(gate):
     """Yields the process, the folder, the words and the seconds of each `rattle` process of this gate."""
     for pid in filter(str.isdigit, os.listdir("/proc")):
         try:
             words = open(f"/proc/{pid}/cmdline").read().split("\0")
-            if not words[0].endswith("/rattle"):
+            if not words[0].endswith("/rattle") or not is_below(pid, gate):
                 continue
-            folder = os.readlink(f"/proc/{pid}/cwd")
-            if not folder.startswith(top) and "rt-edit" not in folder:
-                continue
-            stat = open(f"/proc/{pid}/stat").read().rsplit(")", 1)[1].split()
-            yield pid, stat[19], folder, words, (int(stat[11]) + int(stat[12])) / TICKS
+            noted = stat(pid)
+            yield pid, noted[19], os.readlink(f"/proc/{pid}/cwd"), words, (int(noted[11]) + int(noted[12])) / TICKS
         except OSError:
             continue
 
@@ -46,7 +57,7 @@ def main():
     gate = subprocess.Popen(["rt", "ci"])
     seconds, parts = {}, {}
     while gate.poll() is None:
-        for pid, start, folder, words, spent in looks(os.getcwd()):
+        for pid, start, folder, words, spent in looks(str(gate.pid)):
             seconds[pid, start] = spent
             parts[pid, start] = part(folder, words)
         time.sleep(0.2)

@@ -60,9 +60,6 @@ value-Decides (v.Multi a) (v.Int b) = search (hashing, rules)
 value-Decides (v.Multi a) (v.Fact b) = search (hashing, rules)
 value-Decides (v.Multi a) (v.Multi b) = search (hashing, rules, singles-Decides a b)
 
-pub values-Decides : (xs ys : List Value) → Decides (pointwise value.ghosts.eq xs ys) (xs ≡ ys)
-values-Decides xs ys = pointwise_decides value-Decides xs ys
-
 pub both-true : (a b : Bool) → a ≡ true → b ≡ true → (a && b) ≡ true
 both-true a b p q = search rules
 

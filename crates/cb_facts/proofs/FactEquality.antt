@@ -6,12 +6,12 @@ use Rattle.std.specs.Cmp.Lexicographic.{bytes_decides}
 use Rattle.cb_facts.specs.Facts.{FactContent, fields, slots, FactValue, content_eq, fact_eq, fact_in, IsHashOf}
 use Rattle.cb_facts.specs.FactLaws.{hash_of_equal}
 use Rattle.cb_facts.specs.declared.fact.Body.{Body}
-use Rattle.cb_facts.proofs.Equality.{both-true, values-Decides, slots-Decides}
+use Rattle.cb_facts.proofs.Equality.{both-true, singles-Decides, slots-Decides}
 
 pub content-Decides : (c d : FactContent) → Decides (content_eq c d) (c ≡ d)
-content-Decides (fields vs) (fields ws) = (λ e. ap fields ((values-Decides vs ws).0 e), λ e. (values-Decides vs ws).1 (cc))
-content-Decides (fields vs) (slots ts) = search rules
-content-Decides (slots ss) (fields ws) = search rules
+content-Decides (fields xs) (fields ys) = (λ e. ap fields ((singles-Decides xs ys).0 e), λ e. (singles-Decides xs ys).1 (cc))
+content-Decides (fields xs) (slots ts) = search rules
+content-Decides (slots ss) (fields ys) = search rules
 content-Decides (slots ss) (slots ts) = (λ e. ap slots ((slots-Decides ss ts).0 e), λ e. (slots-Decides ss ts).1 (cc))
 
 pub fact-same : (f g : FactValue) → f.relation ≡ g.relation → f.content ≡ g.content → f ≡ g

@@ -1,12 +1,10 @@
 -- What adding a fact and removing one keep.
-use Rattle.std.proofs.Common.{◌≡◌, ◌≢◌, ◌⊎◌, inl, inr, ℕ, Bool, true, false, Option, Some, None, refl, sym, ap, ◌∙◌, subst}
-use Rattle.std.proofs.lemmas.Bool.{eqb-true, eq-eqb, cases_eq}
+use Rattle.std.proofs.Common.{◌≡◌, ◌≢◌, ◌⊎◌, inl, inr, ℕ, Bool, true, false, Option, Some, None, refl, sym, ◌∙◌, subst}
+use Rattle.std.proofs.lemmas.Bool.{eqb-true, eq-eqb}
 use Rattle.std.specs.BTreeMap as tree
 use Rattle.std.specs.BTreeMap.{is_at, BTreeMap}
 use Rattle.std.specs.Bool.{Decides}
 use Rattle.std.specs.Cmp.{unsigned_tied}
-use Rattle.std.specs.List.Sorted.{IsStrictlySortedBy}
-use Rattle.std.specs.Map.{keys_of}
 use Rattle.std.specs.Ordering.{nat_cmp}
 use Rattle.cb_facts.specs.FactLists.{IndexedFacts, fact_at, IsAbsent, IsFactBase, ChangesOnly, IsIndexed}
 use Rattle.cb_facts.specs.FactLaws.{fact_tied}

@@ -6,4 +6,3 @@ pub mod Firsts
 pub mod Inverses
 pub mod ListLaws
 pub mod PartLaws
-pub mod Splices

@@ -10,6 +10,10 @@ use Rattle.std.specs.Ordering.{is_eq, is_lt, eq_by_cmp, nat_cmp, ordering_revers
 use Rattle.std.specs.Hash as fed
 use Rattle.std.specs.Hash.{Alike, and-Alike, on_Alike, items_Alike, same_Alike}
 use Rattle.cb_facts.specs.Facts.{FactContent, fields, slots, FactValue, slot_eq, slot_cmp, slot_writes, content_eq, content_cmp, content_writes, fact_eq, fact_cmp, rest_cmp, hash_from, hash_of}
+use Rattle.cb_facts.specs.contracts.single.SingleEq.TheImpl.Laws as single_eq
+use Rattle.cb_facts.specs.contracts.single.SingleOrd.TheImpl as single_order
+use Rattle.cb_facts.specs.contracts.single.SingleOrd.TheImpl.Laws as single_ord
+use Rattle.cb_facts.specs.contracts.single.SingleHash.TheImpl.Laws as single_hash
 use Rattle.cb_facts.specs.contracts.value.ValueEq.TheImpl.Laws as value_eq
 use Rattle.cb_facts.specs.contracts.value.ValueOrd.TheImpl as order
 use Rattle.cb_facts.specs.contracts.value.ValueOrd.TheImpl.Laws as value_ord
@@ -26,21 +30,21 @@ slot_alike =
     (on_Alike (λ (s : List ℕ × Value). s.1) (record { fed = value_hash.respects_eq-law }))
 
 content_refl : (c : FactContent) → content_eq c c ≡ true
-content_refl (fields vs) = (lists_equiv value_eq.laws-law).refl vs
+content_refl (fields xs) = (lists_equiv single_eq.laws-law).refl xs
 content_refl (slots ss) = (lists_equiv slot_equiv).refl ss
 
 content_symm : (c d : FactContent) → content_eq c d ≡ content_eq d c
-content_symm (fields vs) (fields ws) = (lists_equiv value_eq.laws-law).symm vs ws
-content_symm (fields vs) (slots ts) = refl
-content_symm (slots ss) (fields ws) = refl
+content_symm (fields xs) (fields ys) = (lists_equiv single_eq.laws-law).symm xs ys
+content_symm (fields xs) (slots ts) = refl
+content_symm (slots ss) (fields ys) = refl
 content_symm (slots ss) (slots ts) = (lists_equiv slot_equiv).symm ss ts
 
 content_congr : (c d e : FactContent) → content_eq c d ≡ true → content_eq c e ≡ content_eq d e
-content_congr (fields us) (fields vs) (fields ws) h = (lists_equiv value_eq.laws-law).congr us vs ws h
-content_congr (fields us) (fields vs) (slots ts) h = refl
-content_congr (fields us) (slots ss) e h = absurd (false≢true h)
-content_congr (slots rs) (fields vs) e h = absurd (false≢true h)
-content_congr (slots rs) (slots ss) (fields ws) h = refl
+content_congr (fields xs) (fields ys) (fields zs) h = (lists_equiv single_eq.laws-law).congr xs ys zs h
+content_congr (fields xs) (fields ys) (slots ts) h = refl
+content_congr (fields xs) (slots ss) e h = absurd (false≢true h)
+content_congr (slots rs) (fields xs) e h = absurd (false≢true h)
+content_congr (slots rs) (slots ss) (fields ys) h = refl
 content_congr (slots rs) (slots ss) (slots ts) h = (lists_equiv slot_equiv).congr rs ss ts h
 
 content_equiv : IsEquivalence content_eq
@@ -50,9 +54,9 @@ pub fact_equiv : IsEquivalence fact_eq
 fact_equiv = and_equiv (on_equiv (λ (f : FactValue). f.relation) nat_list_eq_equiv) (on_equiv (λ (f : FactValue). f.content) content_equiv)
 
 content_fed : (c d : FactContent) → content_eq c d ≡ true → content_writes c ≡ content_writes d
-content_fed (fields vs) (fields ws) h = (items_Alike (record { fed = value_hash.respects_eq-law })).fed vs ws h
-content_fed (fields vs) (slots ts) h = absurd (false≢true h)
-content_fed (slots ss) (fields ws) h = absurd (false≢true h)
+content_fed (fields xs) (fields ys) h = (items_Alike (record { fed = single_hash.respects_eq-law })).fed xs ys h
+content_fed (fields xs) (slots ts) h = absurd (false≢true h)
+content_fed (slots ss) (fields ys) h = absurd (false≢true h)
 content_fed (slots ss) (slots ts) h = (items_Alike slot_alike).fed ss ts h
 
 pub hash_of_equal : (f g : FactValue) → fact_eq f g ≡ true → hash_of f ≡ hash_of g
@@ -70,34 +74,34 @@ slot_tied : (s t : List ℕ × Value) → slot_eq s t ≡ eq_by_cmp slot_cmp s t
 slot_tied s t = both_tied (pointwise nat_eq s.0 t.0) (equality.ghosts.eq s.1 t.1) (slice_cmp nat_cmp s.0 t.0) (order.ghosts.cmp s.1 t.1) (texts_ties s.0 t.0) (value_ord.matches_eq-law s.1 t.1)
 
 content_antisymm : (c d : FactContent) → content_cmp c d ≡ ordering_reverse (content_cmp d c)
-content_antisymm (fields vs) (fields ws) = (lists_total value_ord.total-law).antisymm vs ws
-content_antisymm (fields vs) (slots ts) = refl
-content_antisymm (slots ss) (fields ws) = refl
+content_antisymm (fields xs) (fields ys) = (lists_total single_ord.total-law).antisymm xs ys
+content_antisymm (fields xs) (slots ts) = refl
+content_antisymm (slots ss) (fields ys) = refl
 content_antisymm (slots ss) (slots ts) = (lists_total slot_total).antisymm ss ts
 
 content_trans : (c d e : FactContent) → content_cmp c d ≡ Less → content_cmp d e ≡ Less → content_cmp c e ≡ Less
-content_trans (fields us) (fields vs) (fields ws) h k = (lists_total value_ord.total-law).trans us vs ws h k
-content_trans (fields us) d (slots ts) h k = refl
-content_trans (fields us) (slots ss) (fields ws) h k = absurd (false≢true (ap is_lt k))
-content_trans (slots rs) (fields vs) e h k = absurd (false≢true (ap is_lt h))
-content_trans (slots rs) (slots ss) (fields ws) h k = absurd (false≢true (ap is_lt k))
+content_trans (fields xs) (fields ys) (fields zs) h k = (lists_total single_ord.total-law).trans xs ys zs h k
+content_trans (fields xs) d (slots ts) h k = refl
+content_trans (fields xs) (slots ss) (fields ys) h k = absurd (false≢true (ap is_lt k))
+content_trans (slots rs) (fields xs) e h k = absurd (false≢true (ap is_lt h))
+content_trans (slots rs) (slots ss) (fields ys) h k = absurd (false≢true (ap is_lt k))
 content_trans (slots rs) (slots ss) (slots ts) h k = (lists_total slot_total).trans rs ss ts h k
 
 content_level : (c d e : FactContent) → content_cmp c d ≡ Equal → content_cmp c e ≡ content_cmp d e
-content_level (fields us) (fields vs) (fields ws) h = (lists_total value_ord.total-law).congr us vs ws h
-content_level (fields us) (fields vs) (slots ts) h = refl
-content_level (fields us) (slots ss) e h = absurd (false≢true (ap is_eq h))
-content_level (slots rs) (fields vs) e h = absurd (false≢true (ap is_eq h))
-content_level (slots rs) (slots ss) (fields ws) h = refl
+content_level (fields xs) (fields ys) (fields zs) h = (lists_total single_ord.total-law).congr xs ys zs h
+content_level (fields xs) (fields ys) (slots ts) h = refl
+content_level (fields xs) (slots ss) e h = absurd (false≢true (ap is_eq h))
+content_level (slots rs) (fields xs) e h = absurd (false≢true (ap is_eq h))
+content_level (slots rs) (slots ss) (fields ys) h = refl
 content_level (slots rs) (slots ss) (slots ts) h = (lists_total slot_total).congr rs ss ts h
 
 content_total : IsTotalOrder content_cmp
 content_total = record { antisymm = content_antisymm; trans = content_trans; congr = content_level }
 
 content_tied : (c d : FactContent) → content_eq c d ≡ eq_by_cmp content_cmp c d
-content_tied (fields vs) (fields ws) = lists_ties order.ghosts.cmp value_ord.matches_eq-law vs ws
-content_tied (fields vs) (slots ts) = refl
-content_tied (slots ss) (fields ws) = refl
+content_tied (fields xs) (fields ys) = lists_ties single_order.ghosts.cmp single_ord.matches_eq-law xs ys
+content_tied (fields xs) (slots ts) = refl
+content_tied (slots ss) (fields ys) = refl
 content_tied (slots ss) (slots ts) = lists_ties slot_cmp slot_tied ss ts
 
 pub fact_total : IsTotalOrder fact_cmp

@@ -7,18 +7,22 @@ use Rattle.std.specs.Hash.FoldHasher as folding
 use Rattle.std.specs.Ordering.{nat_cmp, on, then_cmp}
 use Rattle.std.specs.declared.cmp.Ordering.TheVariants.{Less, Greater}
 use Rattle.std.specs.declared.cmp.Ordering.{Ordering}
+use Rattle.cb_facts.specs.contracts.single.SinglePartialEq.TheImpl as single_eq
+use Rattle.cb_facts.specs.contracts.single.SingleOrd.TheImpl as single_ord
+use Rattle.cb_facts.specs.contracts.single.SingleHash.TheImpl as single_hash
 use Rattle.cb_facts.specs.contracts.value.ValuePartialEq.TheImpl as value_eq
 use Rattle.cb_facts.specs.contracts.value.ValueOrd.TheImpl as value_ord
 use Rattle.cb_facts.specs.contracts.value.ValueHash.TheImpl as value_hash
 use Rattle.cb_facts.specs.declared.fact.Body.{Body}
 use Rattle.cb_facts.specs.declared.fact.Content.{Content}
 use Rattle.cb_facts.specs.declared.fact.Content.TheVariants as content
+use Rattle.cb_facts.specs.declared.single.Single.{Single}
 use Rattle.cb_facts.specs.declared.value.Value.{Value}
 
 -- what stands in a fact after its relation: of an ordered fact its fields, of a template's fact the names and values of
 -- its slots
 pub data FactContent : Type 0 where
-  fields : List Value → FactContent
+  fields : List Single → FactContent
   slots : List (List ℕ × Value) → FactContent
 
 pub record FactValue : Type 0 where
@@ -26,8 +30,8 @@ pub record FactValue : Type 0 where
   pub content : FactContent
 
 -- the ordered fact of a relation with these fields
-abbrev pub ordered_fact : List ℕ → List Value → FactValue
-ordered_fact relation values = record { relation = relation; content = fields values }
+abbrev pub ordered_fact : List ℕ → List Single → FactValue
+ordered_fact relation singles = record { relation = relation; content = fields singles }
 
 -- the fact of a template with these slots
 abbrev pub template_fact : List ℕ → List (List ℕ × Value) → FactValue
@@ -35,7 +39,7 @@ template_fact relation pairs = record { relation = relation; content = slots pai
 
 -- what a `Content` of the program is
 abbrev pub content_of : Content → FactContent
-content_of (content.Fields values) = fields values.items
+content_of (content.Fields singles) = fields singles
 content_of (content.Slots pairs) = slots pairs.items
 
 -- two slots with one name and one value
@@ -43,9 +47,9 @@ abbrev pub slot_eq : List ℕ × Value → List ℕ × Value → Bool
 slot_eq s t = pointwise nat_eq s.0 t.0 && value_eq.ghosts.eq s.1 t.1
 
 abbrev pub content_eq : FactContent → FactContent → Bool
-content_eq (fields vs) (fields ws) = pointwise value_eq.ghosts.eq vs ws
-content_eq (fields vs) (slots ts) = false
-content_eq (slots ss) (fields ws) = false
+content_eq (fields xs) (fields ys) = pointwise single_eq.ghosts.eq xs ys
+content_eq (fields xs) (slots ts) = false
+content_eq (slots ss) (fields ys) = false
 content_eq (slots ss) (slots ts) = pointwise slot_eq ss ts
 
 abbrev pub fact_eq : FactValue → FactValue → Bool
@@ -57,7 +61,7 @@ slot_writes s = (s.0 ∷ []) ++ value_hash.ghosts.hash_input s.1
 
 -- what a hasher is fed of the content
 abbrev pub content_writes : FactContent → HashWrites
-content_writes (fields vs) = fed.slice value_hash.ghosts.hash_input vs
+content_writes (fields xs) = fed.slice single_hash.ghosts.hash_input xs
 content_writes (slots ss) = fed.slice slot_writes ss
 
 -- the hash of a relation and what a hasher is fed of the content
@@ -74,9 +78,9 @@ slot_cmp = then_cmp (on (λ s. s.0) (slice_cmp nat_cmp)) (on (λ s. s.1) value_o
 
 -- contents in order: fields one after another, then slots one after another, and fields before slots
 abbrev pub content_cmp : FactContent → FactContent → Ordering
-content_cmp (fields vs) (fields ws) = slice_cmp value_ord.ghosts.cmp vs ws
-content_cmp (fields vs) (slots ts) = Less
-content_cmp (slots ss) (fields ws) = Greater
+content_cmp (fields xs) (fields ys) = slice_cmp single_ord.ghosts.cmp xs ys
+content_cmp (fields xs) (slots ts) = Less
+content_cmp (slots ss) (fields ys) = Greater
 content_cmp (slots ss) (slots ts) = slice_cmp slot_cmp ss ts
 
 -- facts with the same hash in order: by their relations, then by their contents

@@ -61,7 +61,7 @@ slot_bytes s = codes " (" ++ (s.0 ++ (slot_fields s.1 ++ codes ")"))
 
 -- each field of an ordered fact after a blank, and each slot of a template's fact
 abbrev pub content_bytes : FactContent → List ℕ
-content_bytes (fields vs) = flat_map (λ v. codes " " ++ quoted_bytes v) vs
+content_bytes (fields singles) = flat_map (λ s. codes " " ++ quoted_single s) singles
 content_bytes (slots ss) = flat_map slot_bytes ss
 
 -- a fact: its relation and its content, in parentheses

@@ -7,6 +7,7 @@ ghost use Rattle.std.specs.Ordering.{as_partial_cmp};
 ghost use Rattle.cb_facts.specs.Facts.{ordered_fact, template_fact, content_of, content_writes, content_cmp, fact_cmp, fact_eq, fact_in, hash_of, rest_cmp};
 ghost use Rattle.cb_facts.specs.FactLaws.{fact_equiv, fact_fed, fact_tied, fact_total};
 
+use crate::multifield::Multifield;
 use crate::name::Name;
 use crate::value::Value;
 use cb_forms::NoMemory;
@@ -21,7 +22,7 @@ use std::rc::Rc;
 #[derive(Debug, PartialEq, Eq, Drop)]
 pub enum Content {
     /// The fields of an ordered fact, in their order.
-    Fields(Vec<Value>),
+    Fields(Multifield),
     /// The slots of a template's fact, each name with its value, in the template's order.
     Slots(Vec<(Name, Value)>),
 }
@@ -32,7 +33,7 @@ impl Content {
             ≡ fold folding.write hasher.old (content_writes (content_of self.now)) }
     {
         match self {
-            Content::Fields(values) => values.as_slice().hash(hasher),
+            Content::Fields(fields) => fields.hash(hasher),
             Content::Slots(slots) => slots.as_slice().hash(hasher),
         }
     }
@@ -41,8 +42,8 @@ impl Content {
         ensures { result ≡ content_cmp (content_of self.now) (content_of other.now) }
     {
         match self {
-            Content::Fields(values) => match other {
-                Content::Fields(others) => values.as_slice().cmp(others.as_slice()),
+            Content::Fields(fields) => match other {
+                Content::Fields(others) => fields.cmp(others),
                 Content::Slots(_) => Ordering::Less,
             },
             Content::Slots(slots) => match other {
@@ -98,8 +99,8 @@ impl Model for Fact {
 
 impl Fact {
     /// The ordered fact of a relation with these fields, both taken over. Growth is refused as `NoMemory`.
-    pub fn ordered(alloc: Global, relation: Name, fields: Vec<Value>) -> Result<Fact, NoMemory>
-        ensures { IfOk result (λ fact. fact ≡ ordered_fact relation fields.items) }
+    pub fn ordered(alloc: Global, relation: Name, fields: Multifield) -> Result<Fact, NoMemory>
+        ensures { IfOk result (λ fact. fact ≡ ordered_fact relation fields) }
     {
         Fact::new(alloc, relation, Content::Fields(fields))
     }

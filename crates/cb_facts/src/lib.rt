@@ -26,7 +26,7 @@ pub use names::Names;
 pub use refused::Refused;
 pub use relation_counts::RelationCounts;
 pub use single::Single;
-pub use splicing::{is_multifield, splice, splice_values, value_of};
+pub use splicing::{is_multifield, splice, value_of};
 pub use text::{fact_text, plain_text, quoted_text};
 pub use value::Value;
 pub use words::is_among;

@@ -1,6 +1,5 @@
 //! The fields of values.
-ghost use Rattle.std.specs.Prelude.{◌≡◌, ◌++◌, IfOk, OnOk, map};
-ghost use Rattle.std.specs.List.{list_any};
+ghost use Rattle.std.specs.Prelude.{◌≡◌, ◌++◌, IfOk, OnOk};
 ghost use Rattle.cb_facts.specs.Values.{fields_in, is_multifield, spliced, value_of_field};
 
 use crate::single::Single;
@@ -17,35 +16,6 @@ pub fn splice(alloc: Global, values: &[Value]) -> Result<Vec<Single>, NoMemory>
         add_fields(&mut fields, value)?;
     }
     Ok(fields)
-}
-
-/// Values in their order, the fields of a multifield in its place. Growth is refused as `NoMemory`.
-pub fn splice_values(alloc: Global, values: Vec<Value>) -> Result<Vec<Value>, NoMemory>
-    ensures { IfOk result (λ fields. fields.items ≡ map value_of_field (spliced values.items)) }
-{
-    if !has_multifield(values.as_slice()) {
-        return Ok(values);
-    }
-    let fields = splice(alloc, values.as_slice())?;
-    values_of(alloc, fields.as_slice())
-}
-
-/// Whether a multifield is among values.
-fn has_multifield(values: &[Value]) -> bool
-    ensures { result ≡ list_any is_multifield values.now }
-{
-    values.iter().any(is_multifield)
-}
-
-/// Fields as values.
-fn values_of(alloc: Global, fields: &[Single]) -> Result<Vec<Value>, NoMemory>
-    ensures { IfOk result (λ values. values.items ≡ map value_of_field fields.now) }
-{
-    let mut values = Vec::with_capacity(alloc, fields.len())?;
-    for field in fields {
-        values.push(value_of(field.clone()?))?;
-    }
-    Ok(values)
 }
 
 /// The fields of a value after those that are there.

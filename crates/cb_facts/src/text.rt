@@ -2,7 +2,7 @@
 ghost use Rattle.std.specs.Prelude.{◌≡◌, ◌++◌, IfOk, OnOk, codes};
 ghost use Rattle.std.specs.List.{flat_map, join_by};
 ghost use Rattle.std.specs.Fmt.{signed_decimal};
-ghost use Rattle.cb_facts.specs.Facts.{fields, slots, content_of};
+ghost use Rattle.cb_facts.specs.Facts.{slots, content_of};
 ghost use Rattle.cb_facts.specs.Texts.{address_bytes, between_quotes, content_bytes, fact_bytes, fields_bytes, plain_bytes, quoted_bytes, quoted_single, slot_bytes, slot_fields};
 
 use crate::fact::{Content, Fact};
@@ -57,19 +57,9 @@ fn add_content(text: &mut Vec<u8>, content: &Content) -> Result<(), NoMemory>
         (text.new.items ≡ text.old.items ++ content_bytes (content_of content.now)) }
 {
     match content {
-        Content::Fields(values) => add_each(text, values.as_slice()),
+        Content::Fields(fields) => add_singles(text, fields.as_slice()),
         Content::Slots(slots) => add_slots(text, slots.as_slice()),
     }
-}
-
-fn add_each(text: &mut Vec<u8>, values: &[Value]) -> Result<(), NoMemory>
-    ensures { OnOk result (text.new.items ≡ text.old.items ++ content_bytes (fields values.now)) }
-{
-    for value in values {
-        text.push(b' ')?;
-        add_quoted(text, value)?;
-    }
-    Ok(())
 }
 
 fn add_slots(text: &mut Vec<u8>, pairs: &[(Name, Value)]) -> Result<(), NoMemory>

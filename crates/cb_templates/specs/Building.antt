@@ -6,7 +6,7 @@ use Rattle.std.specs.Str.{bytes_eq}
 use Rattle.cb_forms.specs.declared.fault.Fault.{Fault}
 use Rattle.cb_forms.specs.declared.fault.Fault.TheVariants.{FactDoesNotFit, OneValueWanted}
 use Rattle.cb_facts.specs.Facts.{FactValue, ordered_fact, template_fact}
-use Rattle.cb_facts.specs.Values.{spliced, value_of_field, is_multifield}
+use Rattle.cb_facts.specs.Values.{spliced, is_multifield}
 use Rattle.cb_facts.specs.declared.value.Value.{Value}
 use Rattle.cb_facts.specs.declared.value.Value.TheVariants as value
 use Rattle.cb_facts.specs.Results.{ok_then, with_first}
@@ -77,7 +77,7 @@ abbrev pub slots_built : List ℕ → List SlotShape → Given → Result FactVa
 slots_built relation slots given = if fits slots given then ok_then (template_fact relation) (filled slots given) else Err FactDoesNotFit
 
 abbrev pub built_by : List ℕ → Option (List SlotShape) → PartValues → Result FactValue Fault
-built_by relation None (field_values vs) = Ok (ordered_fact relation (map value_of_field (spliced vs)))
+built_by relation None (field_values vs) = Ok (ordered_fact relation (spliced vs))
 built_by relation None (slot_values given) = Err FactDoesNotFit
 built_by relation (Some slots) (field_values vs) = Err FactDoesNotFit
 built_by relation (Some slots) (slot_values given) = slots_built relation slots given

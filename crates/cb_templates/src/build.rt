@@ -1,8 +1,8 @@
 //! Facts from the values that they are given.
-ghost use Rattle.std.specs.Prelude.{◌≡◌, None, Ok, Err, IfOk, IfErr, is_some, map, option_map};
+ghost use Rattle.std.specs.Prelude.{◌≡◌, None, Ok, Err, IfOk, IfErr, is_some, option_map};
 ghost use Rattle.std.specs.List.{list_all};
 ghost use Rattle.cb_facts.specs.Facts.{ordered_fact};
-ghost use Rattle.cb_facts.specs.Values.{spliced, value_of_field};
+ghost use Rattle.cb_facts.specs.Values.{spliced};
 ghost use Rattle.cb_templates.specs.Building.{built, filled, fits, given_for, is_one, one_value, part_values, value_or_default, slots_built, takes};
 ghost use Rattle.cb_facts.specs.Results.{Returns, Settles};
 ghost use Rattle.cb_templates.specs.Slots.{slot_named};
@@ -11,7 +11,7 @@ use crate::parts::{GivenSlot, GivenSlots, Parts};
 use crate::relations::Relations;
 use crate::slot::Slot;
 use crate::template::Template;
-use cb_facts::{Fact, Multifield, Name, Refused, Value, is_multifield, splice, splice_values};
+use cb_facts::{Fact, Multifield, Name, Refused, Value, is_multifield, splice};
 use cb_forms::{Fault, NoMemory};
 use std::alloc::Global;
 
@@ -34,7 +34,7 @@ pub fn build_fact(
 {
     match relations.template(&relation) {
         None => match parts {
-            Parts::Fields(values) => Ok(build_ordered(alloc, relation, values)?),
+            Parts::Fields(values) => Ok(build_ordered(alloc, relation, values.as_slice())?),
             Parts::Slots(_) => Err(Refused::Fault(Fault::FactDoesNotFit)),
         },
         Some(template) => match parts {
@@ -44,12 +44,11 @@ pub fn build_fact(
     }
 }
 
-fn build_ordered(alloc: Global, relation: Name, values: Vec<Value>) -> Result<Fact, NoMemory>
-    ensures { IfOk result
-        (λ fact. fact ≡ ordered_fact relation (map value_of_field (spliced values.items))) }
+fn build_ordered(alloc: Global, relation: Name, values: &[Value]) -> Result<Fact, NoMemory>
+    ensures { IfOk result (λ fact. fact ≡ ordered_fact relation (spliced values.now)) }
 {
-    let fields = splice_values(alloc, values)?;
-    Fact::ordered(alloc, relation, fields)
+    let fields = splice(alloc, values)?;
+    Fact::ordered(alloc, relation, Multifield::from_vec(fields)?)
 }
 
 fn build_listed(

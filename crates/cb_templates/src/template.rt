@@ -1,6 +1,7 @@
 //! A template: its slots.
 ghost use Rattle.std.specs.Prelude.{◌≡◌, ◌++◌, ◌∷◌, [], None, Some, MatchOption, OnOk, OnErr};
-ghost use Rattle.cb_templates.specs.Slots.{slot_named};
+ghost use Rattle.cb_templates.specs.Places.{place_in};
+ghost use Rattle.cb_templates.specs.Slots.{names, slot_named};
 
 use crate::places::Places;
 use crate::slot::Slot;
@@ -48,13 +49,20 @@ impl Template {
         self.slots.as_slice()
     }
 
+    /// The place of the slot with a name among the slots, if there is one. It is found in logarithmic time.
+    pub fn place(&self, name: &Name) -> Option<usize>
+        ensures { result ≡ place_in (names self.now) name.now }
+    {
+        self.places.find(name)
+    }
+
     /// The slot with a name, if there is one.
     #[tactic(auto, using(crate::proofs::PlaceLaws::slot_by_place))]
     pub fn find(&self, name: &Name) -> Option<&Slot>
         ensures { MatchOption result (slot_named self.now name.now ≡ None)
             (λ s. slot_named self.now name.now ≡ Some s.now) }
     {
-        let place = self.places.find(name)?;
+        let place = self.place(name)?;
         self.slots.get(place)
     }
 

@@ -1,6 +1,6 @@
 //! The fact list.
 use cb_forms::NoMemory;
-use cb_values::{Fact, FactList, Name, Value, fact_text, quoted_text};
+use cb_values::{Fact, FactList, Multifield, Name, Single, Value, fact_text, quoted_text};
 use std::alloc::Global;
 
 /// A call of a fact list. The number of a fact stands for `(item NUMBER)`.
@@ -109,7 +109,8 @@ const THREE: &str = "<Fact-4>(item 4)<Fact-7>(item 1)<Fact-9>(item 3)";
 
 fn item(alloc: Global, n: i64) -> Result<Fact, NoMemory> {
     let mut fields = Vec::new(alloc);
-    fields.push(Value::Int(n))?;
+    fields.push(Single::Int(n))?;
+    let fields = Multifield::from_vec(fields)?;
     Fact::ordered(alloc, Name::new(alloc, b"item")?, fields)
 }
 

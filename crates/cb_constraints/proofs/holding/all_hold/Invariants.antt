@@ -1,0 +1,10 @@
+use Rattle.std.proofs.Common.{◌≡◌, drop, map}
+use Rattle.std.specs.List.{list_all}
+use Rattle.cb_constraints.specs.Constraints.{check_of}
+use Rattle.cb_constraints.specs.Holding.{check_holds, tested_value}
+use Rattle.cb_constraints.proofs.holding.all_hold.Given as goal
+
+abbrev pub invariant-loop-check : goal.invariant-loop-check
+invariant-loop-check l =
+    list_all (check_holds (tested_value l.tested) l.env) (map check_of (drop l.check-index l.checks))
+    ≡ list_all (check_holds (tested_value l.tested) l.env) (map check_of l.checks)

@@ -1,0 +1,9 @@
+use Rattle.std.proofs.Common.{◌≡◌, drop, map}
+use Rattle.cb_constraints.specs.Constraints.{check_of}
+use Rattle.cb_constraints.specs.Holding.{one_holds, tested_value}
+use Rattle.cb_constraints.proofs.holding.one_holds.Given as goal
+
+abbrev pub invariant-loop-alternative : goal.invariant-loop-alternative
+invariant-loop-alternative l =
+    one_holds (map (λ cs. map check_of cs.items) (drop l.alternative-index l.alternatives)) (tested_value l.tested) l.env
+    ≡ one_holds (map (λ cs. map check_of cs.items) l.alternatives) (tested_value l.tested) l.env

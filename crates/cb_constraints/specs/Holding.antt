@@ -1,0 +1,76 @@
+-- When a constraint holds of a value, and what variables have then.
+use Rattle.std.specs.Prelude.{◌≡◌, ℕ, Bool, true, false, not, List, [], ◌∷◌, Option, Some, None, Result, Ok, Err, if◌then◌else◌}
+use Rattle.std.specs.List.{list_all, list_any}
+use Rattle.std.specs.Option.{option_and_then, option_map_or}
+use Rattle.cb_constraints.specs.Constraints.{Test, constant, variable, predicate, return_value, Check, Demand, nothing, each, either}
+use Rattle.cb_constraints.specs.declared.tested.Tested.{Tested}
+use Rattle.cb_constraints.specs.declared.tested.Tested.TheVariants as tested
+use Rattle.cb_eval.specs.Evaluation.{value_of}
+use Rattle.cb_exprs.specs.Bindings.{Bindings, value_at, with_variable}
+use Rattle.cb_facts.specs.Values.{value_of_field}
+use Rattle.cb_facts.specs.declared.value.Value.{Value}
+use Rattle.cb_forms.specs.declared.fault.Fault.{Fault}
+use Rattle.cb_functions.specs.Comparison.{same}
+use Rattle.cb_functions.specs.Logic.{is_true}
+
+-- the value that stands in the place of a constraint
+abbrev pub tested_value : Tested → Value
+tested_value (tested.Field f) = value_of_field f.now
+tested_value (tested.Whole v) = v.now
+
+-- the value of an expression, if it has one: an expression that faults has none
+abbrev pub value_if_any : Result Value Fault → Option Value
+value_if_any (Ok v) = Some v
+value_if_any (Err f) = None
+
+-- what is asked of the value holds, where variables have these values
+abbrev pub test_holds : Test → Value → Bindings → Bool
+test_holds (constant w) v env = same v w
+test_holds (variable x) v env = option_map_or (same v) (value_at x env.variables) false
+test_holds (predicate e) v env = option_map_or is_true (value_if_any (value_of e env)) false
+test_holds (return_value e) v env = option_map_or (same v) (value_if_any (value_of e env)) false
+
+-- the opposite, where `~` stands before it
+abbrev pub opposite_if : Bool → Bool → Bool
+opposite_if negated holds = if negated then not holds else holds
+
+abbrev pub check_holds : Value → Bindings → Check → Bool
+check_holds v env c = opposite_if c.negated (test_holds c.test v env)
+
+-- the bindings, if this holds
+abbrev pub provided : Bool → Bindings → Option Bindings
+provided true env = Some env
+provided false env = None
+
+-- a variable without a value takes this one, and one with a value has to have this one
+abbrev pub taken : List ℕ → Value → Bindings → Option Bindings
+taken x v env = option_map_or (λ w. provided (same v w) env) (value_at x env.variables) (Some (with_variable x v env))
+
+-- what the bindings are after a check among those joined by `&`, if it holds: a variable without `~` may take the value
+abbrev pub after_test : Bool → Test → Value → Bindings → Option Bindings
+after_test false (variable x) v env = taken x v env
+after_test negated t v env = provided (opposite_if negated (test_holds t v env)) env
+
+abbrev pub after_check : Check → Value → Bindings → Option Bindings
+after_check c v env = after_test c.negated c.test v env
+
+-- after all of them, from left to right
+abbrev pub after_checks : List Check → Value → Bindings → Option Bindings
+after_checks [] v env = Some env
+after_checks (c ∷ cs) v env = option_and_then (after_checks cs v) (after_check c v env)
+
+-- one of the alternatives holds: each of its checks does; here no variable takes a value
+abbrev pub one_holds : List (List Check) → Value → Bindings → Bool
+one_holds alternatives v env = list_any (list_all (check_holds v env)) alternatives
+
+-- what the bindings are after a constraint, if it holds of the value
+abbrev pub after_demand : Demand → Value → Bindings → Option Bindings
+after_demand nothing v env = Some env
+after_demand (each cs) v env = after_checks cs v env
+after_demand (either None alternatives) v env = provided (one_holds alternatives v env) env
+after_demand (either (Some x) alternatives) v env = option_and_then (λ grown. provided (one_holds alternatives v grown) grown) (taken x v env)
+
+-- a call returned whether a constraint holds, and where it does left these bindings
+abbrev pub Meets : Bool → Bindings → Option Bindings → Type 0
+Meets true env after = after ≡ Some env
+Meets false env after = after ≡ None

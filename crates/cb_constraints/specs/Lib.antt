@@ -1,0 +1,7 @@
+pub mod Codes
+pub mod Constraints
+pub mod Holding
+pub mod Meters
+pub mod PartValues
+pub mod PatternValues
+pub mod Rows

@@ -1,0 +1,193 @@
+//! Whether a constraint holds of a value.
+ghost use Rattle.std.specs.Prelude.{◌≡◌, IfOk, map};
+ghost use Rattle.std.specs.List.{list_all};
+ghost use Rattle.cb_constraints.specs.Constraints.{check_of, demand_of, test_of};
+ghost use Rattle.cb_constraints.specs.Holding.{Meets, after_check, after_checks, after_demand, check_holds, one_holds, taken, test_holds, tested_value, value_if_any};
+ghost use Rattle.cb_eval.specs.Evaluation.{value_of};
+ghost use Rattle.cb_exprs.specs.Terms.{term_of};
+
+use crate::constraint::{Check, Demand, Test};
+use crate::tested::Tested;
+use cb_eval::eval;
+use cb_exprs::{Env, Expr};
+use cb_facts::{Name, Refused, Value};
+use cb_forms::NoMemory;
+use cb_functions::{Constants, is_true};
+use std::alloc::Global;
+
+/// Whether a constraint holds of the value in its place, where variables have these values (`docs/LANGUAGE.md`, "Patterns").
+/// Where it holds, variables that had no value may have taken this one; where it doesn't, they may be any.
+///
+/// An expression that faults doesn't hold. Growth is refused as `NoMemory`, and then the values of variables may be any.
+pub fn meets(
+    alloc: Global,
+    constants: &Constants,
+    demand: &Demand,
+    tested: Tested<'_>,
+    env: &mut Env,
+) -> Result<bool, NoMemory>
+    ensures { IfOk result (λ holds. Meets holds env.new
+        (after_demand (demand_of demand.now) (tested_value tested.entry) env.old)) }
+{
+    match demand {
+        Demand::Nothing => Ok(true),
+        Demand::Each(checks) => meets_each(alloc, constants, checks.as_slice(), tested, env),
+        Demand::Either(None, alternatives) => {
+            one_holds(alloc, constants, alternatives.as_slice(), tested, env)
+        }
+        Demand::Either(Some(first), alternatives) => {
+            if !take(first, tested, env)? {
+                return Ok(false);
+            }
+            one_holds(alloc, constants, alternatives.as_slice(), tested, env)
+        }
+    }
+}
+
+/// Whether checks joined by `&` hold, from left to right.
+fn meets_each(
+    alloc: Global,
+    constants: &Constants,
+    checks: &[Check],
+    tested: Tested<'_>,
+    env: &mut Env,
+) -> Result<bool, NoMemory>
+    ensures { IfOk result (λ holds. Meets holds env.new
+        (after_checks (map check_of checks.now) (tested_value tested.entry) env.old)) }
+{
+    for check in checks {
+        if !meets_one(alloc, constants, check, tested, env)? {
+            return Ok(false);
+        }
+    }
+    Ok(true)
+}
+
+/// Whether one of them holds. A variable without `~` may take the value.
+fn meets_one(
+    alloc: Global,
+    constants: &Constants,
+    check: &Check,
+    tested: Tested<'_>,
+    env: &mut Env,
+) -> Result<bool, NoMemory>
+    ensures { IfOk result (λ holds. Meets holds env.new
+        (after_check (check_of check.now) (tested_value tested.entry) env.old)) }
+{
+    if !check.is_negated {
+        if let Test::Variable(name) = &check.test {
+            return take(name, tested, env);
+        }
+    }
+    check_holds(alloc, constants, check, tested, env)
+}
+
+/// Whether a variable takes the value, or has it already.
+fn take(name: &Name, tested: Tested<'_>, env: &mut Env) -> Result<bool, NoMemory>
+    ensures { IfOk result (λ holds. Meets holds env.new
+        (taken name.now (tested_value tested.entry) env.old)) }
+{
+    if let Some(value) = env.get(name) {
+        return Ok(tested.is(value));
+    }
+    env.set(name, tested.to_value()?)?;
+    Ok(true)
+}
+
+/// Whether one of the alternatives holds.
+fn one_holds(
+    alloc: Global,
+    constants: &Constants,
+    alternatives: &[Vec<Check>],
+    tested: Tested<'_>,
+    env: &Env,
+) -> Result<bool, NoMemory>
+    ensures { IfOk result (λ holds. holds ≡ one_holds
+        (map (λ cs. map check_of cs.items) alternatives.now) (tested_value tested.entry) env.now) }
+{
+    for alternative in alternatives {
+        if all_hold(alloc, constants, alternative.as_slice(), tested, env)? {
+            return Ok(true);
+        }
+    }
+    Ok(false)
+}
+
+/// Whether all checks of an alternative hold.
+fn all_hold(
+    alloc: Global,
+    constants: &Constants,
+    checks: &[Check],
+    tested: Tested<'_>,
+    env: &Env,
+) -> Result<bool, NoMemory>
+    ensures { IfOk result (λ holds. holds
+        ≡ list_all (check_holds (tested_value tested.entry) env.now) (map check_of checks.now)) }
+{
+    for check in checks {
+        if !check_holds(alloc, constants, check, tested, env)? {
+            return Ok(false);
+        }
+    }
+    Ok(true)
+}
+
+/// Whether a check holds as it is; no variable takes a value.
+fn check_holds(
+    alloc: Global,
+    constants: &Constants,
+    check: &Check,
+    tested: Tested<'_>,
+    env: &Env,
+) -> Result<bool, NoMemory>
+    ensures { IfOk result (λ holds. holds
+        ≡ check_holds (tested_value tested.entry) env.now (check_of check.now)) }
+{
+    let holds = test_holds(alloc, constants, &check.test, tested, env)?;
+    Ok(if check.is_negated { !holds } else { holds })
+}
+
+/// Whether a test holds.
+fn test_holds(
+    alloc: Global,
+    constants: &Constants,
+    test: &Test,
+    tested: Tested<'_>,
+    env: &Env,
+) -> Result<bool, NoMemory>
+    ensures { IfOk result (λ holds. holds
+        ≡ test_holds (test_of test.now) (tested_value tested.entry) env.now) }
+{
+    match test {
+        Test::Constant(value) => Ok(tested.is(value)),
+        Test::Variable(name) => Ok(match env.get(name) {
+            Some(value) => tested.is(value),
+            None => false,
+        }),
+        Test::Predicate(expr) => Ok(match value_if_any(alloc, constants, expr, env)? {
+            Some(value) => is_true(&value),
+            None => false,
+        }),
+        Test::ReturnValue(expr) => Ok(match value_if_any(alloc, constants, expr, env)? {
+            Some(value) => tested.is(&value),
+            None => false,
+        }),
+    }
+}
+
+/// The value of an expression, or `None` where it faults.
+fn value_if_any(
+    alloc: Global,
+    constants: &Constants,
+    expr: &Expr,
+    env: &Env,
+) -> Result<Option<Value>, NoMemory>
+    ensures { IfOk result (λ value. value
+        ≡ value_if_any (value_of (term_of expr.now) env.now)) }
+{
+    match eval(alloc, constants, expr, env) {
+        Ok(value) => Ok(Some(value)),
+        Err(Refused::Fault(_)) => Ok(None),
+        Err(Refused::NoMemory) => Err(NoMemory),
+    }
+}

@@ -1,0 +1,20 @@
+//! What patterns are: constraints, rows of them, patterns, and the meter that a pattern is opened with.
+//!
+//! `docs/ARCHITECTURE.md` says where the layer stands.
+#![tactic(auto)]
+
+mod constraint;
+mod holding;
+mod meter;
+mod parts;
+mod pattern;
+mod row;
+mod tested;
+
+pub use constraint::{Check, Constraint, Demand, Test};
+pub use holding::meets;
+pub use meter::Meter;
+pub use parts::{Parts, SlotRow};
+pub use pattern::Pattern;
+pub use row::Row;
+pub use tested::Tested;
