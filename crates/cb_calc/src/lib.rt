@@ -5,7 +5,10 @@
 #![tactic(auto)]
 
 pub use cb_eval::eval;
-pub use cb_expr_forms::{NameList, Scope, Side, bound_variables, read_expr, read_fact};
+pub use cb_expr_forms::{
+    NameList, Scope, Side, begins_with_list, bound_in_all, bound_variables, is_symbol, knows_all,
+    read_expr, read_fact,
+};
 pub use cb_exprs::{Channel, Env, Expr, FactExpr, FactShape, GlobalExpr};
 pub use cb_functions::{Constants, apply, decides, is_true};
 pub use cb_words::{Action, Arity, Command, Construct, Function, Head, read_head};

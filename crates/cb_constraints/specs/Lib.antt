@@ -1,6 +1,7 @@
 pub mod Codes
 pub mod Constraints
 pub mod Holding
+pub mod Laws
 pub mod Meters
 pub mod PartValues
 pub mod PatternValues

@@ -5,6 +5,7 @@
 
 mod constraint;
 mod holding;
+pub mod laws;
 mod meter;
 mod parts;
 mod pattern;

@@ -7,7 +7,7 @@ use Rattle.cb_expr_forms.specs.ExprFaults.{action_faults, all_faults, arguments_
 use Rattle.cb_expr_forms.specs.ExprForms.{assertions, call_expr, exprs_of, no_expr}
 use Rattle.cb_expr_forms.specs.FaultLists.{first_of, unless}
 use Rattle.cb_expr_forms.specs.Plans.{HasPlan, IsCall, IsCallFault, IsHeaded, IsHeadedFault, plan_expr}
-use Rattle.cb_expr_forms.specs.Scopes.{Scope, may_act}
+use Rattle.cb_expr_forms.specs.Scopes.{Scope, effect_fault, may_act}
 use Rattle.cb_expr_forms.specs.declared.action_form.ActionForm.{ActionForm}
 use Rattle.cb_expr_forms.specs.declared.call_form.CallForm.{CallForm}
 use Rattle.cb_expr_forms.specs.declared.call_form.CallForm.TheVariants as form
@@ -19,7 +19,6 @@ use Rattle.cb_forms.specs.Members.{head_and_rest}
 use Rattle.cb_forms.specs.Trees.{atom, Trees, tree}
 use Rattle.cb_forms.specs.declared.token.Token.TheVariants as token
 use Rattle.cb_forms.specs.declared.fault.Fault.{Fault}
-use Rattle.cb_forms.specs.declared.fault.Fault.TheVariants.{NotInProfile}
 use Rattle.cb_exprs.specs.Terms.{Term}
 use Rattle.cb_words.specs.Words.{head_of}
 use Rattle.cb_words.specs.declared.head.Action.{Action}
@@ -73,7 +72,7 @@ pub by_plan : (side : Side) (a : Action) (ts : Trees) (plan : ActionForm) → a 
 by_plan side a ts plan other may has = (
   λ t. expr_other a (exprs_of t ts) (assertions t ts) (plan_expr t plan) other (has.0 t),
   λ s is.
-      ap (λ b. unless b NotInProfile ++ action_faults s a ts (all_faults s ts) (facts_faults s ts)) (allowed s side may is)
+      ap (λ b. unless b (effect_fault s.side) ++ action_faults s a ts (all_faults s ts) (facts_faults s ts)) (allowed s side may is)
       ∙ (faults_other s a ts (all_faults s ts) (facts_faults s ts) other
       ∙ (ap (λ o. unless (is_some o) (arguments_fault a) ++ all_faults s ts) (has.0 s.templates) ∙ has.1 s)),
   has.2,
@@ -83,6 +82,6 @@ by_plan side a ts plan other may has = (
 pub by_no_plan : (side : Side) (a : Action) (ts : Trees) → a ≢ action.Assert → may_act side ≡ true → HasPlan a ts None → IsHeadedFault side (Some (head.Action a)) ts (arguments_fault a)
 by_no_plan side a ts other may has =
     λ s is.
-    ap (λ b. first_of (unless b NotInProfile ++ action_faults s a ts (all_faults s ts) (facts_faults s ts))) (allowed s side may is)
+    ap (λ b. first_of (unless b (effect_fault s.side) ++ action_faults s a ts (all_faults s ts) (facts_faults s ts))) (allowed s side may is)
     ∙ (ap first_of (faults_other s a ts (all_faults s ts) (facts_faults s ts) other)
     ∙ ap (λ o. first_of (unless (is_some o) (arguments_fault a) ++ all_faults s ts)) (has s.templates))

@@ -4,12 +4,13 @@ use Rattle.cb_expr_forms.specs.Bound.{bound_in}
 use Rattle.cb_expr_forms.specs.ExprFaults.{faults_of}
 use Rattle.cb_expr_forms.specs.ExprForms.{expr_of}
 use Rattle.cb_expr_forms.specs.FaultLists.{first_of}
-use Rattle.cb_expr_forms.specs.Scopes.{Scope}
-use Rattle.cb_expr_forms.specs.declared.scope.Side.TheVariants.{Top}
-use Rattle.cb_exprs.specs.Terms.{constant, variable, call, bind, choose, repeat, actions, no_terms, term}
+use Rattle.cb_expr_forms.specs.Scopes.{Scope, scope_on}
+use Rattle.cb_expr_forms.specs.Variables.{variables_of}
+use Rattle.cb_expr_forms.specs.declared.scope.Side.TheVariants.{Top, Left, Actions}
+use Rattle.cb_exprs.specs.Terms.{constant, variable, global, call, bind, choose, repeat, actions, no_terms, term}
 use Rattle.cb_facts.specs.declared.value.Value.TheVariants as value
 use Rattle.cb_forms.specs.Trees.{Tree, atom, branch, Trees, no_trees, tree}
-use Rattle.cb_forms.specs.declared.fault.Fault.TheVariants.{UnknownFunction, WrongArguments, MalformedForm, FactDoesNotFit, ValueNotAllowed, UnknownGlobal, NotInProfile}
+use Rattle.cb_forms.specs.declared.fault.Fault.TheVariants.{UnknownFunction, WrongArguments, MalformedForm, FactDoesNotFit, ValueNotAllowed, UnboundVariable, UnknownGlobal, NotOnLeftSide, NotInProfile}
 use Rattle.cb_forms.specs.declared.token.Token.TheVariants as token
 use Rattle.cb_templates.specs.Reserved.{is_reserved}
 use Rattle.cb_templates.specs.declared.slot_type.SlotType.TheVariants.{Integer}
@@ -145,3 +146,51 @@ slot_not_given = refl
 -- (if TRUE then (foo (bind ?q)) (bind 1 ?r))
 bound_anywhere : bound_in (list (word (codes "if") ∷ list (word (codes "foo") ∷ list (word (codes "bind") ∷ var (codes "q") ∷ []) ∷ []) ∷ list (word (codes "bind") ∷ int 1 ∷ var (codes "r") ∷ []) ∷ [])) ≡ codes "q" ∷ []
 bound_anywhere = refl
+
+-- on the left side of a rule: (+ ?x $?y), (print (bogus)), (bind), (+ (print)), (+ 1 (print) (bogus)), (+ ?*u* (bogus)), (reset)
+abbrev left : Scope
+left = scope_on Left [] [] (codes "g" ∷ []) []
+
+any_variable : faults_of left (list (word (codes "+") ∷ var (codes "x") ∷ atom (token.MultiVar (codes "y")) ∷ [])) ≡ []
+unfolding head_of
+any_variable = refl
+
+effect_first : first_of (faults_of left (list (word (codes "print") ∷ list (word (codes "bogus") ∷ []) ∷ []))) ≡ Some NotOnLeftSide
+unfolding head_of
+effect_first = refl
+
+effect_before_shape : first_of (faults_of left (list (word (codes "bind") ∷ []))) ≡ Some NotOnLeftSide
+unfolding head_of
+effect_before_shape = refl
+
+number_before_effect : first_of (faults_of left (list (word (codes "+") ∷ list (word (codes "print") ∷ []) ∷ []))) ≡ Some WrongArguments
+unfolding head_of
+number_before_effect = refl
+
+effect_inside : first_of (faults_of left (list (word (codes "+") ∷ int 1 ∷ list (word (codes "print") ∷ []) ∷ list (word (codes "bogus") ∷ []) ∷ []))) ≡ Some NotOnLeftSide
+unfolding head_of
+effect_inside = refl
+
+no_global : first_of (faults_of left (list (word (codes "+") ∷ atom (token.Global (codes "u")) ∷ list (word (codes "bogus") ∷ []) ∷ []))) ≡ Some NotOnLeftSide
+unfolding head_of
+no_global = refl
+
+command_on_left : first_of (faults_of left (list (word (codes "reset") ∷ []))) ≡ Some NotInProfile
+unfolding head_of
+command_on_left = refl
+
+-- in actions: (print ?v), (print ?x ?*g*), where ?v has a value at the top level and ?x is given
+abbrev acting : Scope
+acting = scope_on Actions (codes "v" ∷ []) (codes "x" ∷ []) (codes "g" ∷ []) []
+
+not_of_the_top : first_of (faults_of acting (list (word (codes "print") ∷ var (codes "v") ∷ []))) ≡ Some UnboundVariable
+unfolding head_of
+not_of_the_top = refl
+
+given_there : faults_of acting (list (word (codes "print") ∷ var (codes "x") ∷ atom (token.Global (codes "g")) ∷ [])) ≡ []
+unfolding head_of
+given_there = refl
+
+-- (bind ?x (+ ?y ?*g* ?x))
+in_order : variables_of (bind (codes "x") (call Add (term (variable (codes "y")) (term (global (codes "g")) (term (variable (codes "x")) no_terms))))) ≡ codes "x" ∷ codes "y" ∷ codes "x" ∷ []
+in_order = refl

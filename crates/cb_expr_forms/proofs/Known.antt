@@ -2,6 +2,7 @@
 use Rattle.std.proofs.Common.{◌≡◌, ◌∙◌, ◌||◌, ◌++◌, ℕ, suc, Bool, true, false, List, [], ◌∷◌, Option, Some, None, is_some, option_map, refl, sym, ap, ap₂, if◌then◌else◌}
 use Rattle.std.proofs.lemmas.List.Folds.{list_any-append}
 use Rattle.std.proofs.lemmas.Slice.Eq.{bytes_eq-Decides}
+use Rattle.std.specs.List.{list_any}
 use Rattle.std.specs.Str.{bytes_eq}
 use Rattle.cb_expr_forms.specs.Scopes.{is_known, names_of}
 use Rattle.cb_exprs.specs.Bindings.{Values, value_at}
@@ -43,3 +44,8 @@ known_left values names name h =
 pub known_right : (values : Values) (names : List (List ℕ)) (name : List ℕ) → is_some (value_at name values) ≡ false → is_known names name ≡ is_known (names_of values ++ names) name
 known_right values names name h =
     ap (λ t. t || is_known names name) (sym h ∙ known_values values name) ∙ sym (list_any-append (λ n. bytes_eq n name) (names_of values) names)
+
+-- whichever of two names is compared with the other
+pub turned : (names : List (List ℕ)) (n : List ℕ) → list_any (bytes_eq n) names ≡ is_known names n
+turned [] n = refl
+turned (g ∷ names) n = ap₂ (λ b c. b || c) (same_words n g) (turned names n)

@@ -8,4 +8,5 @@ pub mod Ifs
 pub mod Known
 pub mod PlanLaws
 pub mod RightLaws
+pub mod SideLaws
 pub mod SlotLaws

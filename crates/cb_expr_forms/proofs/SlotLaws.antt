@@ -5,7 +5,7 @@ use Rattle.std.proofs.lemmas.List.Elements.{All-cons, All-head, All-nil, All-tai
 use Rattle.std.proofs.lemmas.List.Sorted.{All-permutation, IsPermutation-map, list_any-IsPermutation}
 use Rattle.std.proofs.lemmas.Map.Keys.{IsDistinct-IsPermutation, IsDistinct-head, IsDistinct-push, IsDistinct-tail}
 use Rattle.std.specs.Prelude.{IsPermutation}
-use Rattle.std.specs.List.{All, AllByRecursion, IsDistinct, list_any}
+use Rattle.std.specs.List.{All, AllByRecursion, IsDistinct}
 use Rattle.std.specs.Str.{bytes_eq}
 use Rattle.cb_expr_forms.specs.ExprFaults.{are_filled, content_faults, fact_faults, slot_by, slot_faults, slots_faults, values_faults}
 use Rattle.cb_expr_forms.specs.ExprForms.{exprs_of, fact_of, fact_with, given_slot, slot_exprs, slot_name, slot_names}
@@ -13,7 +13,7 @@ use Rattle.cb_expr_forms.specs.FaultLists.{first_of, unless}
 use Rattle.cb_expr_forms.specs.Laws.{AreFaultless, AreRight, GiveSlots, GiveTheSame, NoListAfterEquals, fact_giving, followed_by, list_of}
 use Rattle.cb_expr_forms.specs.Scopes.{Scope, is_known}
 use Rattle.cb_expr_forms.proofs.Heads.{called, first_append, unslotted_faults}
-use Rattle.cb_expr_forms.proofs.Known.{same_words}
+use Rattle.cb_expr_forms.proofs.Known.{same_words, turned}
 use Rattle.cb_expr_forms.proofs.RightLaws.{both_none, holds_not, fields_right, holds, none_both, right_fields}
 use Rattle.cb_exprs.specs.Terms.{Term}
 use Rattle.cb_forms.specs.Members.{call_of}
@@ -77,10 +77,6 @@ apart [] n rest h = refl
 apart (g ∷ given) n rest h =
     ap (λ b. b || is_known given n) (within (λ y. bytes_eq g y ≡ false) given n rest (IsDistinct-head bytes_eq g (given ++ n ∷ rest) h))
     ∙ apart given n rest (IsDistinct-tail bytes_eq g (given ++ n ∷ rest) h)
-
-turned : (given : List (List ℕ)) (n : List ℕ) → list_any (bytes_eq n) given ≡ is_known given n
-turned [] n = refl
-turned (g ∷ given) n = ap₂ (λ b c. b || c) (same_words n g) (turned given n)
 
 one_more : (given : List (List ℕ)) (n : List ℕ) → IsDistinct bytes_eq given → is_known given n ≡ false → IsDistinct bytes_eq (given ++ n ∷ [])
 one_more given n distinct new = IsDistinct-push nat_list_eq_equiv given n distinct (turned given n ∙ new)

@@ -21,6 +21,7 @@ abbrev mutual
   bound_in (atom t) = []
   bound_in (branch ts) = bound_here ts ++ bound_in_all ts
 
+  -- in one of several forms
   pub bound_in_all : Trees → List (List ℕ)
   bound_in_all no_trees = []
   bound_in_all (tree t ts) = bound_in t ++ bound_in_all ts

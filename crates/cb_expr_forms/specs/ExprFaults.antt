@@ -6,12 +6,12 @@ use Rattle.std.specs.Str.{bytes_eq}
 use Rattle.cb_expr_forms.specs.Actions.{action_of}
 use Rattle.cb_expr_forms.specs.ExprForms.{expr_of, exprs_of, slot_name}
 use Rattle.cb_expr_forms.specs.FaultLists.{unless}
-use Rattle.cb_expr_forms.specs.Scopes.{Scope, may_act, is_known}
+use Rattle.cb_expr_forms.specs.Scopes.{Scope, effect_fault, is_known, may_act, may_name, may_use_globals}
 use Rattle.cb_exprs.specs.Terms.{Term, constant}
 use Rattle.cb_forms.specs.Members.{symbol_of}
 use Rattle.cb_forms.specs.Trees.{Tree, atom, branch, Trees, no_trees, tree}
 use Rattle.cb_forms.specs.declared.fault.Fault.{Fault}
-use Rattle.cb_forms.specs.declared.fault.Fault.TheVariants.{UnknownFunction, WrongArguments, MalformedForm, FactDoesNotFit, ValueNotAllowed, UnboundVariable, UnknownGlobal, NotInProfile}
+use Rattle.cb_forms.specs.declared.fault.Fault.TheVariants.{UnknownFunction, WrongArguments, MalformedForm, FactDoesNotFit, ValueNotAllowed, UnboundVariable, UnknownGlobal, NotOnLeftSide, NotInProfile}
 use Rattle.cb_forms.specs.declared.token.Token.{Token}
 use Rattle.cb_forms.specs.declared.token.Token.TheVariants as token
 use Rattle.cb_templates.specs.Reserved.{is_reserved}
@@ -24,14 +24,14 @@ use Rattle.cb_words.specs.declared.head.Action.TheVariants as action
 use Rattle.cb_words.specs.declared.head.Head.{Head}
 use Rattle.cb_words.specs.declared.head.Head.TheVariants as head
 
--- a variable and a global must be known; a wildcard and a connective are no expressions
+-- a variable and a global must be allowed and known; a wildcard and a connective are no expressions
 abbrev pub token_faults : Scope → Token → List Fault
 token_faults s (token.Symbol bytes) = []
 token_faults s (token.Str bytes) = []
 token_faults s (token.Int n) = []
-token_faults s (token.Var name) = unless (is_known s.variables name) UnboundVariable
-token_faults s (token.MultiVar name) = unless (is_known s.variables name) UnboundVariable
-token_faults s (token.Global name) = unless (is_known s.globals name) UnknownGlobal
+token_faults s (token.Var name) = unless (may_name s.side s.variables name) UnboundVariable
+token_faults s (token.MultiVar name) = unless (may_name s.side s.variables name) UnboundVariable
+token_faults s (token.Global name) = unless (may_use_globals s.side) NotOnLeftSide ++ unless (is_known s.globals name) UnknownGlobal
 token_faults s t = MalformedForm ∷ []
 
 -- how many there are
@@ -87,7 +87,7 @@ action_faults s a ts args facts = unless (is_some (action_of a (exprs_of s.templ
 abbrev pub call_faults : Scope → Option Head → Trees → List Fault → List Fault → List Fault
 call_faults s None ts args facts = UnknownFunction ∷ []
 call_faults s (Some (head.Function f)) ts args facts = unless (takes (arity_of f) (count ts)) WrongArguments ++ args
-call_faults s (Some (head.Action a)) ts args facts = unless (may_act s.side) NotInProfile ++ action_faults s a ts args facts
+call_faults s (Some (head.Action a)) ts args facts = unless (may_act s.side) (effect_fault s.side) ++ action_faults s a ts args facts
 call_faults s (Some h) ts args facts = NotInProfile ∷ []
 
 -- what is wrong with a fact after its relation, by the slots of its template, if it has one

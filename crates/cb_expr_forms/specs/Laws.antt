@@ -6,7 +6,7 @@ use Rattle.cb_expr_forms.specs.ExprFaults.{begins_with_list, faults_of, is_equal
 use Rattle.cb_expr_forms.specs.ExprForms.{slot_names}
 use Rattle.cb_expr_forms.specs.Scopes.{Scope}
 use Rattle.cb_exprs.specs.FactTerms.{FactTerm}
-use Rattle.cb_exprs.specs.Terms.{Term, terms}
+use Rattle.cb_exprs.specs.Terms.{Term, constant, variable, call, Terms, no_terms, term, terms}
 use Rattle.cb_forms.specs.Trees.{Tree, atom, branch, Trees, no_trees, tree}
 use Rattle.cb_forms.specs.declared.fault.Fault.{Fault}
 use Rattle.cb_forms.specs.declared.token.Token.TheVariants as token
@@ -52,3 +52,15 @@ pub record GiveTheSame (f g : FactTerm) : Type 0 where
   pub first_is : f ≡ fact_giving relation given
   pub second_is : g ≡ fact_giving relation others
   pub permuted : IsPermutation given others
+
+abbrev mutual
+  -- The expression is made of constants, variables and calls without an effect: it names no global.
+  pub IsPlain : Term → Type 0
+  IsPlain (constant v) = Unit {0}
+  IsPlain (variable x) = Unit {0}
+  IsPlain (call f ts) = ArePlain ts
+  IsPlain t = ⊥
+
+  pub ArePlain : Terms → Type 0
+  ArePlain no_terms = Unit {0}
+  ArePlain (term t ts) = IsPlain t × ArePlain ts

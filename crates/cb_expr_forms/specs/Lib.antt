@@ -7,3 +7,4 @@ pub mod Laws
 pub mod Plans
 pub mod Scopes
 pub mod Sizes
+pub mod Variables

@@ -1,13 +1,14 @@
 //! Calls with an effect as they are written.
-ghost use Rattle.std.specs.Prelude.{◌≡◌, ◌≤◌, ◌+◌, ◌++◌};
+ghost use Rattle.std.specs.Prelude.{◌≡◌, ◌≤◌, ◌+◌, ◌++◌, codes};
 ghost use Rattle.std.specs.List.{list_any};
 ghost use Rattle.cb_expr_forms.specs.Actions.{after_do, after_else, before_else, is_else};
-ghost use Rattle.cb_expr_forms.specs.ExprFaults.{all_faults, arguments_fault};
+ghost use Rattle.cb_expr_forms.specs.ExprFaults.{all_faults, arguments_fault, is_symbol};
 ghost use Rattle.cb_expr_forms.specs.ExprForms.{exprs_of};
 ghost use Rattle.cb_expr_forms.specs.Plans.{HasPlan};
 ghost use Rattle.cb_expr_forms.specs.Scopes.{Scope};
 ghost use Rattle.cb_expr_forms.specs.Sizes.{trees_size};
 ghost use Rattle.cb_forms.specs.Members.{members};
+ghost use Rattle.cb_forms.specs.Trees.{tree_of};
 ghost use Rattle.cb_templates.specs.Templates.{Templates};
 
 use crate::words::{is_symbol, named_channel};
@@ -116,7 +117,7 @@ fn split_else<'a>(actions: &'a [Form]) -> (&'a [Form], &'a [Form])
     let mut rest = actions;
     let mut count = 0;
     while let Some((first, following)) = rest.split_first() {
-        if is_symbol(first, b"else") {
+        if is_else(first) {
             return (&actions[..count], following);
         }
         count += 1;
@@ -129,11 +130,17 @@ fn has_else(actions: &[Form]) -> bool
     ensures { (t : Templates) → result ≡ list_any is_else (exprs_of t (members actions.now)) }
 {
     for form in actions {
-        if is_symbol(form, b"else") {
+        if is_else(form) {
             return true;
         }
     }
     false
+}
+
+fn is_else(form: &Form) -> bool
+    ensures { result ≡ is_symbol (codes "else") (tree_of form.now) }
+{
+    is_symbol(form, b"else")
 }
 
 fn split_while<'a>(args: &'a [Form]) -> Option<ActionForm<'a>>

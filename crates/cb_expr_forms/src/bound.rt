@@ -1,6 +1,6 @@
 //! The variables that a `bind` of a form names.
 ghost use Rattle.std.specs.Prelude.{◌≡◌, ◌++◌, IfOk, OnOk};
-ghost use Rattle.cb_expr_forms.specs.Bound.{bound_here, bound_in, first_variable};
+ghost use Rattle.cb_expr_forms.specs.Bound.{bound_here, bound_in, bound_in_all, first_variable};
 ghost use Rattle.cb_forms.specs.Members.{members};
 ghost use Rattle.cb_forms.specs.Trees.{tree_of};
 
@@ -15,6 +15,17 @@ pub fn bound_variables(names: &mut Names, form: &Form) -> Result<NameList, NoMem
 {
     let mut bound = NameList::new(names.alloc());
     add_bound(&mut bound, names, form)?;
+    Ok(bound)
+}
+
+/// Those of several forms, one after another. Growth is refused as `NoMemory`.
+pub fn bound_in_all(names: &mut Names, forms: &[Form]) -> Result<NameList, NoMemory>
+    ensures { IfOk result (λ bound. bound ≡ bound_in_all (members forms.now)) }
+{
+    let mut bound = NameList::new(names.alloc());
+    for form in forms {
+        add_bound(&mut bound, names, form)?;
+    }
     Ok(bound)
 }
 

@@ -56,7 +56,7 @@ fn split_acting<'a>(side: Side, action: Action, args: &'a [Form]) -> Result<Call
         (λ r. Tells r (IsHeadedFault side (Some (Head.Action action)) (members args.now))) }
 {
     if !side.may_act() {
-        return Err(Refused::Fault(Fault::NotInProfile));
+        return Err(Refused::Fault(side.effect_fault()));
     }
     match action {
         Action::Assert => split_assert(args),

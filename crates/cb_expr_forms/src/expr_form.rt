@@ -49,12 +49,12 @@ fn read_token(names: &mut Names, scope: &Scope<'_>, token: &Token) -> Result<Exp
     }
 }
 
-/// The name of a variable that is known.
+/// The name of a variable that may stand there.
 fn known_variable(names: &mut Names, scope: &Scope<'_>, name: &[u8]) -> Result<Name, Refused>
     ensures { Reads (λ n. n) result (token_faults scope.now (Token.Var name.now)) name.now }
 {
     let name = names.name(name)?;
-    if !scope.knows_variable(&name) {
+    if !scope.takes_variable(&name) {
         return Err(Refused::Fault(Fault::UnboundVariable));
     }
     Ok(name)
@@ -64,6 +64,9 @@ fn known_variable(names: &mut Names, scope: &Scope<'_>, name: &[u8]) -> Result<N
 fn known_global(names: &mut Names, scope: &Scope<'_>, name: &[u8]) -> Result<Name, Refused>
     ensures { Reads (λ n. n) result (token_faults scope.now (Token.Global name.now)) name.now }
 {
+    if !scope.side.may_use_globals() {
+        return Err(Refused::Fault(Fault::NotOnLeftSide));
+    }
     let name = names.name(name)?;
     if !scope.knows_global(&name) {
         return Err(Refused::Fault(Fault::UnknownGlobal));

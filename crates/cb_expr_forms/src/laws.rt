@@ -1,18 +1,22 @@
 //! Laws of expressions and facts as they are written, each the contract of a function that does nothing.
-ghost use Rattle.std.specs.Prelude.{◌≡◌, ◌↔◌, ℕ, List, [], None, Some, false, true, IsPermutation};
+ghost use Rattle.std.specs.Prelude.{◌≡◌, ◌↔◌, ℕ, List, [], Contains, None, Some, false, true, IsPermutation};
 ghost use Rattle.cb_expr_forms.specs.ExprFaults.{all_faults, are_filled, count, fact_faults, facts_faults, faults_of, slot_faults};
-ghost use Rattle.cb_expr_forms.specs.ExprForms.{fact_of, slot_names};
+ghost use Rattle.cb_expr_forms.specs.ExprForms.{expr_of, fact_of, slot_names};
 ghost use Rattle.cb_expr_forms.specs.FaultLists.{first_of};
-ghost use Rattle.cb_expr_forms.specs.Laws.{AreFaultless, AreRight, GiveSlots, GiveTheSame, NoListAfterEquals, followed_by, list_of};
-ghost use Rattle.cb_expr_forms.specs.Scopes.{Scope};
-ghost use Rattle.cb_forms.specs.Trees.{Tree, Trees, tree, trees_of};
+ghost use Rattle.cb_expr_forms.specs.Laws.{AreFaultless, AreRight, GiveSlots, GiveTheSame, IsPlain, NoListAfterEquals, followed_by, list_of};
+ghost use Rattle.cb_expr_forms.specs.Scopes.{Scope, scope_on};
+ghost use Rattle.cb_expr_forms.specs.declared.scope.Side.TheVariants.{Actions, Left};
+ghost use Rattle.cb_forms.specs.Trees.{Tree, Trees, atom, tree, trees_of};
 ghost use Rattle.cb_forms.specs.declared.fault.Fault.{Fault};
+ghost use Rattle.cb_forms.specs.declared.fault.Fault.TheVariants.{NotOnLeftSide};
+ghost use Rattle.cb_forms.specs.declared.token.Token.TheVariants as token;
 ghost use Rattle.cb_templates.specs.Reserved.{is_reserved};
 ghost use Rattle.cb_templates.specs.Slots.{SlotShape};
-ghost use Rattle.cb_templates.specs.Templates.{slots_of};
+ghost use Rattle.cb_templates.specs.Templates.{Templates, slots_of};
 ghost use Rattle.cb_words.specs.Arities.{arity_of, takes};
 ghost use Rattle.cb_words.specs.Words.{head_of};
 ghost use Rattle.cb_words.specs.declared.function.Function.{Function};
+ghost use Rattle.cb_words.specs.declared.head.Action.{Action};
 ghost use Rattle.cb_words.specs.declared.head.Head.TheVariants as head;
 
 /// Arguments have no fault exactly where each of them, by itself, has none.
@@ -81,4 +85,35 @@ pub fn slots_may_stand_in_any_order()
         → (fact_faults s (list_of relation (trees_of others)) ≡ [])
         × GiveTheSame (fact_of s.templates (list_of relation (trees_of forms)))
         (fact_of s.templates (list_of relation (trees_of others))) }
+{}
+
+/// On the left side of a rule no global may stand, known or not.
+pub fn a_left_side_has_no_global()
+    ensures { (s : Scope) (name : List ℕ) → s.side ≡ Left
+        → first_of (faults_of s (atom (token.Global name))) ≡ Some NotOnLeftSide }
+{}
+
+/// On the left side of a rule no call with an effect may stand, whatever its arguments are.
+pub fn a_left_side_has_no_effect()
+    ensures { (s : Scope) (name : List ℕ) (a : Action) (args : Trees)
+        → s.side ≡ Left → head_of name ≡ Some (head.Action a)
+        → first_of (faults_of s (list_of name args)) ≡ Some NotOnLeftSide }
+{}
+
+/// An expression without a fault on the left side of a rule is made of constants, variables and calls without an effect, at
+/// every depth.
+pub fn an_expression_of_a_left_side_is_plain()
+    ensures { (s : Scope) (t : Tree) → s.side ≡ Left → faults_of s t ≡ []
+        → IsPlain (expr_of s.templates t) }
+{}
+
+/// In the actions of a rule a variable, in either form, is known exactly where it is among those that are given there,
+/// whatever variables have a value at the top level.
+pub fn in_actions_the_given_variables_are_known()
+    ensures single { (valued given globals : List (List ℕ)) (templates : Templates) (name : List ℕ)
+        → (faults_of (scope_on Actions valued given globals templates) (atom (token.Var name)) ≡ [])
+        ↔ Contains given name }
+    ensures multi { (valued given globals : List (List ℕ)) (templates : Templates) (name : List ℕ)
+        → (faults_of (scope_on Actions valued given globals templates)
+        (atom (token.MultiVar name)) ≡ []) ↔ Contains given name }
 {}

@@ -11,9 +11,12 @@ pub mod laws;
 mod name_list;
 mod scope;
 mod slot_form;
+mod variables;
 mod words;
 
-pub use bound::bound_variables;
+pub use bound::{bound_in_all, bound_variables};
 pub use expr_form::{read_expr, read_fact};
 pub use name_list::NameList;
 pub use scope::{Scope, Side};
+pub use variables::knows_all;
+pub use words::{begins_with_list, is_symbol};

@@ -9,7 +9,7 @@ use cb_exprs::Channel;
 use cb_forms::Form;
 
 /// Whether a form is the symbol with these bytes.
-pub(crate) fn is_symbol(form: &Form, word: &[u8]) -> bool
+pub fn is_symbol(form: &Form, word: &[u8]) -> bool
     ensures { result ≡ is_symbol word.now (tree_of form.now) }
 {
     match form.symbol() {
@@ -19,7 +19,7 @@ pub(crate) fn is_symbol(form: &Form, word: &[u8]) -> bool
 }
 
 /// Whether the first of the forms is a list.
-pub(crate) fn begins_with_list(forms: &[Form]) -> bool
+pub fn begins_with_list(forms: &[Form]) -> bool
     ensures { result ≡ begins_with_list (members forms.now) }
 {
     match forms.first() {

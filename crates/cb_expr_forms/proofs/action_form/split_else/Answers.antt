@@ -6,29 +6,29 @@ use Rattle.cb_expr_forms.proofs.Elses.{HasNoElse, cut_after, cut_before, cut_fau
 use Rattle.cb_forms.specs.Members.{members}
 use Rattle.cb_expr_forms.proofs.action_form.split_else.Goals as goal
 
-pub returns-then-is_symbol-clause-before : goal.returns-then-is_symbol-clause-before
-returns-then-is_symbol-clause-before c =
+pub returns-then-is_else-clause-before : goal.returns-then-is_else-clause-before
+returns-then-is_else-clause-before c =
     let inv = c.loop-first.invariant in
     let e : c.args.actions.now ≡ inv.0 ++ c.in-Some.first.now ∷ c.in-Some.following.now = inv.1 ∙ ap (λ r. inv.0 ++ r) c.in-Some.ensures.cases.0 in
-    cut_before c.args.actions.now inv.0 c.in-Some.following.now c.in-Some.first.now c.loop-first.count e inv.2 inv.3 (sym c.is_symbol.ensures ∙ c.if-is_symbol.true)
+    cut_before c.args.actions.now inv.0 c.in-Some.following.now c.in-Some.first.now c.loop-first.count e inv.2 inv.3 (sym c.is_else.ensures ∙ c.if-is_else.true)
 
-pub returns-then-is_symbol-clause-after : goal.returns-then-is_symbol-clause-after
-returns-then-is_symbol-clause-after c =
+pub returns-then-is_else-clause-after : goal.returns-then-is_else-clause-after
+returns-then-is_else-clause-after c =
     let inv = c.loop-first.invariant in
     let e : c.args.actions.now ≡ inv.0 ++ c.in-Some.first.now ∷ c.in-Some.following.now = inv.1 ∙ ap (λ r. inv.0 ++ r) c.in-Some.ensures.cases.0 in
-    cut_after c.args.actions.now inv.0 c.in-Some.following.now c.in-Some.first.now c.loop-first.count e inv.2 inv.3 (sym c.is_symbol.ensures ∙ c.if-is_symbol.true)
+    cut_after c.args.actions.now inv.0 c.in-Some.following.now c.in-Some.first.now c.loop-first.count e inv.2 inv.3 (sym c.is_else.ensures ∙ c.if-is_else.true)
 
-pub returns-then-is_symbol-clause-faults : goal.returns-then-is_symbol-clause-faults
-returns-then-is_symbol-clause-faults c =
+pub returns-then-is_else-clause-faults : goal.returns-then-is_else-clause-faults
+returns-then-is_else-clause-faults c =
     let inv = c.loop-first.invariant in
     let e : c.args.actions.now ≡ inv.0 ++ c.in-Some.first.now ∷ c.in-Some.following.now = inv.1 ∙ ap (λ r. inv.0 ++ r) c.in-Some.ensures.cases.0 in
-    cut_faults c.args.actions.now inv.0 c.in-Some.following.now c.in-Some.first.now c.loop-first.count e inv.2 inv.3 (sym c.is_symbol.ensures ∙ c.if-is_symbol.true)
+    cut_faults c.args.actions.now inv.0 c.in-Some.following.now c.in-Some.first.now c.loop-first.count e inv.2 inv.3 (sym c.is_else.ensures ∙ c.if-is_else.true)
 
-pub returns-then-is_symbol-clause-sizes : goal.returns-then-is_symbol-clause-sizes
-returns-then-is_symbol-clause-sizes c =
+pub returns-then-is_else-clause-sizes : goal.returns-then-is_else-clause-sizes
+returns-then-is_else-clause-sizes c =
     let inv = c.loop-first.invariant in
     let e : c.args.actions.now ≡ inv.0 ++ c.in-Some.first.now ∷ c.in-Some.following.now = inv.1 ∙ ap (λ r. inv.0 ++ r) c.in-Some.ensures.cases.0 in
-    cut_sizes c.args.actions.now inv.0 c.in-Some.following.now c.in-Some.first.now c.loop-first.count e inv.2 inv.3 (sym c.is_symbol.ensures ∙ c.if-is_symbol.true)
+    cut_sizes c.args.actions.now inv.0 c.in-Some.following.now c.in-Some.first.now c.loop-first.count e inv.2 inv.3 (sym c.is_else.ensures ∙ c.if-is_else.true)
 
 pub loop-first-preserved : goal.loop-first-preserved
 loop-first-preserved c =
@@ -39,7 +39,7 @@ loop-first-preserved c =
       inv.0 ++ first ∷ [],
       e ∙ sym (append_assoc inv.0 (first ∷ []) c.in-Some.following.now),
       count,
-      no_else_more inv.0 first inv.3 (sym c.is_symbol.ensures ∙ c.if-is_symbol.false),
+      no_else_more inv.0 first inv.3 (sym c.is_else.ensures ∙ c.if-is_else.false),
     )
 
 pub returns-clause-before : goal.returns-clause-before

@@ -1,10 +1,11 @@
 use Rattle.std.proofs.Common.{◌≡◌, ◌<◌, ◌+◌, ◌*◌, ◌∙◌, ◌++◌, [], ℕ, List, Result, Err, Vec, Global, arith, ap, get_or, map, rules, subst, sym}
 use Rattle.std.specs.Option.{option_and_then}
-use Rattle.cb_expr_forms.specs.ExprFaults.{all_faults, slots_faults, value_faults, values_faults}
+use Rattle.cb_expr_forms.specs.ExprFaults.{all_faults, slots_faults, token_faults, value_faults, values_faults}
 use Rattle.cb_expr_forms.specs.ExprForms.{exprs_of, expr_of, slot_exprs, slot_names}
 use Rattle.cb_expr_forms.specs.FaultLists.{Reads, first_of}
-use Rattle.cb_expr_forms.specs.Plans.{IsSlotFault, filling_expr, filling_faults, if_expr, if_faults}
+use Rattle.cb_expr_forms.specs.Plans.{IsSlotFault, filling_expr, filling_faults, if_expr, if_faults, plan_expr, plan_faults}
 use Rattle.cb_expr_forms.specs.Sizes.{tree_size}
+use Rattle.cb_expr_forms.specs.declared.action_form.ActionForm.{ActionForm}
 use Rattle.cb_expr_forms.proofs.Faulty.{fails, fails_told, item_fits, next_slot}
 use Rattle.cb_expr_forms.proofs.Heads.{first_append}
 use Rattle.cb_exprs.specs.Terms.{Term, term_of}
@@ -13,6 +14,7 @@ use Rattle.cb_facts.specs.declared.name.Name.{Name}
 use Rattle.cb_facts.specs.declared.refused.Refused.{Refused}
 use Rattle.cb_forms.specs.Members.{members}
 use Rattle.cb_forms.specs.Trees.{tree_of}
+use Rattle.cb_forms.specs.declared.token.Token.TheVariants as token
 use Rattle.cb_expr_forms.proofs.expr_form.+reading.Goals as goal
 
 pub read_all-read_expr-requires : goal.read_all-read_expr-requires
@@ -87,3 +89,15 @@ read_values-returns-in_err-read_value t c =
     (λ f h.
     ap first_of (sym c.loop-first.invariant.0 ∙ ap (λ fs. values_faults s types (members fs)) c.in-Some.ensures.cases.0) ∙ first_append (value_faults s types first following) (values_faults s types following) f h)
     c.in_err-read_value.ensures)
+
+pub read_action-returns-in_err-name-in-Bind : goal.read_action-returns-in_err-name-in-Bind
+read_action-returns-in_err-name-in-Bind t c =
+    let s = c.args.scope.now in
+    let name = c.in-Bind.name.now in
+    let values = members c.in-Bind.values.now in
+    let fault = c.in_err-name-in-Bind.field-0.0 in
+    let r : c.from_residual-in_err-name-in-Bind.result ≡ Err fault = search rules in
+    subst (λ (it : Result Expr Refused). Reads term_of it (plan_faults s c.args.action) (plan_expr s.templates c.args.action)) (sym r)
+    (subst (λ (a : ActionForm). Reads term_of (Err fault) (plan_faults s a) (plan_expr s.templates a)) (sym c.in-Bind.is)
+    (fails (λ (n : List ℕ). n) name term_of _ fault (token_faults s (token.Var name)) (token_faults s (token.Var name) ++ all_faults s values)
+    (λ f h. first_append (token_faults s (token.Var name)) (all_faults s values) f h) c.in_err-name-in-Bind.ensures))

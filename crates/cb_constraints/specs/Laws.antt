@@ -1,0 +1,19 @@
+-- What the laws of constraints speak of.
+use Rattle.std.specs.Prelude.{Bool, true, false, List, [], ◌∷◌, Option, None, Some, ℕ}
+use Rattle.cb_constraints.specs.Constraints.{Test, variable, Check, Demand, each, either}
+
+-- a test without `~`
+abbrev pub plain : Test → Check
+plain t = record { negated = false; test = t }
+
+-- a test with `~`
+abbrev pub opposite : Test → Check
+opposite t = record { negated = true; test = t }
+
+-- a constraint of one check
+abbrev pub only : Check → Demand
+only c = each (c ∷ [])
+
+-- a constraint of alternatives
+abbrev pub one_of : List (List Check) → Demand
+one_of alternatives = either None alternatives
