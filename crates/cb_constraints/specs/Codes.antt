@@ -1,9 +1,9 @@
 -- How the logic stores constraints, rows of them, and patterns.
 use Rattle.std.specs.Prelude.{◌≡◌, ◌⊎◌, ℕ, Bool, List, Option, Some, None, refl}
 use Rattle.std.proofs.Common.{inl, inr}
-use Rattle.std.specs.Coded.{Coded, code_by, coded_bool, coded_list, coded_option, coded×, coded⊎}
+use Rattle.std.specs.Coded.{Coded, code_by, coded_bool, coded_ℕ, coded_list, coded_option, coded×, coded⊎}
 use Rattle.cb_constraints.specs.Constraints.{Test, constant, variable, predicate, return_value, Check, Demand, nothing, each, either, Constraint}
-use Rattle.cb_constraints.specs.PatternValues.{Parts, fields, slots, PatternValue}
+use Rattle.cb_constraints.specs.PatternValues.{Parts, fields, slots, PatternValue, SlotValue}
 use Rattle.cb_exprs.specs.Codes.{Piece, terms_code}
 use Rattle.cb_exprs.specs.Terms.{Term, actions, Terms, no_terms, term}
 use Rattle.cb_facts.specs.declared.value.Value.{Value}
@@ -55,7 +55,7 @@ demand_back (each cs) = refl
 demand_back (either first alternatives) = refl
 
 abbrev PartsCases : Type 0
-PartsCases = List Constraint ⊎ List (List ℕ × List Constraint)
+PartsCases = List Constraint ⊎ List SlotValue
 
 abbrev parts_cases : Parts → PartsCases
 parts_cases (fields row) = inl row
@@ -86,8 +86,12 @@ module _ (value : Coded Value) (name : Coded (List ℕ)) (piece : Coded Piece) w
   abbrev pub row_code : Coded (List Constraint)
   row_code = coded_list constraint_code
 
+  abbrev slot_code : Coded SlotValue
+  slot_code =
+      code_by (List ℕ × ℕ × List Constraint) (coded× name (coded× coded_ℕ row_code)) (λ s. (s.name, s.place, s.row)) (λ p. record { name = p.0; place = p.1; row = p.2 }) (λ _. refl)
+
   abbrev parts_code : Coded Parts
-  parts_code = code_by PartsCases (coded⊎ row_code (coded_list (coded× name row_code))) parts_cases parts_from parts_back
+  parts_code = code_by PartsCases (coded⊎ row_code (coded_list slot_code)) parts_cases parts_from parts_back
 
   abbrev pub pattern_code : Coded PatternValue
   pattern_code = code_by (List ℕ × Parts) (coded× name parts_code) (λ p. (p.relation, p.parts)) (λ p. record { relation = p.0; parts = p.1 }) (λ _. refl)

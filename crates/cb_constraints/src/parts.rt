@@ -7,7 +7,7 @@ use cb_facts::Name;
 pub struct SlotRow {
     /// The slot's name.
     pub name: Name,
-    /// Its place among the slots of the template. It only makes a look-up short: a wrong one changes no answer.
+    /// Its place among the slots of the template, from 0: there the fact's value for it stands.
     pub place: usize,
     /// The constraints for its fields.
     pub row: Row,
