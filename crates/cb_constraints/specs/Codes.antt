@@ -88,7 +88,12 @@ module _ (value : Coded Value) (name : Coded (List ℕ)) (piece : Coded Piece) w
 
   abbrev slot_code : Coded SlotValue
   slot_code =
-      code_by (List ℕ × ℕ × List Constraint) (coded× name (coded× coded_ℕ row_code)) (λ s. (s.name, s.place, s.row)) (λ p. record { name = p.0; place = p.1; row = p.2 }) (λ _. refl)
+      code_by
+      ((List ℕ × ℕ) × List Constraint)
+      (coded× (coded× name coded_ℕ) row_code)
+      (λ s. ((s.name, s.place), s.row))
+      (λ p. record { name = p.0.0; place = p.0.1; row = p.1 })
+      (λ _. refl)
 
   abbrev parts_code : Coded Parts
   parts_code = code_by PartsCases (coded⊎ row_code (coded_list slot_code)) parts_cases parts_from parts_back

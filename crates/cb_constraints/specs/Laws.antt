@@ -1,6 +1,6 @@
 -- What the laws of constraints speak of.
-use Rattle.std.specs.Prelude.{Bool, true, false, List, [], ◌∷◌, Option, None, Some, ℕ}
-use Rattle.cb_constraints.specs.Constraints.{Test, variable, Check, Demand, each, either}
+use Rattle.std.specs.Prelude.{true, false, List, [], ◌∷◌, None}
+use Rattle.cb_constraints.specs.Constraints.{Test, Check, Demand, each, either}
 
 -- a test without `~`
 abbrev pub plain : Test → Check
