@@ -1,0 +1,4 @@
+mod Examples
+pub mod MemberLaws
+pub mod RunLaws
+pub mod SlotLaws

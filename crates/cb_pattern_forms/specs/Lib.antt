@@ -1,0 +1,6 @@
+pub mod Members
+pub mod PatternFaults
+pub mod Patterns
+pub mod RowFaults
+pub mod Rows
+pub mod Splits

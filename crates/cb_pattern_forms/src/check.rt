@@ -1,0 +1,56 @@
+//! The checks of a constraint.
+ghost use Rattle.std.specs.Prelude.{◌≡◌};
+ghost use Rattle.cb_constraints.specs.Constraints.{check_of, test_of};
+ghost use Rattle.cb_expr_forms.specs.FaultLists.{Reads};
+ghost use Rattle.cb_pattern_forms.specs.RowFaults.{single_faults, written_faults};
+ghost use Rattle.cb_pattern_forms.specs.Rows.{check_in, single_test, test_in};
+ghost use Rattle.cb_pattern_forms.specs.Splits.{written_of};
+
+use crate::member::Written;
+use cb_constraints::{Check, Test};
+use cb_expr_forms::{Scope, read_expr};
+use cb_facts::{Names, Refused, Value};
+use cb_forms::{Fault, Token};
+
+/// The check that is written so, or its first fault.
+pub(crate) fn read_check(
+    names: &mut Names,
+    scope: &Scope<'_>,
+    is_negated: bool,
+    written: Written<'_>,
+) -> Result<Check, Refused>
+    ensures { Reads check_of result (written_faults scope.now (written_of written.entry))
+        (check_in scope.now.templates is_negated (written_of written.entry)) }
+{
+    let test = read_test(names, scope, written)?;
+    Ok(Check { is_negated, test })
+}
+
+fn read_test(names: &mut Names, scope: &Scope<'_>, written: Written<'_>) -> Result<Test, Refused>
+    ensures { Reads test_of result (written_faults scope.now (written_of written.entry))
+        (test_in scope.now.templates (written_of written.entry)) }
+{
+    match written {
+        Written::Single(token) => read_single(names, token),
+        Written::Predicate(list) => Ok(Test::Predicate(read_expr(names, scope, list)?)),
+        Written::ReturnValue(list) => Ok(Test::ReturnValue(read_expr(names, scope, list)?)),
+        Written::Stray => Err(Refused::Fault(Fault::FactDoesNotFit)),
+        Written::Missing => Err(Refused::Fault(Fault::MalformedForm)),
+    }
+}
+
+/// The test that an atom is.
+fn read_single(names: &mut Names, token: &Token) -> Result<Test, Refused>
+    ensures { Reads test_of result (single_faults token.now) (single_test token.now) }
+{
+    match token {
+        Token::Var(name) | Token::MultiVar(name) => {
+            Ok(Test::Variable(names.name(name.as_slice())?))
+        }
+        Token::Global(_) => Err(Refused::Fault(Fault::NotOnLeftSide)),
+        _ => match Value::constant(names, token)? {
+            Some(value) => Ok(Test::Constant(value)),
+            None => Err(Refused::Fault(Fault::MalformedForm)),
+        },
+    }
+}
