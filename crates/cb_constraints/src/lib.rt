@@ -17,5 +17,5 @@ pub use holding::meets;
 pub use meter::Meter;
 pub use parts::{Parts, SlotRow};
 pub use pattern::Pattern;
-pub use row::Row;
+pub use row::{Row, count_leading};
 pub use tested::Tested;

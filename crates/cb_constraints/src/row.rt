@@ -105,8 +105,8 @@ fn count_segments(constraints: &[Constraint]) -> usize
     segments
 }
 
-/// How many stand before the first that takes a segment.
-fn count_leading(constraints: &[Constraint]) -> usize
+/// How many constraints stand before the first that takes a segment.
+pub fn count_leading(constraints: &[Constraint]) -> usize
     ensures { result ≡ before_segments (map constraint_of constraints.now) }
 {
     let mut leading = 0;

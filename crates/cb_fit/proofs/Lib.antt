@@ -1,0 +1,9 @@
+mod Alone
+mod Givings
+mod Groups
+mod Numbers
+mod Places
+mod Rows
+mod InTurn
+mod Splits
+mod Takes

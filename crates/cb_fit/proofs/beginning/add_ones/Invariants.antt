@@ -1,0 +1,5 @@
+use Rattle.std.proofs.Common.{◌≡◌, ◌++◌, replicate, ℕ}
+use Rattle.cb_fit.proofs.beginning.add_ones.Given as goal
+
+abbrev pub invariant-loop : goal.invariant-loop
+invariant-loop l = l.cuts.items ≡ l.fn.cuts.items ++ replicate l.counter 1

@@ -1,0 +1,6 @@
+pub mod Bound
+pub mod FieldLists
+pub mod GivenValues
+pub mod Steps
+pub mod WayValues
+pub mod Ways

@@ -1,0 +1,70 @@
+-- What a search for ways keeps: how far each has got with a row.
+use Rattle.std.specs.Prelude.{◌+◌, ◌≤◌, ◌==◌, ℕ, All, Bool, true, false, List, [], ◌∷◌, ◌++◌, Option, Some, None, map, length, take, drop, flat_map, nat_le, option_map, option_to_list, replicate, if◌then◌else◌}
+use Rattle.std.specs.List.{list_all}
+use Rattle.std.specs.Option.{option_and_then}
+use Rattle.cb_constraints.specs.Constraints.{Constraint}
+use Rattle.cb_constraints.specs.Holding.{after_demand}
+use Rattle.cb_constraints.specs.Rows.{fields_wanted, segments_wanted}
+use Rattle.cb_exprs.specs.Bindings.{Bindings}
+use Rattle.cb_facts.specs.Values.{value_of_field}
+use Rattle.cb_facts.specs.declared.single.Single.{Single}
+use Rattle.cb_fit.specs.Ways.{Taken, after_cuts, after_segment, numbers, ways_of_row}
+use Rattle.cb_fit.specs.declared.beginning.Beginning as program
+
+-- the beginning of a way in a row: the lengths of the segments so far, in all rows, the fields of the row that are left, and
+-- what variables have
+pub record Begun : Type 0 where
+  pub cuts : List ℕ
+  pub left : List Single
+  pub env : Bindings
+
+-- the one that has got so far with these fields
+abbrev pub begun_of : List Single → program.Beginning → Begun
+begun_of fields b = record { cuts = b.cuts.items; left = drop b.at fields; env = b.env }
+
+-- the same between two rows
+abbrev pub taken_of : program.Beginning → Taken
+taken_of b = record { cuts = b.cuts.items; env = b.env }
+
+-- all that it becomes, with these constraints still to come
+abbrev pub endings : List Constraint → Begun → List Taken
+endings cs b = map (after_cuts b.cuts) (ways_of_row cs b.left b.env)
+
+abbrev pub endings_of_all : List Constraint → List Begun → List Taken
+endings_of_all cs bs = flat_map (endings cs) bs
+
+-- what variables have after constraints for one field took one each, from the first on
+abbrev pub after_ones : List Constraint → List Single → Bindings → Option Bindings
+after_ones [] fields env = Some env
+after_ones (c ∷ cs) [] env = None
+after_ones (c ∷ cs) (f ∷ fs) env = option_and_then (after_ones cs fs) (after_demand c.demand (value_of_field f) env)
+
+-- a constraint takes n fields, and then those for one field that follow it take one each
+abbrev pub with_group : Constraint → List Constraint → Begun → ℕ → List Begun
+with_group c ones b n =
+    option_to_list
+    (option_map
+    (λ grown.
+    record {
+      cuts = b.cuts ++ (n ∷ replicate (length ones) 1);
+      left = drop (length ones) (drop n b.left);
+      env = grown;
+    })
+    (option_and_then (after_ones ones (drop n b.left)) (after_segment c (take n b.left) b.env)))
+
+-- the lengths to try where so many fields are spare: all of them, unless no segment follows
+abbrev pub lengths_to_try : Bool → ℕ → List ℕ
+lengths_to_try true spare = spare ∷ []
+lengths_to_try false spare = numbers 0 spare ++ spare ∷ []
+
+-- all constraints are for one field
+abbrev pub are_ones : List Constraint → Bool
+are_ones cs = segments_wanted cs == 0
+
+-- a row can take so many fields: more than its constraints for one field only where one takes a segment
+abbrev pub takes_length : List Constraint → ℕ → Bool
+takes_length cs n = if are_ones cs then n == fields_wanted cs else nat_le (fields_wanted cs) n
+
+-- none of the beginnings has gone past the fields
+abbrev pub AreWithin : List Single → List program.Beginning → Type 0
+AreWithin fields bs = All (λ b. b.at ≤ length fields) bs

@@ -1,0 +1,6 @@
+-- Which way a `Way` of the program is.
+use Rattle.cb_fit.specs.Ways.{WayValue}
+use Rattle.cb_fit.specs.declared.way.Way as program
+
+abbrev pub way_of : program.Way → WayValue
+way_of w = record { cuts = w.cuts.items; bound = w.bound.items }

@@ -1,0 +1,114 @@
+//! Constraints that take fields.
+ghost use Rattle.std.specs.Prelude.{◌≡◌, ◌++◌, ◌+◌, ◌-◌, ◌≤◌, true, IfOk, IfSome, OnOk, drop, is_some, length, map, slice_range};
+ghost use Rattle.cb_constraints.specs.Constraints.{constraint_of};
+ghost use Rattle.cb_constraints.specs.Holding.{Meets};
+ghost use Rattle.cb_fit.specs.FieldLists.{fields_of};
+ghost use Rattle.cb_fit.specs.Steps.{AreWithin, after_ones, begun_of, with_group};
+ghost use Rattle.cb_fit.specs.Ways.{after_segment};
+
+use crate::beginning::{Beginning, with_lengths};
+use crate::fields::Fields;
+use cb_constraints::{Constraint, Demand, Tested, meets};
+use cb_exprs::Env;
+use cb_forms::NoMemory;
+use cb_functions::Constants;
+use std::alloc::Global;
+
+/// The fields of a row, and what constraints are looked at with.
+#[derive(Clone, Copy)]
+pub(crate) struct Look<'a> {
+    pub(crate) alloc: Global,
+    pub(crate) constants: &'a Constants,
+    pub(crate) fields: Fields<'a>,
+}
+
+impl Look<'_> {
+    /// Constraints for one field take one each, from a place on, if they hold. Returns the place after them.
+    pub(crate) fn take_ones(
+        self,
+        constraints: &[Constraint],
+        from: usize,
+        env: &mut Env,
+    ) -> Result<Option<usize>, NoMemory>
+        requires within { from ≤ length (fields_of self.fields) }
+        ensures place { IfOk result (λ end. IfSome end (λ at. at ≡ from + length constraints.now)) }
+        ensures within { IfOk result (λ end. IfSome end (λ at. at ≤ length (fields_of self.entry.fields))) }
+        ensures holds { IfOk result (λ end. Meets (is_some end) env.new (after_ones
+            (map constraint_of constraints.now) (drop from (fields_of self.entry.fields)) env.old)) }
+    {
+        let mut at = from;
+        for constraint in constraints {
+            let Some(tested) = self.fields.get(at) else {
+                return Ok(None);
+            };
+            if at >= self.fields.len() {
+                return Ok(None);
+            }
+            if !meets(self.alloc, self.constants, &constraint.demand, tested, env)? {
+                return Ok(None);
+            }
+            at += 1;
+        }
+        Ok(Some(at))
+    }
+
+    /// Whether a constraint takes the segment of the fields from a place up to another.
+    fn take_segment(
+        self,
+        constraint: &Constraint,
+        from: usize,
+        to: usize,
+        env: &mut Env,
+    ) -> Result<bool, NoMemory>
+        requires segment { (constraint_of constraint.now).segment ≡ true }
+        requires order { from ≤ to }
+        requires within { to ≤ length (fields_of self.fields) }
+        ensures { IfOk result (λ holds. Meets holds env.new (after_segment
+            (constraint_of constraint.now) (slice_range (fields_of self.entry.fields) from to)
+            env.old)) }
+    {
+        if let Demand::Nothing = &constraint.demand {
+            return Ok(true);
+        }
+        let segment = self.fields.segment(self.alloc, from, to)?;
+        meets(
+            self.alloc,
+            self.constants,
+            &constraint.demand,
+            Tested::Whole(&segment),
+            env,
+        )
+    }
+
+    /// Keeps a beginning after a constraint took the segment up to a place, and those for one field that follow it one
+    /// field each, if they hold.
+    pub(crate) fn add_group(
+        self,
+        constraint: &Constraint,
+        ones: &[Constraint],
+        begun: &Beginning,
+        to: usize,
+        kept: &mut Vec<Beginning>,
+    ) -> Result<(), NoMemory>
+        requires segment { (constraint_of constraint.now).segment ≡ true }
+        requires order { begun.now.at ≤ to }
+        requires within { to ≤ length (fields_of self.fields) }
+        ensures within { OnOk result (AreWithin (fields_of self.entry.fields) kept.old.items
+            → AreWithin (fields_of self.entry.fields) kept.new.items) }
+        ensures kept { OnOk result (map (begun_of (fields_of self.entry.fields)) kept.new.items
+            ≡ map (begun_of (fields_of self.entry.fields)) kept.old.items
+            ++ with_group (constraint_of constraint.now) (map constraint_of ones.now)
+            (begun_of (fields_of self.entry.fields) begun.now) (to - begun.now.at)) }
+    {
+        let mut env = begun.env.clone()?;
+        if !self.take_segment(constraint, begun.at, to, &mut env)? {
+            return Ok(());
+        }
+        let Some(at) = self.take_ones(ones, to, &mut env)? else {
+            return Ok(());
+        };
+        let cuts = with_lengths(&begun.cuts, (to - begun.at) as u64, ones.len())?;
+        kept.push(Beginning { cuts, at, env })?;
+        Ok(())
+    }
+}

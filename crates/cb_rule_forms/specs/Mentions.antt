@@ -1,0 +1,94 @@
+-- The variables of a left side: which have a value where, and what is wrong with those that have none.
+use Rattle.std.specs.Prelude.{◌++◌, ℕ, Bool, false, not, List, [], ◌∷◌, Option, Some, None, map, if◌then◌else◌}
+use Rattle.std.specs.List.{flat_map}
+use Rattle.cb_constraints.specs.Constraints.{Test, constant, variable, predicate, return_value, Check, Demand, nothing, each, either, Constraint}
+use Rattle.cb_constraints.specs.PatternValues.{Parts, fields, slots}
+use Rattle.cb_expr_forms.specs.FaultLists.{unless}
+use Rattle.cb_expr_forms.specs.Scopes.{is_known}
+use Rattle.cb_expr_forms.specs.Variables.{variables_of}
+use Rattle.cb_forms.specs.declared.fault.Fault.{Fault}
+use Rattle.cb_forms.specs.declared.fault.Fault.TheVariants.{MalformedForm, UnboundVariable}
+use Rattle.cb_rule_forms.specs.RuleValues.{Element, pattern}
+
+-- a variable is mentioned: it takes the address of a fact, it takes the value in its place if it has none, or it needs a value
+pub data Mention : Type 0 where
+  address : List ℕ → Mention
+  place : List ℕ → Mention
+  needed : List ℕ → Mention
+
+-- the variables of a test
+abbrev pub test_variables : Test → List (List ℕ)
+test_variables (constant v) = []
+test_variables (variable x) = x ∷ []
+test_variables (predicate t) = variables_of t
+test_variables (return_value t) = variables_of t
+
+-- a check that must hold: a variable without `~` may take the value in its place
+abbrev pub test_mentions : Bool → Test → List Mention
+test_mentions false (variable x) = place x ∷ []
+test_mentions negated t = map needed (test_variables t)
+
+abbrev pub check_mentions : Check → List Mention
+check_mentions c = test_mentions c.negated c.test
+
+-- the variables of checks joined by `&`
+abbrev pub checks_variables : List Check → List (List ℕ)
+checks_variables cs = flat_map (λ c. test_variables c.test) cs
+
+-- a variable that is set apart may take the value in its place
+abbrev pub apart_mentions : Option (List ℕ) → List Mention
+apart_mentions None = []
+apart_mentions (Some x) = place x ∷ []
+
+-- what a constraint mentions; what stands beside `|` needs its values
+abbrev pub demand_mentions : Demand → List Mention
+demand_mentions nothing = []
+demand_mentions (each cs) = flat_map check_mentions cs
+demand_mentions (either first alternatives) = apart_mentions first ++ map needed (flat_map checks_variables alternatives)
+
+-- a row of constraints
+abbrev pub row_mentions : List Constraint → List Mention
+row_mentions row = flat_map (λ c. demand_mentions c.demand) row
+
+-- what a pattern mentions, in the order in which it is written
+abbrev pub parts_mentions : Parts → List Mention
+parts_mentions (fields row) = row_mentions row
+parts_mentions (slots rows) = flat_map (λ slot. row_mentions slot.row) rows
+
+abbrev pub address_mentions : Option (List ℕ) → List Mention
+address_mentions None = []
+address_mentions (Some x) = address x ∷ []
+
+-- an element: its address comes first
+abbrev pub element_mentions : Element → List Mention
+element_mentions (pattern x p) = address_mentions x ++ parts_mentions p.parts
+
+-- the elements of a branch, from left to right
+abbrev pub branch_mentions : List Element → List Mention
+branch_mentions es = flat_map element_mentions es
+
+-- these names and this one
+abbrev pub with_name : List (List ℕ) → List ℕ → List (List ℕ)
+with_name known x = if is_known known x then known else known ++ x ∷ []
+
+-- the variables that have a value after a mention, by those that had one
+abbrev pub after_mention : List (List ℕ) → Mention → List (List ℕ)
+after_mention known (address x) = with_name known x
+after_mention known (place x) = with_name known x
+after_mention known (needed x) = known
+
+-- a variable that has a value takes no address; one that needs a value must have one
+abbrev pub mention_fault : List (List ℕ) → Mention → List Fault
+mention_fault known (address x) = unless (not (is_known known x)) MalformedForm
+mention_fault known (place x) = []
+mention_fault known (needed x) = unless (is_known known x) UnboundVariable
+
+-- what is wrong with mentions, one after another
+abbrev pub mention_faults : List (List ℕ) → List Mention → List Fault
+mention_faults known [] = []
+mention_faults known (m ∷ ms) = mention_fault known m ++ mention_faults (after_mention known m) ms
+
+-- the variables that have a value after them
+abbrev pub known_after : List (List ℕ) → List Mention → List (List ℕ)
+known_after known [] = known
+known_after known (m ∷ ms) = known_after (after_mention known m) ms

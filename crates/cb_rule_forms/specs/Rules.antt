@@ -1,0 +1,64 @@
+-- Rules as they are written: which one forms are, and what is wrong with them, in the order in which it is looked for.
+use Rattle.std.specs.Prelude.{◌++◌, ℕ, pos, List, [], ◌∷◌, Option, Some, None}
+use Rattle.cb_expr_forms.specs.Bound.{bound_in_all}
+use Rattle.cb_expr_forms.specs.ExprFaults.{all_faults}
+use Rattle.cb_expr_forms.specs.ExprForms.{exprs_of}
+use Rattle.cb_expr_forms.specs.Scopes.{Scope, names_of}
+use Rattle.cb_expr_forms.specs.declared.scope.Side.TheVariants as side
+use Rattle.cb_exprs.specs.Bindings.{Bindings}
+use Rattle.cb_forms.specs.Trees.{Trees}
+use Rattle.cb_forms.specs.declared.fault.Fault.{Fault}
+use Rattle.cb_forms.specs.declared.fault.Fault.TheVariants.{MalformedForm}
+use Rattle.cb_rule_forms.specs.Declarations.{declared_faults, salience_of}
+use Rattle.cb_rule_forms.specs.Elements.{elements_faults, elements_of, written_in}
+use Rattle.cb_rule_forms.specs.Mentions.{branch_mentions, known_after, mention_faults}
+use Rattle.cb_rule_forms.specs.RuleValues.{Element, RuleValue}
+use Rattle.cb_rule_forms.specs.Sections.{Sections, sections_of}
+use Rattle.cb_templates.specs.Templates.{Templates}
+
+-- an expression of a left side may name any variable; whether it has a value is told by the mentions
+abbrev pub left_scope : Templates → Bindings → Scope
+left_scope templates env = record { side = side.Left; variables = []; globals = names_of env.globals; templates = templates }
+
+-- an action may name the variables that the left side binds, and those that a `bind` of the actions names
+abbrev pub action_scope : Templates → Bindings → List (List ℕ) → Trees → Scope
+action_scope templates env known ts =
+    record { side = side.Actions; variables = known ++ bound_in_all ts; globals = names_of env.globals; templates = templates }
+
+-- the one branch of these elements
+abbrev pub branch_of : Templates → Trees → List Element
+branch_of templates ts = elements_of templates (written_in ts)
+
+-- the variables that have a value after a left side
+abbrev pub known_in : List Element → List (List ℕ)
+known_in branch = known_after [] (branch_mentions branch)
+
+-- what is wrong with the variables of a branch, and then with the actions
+abbrev pub branch_faults : Templates → Bindings → List Element → Trees → List Fault
+branch_faults templates env branch actions =
+    mention_faults [] (branch_mentions branch) ++ all_faults (action_scope templates env (known_in branch) actions) actions
+
+-- what is wrong with a rule that has its sections
+abbrev pub sections_faults : Templates → Bindings → Option Sections → List Fault
+sections_faults templates env None = MalformedForm ∷ []
+sections_faults templates env (Some s) =
+    declared_faults templates env s.declared
+    ++ (elements_faults (left_scope templates env) (written_in s.elements) ++ branch_faults templates env (branch_of templates s.elements) s.actions)
+
+-- the rule of these sections
+abbrev pub sections_rule : Templates → Bindings → Option Sections → RuleValue
+sections_rule templates env None = record { name = []; salience = pos 0; branches = []; actions = [] }
+sections_rule templates env (Some s) = record {
+  name = s.name;
+  salience = salience_of templates env s.declared;
+  branches = branch_of templates s.elements ∷ [];
+  actions = exprs_of templates s.actions;
+}
+
+-- what is wrong with a rule, by what follows the word `defrule`
+abbrev pub rule_faults : Templates → Bindings → Trees → List Fault
+rule_faults templates env ts = sections_faults templates env (sections_of ts)
+
+-- the rule that forms are; where they have a fault, any
+abbrev pub rule_of : Templates → Bindings → Trees → RuleValue
+rule_of templates env ts = sections_rule templates env (sections_of ts)

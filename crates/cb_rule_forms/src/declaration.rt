@@ -1,0 +1,124 @@
+//! The salience that a rule declares.
+ghost use Rattle.std.specs.Prelude.{◌≡◌, None, Ok, Some, MatchOption, is_some, pos};
+ghost use Rattle.std.specs.Option.{option_and_then, unwrap_or};
+ghost use Rattle.cb_expr_forms.specs.FaultLists.{Reads, unless};
+ghost use Rattle.cb_forms.specs.Members.{call_of, members};
+ghost use Rattle.cb_forms.specs.declared.fault.Fault.TheVariants.{BadSalience};
+ghost use Rattle.cb_forms.specs.Trees.{tree_of};
+ghost use Rattle.cb_rule_forms.specs.Declarations.{declaration_faults, has_other, is_other, only_of, salience_by, salience_faults, salience_form, salience_in};
+
+use crate::sections::members_after;
+use cb_eval::eval;
+use cb_expr_forms::{NameList, Scope, Side, read_expr};
+use cb_exprs::Env;
+use cb_facts::{Names, Refused, Value};
+use cb_forms::{Fault, Form};
+use cb_functions::Constants;
+use cb_templates::Relations;
+
+// The salience of a rule is from -10000 to 10000.
+const GREATEST_SALIENCE: i64 = 10_000;
+
+const LEAST_SALIENCE: i64 = -10_000;
+
+/// The salience that the members of a declaration give, or their first fault.
+pub(crate) fn read_declaration(
+    names: &mut Names,
+    constants: &Constants,
+    relations: &Relations,
+    env: &Env,
+    forms: &[Form],
+) -> Result<i64, Refused>
+    ensures { Reads (λ n. n) result (declaration_faults relations.now env.now (members forms.now))
+        (unwrap_or (option_and_then (salience_by relations.now env.now)
+        (salience_form (members forms.now))) (pos 0)) }
+{
+    if has_other(forms) {
+        return Err(Refused::Fault(Fault::NotInProfile));
+    }
+    match find_salience(forms) {
+        Some(form) => read_salience(names, constants, relations, env, form),
+        None => Err(Refused::Fault(Fault::MalformedForm)),
+    }
+}
+
+/// Whether one of the members declares something other than the salience.
+fn has_other(forms: &[Form]) -> bool
+    ensures { result ≡ has_other (members forms.now) }
+{
+    for form in forms {
+        if is_other(form) {
+            return true;
+        }
+    }
+    false
+}
+
+/// Whether a form is a list that begins with a word other than `salience`.
+fn is_other(form: &Form) -> bool
+    ensures { result ≡ is_other (call_of (tree_of form.now)) }
+{
+    match form.call() {
+        Some((word, _)) => word != b"salience".as_slice(),
+        None => false,
+    }
+}
+
+/// The expression, where the declaration is `(salience expression)` alone.
+fn find_salience(forms: &[Form]) -> Option<&Form>
+    ensures { MatchOption result (salience_form (members forms.now) ≡ None)
+        (λ form. salience_form (members forms.now) ≡ Some (tree_of form.now)) }
+{
+    only_of(members_after(only_of(forms)?, b"salience")?)
+}
+
+/// The one form, where there is one.
+fn only_of(forms: &[Form]) -> Option<&Form>
+    ensures { MatchOption result (only_of (members forms.now) ≡ None)
+        (λ form. only_of (members forms.now) ≡ Some (tree_of form.now)) }
+{
+    let (form, following) = forms.split_first()?;
+    match following.split_first() {
+        None => Some(form),
+        Some(_) => None,
+    }
+}
+
+/// The salience that an expression has, or its first fault.
+fn read_salience(
+    names: &mut Names,
+    constants: &Constants,
+    relations: &Relations,
+    env: &Env,
+    form: &Form,
+) -> Result<i64, Refused>
+    ensures { Reads (λ n. n) result
+        (salience_faults relations.now env.now (Some (tree_of form.now)))
+        (unwrap_or (salience_by relations.now env.now (tree_of form.now)) (pos 0)) }
+{
+    let none = NameList::new(names.alloc());
+    let scope = Scope {
+        side: Side::Plain,
+        env,
+        bound: &none,
+        given: &none,
+        relations,
+    };
+    let expr = read_expr(names, &scope, form)?;
+    match eval(names.alloc(), constants, &expr, env) {
+        Ok(value) => check_salience(value),
+        Err(Refused::NoMemory) => Err(Refused::NoMemory),
+        Err(Refused::Fault(_)) => Err(Refused::Fault(Fault::BadSalience)),
+    }
+}
+
+/// The salience that a value is, or the fault where it is none.
+fn check_salience(value: Value) -> Result<i64, Refused>
+    ensures { Reads (λ n. n) result (unless (is_some (salience_in (Ok value))) BadSalience)
+        (unwrap_or (salience_in (Ok value)) (pos 0)) }
+{
+    match value {
+        Value::Int(number) if LEAST_SALIENCE <= number && number <= GREATEST_SALIENCE => Ok(number),
+        _ => Err(Refused::Fault(Fault::BadSalience)),
+    }
+}

@@ -1,0 +1,13 @@
+//! Rules as they are written: which one forms are, or the first fault.
+//!
+//! `docs/ARCHITECTURE.md` says where the layer stands.
+#![tactic(auto)]
+
+mod actions;
+mod declaration;
+mod element;
+mod mentions;
+mod rule;
+mod sections;
+
+pub use rule::{Ce, Rule};

@@ -1,0 +1,152 @@
+//! Rules.
+ghost use Rattle.std.specs.Prelude.{◌≡◌, IfOk, Some, map, option_map};
+ghost use Rattle.cb_expr_forms.specs.FaultLists.{Reads};
+ghost use Rattle.cb_forms.specs.Members.{members};
+ghost use Rattle.cb_rule_forms.specs.Declarations.{declared_faults, salience_of};
+ghost use Rattle.cb_rule_forms.specs.ElementForms.{form_value};
+ghost use Rattle.cb_rule_forms.specs.Elements.{elements_faults, elements_of, written_in};
+ghost use Rattle.cb_rule_forms.specs.RuleValues.{element_value, rule_value};
+ghost use Rattle.cb_rule_forms.specs.Rules.{left_scope, rule_faults, rule_of, sections_faults, sections_rule};
+ghost use Rattle.cb_rule_forms.specs.Sections.{sections_seen};
+
+use crate::actions::read_actions;
+use crate::declaration::read_declaration;
+use crate::element::{ElementForm, read_elements};
+use crate::mentions::know_branch;
+use crate::sections::{Sections, split_sections};
+use cb_constraints::Pattern;
+use cb_expr_forms::{NameList, Scope, Side};
+use cb_exprs::{Env, Expr};
+use cb_facts::{Name, Names, Refused};
+use cb_forms::{Fault, Form, NoMemory};
+use cb_functions::Constants;
+use cb_templates::Relations;
+
+/// A condition element of a rule (`docs/LANGUAGE.md`, "Rules").
+#[derive(Drop)]
+pub enum Ce<T> {
+    /// A pattern, with the variable that takes the address of its fact.
+    Pattern {
+        /// The variable.
+        address: Option<Name>,
+        /// The pattern.
+        pattern: Pattern<T>,
+    },
+}
+
+/// A rule (`docs/LANGUAGE.md`, "Rules").
+///
+/// `T` is a mark of the caller's: its patterns can be tested with a meter of the same type alone.
+#[derive(Drop)]
+pub struct Rule<T> {
+    /// Its name.
+    pub name: Name,
+    /// Its salience, from -10000 to 10000.
+    pub salience: i64,
+    /// What each way through its `or` elements asks, element by element; without them there is one.
+    pub branches: Vec<Vec<Ce<T>>>,
+    /// Its actions.
+    pub actions: Vec<Expr>,
+}
+
+impl<T> Rule<T> {
+    /// The rule that the forms after the word `defrule` are, or their first fault (`docs/LANGUAGE.md`, "Rules"). The globals
+    /// of `env` may be named by the salience and the actions. Growth is refused as `NoMemory`.
+    pub fn read(
+        names: &mut Names,
+        constants: &Constants,
+        relations: &Relations,
+        env: &Env,
+        forms: &[Form],
+    ) -> Result<Rule<T>, Refused>
+        ensures { Reads rule_value result (rule_faults relations.now env.now (members forms.now))
+            (rule_of relations.now env.now (members forms.now)) }
+    {
+        match split_sections(forms) {
+            Some(sections) => read_sections(names, constants, relations, env, sections),
+            None => Err(Refused::Fault(Fault::MalformedForm)),
+        }
+    }
+}
+
+/// The rule of these sections, or their first fault.
+fn read_sections<T>(
+    names: &mut Names,
+    constants: &Constants,
+    relations: &Relations,
+    env: &Env,
+    sections: Sections<'_>,
+) -> Result<Rule<T>, Refused>
+    ensures { Reads rule_value result
+        (sections_faults relations.now env.now (Some (sections_seen sections.entry)))
+        (sections_rule relations.now env.now (Some (sections_seen sections.entry))) }
+{
+    let salience = read_salience(names, constants, relations, env, sections.declared)?;
+    let elements = read_left_side(names, relations, env, sections.elements)?;
+    let mut known = NameList::new(names.alloc());
+    know_branch(&mut known, elements.as_slice())?;
+    let actions = read_actions(names, relations, env, known, sections.actions)?;
+    let name = names.name(sections.name)?;
+    let mut branches = Vec::new(names.alloc());
+    branches.push(close_patterns(names, elements)?)?;
+    Ok(Rule {
+        name,
+        salience,
+        branches,
+        actions,
+    })
+}
+
+/// The salience of a rule: 0, unless it declares another; or the first fault of its declaration.
+fn read_salience(
+    names: &mut Names,
+    constants: &Constants,
+    relations: &Relations,
+    env: &Env,
+    declared: Option<&[Form]>,
+) -> Result<i64, Refused>
+    ensures { Reads (λ n. n) result
+        (declared_faults relations.now env.now (option_map (λ fs. members fs.now) declared.entry))
+        (salience_of relations.now env.now (option_map (λ fs. members fs.now) declared.entry)) }
+{
+    match declared {
+        Some(forms) => read_declaration(names, constants, relations, env, forms),
+        None => Ok(0),
+    }
+}
+
+/// The elements of a left side, or their first fault.
+fn read_left_side(
+    names: &mut Names,
+    relations: &Relations,
+    env: &Env,
+    forms: &[Form],
+) -> Result<Vec<ElementForm>, Refused>
+    ensures { Reads (λ es. map form_value es.items) result
+        (elements_faults (left_scope relations.now env.now) (written_in (members forms.now)))
+        (elements_of relations.now (written_in (members forms.now))) }
+{
+    let none = NameList::new(names.alloc());
+    let scope = Scope {
+        side: Side::Left,
+        env,
+        bound: &none,
+        given: &none,
+        relations,
+    };
+    read_elements(names, &scope, forms)
+}
+
+/// The elements with their patterns closed.
+fn close_patterns<T>(names: &Names, elements: Vec<ElementForm>) -> Result<Vec<Ce<T>>, NoMemory>
+    ensures { IfOk result (λ es. map element_value es.items ≡ map form_value elements.items) }
+{
+    let mut closed = Vec::new(names.alloc());
+    for element in elements {
+        closed.push(Ce::Pattern {
+            address: element.address,
+            pattern: Pattern::new(element.relation, element.parts),
+        })?;
+    }
+    Ok(closed)
+}
