@@ -32,7 +32,8 @@ impl Look<'_> {
     ) -> Result<Option<usize>, NoMemory>
         requires within { from ≤ length (fields_of self.fields) }
         ensures place { IfOk result (λ end. IfSome end (λ at. at ≡ from + length constraints.now)) }
-        ensures within { IfOk result (λ end. IfSome end (λ at. at ≤ length (fields_of self.entry.fields))) }
+        ensures within { IfOk result (λ end. IfSome end (λ at.
+            at ≤ length (fields_of self.entry.fields))) }
         ensures holds { IfOk result (λ end. Meets (is_some end) env.new (after_ones
             (map constraint_of constraints.now) (drop from (fields_of self.entry.fields)) env.old)) }
     {
