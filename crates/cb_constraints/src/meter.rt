@@ -7,6 +7,7 @@ use std::marker::Model;
 /// How often patterns were tested. Who is to test no pattern has no value of the type `T` to make a meter of.
 ///
 /// It has no copy. Contracts see the count.
+#[derive(Drop)]
 pub struct Meter<T> {
     mark: T,
     probes: u64,
