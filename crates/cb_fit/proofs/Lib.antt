@@ -1,9 +1,16 @@
+mod AllGiven
 mod Alone
+mod CutsFix
+mod CutsInOrder
 mod Givings
 mod Groups
+mod InTurn
+mod Listed
 mod Numbers
 mod Places
+mod Related
 mod Rows
-mod InTurn
+mod Segments
 mod Splits
 mod Takes
+mod WithoutVariables

@@ -92,6 +92,10 @@ pub record WayValue : Type 0 where
 abbrev pub way_with : Parts → Bindings → Taken → WayValue
 way_with parts before t = record { cuts = t.cuts; bound = newly_bound parts before t.env }
 
+-- the way with these cuts, where variables had these values before and after
+abbrev pub taken_way : PatternValue → Bindings → List ℕ → Bindings → WayValue
+taken_way p before cuts after = record { cuts = cuts; bound = newly_bound p.parts before after }
+
 -- all ways in which the pattern fits the fact, where variables have these values
 abbrev pub ways : PatternValue → FactValue → Bindings → List WayValue
 ways p f env =

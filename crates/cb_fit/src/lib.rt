@@ -7,6 +7,7 @@ mod beginning;
 mod fields;
 mod fitting;
 mod given;
+pub mod laws;
 mod look;
 mod row;
 mod slots;

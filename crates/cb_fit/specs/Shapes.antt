@@ -1,0 +1,44 @@
+-- What a pattern asks by its constants and lengths alone.
+use Rattle.std.specs.Prelude.{ℕ, Bool, true, false, List, None, filter, map}
+use Rattle.cb_constraints.specs.Constraints.{Test, constant, variable, predicate, return_value, Check, Demand, nothing, each, either, Constraint}
+use Rattle.cb_constraints.specs.PatternValues.{Parts, fields, slots, PatternValue, SlotValue}
+use Rattle.cb_exprs.specs.Bindings.{no_bindings}
+use Rattle.cb_exprs.specs.Bindings.{Bindings}
+use Rattle.cb_facts.specs.Facts.{FactValue}
+use Rattle.cb_fit.specs.Related.{Fits}
+
+abbrev pub is_constant : Test → Bool
+is_constant (constant v) = true
+is_constant (variable x) = false
+is_constant (predicate e) = false
+is_constant (return_value e) = false
+
+-- the checks for constants; a variable or an expression, with `~` or without, counts as true
+abbrev pub constants_in : List Check → List Check
+constants_in cs = filter (λ c. is_constant c.test) cs
+
+abbrev pub loose_demand : Demand → Demand
+loose_demand nothing = nothing
+loose_demand (each cs) = each (constants_in cs)
+loose_demand (either first alternatives) = either None (map constants_in alternatives)
+
+abbrev pub loose_constraint : Constraint → Constraint
+loose_constraint c = record { segment = c.segment; demand = loose_demand c.demand }
+
+abbrev pub loose_row : List Constraint → List Constraint
+loose_row row = map loose_constraint row
+
+abbrev pub loose_slot : SlotValue → SlotValue
+loose_slot s = record { name = s.name; place = s.place; row = loose_row s.row }
+
+abbrev pub loose_parts : Parts → Parts
+loose_parts (fields row) = fields (loose_row row)
+loose_parts (slots rows) = slots (map loose_slot rows)
+
+-- the pattern without its variables and expressions
+abbrev pub loose : PatternValue → PatternValue
+loose p = record { relation = p.relation; parts = loose_parts p.parts }
+
+-- a fact has the shape of a pattern where it fits, variables and expressions aside
+abbrev pub HasShape : PatternValue → FactValue → Type 0
+HasShape p f = (cuts : List ℕ) × Fits (loose p) f cuts no_bindings no_bindings

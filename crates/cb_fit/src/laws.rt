@@ -1,0 +1,57 @@
+//! Laws of ways: each is the contract of a function that does nothing.
+ghost use Rattle.std.specs.Prelude.{◌≡◌, ℕ, List, AllPairs, Contains};
+ghost use Rattle.std.specs.Cmp.Lexicographic.{slice_cmp};
+ghost use Rattle.std.specs.Ordering.{nat_cmp};
+ghost use Rattle.std.specs.declared.cmp.Ordering.TheVariants.{Less};
+ghost use Rattle.cb_constraints.specs.PatternValues.{PatternValue};
+ghost use Rattle.cb_exprs.specs.Bindings.{Bindings, with_variables};
+ghost use Rattle.cb_facts.specs.Facts.{FactValue};
+ghost use Rattle.cb_fit.specs.Bound.{newly_bound};
+ghost use Rattle.cb_fit.specs.Related.{Fits};
+ghost use Rattle.cb_fit.specs.Shapes.{HasShape, loose};
+ghost use Rattle.cb_fit.specs.Ways.{WayValue, taken_way, ways};
+
+/// The list of the ways has each way in which the pattern fits the fact, and no other.
+pub fn the_ways_are_those_that_fit()
+    ensures listed { (p : PatternValue) (f : FactValue) (cuts : List ℕ) (before after : Bindings)
+        → Fits p f cuts before after
+        → Contains (ways p f before) (taken_way p before cuts after) }
+    ensures fitting { (p : PatternValue) (f : FactValue) (before : Bindings) (w : WayValue)
+        → Contains (ways p f before) w → (after : Bindings)
+        × (Fits p f w.cuts before after) × (w ≡ taken_way p before w.cuts after) }
+{}
+
+/// The ways stand in the order of the lengths of their segments: of any two the earlier has the shorter segment where their
+/// lengths first differ. So no way is listed twice.
+pub fn the_ways_rise_by_their_cuts()
+    ensures { (p : PatternValue) (f : FactValue) (before : Bindings)
+        → AllPairs (λ v w. slice_cmp nat_cmp v.cuts w.cuts ≡ Less) (ways p f before) }
+{}
+
+/// The pattern, the fact, the lengths of the segments and what variables have before fix what they have after.
+pub fn the_cuts_fix_what_variables_have()
+    ensures { (p : PatternValue) (f : FactValue) (cuts : List ℕ) (before one other : Bindings)
+        → Fits p f cuts before one → Fits p f cuts before other → one ≡ other }
+{}
+
+/// What variables have after a way is what they have before, and the values that the way gives.
+pub fn a_way_has_all_that_it_gives()
+    ensures { (p : PatternValue) (f : FactValue) (cuts : List ℕ) (before after : Bindings)
+        → Fits p f cuts before after
+        → with_variables (newly_bound p.parts before after) before ≡ after }
+{}
+
+/// A fact that a pattern fits has its shape, with segments of the same lengths.
+pub fn a_fact_that_fits_has_the_shape()
+    ensures shape { (p : PatternValue) (f : FactValue) (cuts : List ℕ) (before after : Bindings)
+        → Fits p f cuts before after → HasShape p f }
+    ensures cuts { (p : PatternValue) (f : FactValue) (cuts : List ℕ)
+        → (before after any : Bindings)
+        → Fits p f cuts before after → Fits (loose p) f cuts any any }
+{}
+
+/// The shape gives no variable a value.
+pub fn the_shape_gives_no_values()
+    ensures { (p : PatternValue) (f : FactValue) (cuts : List ℕ) (before after : Bindings)
+        → Fits (loose p) f cuts before after → before ≡ after }
+{}
