@@ -2,6 +2,7 @@ mod AllGiven
 mod Alone
 mod CutsFix
 mod CutsInOrder
+mod Examples
 mod Givings
 mod Groups
 mod InTurn
