@@ -6,7 +6,7 @@
 
 pub use cb_constraints::{
     Check, Constraint, Demand, Meter, Parts, Pattern, Row, SlotRow, Test, Tested, count_leading,
-    laws, meets,
+    laws as constraint_laws, meets,
 };
 pub use cb_fit::{Way, fit};
 pub use cb_pattern_forms::read_pattern;
