@@ -1,14 +1,20 @@
 # For the measurements beside it, which source it: the repository's top, a temporary folder that goes when they end, the
-# program, proved and built, and how the scripts are made and the runs measured.
+# program, proved and built, and how the scripts are made and the runs measured. The program is `clipsbatch`, or that of the
+# name BUILT.
 top=$(cd "$(dirname "$0")/.." && pwd)
 place=$(mktemp -d)
 trap 'rm -rf "$place"' EXIT
-program=$top/crates/clipsbatch/out/clipsbatch
 
-(cd "$top/crates/clipsbatch" && rt run </dev/null >/dev/null 2>"$place/checked") || {
-    cat "$place/checked"
-    exit 1
+# Proves and builds the program of this name. From then on it is what `program` names.
+build() {
+    program=$top/crates/$1/out/$1
+    (cd "$top/crates/$1" && rt run </dev/null >/dev/null 2>"$place/checked") || {
+        cat "$place/checked"
+        exit 1
+    }
 }
+
+build "${BUILT:-clipsbatch}"
 
 make_script() {
     python3 "$top/benches/make_scripts.py" "$@"

@@ -1,13 +1,13 @@
 #!/bin/sh
-# Refuses each growth of memory in turn in the built program: the first alone, the second alone, and so on; and then each with
-# all after it. A refused run must end with status 3, say that it is out of memory, and have written a beginning of the
-# transcript that it writes with ample memory. Where one growth alone is refused, it may also be asked for again and be had,
-# as the room for the program's words: then the run must be the same as with ample memory.
+# Refuses each growth of memory in turn in the built programs clipsbatch and pattern_fits: the first alone, the second alone,
+# and so on; and then each with all after it. A refused run must end with status 3, say that it is out of memory, and have
+# written a beginning of what it writes with ample memory. Where one growth alone is refused, it may also be asked for again
+# and be had, as the room for the program's words: then the run must be the same as with ample memory.
 # Run it from anywhere, with a C compiler and the GNU C library:
 #
 #     benches/refusals.sh
 #
-# It proves and builds the program first, prints how many growths were refused, and ends with status 1 at a run that is wrong.
+# It proves and builds the programs first, prints how many growths were refused, and ends with status 1 at a run that is wrong.
 set -eu
 
 . "$(dirname "$0")/built.sh"
@@ -53,7 +53,7 @@ void *realloc(void *old, size_t size) { return is_refused() ? 0 : __libc_realloc
 END
 cc -O1 -fPIC -shared -o "$place/refusing.so" "$place/refusing.c"
 
-# A script a line.
+# The scripts for clipsbatch, one a line.
 scripts() {
     cat <<'END'
 red "a \"b\" c\\" -007 ?x ?*g* & () (bogus)
@@ -82,6 +82,20 @@ END
     awk 'BEGIN { for (i = 1; i <= 40; i++) printf "(assert (part %d bolt) (shelf \"number %d\"))", i, i; print "(facts)(retract *)" }'
     # More than one block.
     awk 'BEGIN { printf "(assert (long"; for (i = 1; i <= 1200; i++) printf " %d", i; print "))(facts)(printout t \"end\" crlf)" }'
+}
+
+# The scripts for pattern_fits, one a line.
+pattern_scripts() {
+    cat <<'END'
+(defrule a (p $?x $?y ?z&=(length$ ?x)) =>)(fits (p a "b" 2 1))(fits (p))(fits (q))(again 2 (p a 1))(probes)(defrule b (p ~~a) =>)(probes 1)
+(deftemplate part (slot name) (multislot sizes))(defrule a "text" (declare (salience (* 2 5))) ?f <- (part (sizes $? ?s&:(> ?s 2) $?) (name ?n&~red|blue)) (q ~?f ?n) => (retract ?f) (println ?n))(fits (part (name bolt) (sizes 1 8 9)))(fits (part (name red)))(fits (part (size 1)))
+(defrule a (p ?x&red|"blue"|=(sym-cat g ?x)|:(eq ?x 7) ~?x&:(neq ?x (create$ 1 ?x))) =>)(fits (p red 1))(fits (p "blue" red))(fits (p 7 7))(fits (p green 1.5))(fits
+(defrule a (p) => (bind ?y (+ 1 2)) (if (> ?y 2) then (assert (q ?y "z") (r)) else (while FALSE)))(fits (p))(defrule a (p ?x) => ?y)(fits (p 1))(defrule a (declare (salience a)) =>)
+END
+    # Many ways.
+    echo '(defrule a (p $?a $?b $?c) =>)(fits (p 1 2 3 4 5))'
+    # More than one block.
+    awk 'BEGIN { printf "(defrule a (p $? 1200 ?x $?y) =>)(fits (p"; for (i = 1; i <= 1300; i++) printf " %d", i; print "))" }'
 }
 
 # Says why the run is wrong, and ends.
@@ -116,28 +130,37 @@ refused() {
             continue
         fi
         [ "$status" -eq 3 ] || wrong "status $status"
-        [ "$(cat "$place/said")" = 'clipsbatch: out of memory' ] || wrong "it says $(cat "$place/said")"
-        cmp -s -n "$(wc -c <"$place/written")" "$place/written" "$place/whole" || wrong 'no beginning of the transcript'
+        [ "$(cat "$place/said")" = "${program##*/}: out of memory" ] || wrong "it says $(cat "$place/said")"
+        cmp -s -n "$(wc -c <"$place/written")" "$place/written" "$place/whole" || wrong 'no beginning of what it writes with ample memory'
     done
 }
 
+# Refuses each growth in turn in the runs of the scripts in the folder, and says how many there were.
+refused_in_scripts() {
+    count=0
+    total=0
+    asked_again=0
+    while IFS= read -r script; do
+        printf '%s\n' "$script" >"$place/script"
+        whole_status=0
+        "$program" <"$place/script" >"$place/whole" || whole_status=$?
+        unset REFUSE_ALL
+        refused
+        alone=$n
+        again=$had
+        export REFUSE_ALL=1
+        refused
+        count=$((count + 1))
+        total=$((total + alone - again + n))
+        asked_again=$((asked_again + again))
+        echo "script $count: $alone growths refused alone, of which $again were had after all, and $n with all after"
+    done <"$place/scripts"
+    echo "${program##*/}, $count scripts: $total runs ended with status 3 and a beginning of what is written, and $asked_again went on"
+}
+
 scripts >"$place/scripts"
-count=0
-total=0
-asked_again=0
-while IFS= read -r script; do
-    printf '%s\n' "$script" >"$place/script"
-    whole_status=0
-    "$program" <"$place/script" >"$place/whole" || whole_status=$?
-    unset REFUSE_ALL
-    refused
-    alone=$n
-    again=$had
-    export REFUSE_ALL=1
-    refused
-    count=$((count + 1))
-    total=$((total + alone - again + n))
-    asked_again=$((asked_again + again))
-    echo "script $count: $alone growths refused alone, of which $again were had after all, and $n with all after"
-done <"$place/scripts"
-echo "$count scripts: $total runs ended with status 3 and a beginning of the transcript, and $asked_again went on"
+refused_in_scripts
+unset REFUSE_ALL
+build pattern_fits
+pattern_scripts >"$place/scripts"
+refused_in_scripts

@@ -1,0 +1,13 @@
+//! Rules of patterns: what they are, how they are read, and the ways in which a pattern fits a fact.
+//!
+//! All of it stands in `cb_constraints`, `cb_pattern_forms`, `cb_fit` and `cb_rule_forms`. `docs/ARCHITECTURE.md` says where the
+//! layers stand.
+#![tactic(auto)]
+
+pub use cb_constraints::{
+    Check, Constraint, Demand, Meter, Parts, Pattern, Row, SlotRow, Test, Tested, count_leading,
+    laws as constraint_laws, meets,
+};
+pub use cb_fit::{Way, fit};
+pub use cb_pattern_forms::read_pattern;
+pub use cb_rule_forms::{Ce, Rule};
