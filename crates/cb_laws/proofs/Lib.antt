@@ -1,0 +1,4 @@
+mod EntryLaws
+mod MemoryBasics
+mod AssertLaws
+mod RetractLaws

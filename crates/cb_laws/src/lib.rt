@@ -1,0 +1,8 @@
+//! Laws over facts and templates: each is the contract of a function that does nothing.
+//!
+//! `docs/ARCHITECTURE.md` says where the layer stands.
+#![tactic(auto)]
+
+pub mod asserting;
+pub mod equality;
+pub mod retracting;
