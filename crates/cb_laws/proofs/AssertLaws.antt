@@ -2,13 +2,13 @@
 use Rattle.std.proofs.Common.{◌≡◌, ◌≢◌, ◌↔◌, ◌⊎◌, inl, inr, ◌∙◌, ◌+◌, ◌<◌, ℕ, zero, suc, Bool, true, false, List, [], ◌∷◌, Option, Some, None, Contains, refl, sym, ap, subst, arith, nat_lt, if◌then◌else◌}
 use Rattle.std.proofs.lemmas.Bool.{cases_eq}
 use Rattle.std.proofs.lemmas.Cmp.{nat_cmp_total}
-use Rattle.std.proofs.lemmas.List.Elements.{Contains-append_cases}
 use Rattle.std.specs.BTreeMap.{is_at}
 use Rattle.std.specs.Ordering.{nat_cmp}
 use Rattle.cb_facts.proofs.FactListLaws.{is_at-Decides}
 use Rattle.cb_facts.specs.FactLists.{fact_at, with_fact}
 use Rattle.cb_facts.specs.Facts.{FactValue}
 use Rattle.cb_laws.proofs.EntryLaws.{put_here, put_elsewhere, rising_put}
+use Rattle.cb_laws.proofs.Members.{first_or_other}
 use Rattle.cb_laws.proofs.MemoryBasics.{found_there, not_found}
 use Rattle.cb_laws.specs.Memories.{AreAsserted, IsSound, IsThere}
 use Rattle.cb_working_memory.proofs.IndexLaws.{contains_here, contains_there}
@@ -100,14 +100,6 @@ several_stay m n (f ∷ fs) g ix sound h at =
     let step = one_more m f h.0 sound h.1 in
     several_stay (asserted_one m f).0 n fs g ix step.sound h.2 (step.stays ix g at)
 
-the_only : {X : Type 0} (x y : X) → Contains (x ∷ []) y → x ≡ y
-the_only x y (zero, below, is) = is
-the_only x y (suc k, below, is) = absurd (omega arith)
-
-first_or_other : (f g : FactValue) (fs : List FactValue) → Contains (f ∷ []) g ⊎ Contains fs g → (f ≡ g) ⊎ Contains fs g
-first_or_other f g fs (inl c) = inl (the_only f g c)
-first_or_other f g fs (inr c) = inr c
-
 pub several_only : (m n : Memory) (fs : List FactValue) (g : FactValue) → IsSound m → AreAsserted m fs n → IsThere n g → IsThere m g ⊎ Contains fs g
 several_only m n [] g sound h at = inl (subst (λ it. IsThere it g) (sym h) at)
 several_only m n (f ∷ fs) g sound h at = by (several_only (asserted_one m f).0 n fs g step.sound h.2 at)
@@ -126,7 +118,7 @@ several_only m n (f ∷ fs) g sound h at = by (several_only (asserted_one m f).0
 pub several_there : (m n : Memory) (fs : List FactValue) (g : FactValue) → IsSound m → AreAsserted m fs n → IsThere m g ⊎ Contains fs g → IsThere n g
 several_there m n fs g sound h (inl there) = (there.0, several_stay m n fs g there.0 sound h there.1)
 several_there m n [] g sound h (inr (k, below, is)) = absurd (omega arith)
-several_there m n (f ∷ fs) g sound h (inr c) = by (first_or_other f g fs (Contains-append_cases (f ∷ []) fs g c)) (λ s later. several_there (asserted_one m f).0 n fs g s h.2 (inr later))
+several_there m n (f ∷ fs) g sound h (inr c) = by (first_or_other f g fs c) (λ s later. several_there (asserted_one m f).0 n fs g s h.2 (inr later))
   where
     step : OneMore m f (asserted_one m f).0 h.0
     step = one_more m f h.0 sound h.1

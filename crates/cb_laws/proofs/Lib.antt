@@ -1,4 +1,7 @@
 mod EntryLaws
+mod Members
 mod MemoryBasics
 mod AssertLaws
 mod RetractLaws
+mod SlotLaws
+mod DefinedLaws

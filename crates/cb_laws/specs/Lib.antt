@@ -1,2 +1,3 @@
 pub mod Memories
 pub mod Naming
+pub mod SlotValues

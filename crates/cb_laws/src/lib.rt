@@ -6,3 +6,5 @@
 pub mod asserting;
 pub mod equality;
 pub mod retracting;
+pub mod slots;
+pub mod templates;
