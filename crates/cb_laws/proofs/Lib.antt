@@ -5,3 +5,5 @@ mod AssertLaws
 mod RetractLaws
 mod SlotLaws
 mod DefinedLaws
+mod SlotFormLaws
+mod AttributeFormLaws

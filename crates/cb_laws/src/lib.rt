@@ -8,3 +8,4 @@ pub mod equality;
 pub mod retracting;
 pub mod slots;
 pub mod templates;
+pub mod written;
