@@ -1,0 +1,9 @@
+mod EntryLaws
+mod Members
+mod MemoryBasics
+mod AssertLaws
+mod RetractLaws
+mod SlotLaws
+mod DefinedLaws
+mod SlotFormLaws
+mod AttributeFormLaws

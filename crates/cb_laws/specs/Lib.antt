@@ -1,0 +1,4 @@
+pub mod Memories
+pub mod Naming
+pub mod SlotValues
+pub mod Written

@@ -1,0 +1,43 @@
+-- Which facts the arguments of `retract` name.
+use Rattle.std.specs.Prelude.{◌≡◌, ◌==◌, ◌++◌, ℕ, Bool, true, false, List, ◌∷◌, Option, None, codes, pos, negsuc, if◌then◌else◌}
+use Rattle.std.specs.List.{list_any}
+use Rattle.std.specs.Str.{bytes_eq}
+use Rattle.cb_facts.specs.FactLists.{fact_at}
+use Rattle.cb_facts.specs.Facts.{FactValue}
+use Rattle.cb_facts.specs.declared.value.Value.{Value}
+use Rattle.cb_facts.specs.declared.value.Value.TheVariants as value
+use Rattle.cb_working_memory.specs.WorkingMemory.{Memory, retracted_all}
+
+-- an argument names the fact with this index: it is its address or its index, or `*`
+abbrev pub names : ℕ → Value → Bool
+names ix (value.Fact i) = i == ix
+names ix (value.Int (pos i)) = i == ix
+names ix (value.Int (negsuc n)) = false
+names ix (value.Symbol name) = bytes_eq name (codes "*")
+names ix v = false
+
+-- one of the arguments names it
+abbrev pub is_named : List Value → ℕ → Bool
+is_named vs ix = list_any (names ix) vs
+
+-- the argument is an index that no fact has
+abbrev pub IsMissing : Memory → Value → Type 0
+IsMissing m (value.Int (pos ix)) = fact_at m.facts ix ≡ None
+IsMissing m (value.Int (negsuc n)) = Unit {0}
+IsMissing m v = ⊥
+
+-- Of the facts of the first memory those are left in the second that no argument names, under their indices, and no others. The
+-- index given last is the same.
+pub record LeavesUnnamed (m : Memory) (vs : List Value) (n : Memory) : Type 0 where
+  pub left : (ix : ℕ) → fact_at n.facts ix ≡ (if is_named vs ix then None else fact_at m.facts ix)
+  pub last : n.last ≡ m.last
+
+-- Up to the first index that no fact has, the facts that arguments name are gone; what stands after it names none.
+pub record LeavesUpToMissing (m : Memory) (vs : List Value) (n : Memory) : Type 0 where
+  pub before : List Value
+  pub wrong : Value
+  pub after : List Value
+  pub split : vs ≡ before ++ wrong ∷ after
+  pub fine : retracted_all m before ≡ (n, true)
+  pub missing : IsMissing n wrong
+  pub left : LeavesUnnamed m before n

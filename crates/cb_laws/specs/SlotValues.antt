@@ -1,0 +1,40 @@
+-- What the slots of a fact have, and what a template that is defined changes.
+use Rattle.std.specs.Prelude.{◌≡◌, ◌≢◌, ℕ, List, [], Option, Some, None, Ok}
+use Rattle.std.specs.List.{Contains}
+use Rattle.std.specs.Map.{lookup}
+use Rattle.std.specs.Str.{bytes_eq}
+use Rattle.cb_facts.specs.Facts as content
+use Rattle.cb_facts.specs.Facts.{FactContent, FactValue}
+use Rattle.cb_facts.specs.declared.value.Value.{Value}
+use Rattle.cb_forms.specs.Members.{head_and_rest}
+use Rattle.cb_forms.specs.Trees.{Trees}
+use Rattle.cb_templates.specs.Building.{Given}
+use Rattle.cb_templates.specs.Slots.{SlotShape}
+use Rattle.cb_templates.specs.Templates.{Templates, slots_after, slots_of, without_comment}
+
+abbrev pub value_among : FactContent → List ℕ → Option Value
+value_among (content.fields xs) name = None
+value_among (content.slots pairs) name = lookup (bytes_eq name) pairs
+
+-- the value of the slot with this name
+abbrev pub slot_value : FactValue → List ℕ → Option Value
+slot_value fact name = value_among fact.content name
+
+-- the slot is given these values
+abbrev pub IsGiven : Given → List ℕ → List Value → Type 0
+IsGiven given name vs = Contains given (name, vs)
+
+-- the slot is not given
+abbrev pub IsLeftOut : Given → List ℕ → Type 0
+IsLeftOut given name = (vs : List Value) → IsGiven given name vs → ⊥
+
+-- What follows `deftemplate` defined a template: it has the slots that are written, and every other relation has the template that
+-- it had, or none.
+pub record Defines (old : Templates) (forms : Trees) (new : Templates) : Type 0 where
+  pub name : List ℕ
+  pub written : Trees
+  pub slots : List SlotShape
+  pub head : head_and_rest forms ≡ Some (name, written)
+  pub read : slots_after [] (without_comment written) ≡ Ok slots
+  pub here : slots_of new name ≡ Some slots
+  pub others : (other : List ℕ) → other ≢ name → slots_of new other ≡ slots_of old other

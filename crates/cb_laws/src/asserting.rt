@@ -1,0 +1,28 @@
+//! What is asserted is there.
+ghost use Rattle.std.specs.Prelude.{◌≡◌, ◌↔◌, ◌⊎◌, ◌++◌, ℕ, List, [], ◌∷◌, Some};
+ghost use Rattle.std.specs.List.{Contains};
+ghost use Rattle.cb_facts.specs.FactLists.{fact_at};
+ghost use Rattle.cb_facts.specs.Facts.{FactValue};
+ghost use Rattle.cb_laws.specs.Memories.{AreAsserted, IsSound, IsThere};
+ghost use Rattle.cb_working_memory.specs.WorkingMemory.{Memory, asserted_one};
+
+/// After a fact was asserted and an index was left for it, it is there under the index that is answered, whether it is new or was
+/// there before.
+pub fn what_is_asserted_has_the_index_answered()
+    ensures { (m : Memory) (fact : FactValue) (ix : ℕ) → IsSound m
+        → (asserted_one m fact).1 ≡ Some ix
+        → fact_at (asserted_one m fact).0.facts ix ≡ Some fact }
+{}
+
+/// After facts were asserted, one after another, and an index was left for each, a fact is there exactly where it was before
+/// or is one of them; those that were there have their indices.
+pub fn what_is_asserted_is_there()
+    ensures there { (m n : Memory) (facts : List FactValue) (fact : FactValue) → IsSound m
+        → AreAsserted m facts n
+        → IsThere n fact ↔ (IsThere m fact ⊎ Contains facts fact) }
+    ensures stays { (m n : Memory) (facts : List FactValue) (fact : FactValue) (ix : ℕ)
+        → IsSound m → AreAsserted m facts n
+        → fact_at m.facts ix ≡ Some fact → fact_at n.facts ix ≡ Some fact }
+    ensures sound { (m n : Memory) (facts : List FactValue) → IsSound m
+        → AreAsserted m facts n → IsSound n }
+{}

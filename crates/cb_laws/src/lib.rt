@@ -1,0 +1,11 @@
+//! Laws over facts and templates: each is the contract of a function that does nothing.
+//!
+//! `docs/ARCHITECTURE.md` says where the layer stands.
+#![tactic(auto)]
+
+pub mod asserting;
+pub mod equality;
+pub mod retracting;
+pub mod slots;
+pub mod templates;
+pub mod written;

@@ -1,0 +1,38 @@
+//! A slot has the values that it is given, or its default.
+ghost use Rattle.std.specs.Prelude.{◌≡◌, ◌∷◌, ℕ, List, [], Some, Ok, true, false, is_some};
+ghost use Rattle.cb_facts.specs.Facts.{FactValue};
+ghost use Rattle.cb_facts.specs.Values.{is_multifield, spliced};
+ghost use Rattle.cb_facts.specs.declared.value.Value.{Value};
+ghost use Rattle.cb_facts.specs.declared.value.Value.TheVariants as value;
+ghost use Rattle.cb_laws.specs.SlotValues.{IsGiven, IsLeftOut, slot_value};
+ghost use Rattle.cb_templates.specs.Building.{Given, built, slot_values};
+ghost use Rattle.cb_templates.specs.Slots.{SlotShape, slot_named};
+ghost use Rattle.cb_templates.specs.Templates.{Templates, slots_of};
+
+/// In a fact of a template a multislot has the fields of the values that it is given, in order, another slot the one value, which
+/// is no multifield, and a slot that is not given its default. The fact is of the relation that was written.
+pub fn a_slot_has_what_it_is_given()
+    ensures multislot { (templates : Templates) (relation : List ℕ) (slots : List SlotShape)
+        (given : Given) (fact : FactValue) (name : List ℕ) (slot : SlotShape) (vs : List Value)
+        → slots_of templates relation ≡ Some slots → slot_named slots name ≡ Some slot
+        → built templates relation (slot_values given) ≡ Ok fact
+        → slot.is_multi ≡ true → IsGiven given name vs
+        → slot_value fact name ≡ Some (value.Multi (spliced vs)) }
+    ensures slot { (templates : Templates) (relation : List ℕ) (slots : List SlotShape)
+        (given : Given) (fact : FactValue) (name : List ℕ) (slot : SlotShape) (vs : List Value)
+        → slots_of templates relation ≡ Some slots → slot_named slots name ≡ Some slot
+        → built templates relation (slot_values given) ≡ Ok fact
+        → slot.is_multi ≡ false → IsGiven given name vs
+        → (v : Value) × (vs ≡ v ∷ []) × (is_multifield v ≡ false) × (slot_value fact name ≡ Some v) }
+    ensures default { (templates : Templates) (relation : List ℕ) (slots : List SlotShape)
+        (given : Given) (fact : FactValue) (name : List ℕ) (slot : SlotShape)
+        → slots_of templates relation ≡ Some slots → slot_named slots name ≡ Some slot
+        → built templates relation (slot_values given) ≡ Ok fact
+        → IsLeftOut given name
+        → (v : Value) × (slot.default ≡ Some v) × (slot_value fact name ≡ Some v) }
+    ensures relation { (templates : Templates) (relation : List ℕ) (slots : List SlotShape)
+        (given : Given) (fact : FactValue)
+        → slots_of templates relation ≡ Some slots
+        → built templates relation (slot_values given) ≡ Ok fact
+        → fact.relation ≡ relation }
+{}
