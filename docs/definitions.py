@@ -1,0 +1,155 @@
+#!/usr/bin/env python3
+"""Makes the index of docs/DEFINITIONS.md from the comments in crates/*/specs/*.antt.
+
+    docs/definitions.py            writes the index anew
+    docs/definitions.py --check    says whether the page is up to date; exit status 0 if so, else 1
+
+A definition has a row: its name, what it says, and its place. What it says is the comment before it in its file; where it
+has none, the sentence for it in docs/definitions.txt (lines `crate File name: sentence`); else its type.
+docs/definitions.txt also says what only the code needs (lines `code: crate File` for a whole file, `code: crate File name`).
+"""
+import re
+import sys
+from pathlib import Path
+
+TOP = Path(__file__).resolve().parent.parent
+PAGE = TOP / "docs" / "DEFINITIONS.md"
+NOTES = TOP / "docs" / "definitions.txt"
+BEGIN = "<!-- From here on the page is made by docs/definitions.py. -->"
+KINDS = r"(?:(?:abbrev|unfoldable|record|data) +)"
+TOP_LEVEL = re.compile(rf"(?:{KINDS}+(?:pub +)?|pub +{KINDS}*)(?!mod |mutual)([^\s:({{]+)(.*)")
+NESTED = re.compile(rf"  (?:pub +)?{KINDS}+(?:pub +)?([^\s:({{]+)(.*)")
+IN_MUTUAL = re.compile(r"  (?:pub +)?(?:(?:record|data) +)?([^\s:({]+)( .*)")
+
+
+class Definition:
+    def __init__(self, crate, file, name, line, comment, type_):
+        self.crate, self.file, self.name, self.line = crate, file, name, line
+        self.comment, self.type = comment, type_
+
+    def key(self):
+        return f"{self.crate} {self.file} {self.name}"
+
+
+def read_file(crate, path):
+    """The definitions of a file, in its order, each with the comment before it and its type."""
+    comment, in_mutual = [], False
+    for number, text in enumerate(path.read_text(encoding="utf-8").split("\n"), 1):
+        bare = text.strip()
+        if text and text[0] != " ":
+            in_mutual = in_mutual and bare.startswith("--") or bare.endswith("abbrev mutual")
+        match = TOP_LEVEL.match(text) or in_mutual and " : " in text and IN_MUTUAL.match(text) \
+            or NESTED.match(text)
+        if bare.startswith("--"):
+            comment.append(bare.lstrip("-").strip())
+        elif match:
+            yield Definition(crate, path.stem, match.group(1), number, " ".join(comment), type_of(match.group(2)))
+            comment = []
+        elif not bare.endswith("mutual"):
+            comment = []
+
+
+def type_of(rest):
+    return re.sub(r"\s+where$", "", rest.split(" : ", 1)[1]) if " : " in rest else ""
+
+
+def all_definitions():
+    for folder in sorted((TOP / "crates").glob("*/specs")):
+        for path in sorted(folder.glob("*.antt")):
+            if path.stem != "Lib":
+                yield from read_file(folder.parent.name, path)
+
+
+def read_notes():
+    """Sentences by definition, and what only the code needs: files and definitions."""
+    sentences, code = {}, set()
+    for text in NOTES.read_text(encoding="utf-8").split("\n"):
+        if text.startswith("code: "):
+            code.add(text[len("code: "):].strip())
+        elif text.strip() and not text.startswith("#"):
+            name, sentence = text.split(": ", 1)
+            sentences[name] = sentence.strip()
+    return sentences, code
+
+
+def says(definition, sentences):
+    if definition.comment:
+        return as_sentence(definition.comment)
+    if definition.key() in sentences:
+        return sentences[definition.key()]
+    return f"`{definition.type}`" if definition.type else ""
+
+
+def as_sentence(comment):
+    text = comment[0].upper() + comment[1:] if not comment.startswith("`") else comment
+    return text if text[-1] in ".:?!" else text + "."
+
+
+def is_of_code(definition, code):
+    return f"{definition.crate} {definition.file}" in code or definition.key() in code
+
+
+def table(definitions, sentences):
+    rows = ["| Definition | What it says | Where |", "|---|---|---|"]
+    for d in definitions:
+        text = says(d, sentences).replace("|", "\\|")
+        rows.append(f"| `{d.name.replace('|', chr(92) + '|')}` | {text} | `{d.file}` {d.line} |")
+    return rows
+
+
+def by_crate(definitions):
+    crates = {}
+    for d in definitions:
+        crates.setdefault(d.crate, []).append(d)
+    order = [line.split(":")[0].strip() for line in (TOP / "crates.txt").read_text().split("\n") if line.strip()]
+    return [(c, crates[c]) for c in order if c in crates]
+
+
+def index():
+    sentences, code = read_notes()
+    found = list(all_definitions())
+    public = [d for d in found if not is_of_code(d, code)]
+    private = [d for d in found if is_of_code(d, code)]
+    out = [BEGIN, "", "## Index: what the contracts promise", "",
+           "The crates are in the order of `crates.txt`. `File 12` is line 12 of `crates/CRATE/specs/File.antt`.", ""]
+    for crate, definitions in by_crate(public):
+        out += [f"### `{crate}`", ""] + table(definitions, sentences) + [""]
+    out += ["## Index: what only the code needs", "",
+            "These may be skipped: hashes, states of the scanner, how values are stored for the logic, what a step keeps.", ""]
+    for crate, definitions in by_crate(private):
+        out += [f"### `{crate}`, of the code", ""] + table(definitions, sentences) + [""]
+    return "\n".join(out).rstrip("\n") + "\n"
+
+
+def with_line_counts(by_hand):
+    """The rows of the reading order, each with the lines of its files together."""
+    def row(match):
+        files = re.findall(r"`(cb_\w+)/(\w+)`", match.group(1))
+        lines = sum(len((TOP / "crates" / c / "specs" / f"{f}.antt").read_text(encoding="utf-8").splitlines()) for c, f in files)
+        return f"{match.group(1)}| {lines} |"
+    return re.sub(r"^(\| .*`cb_\w+/\w+` )\| \d+ \|$", row, by_hand, flags=re.M)
+
+
+def stale():
+    """The notes that name no definition."""
+    sentences, code = read_notes()
+    keys = {d.key() for d in all_definitions()}
+    files = {" ".join(k.split(" ")[:2]) for k in keys}
+    return sorted(n for n in set(sentences) | code if n not in keys and n not in files)
+
+
+def main():
+    page = PAGE.read_text(encoding="utf-8")
+    by_hand = with_line_counts(page.split(BEGIN)[0])
+    wanted = by_hand + index()
+    for name in stale():
+        print(f"docs/definitions.txt names what isn't there: {name}")
+    if sys.argv[1:] == ["--check"]:
+        up_to_date = wanted == page
+        print("docs/DEFINITIONS.md is up to date" if up_to_date else "docs/DEFINITIONS.md: run docs/definitions.py")
+        sys.exit(0 if up_to_date and not stale() else 1)
+    PAGE.write_text(wanted, encoding="utf-8")
+
+
+if __name__ == "__main__":
+    main()
