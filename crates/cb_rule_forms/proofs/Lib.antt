@@ -1,2 +1,3 @@
 pub mod Arrows
+mod Examples
 pub mod MentionLaws

@@ -1,4 +1,4 @@
--- What the program has read of condition elements.
+-- What the program has read of condition elements: needed by the code alone.
 use Rattle.std.specs.Option.{option_map}
 use Rattle.cb_constraints.specs.PartValues.{parts_of}
 use Rattle.cb_forms.specs.Trees.{tree_of}

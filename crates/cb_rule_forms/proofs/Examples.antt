@@ -1,0 +1,170 @@
+-- Rules as they are written, and which rule each is or what is wrong with it.
+use Prim.Native.String.{String}
+use Rattle.std.proofs.Common.{◌≡◌, ◌++◌, ℤ, pos, Bool, List, [], ◌∷◌, Option, Some, None, Result, Ok, map, codes, true, false, refl}
+use Rattle.cb_constraints.specs.Constraints.{Constraint, variable, each}
+use Rattle.cb_constraints.specs.PatternValues.{PatternValue, fields}
+use Rattle.cb_expr_forms.specs.FaultLists.{first_of, unless_faulty}
+use Rattle.cb_exprs.specs.Bindings.{Bindings}
+use Rattle.cb_exprs.specs.Terms.{Term, println, retract, terms}
+use Rattle.cb_exprs.specs.Terms as expr
+use Rattle.cb_facts.specs.declared.value.Value.TheVariants as value
+use Rattle.cb_forms.specs.Trees.{Tree, atom, branch, trees_of}
+use Rattle.cb_forms.specs.declared.fault.Fault.{Fault}
+use Rattle.cb_forms.specs.declared.fault.Fault.TheVariants.{WrongArguments, MalformedForm, FactDoesNotFit, UnboundVariable, UnknownGlobal, NotOnLeftSide, NotInProfile, BadSalience}
+use Rattle.cb_forms.specs.declared.token.Token.TheVariants as token
+use Rattle.cb_functions.specs.Operations.{operator_of}
+use Rattle.cb_rule_forms.specs.RuleValues.{pattern, RuleValue}
+use Rattle.cb_rule_forms.specs.Rules.{rule_faults, rule_of}
+use Rattle.cb_templates.specs.Reserved.{is_reserved}
+use Rattle.cb_words.specs.Words.{head_of}
+
+-- at the top level the variable `?t` has a value, and the global `?*g*` is 2
+abbrev env : Bindings
+env = record { variables = (codes "t", value.Int (pos 1)) ∷ []; globals = (codes "g", value.Int (pos 2)) ∷ [] }
+
+-- the rule that forms are, or their first fault
+abbrev read : List Tree → Result RuleValue Fault
+read ts = unless_faulty (rule_faults [] env (trees_of ts)) (rule_of [] env (trees_of ts))
+
+abbrev fault : List Tree → Option Fault
+fault ts = first_of (rule_faults [] env (trees_of ts))
+
+-- atoms and lists, as they stand in a script
+abbrev word : String → Tree
+word s = atom (token.Symbol (codes s))
+
+abbrev text : String → Tree
+text s = atom (token.Str (codes s))
+
+abbrev number : ℤ → Tree
+number n = atom (token.Int n)
+
+abbrev var : String → Tree
+var name = atom (token.Var (codes name))
+
+abbrev glob : String → Tree
+glob name = atom (token.Global (codes name))
+
+abbrev tilde : Tree
+tilde = atom token.Not
+
+abbrev and : Tree
+and = atom token.And
+
+abbrev or : Tree
+or = atom token.Or
+
+abbrev list : List Tree → Tree
+list ts = branch (trees_of ts)
+
+abbrev form : String → List Tree → Tree
+form name ts = list (word name ∷ ts)
+
+-- `(declare (salience expression))`
+abbrev salience : Tree → Tree
+salience t = form "declare" (form "salience" (t ∷ []) ∷ [])
+
+-- the first fault of the rule `r` with this left side and these actions
+abbrev fault_in : List Tree → List Tree → Option Fault
+fault_in left actions = fault (word "r" ∷ (left ++ word "=>" ∷ actions))
+
+-- the same with no actions, with this declaration alone, and with this salience alone
+abbrev on_left : List Tree → Option Fault
+on_left left = fault_in left []
+
+abbrev declaring : List Tree → Option Fault
+declaring ts = on_left (form "declare" ts ∷ [])
+
+abbrev of_salience : Tree → Option Fault
+of_salience t = on_left (salience t ∷ [])
+
+-- the pattern of the relation with one field, the variable `?x`, which may come after `~`
+abbrev of_one : String → Bool → PatternValue
+of_one relation negated = record {
+  relation = codes relation;
+  parts = fields (record { segment = false; demand = each (record { negated = negated; test = variable (codes "x") } ∷ []) } ∷ []);
+}
+
+-- r "c" (declare (salience (* ?*g* 5))) ?f <- (a ?x) (b ~?x) => (retract ?f) (println ?x)
+whole_rule : read (word "r" ∷ text "c" ∷ salience (form "*" (glob "g" ∷ number (pos 5) ∷ [])) ∷ var "f" ∷ word "<-" ∷ form "a" (var "x" ∷ []) ∷ form "b" (tilde ∷ var "x" ∷ []) ∷ word "=>" ∷ form "retract" (var "f" ∷ []) ∷ form "println" (var "x" ∷ []) ∷ [])
+    ≡ Ok (record {
+      name = codes "r";
+      salience = pos 10;
+      branches = (pattern (Some (codes "f")) (of_one "a" false) ∷ pattern None (of_one "b" true) ∷ []) ∷ [];
+      actions = retract (terms (expr.variable (codes "f") ∷ [])) ∷ println (terms (expr.variable (codes "x") ∷ [])) ∷ [];
+    })
+unfolding head_of is_reserved operator_of
+whole_rule = refl
+
+-- r => a => b: the first `=>` divides, and the second is an action
+divided_once : read (word "r" ∷ word "=>" ∷ word "a" ∷ word "=>" ∷ word "b" ∷ [])
+    ≡ Ok (record {
+      name = codes "r";
+      salience = pos 0;
+      branches = [] ∷ [];
+      actions = map (λ bytes. expr.constant (value.Symbol bytes)) (codes "a" ∷ codes "=>" ∷ codes "b" ∷ []);
+    })
+divided_once = refl
+
+-- => =>, 5 =>, r (a)
+no_rules : map fault ((word "=>" ∷ word "=>" ∷ []) ∷ (number (pos 5) ∷ word "=>" ∷ []) ∷ (word "r" ∷ form "a" [] ∷ []) ∷ [])
+    ≡ Some MalformedForm ∷ Some MalformedForm ∷ Some MalformedForm ∷ []
+no_rules = refl
+
+-- 10000, 10001, a, (div 1 0), ?t, ?*h*, (+ 1): a salience that can be read, but has no value in range, has a fault of its own
+saliences : map of_salience (number (pos 10000) ∷ number (pos 10001) ∷ word "a" ∷ form "div" (number (pos 1) ∷ number (pos 0) ∷ []) ∷ var "t" ∷ glob "h" ∷ form "+" (number (pos 1) ∷ []) ∷ [])
+    ≡ None ∷ Some BadSalience ∷ Some BadSalience ∷ Some BadSalience ∷ Some UnboundVariable ∷ Some UnknownGlobal ∷ Some WrongArguments ∷ []
+unfolding head_of operator_of
+saliences = refl
+
+-- (declare (salience) (auto-focus TRUE)), (declare (salience 1) (salience 2)), (declare salience 1), (declare)
+declarations : map declaring ((form "salience" [] ∷ form "auto-focus" (word "TRUE" ∷ []) ∷ []) ∷ (form "salience" (number (pos 1) ∷ []) ∷ form "salience" (number (pos 2) ∷ []) ∷ []) ∷ (word "salience" ∷ number (pos 1) ∷ []) ∷ [] ∷ [])
+    ≡ Some NotInProfile ∷ Some MalformedForm ∷ Some MalformedForm ∷ Some MalformedForm ∷ []
+declarations = refl
+
+-- (a) (declare (salience 1)), (declare (salience 1)) (declare (salience 1)), (declare (salience 1)) "c", "c" "d"
+misplaced : map on_left ((form "a" [] ∷ salience (number (pos 1)) ∷ []) ∷ (salience (number (pos 1)) ∷ salience (number (pos 1)) ∷ []) ∷ (salience (number (pos 1)) ∷ text "c" ∷ []) ∷ (text "c" ∷ text "d" ∷ []) ∷ [])
+    ≡ Some MalformedForm ∷ Some MalformedForm ∷ Some MalformedForm ∷ Some MalformedForm ∷ []
+unfolding is_reserved
+misplaced = refl
+
+-- ?f <-, ?f <- x, ?f <- (), ?f <- (5), ?f <- (test TRUE), ?f <- ?g <- (a)
+addresses : map (λ ts. on_left (var "f" ∷ word "<-" ∷ ts)) ([] ∷ (word "x" ∷ []) ∷ (list [] ∷ []) ∷ (list (number (pos 5) ∷ []) ∷ []) ∷ (form "test" (word "TRUE" ∷ []) ∷ []) ∷ (var "g" ∷ word "<-" ∷ form "a" [] ∷ []) ∷ [])
+    ≡ Some NotInProfile ∷ Some NotInProfile ∷ Some NotInProfile ∷ Some NotInProfile ∷ Some NotInProfile ∷ Some NotInProfile ∷ []
+unfolding is_reserved
+addresses = refl
+
+-- $?f <- (a), ? <- (a), ?*f*, ?f (a), (a) x
+no_elements : map on_left ((atom (token.MultiVar (codes "f")) ∷ word "<-" ∷ form "a" [] ∷ []) ∷ (atom token.Any ∷ word "<-" ∷ form "a" [] ∷ []) ∷ (glob "f" ∷ []) ∷ (var "f" ∷ form "a" [] ∷ []) ∷ (form "a" [] ∷ word "x" ∷ []) ∷ [])
+    ≡ Some MalformedForm ∷ Some MalformedForm ∷ Some MalformedForm ∷ Some MalformedForm ∷ Some MalformedForm ∷ []
+unfolding is_reserved
+no_elements = refl
+
+-- (declare (salience a)) (b (x)), (a ~?x) (b (x)), (a ~?x) (b ?*g*): the declaration first, then all elements, then variables
+order : map on_left ((salience (word "a") ∷ form "b" (form "x" [] ∷ []) ∷ []) ∷ (form "a" (tilde ∷ var "x" ∷ []) ∷ form "b" (form "x" [] ∷ []) ∷ []) ∷ (form "a" (tilde ∷ var "x" ∷ []) ∷ form "b" (glob "g" ∷ []) ∷ []) ∷ [])
+    ≡ Some BadSalience ∷ Some FactDoesNotFit ∷ Some NotOnLeftSide ∷ []
+unfolding is_reserved
+order = refl
+
+-- ?x <- (a ?x) ?x <- (b), (a ?f) ?f <- (b ~?y), (a ~?y) ?f <- (a) ?f <- (b): the variables from left to right
+variables : map on_left ((var "x" ∷ word "<-" ∷ form "a" (var "x" ∷ []) ∷ var "x" ∷ word "<-" ∷ form "b" [] ∷ []) ∷ (form "a" (var "f" ∷ []) ∷ var "f" ∷ word "<-" ∷ form "b" (tilde ∷ var "y" ∷ []) ∷ []) ∷ (form "a" (tilde ∷ var "y" ∷ []) ∷ var "f" ∷ word "<-" ∷ form "a" [] ∷ var "f" ∷ word "<-" ∷ form "b" [] ∷ []) ∷ [])
+    ≡ Some MalformedForm ∷ Some MalformedForm ∷ Some UnboundVariable ∷ []
+unfolding is_reserved
+variables = refl
+
+-- (a ?x&?y&p|q), (a p&?y|q), (a ?x&p|?x), (a p&?y): beside `|` a variable needs its value, unless it is set apart
+alternatives : map (λ ts. on_left (form "a" ts ∷ [])) ((var "x" ∷ and ∷ var "y" ∷ and ∷ word "p" ∷ or ∷ word "q" ∷ []) ∷ (word "p" ∷ and ∷ var "y" ∷ or ∷ word "q" ∷ []) ∷ (var "x" ∷ and ∷ word "p" ∷ or ∷ var "x" ∷ []) ∷ (word "p" ∷ and ∷ var "y" ∷ []) ∷ [])
+    ≡ Some UnboundVariable ∷ Some UnboundVariable ∷ None ∷ None ∷ []
+unfolding is_reserved
+alternatives = refl
+
+-- (println ?x), (println ?y), (println ?t), (println ?y) (bind ?y 1), after (a ?x): no variable of the top level is known there
+actions : map (fault_in (form "a" (var "x" ∷ []) ∷ [])) ((form "println" (var "x" ∷ []) ∷ []) ∷ (form "println" (var "y" ∷ []) ∷ []) ∷ (form "println" (var "t" ∷ []) ∷ []) ∷ (form "println" (var "y" ∷ []) ∷ form "bind" (var "y" ∷ number (pos 1) ∷ []) ∷ []) ∷ [])
+    ≡ None ∷ Some UnboundVariable ∷ Some UnboundVariable ∷ None ∷ []
+unfolding head_of is_reserved
+actions = refl
+
+-- (a ~?x) => (foo): the variables of the left side come before the actions
+actions_last : fault_in (form "a" (tilde ∷ var "x" ∷ []) ∷ []) (form "foo" [] ∷ []) ≡ Some UnboundVariable
+unfolding head_of is_reserved
+actions_last = refl
