@@ -1,5 +1,5 @@
 -- What is asserted is there.
-use Rattle.std.proofs.Common.{◌≡◌, ◌≢◌, ◌↔◌, ◌⊎◌, inl, inr, ◌∙◌, ◌+◌, ◌<◌, ℕ, zero, suc, Bool, true, false, List, [], ◌∷◌, Option, Some, None, Contains, refl, sym, ap, subst, arith, nat_lt, if◌then◌else◌}
+use Rattle.std.proofs.Common.{◌≡◌, ◌≢◌, ◌↔◌, ◌⊎◌, inl, inr, ◌∙◌, ◌+◌, ◌<◌, ◌≤◌, ℕ, zero, suc, Bool, true, false, List, [], ◌∷◌, Option, Some, None, Contains, refl, sym, ap, subst, arith, nat_lt, rules, if◌then◌else◌}
 use Rattle.std.proofs.lemmas.Bool.{cases_eq}
 use Rattle.std.proofs.lemmas.Cmp.{nat_cmp_total}
 use Rattle.std.specs.BTreeMap.{is_at}
@@ -86,6 +86,33 @@ one_by m f ix sound None e h = if_room m f sound e (nat_lt m.last greatest_index
 
 pub one_more : (m : Memory) (f : FactValue) (ix : ℕ) → IsSound m → (asserted_one m f).1 ≡ Some ix → OneMore m f (asserted_one m f).0 ix
 one_more m f ix sound h = one_by m f ix sound (index_of m.facts f) refl h
+
+-- where no index was left, nothing has changed
+if_none : (m : Memory) (f : FactValue) (room : Bool) → (if◌then◌else◌ {A = Memory × Option ℕ} room (grown m f, Some (m.last + 1)) (m, None)).1 ≡ None
+    → m ≡ (if◌then◌else◌ {A = Memory × Option ℕ} room (grown m f, Some (m.last + 1)) (m, None)).0
+if_none m f true h = absurd (cc)
+if_none m f false h = refl
+
+none_by : (m : Memory) (f : FactValue) (o : Option ℕ) → (asserted_beside m f o).1 ≡ None → m ≡ (asserted_beside m f o).0
+none_by m f None h = if_none m f (nat_lt m.last greatest_index) h
+none_by m f (Some i) h = absurd (cc)
+
+pub none_more : (m : Memory) (f : FactValue) → (asserted_one m f).1 ≡ None → m ≡ (asserted_one m f).0
+none_more m f h = none_by m f (index_of m.facts f) h
+
+-- the index given last stays in range
+range_by : (m : Memory) (f : FactValue) (o : Option ℕ) → m.last ≤ greatest_index → (asserted_beside m f o).0.last ≤ greatest_index
+range_by m f (Some i) h = h
+range_by m f None h = by (nat_lt m.last greatest_index) refl
+  where
+    by : (room : Bool) → nat_lt m.last greatest_index ≡ room → (if◌then◌else◌ {A = Memory × Option ℕ} room (grown m f, Some (m.last + 1)) (m, None)).0.last ≤ greatest_index
+    by true e =
+        let below : m.last < greatest_index = search (rules, e) in
+        omega arith
+    by false e = h
+
+pub stays_in_range : (m : Memory) (f : FactValue) → m.last ≤ greatest_index → (asserted_one m f).0.last ≤ greatest_index
+stays_in_range m f h = range_by m f (index_of m.facts f) h
 
 pub has_index : (m : Memory) (f : FactValue) (ix : ℕ) → IsSound m → (asserted_one m f).1 ≡ Some ix → fact_at (asserted_one m f).0.facts ix ≡ Some f
 has_index m f ix sound h = (one_more m f ix sound h).here

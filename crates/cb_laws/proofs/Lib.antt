@@ -7,3 +7,6 @@ mod SlotLaws
 mod DefinedLaws
 mod SlotFormLaws
 mod AttributeFormLaws
+mod ReachedLaws
+mod Keeping
+mod ExpressionLaws

@@ -34,10 +34,11 @@ kept : (t : Bool) (o : Option FactValue) (fact : FactValue) → (if t then None 
 kept true o fact h = absurd (cc)
 kept false o fact h = h
 
+kept_without : (m : Memory) → IsSound m → (i ix : ℕ) (fact : FactValue) → fact_at (without m i).facts ix ≡ Some fact → fact_at m.facts ix ≡ Some fact
+kept_without m sound i ix fact at = kept (i == ix) (fact_at m.facts ix) fact (sym (left_without m sound i ix) ∙ at)
+
 without_sound : (m : Memory) → IsSound m → (i : ℕ) → IsSound (without m i)
-without_sound m sound i =
-    fewer m (without m i) sound (rising_taken nat_cmp (is_at (nat_cmp i)) m.facts sound.rising) refl
-    (λ ix fact at. kept (i == ix) (fact_at m.facts ix) fact (sym (left_without m sound i ix) ∙ at))
+without_sound m sound i = fewer m (without m i) sound (rising_taken nat_cmp (is_at (nat_cmp i)) m.facts sound.rising) refl (kept_without m sound i)
 
 no_indices : IsStrictlySortedBy nat_cmp []
 unfolding IsStrictlySortedBy
@@ -51,22 +52,23 @@ none_left m sound =
 record Leaves (m : Memory) (v : Value) (n : Memory) : Type 0 where
   left : is_retractable v ≡ true → (ix : ℕ) → fact_at n.facts ix ≡ (if names ix v then None else fact_at m.facts ix)
   last : n.last ≡ m.last
+  kept : (ix : ℕ) (fact : FactValue) → fact_at n.facts ix ≡ Some fact → fact_at m.facts ix ≡ Some fact
   sound : IsSound n
 
 by_index : (m : Memory) → IsSound m → (i : ℕ) (t : Bool) → IfSome (if t then Some (without m i) else None) (Leaves m (value.Int (pos i)))
-by_index m sound i true = record { left = λ may ix. left_without m sound i ix; last = refl; sound = without_sound m sound i }
+by_index m sound i true = record { left = λ may ix. left_without m sound i ix; last = refl; kept = λ ix fact. kept_without m sound i ix fact; sound = without_sound m sound i }
 by_index m sound i false = tt
 
 all_gone : (m : Memory) (name : List ℕ) → IsSound m → Leaves m (value.Symbol name) (record { facts = []; last = m.last })
-all_gone m name sound = record { left = λ may ix. sym (ap (λ t. if t then None else fact_at m.facts ix) may); last = refl; sound = none_left m sound }
+all_gone m name sound = record { left = λ may ix. sym (ap (λ t. if t then None else fact_at m.facts ix) may); last = refl; kept = λ ix fact at. absurd (cc); sound = none_left m sound }
 
 leaves_by : (m : Memory) (v : Value) → IsSound m → IfSome (retracted_one m v) (Leaves m v)
-leaves_by m (value.Fact i) sound = record { left = λ may ix. left_without m sound i ix; last = refl; sound = without_sound m sound i }
+leaves_by m (value.Fact i) sound = record { left = λ may ix. left_without m sound i ix; last = refl; kept = λ ix fact. kept_without m sound i ix fact; sound = without_sound m sound i }
 leaves_by m (value.Int (pos i)) sound = by_index m sound i (is_some (fact_at m.facts i))
 leaves_by m (value.Int (negsuc k)) sound = tt
 leaves_by m (value.Symbol name) sound = all_gone m name sound
-leaves_by m (value.Str text) sound = record { left = λ may. absurd (cc); last = refl; sound = none_left m sound }
-leaves_by m (value.Multi fields) sound = record { left = λ may. absurd (cc); last = refl; sound = none_left m sound }
+leaves_by m (value.Str text) sound = record { left = λ may. absurd (cc); last = refl; kept = λ ix fact at. absurd (cc); sound = none_left m sound }
+leaves_by m (value.Multi fields) sound = record { left = λ may. absurd (cc); last = refl; kept = λ ix fact at. absurd (cc); sound = none_left m sound }
 
 leaves : (m n : Memory) (v : Value) → IsSound m → retracted_one m v ≡ Some n → Leaves m v n
 leaves m n v sound e = subst (λ o. IfSome o (Leaves m v)) e (leaves_by m v sound)
@@ -160,10 +162,22 @@ ends m n (v ∷ before) after wrong h none = by (retracted_one m v) h (λ p is. 
         absurd (cc)
     by (Some p) is more = more p is
 
-pub stays_sound : (vs : List Value) (m : Memory) → IsSound m → IsSound (retracted_all m vs).0
-stays_sound [] m sound = sound
-stays_sound (v ∷ vs) m sound = by (retracted_one m v) refl (λ n. stays_sound vs n)
+-- a retraction takes facts out and adds none, also where it ends at an index that no fact has
+pub record Shrinks (m n : Memory) : Type 0 where
+  pub kept : (ix : ℕ) (fact : FactValue) → fact_at n.facts ix ≡ Some fact → fact_at m.facts ix ≡ Some fact
+  pub last : n.last ≡ m.last
+  pub sound : IsSound n
+
+shrinks_not : (m : Memory) → IsSound m → Shrinks m m
+shrinks_not m sound = record { kept = λ ix fact at. at; last = refl; sound = sound }
+
+shrinks_then : (m n p : Memory) (v : Value) → Leaves m v n → Shrinks n p → Shrinks m p
+shrinks_then m n p v first more = record { kept = λ ix fact at. first.kept ix fact (more.kept ix fact at); last = more.last ∙ first.last; sound = more.sound }
+
+pub shrinks : (vs : List Value) (m : Memory) → IsSound m → Shrinks m (retracted_all m vs).0
+shrinks [] m sound = shrinks_not m sound
+shrinks (v ∷ vs) m sound = by (retracted_one m v) refl (λ n. shrinks vs n)
   where
-    by : (o : Option Memory) → retracted_one m v ≡ o → ((n : Memory) → IsSound n → IsSound (retracted_all n vs).0) → IsSound (after_retracted m o (λ n. retracted_all n vs)).0
-    by None e more = sound
-    by (Some n) e more = more n (leaves m n v sound e).sound
+    by : (o : Option Memory) → retracted_one m v ≡ o → ((n : Memory) → IsSound n → Shrinks n (retracted_all n vs).0) → Shrinks m (after_retracted m o (λ n. retracted_all n vs)).0
+    by None e more = shrinks_not m sound
+    by (Some n) e more = let first = leaves m n v sound e in shrinks_then m n (retracted_all n vs).0 v first (more n first.sound)

@@ -103,7 +103,7 @@ pub record IsBuilt (relation : List ℕ) (slots : List SlotShape) (given : Given
   pub filling : filled slots given ≡ Ok pairs
   pub fact_is : template_fact relation pairs ≡ fact
 
-is_built : (templates : Templates) (relation : List ℕ) (slots : List SlotShape) (given : Given) (fact : FactValue) → slots_of templates relation ≡ Some slots
+pub is_built : (templates : Templates) (relation : List ℕ) (slots : List SlotShape) (given : Given) (fact : FactValue) → slots_of templates relation ≡ Some slots
     → built templates relation (slot_values given) ≡ Ok fact → IsBuilt relation slots given fact
 is_built templates relation slots given fact has h = by (fits slots given) refl (filled slots given) refl (sym (ap (λ o. built_by relation o (slot_values given)) has) ∙ h)
   where

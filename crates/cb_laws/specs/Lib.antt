@@ -2,3 +2,4 @@ pub mod Memories
 pub mod Naming
 pub mod SlotValues
 pub mod Written
+pub mod Reached

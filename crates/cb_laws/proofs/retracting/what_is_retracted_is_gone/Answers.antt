@@ -1,4 +1,4 @@
-use Rattle.cb_laws.proofs.RetractLaws.{ends, fault, fine, stays_sound}
+use Rattle.cb_laws.proofs.RetractLaws.{ends, fault, fine, shrinks}
 use Rattle.cb_laws.proofs.retracting.what_is_retracted_is_gone.Goals as goal
 
 pub returns-clause-fine : goal.returns-clause-fine
@@ -11,4 +11,4 @@ pub returns-clause-missing : goal.returns-clause-missing
 returns-clause-missing c = ends
 
 pub returns-clause-sound : goal.returns-clause-sound
-returns-clause-sound c = λ m vs. stays_sound vs m
+returns-clause-sound c = λ m vs sound. (shrinks vs m sound).sound
