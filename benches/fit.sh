@@ -49,23 +49,25 @@ test_time() {
     echo "$with $without $3" | awk '{ print 1000000 * ($1 - $2) / $3 }'
 }
 
-# The times for the pattern of kind $1, which $2 says: $3 tests against a fact of one field, and where $4 is `each` a tenth
-# of that for ten times the fields. The time for 1000 fields may be $5 times that for 100.
+# The times of a test for the pattern of kind $1, which $2 says: of $3 tests, and with `by fields` of the fewer the more fields
+# there are. For 1000 fields a test may take $5 times the time for 100.
 row() {
-    n=$3
-    printf '%-45s' "$2:"
+    times=
     for k in 1 10 100 1000; do
-        before=${now:-}
-        now=$(test_time "$1" "$k" "$n")
-        printf ' %s: %.2f us,' "$k" "$now"
-        [ "$4" = all ] || n=$((n / 10))
+        n=$3
+        [ "$4" = 'for all' ] || n=$(($3 / (k + 8)))
+        times="$times $(test_time "$1" "$k" "$n")"
     done
-    echo "$now $before" | awk -v most="$5" '{ printf " 1000 to 100: %.1f (wanted: at most %s)\n", $1 / $2, most; exit $1 > most * $2 }' || missed=1
+    echo "$times" | awk -v what="$2" -v most="$5" '{
+        printf "%-38s %.2f, %.2f, %.2f, %.2f microseconds for 1, 10, 100, 1000 fields; 1000 to 100: %.1f (wanted: at most %s)\n",
+            what ":", $1, $2, $3, $4, $4 / $3, most
+        exit $4 > most * $3
+    }' || missed=1
 }
 
 missed=0
-row constraints 'as many constraints as fields' 5000000 each 15
-row segment 'one segment' 2000000 all 2
-row between 'two segments with a constant between' 1000000 each 15
-row length 'a pattern of two fields' 3000000 all 2
+row constraints 'as many constraints as fields' 12000000 'by fields' 15
+row segment 'one segment' 700000 'for all' 2
+row between 'two segments with a constant between' 4000000 'by fields' 15
+row length 'a pattern of two fields' 10000000 'for all' 2
 exit "$missed"
