@@ -46,3 +46,17 @@ is_defined templates new in_use forms h = by (head_and_rest forms) refl h
     by : (o : Option (List ℕ × Trees)) → head_and_rest forms ≡ o → ok_then (with_template templates) (named_template in_use o) ≡ Ok new → Defines templates forms new
     by None e is = absurd (cc)
     by (Some (name, ts)) e is = read name ts e (slots_after [] (without_comment ts)) refl (is_reserved name) in_use is
+
+-- a template is defined only where its relation is not in use
+pub not_in_use : (templates new : Templates) (in_use : Bool) (forms : Trees) → defined templates in_use forms ≡ Ok new → in_use ≡ false
+not_in_use templates new in_use forms h = by (head_and_rest forms) h
+  where
+    used : (name : List ℕ) (r : Result (List SlotShape) Fault) (reserved used : Bool)
+        → ok_then (with_template templates) (if reserved then Err MalformedForm else (if used then Err TemplateInUse else ok_then (λ slots. (name, slots)) r)) ≡ Ok new → used ≡ false
+    used name r true u is = absurd (cc)
+    used name r false true is = absurd (cc)
+    used name r false false is = refl
+
+    by : (o : Option (List ℕ × Trees)) → ok_then (with_template templates) (named_template in_use o) ≡ Ok new → in_use ≡ false
+    by None is = absurd (cc)
+    by (Some (name, ts)) is = used name (slots_after [] (without_comment ts)) (is_reserved name) in_use is

@@ -10,3 +10,7 @@ mod AttributeFormLaws
 mod ReachedLaws
 mod Keeping
 mod ExpressionLaws
+mod ScriptLaws
+mod OpenTexts
+mod OpenLaws
+mod ActLaws

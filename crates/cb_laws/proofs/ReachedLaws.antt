@@ -75,11 +75,11 @@ retracted_kept m templates vs kept =
     record { sound = less.sound; in_range = subst (λ n. n ≤ greatest_index) (sym less.last) kept.in_range; slots = λ ix fact at. kept.slots ix fact (less.kept ix fact at) }
 
 -- no fact that is there has the relation
-not_first : (s t : Bool) → (s || t) ≡ false → s ≡ false
+pub not_first : (s t : Bool) → (s || t) ≡ false → s ≡ false
 not_first true t h = absurd (cc)
 not_first false t h = refl
 
-pub not_second : (s t : Bool) → (s || t) ≡ false → t ≡ false
+not_second : (s t : Bool) → (s || t) ≡ false → t ≡ false
 not_second true t h = absurd (cc)
 not_second false t h = h
 

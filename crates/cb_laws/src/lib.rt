@@ -3,8 +3,11 @@
 //! `docs/ARCHITECTURE.md` says where the layer stands.
 #![tactic(auto)]
 
+pub mod acting;
 pub mod asserting;
 pub mod equality;
+pub mod open_item;
+pub mod reached;
 pub mod retracting;
 pub mod slots;
 pub mod templates;

@@ -1,0 +1,87 @@
+-- What `assert` and `retract` do to the facts once their arguments have values.
+use Rattle.std.proofs.Common.{◌≡◌, ◌∙◌, ℕ, Bool, true, false, List, [], ◌∷◌, Option, Some, None, Result, Ok, Err, refl, sym, ap, subst, if◌then◌else◌}
+use Rattle.std.specs.List.{list_all}
+use Rattle.cb_actions.specs.Acts.{give_or_fault, stop, ◌>>=◌}
+use Rattle.cb_actions.specs.Effects.{added, addressed, asserted, parts_of, retracted, taken}
+use Rattle.cb_actions.specs.Worlds.{World}
+use Rattle.cb_actions.specs.declared.act.Ended.TheVariants as ended
+use Rattle.cb_exprs.specs.Shapes.{Shape}
+use Rattle.cb_facts.specs.FactLists.{fact_at}
+use Rattle.cb_facts.specs.Facts.{FactValue}
+use Rattle.cb_facts.specs.declared.value.Value.{Value}
+use Rattle.cb_facts.specs.declared.value.Value.TheVariants as value
+use Rattle.cb_forms.specs.declared.fault.Fault.{Fault}
+use Rattle.cb_forms.specs.declared.fault.Fault.TheVariants.{NoSuchFact, WrongType}
+use Rattle.cb_laws.proofs.AssertLaws.{has_index}
+use Rattle.cb_laws.proofs.RetractLaws.{fault, fine}
+use Rattle.cb_laws.specs.Memories.{AreAsserted, IsSound}
+use Rattle.cb_laws.specs.Naming.{LeavesUnnamed, LeavesUpToMissing}
+use Rattle.cb_templates.specs.Building.{built}
+use Rattle.cb_working_memory.specs.WorkingMemory.{Memory, asserted_one, is_retractable, retracted_all}
+
+-- the address that is answered, and the memory then
+pub record Answered (o : Memory × Option ℕ) (s t : World) (answer : Option Value) : Type 0 where
+  pub ix : ℕ
+  pub index_is : o.1 ≡ Some ix
+  pub answer_is : answer ≡ Some (value.Fact ix)
+  pub memory_is : t.memory ≡ o.0
+
+addressed_so : (o : Memory × Option ℕ) (s : World) (answer : Option Value) → (addressed o s).answer ≡ Ok answer → Answered o s (addressed o s).state answer
+addressed_so (m, Some ix) s answer h =
+    let same : Some (value.Fact ix) ≡ answer = cc in
+    record { ix = ix; index_is = refl; answer_is = sym same; memory_is = refl }
+addressed_so (m, None) s answer h = absurd (cc)
+
+answered : (shape : Shape) (vs : List Value) (s : World) (fact : FactValue) (answer : Option Value) → built s.templates shape.relation (parts_of shape.slots vs) ≡ Ok fact
+    → (asserted shape vs s).answer ≡ Ok answer → Answered (asserted_one s.memory fact) s (asserted shape vs s).state answer
+answered shape vs s fact answer made h = by (built s.templates shape.relation (parts_of shape.slots vs)) made h
+  where
+    by : (r : Result FactValue Fault) → r ≡ Ok fact → ((give_or_fault r >>= added) s).answer ≡ Ok answer → Answered (asserted_one s.memory fact) s ((give_or_fault r >>= added) s).state answer
+    by (Err f) e is = absurd (cc)
+    by (Ok g) e is =
+        let same : g ≡ fact = cc in
+        subst (λ it. Answered (asserted_one s.memory it) s (addressed (asserted_one s.memory g) s).state answer) same (addressed_so (asserted_one s.memory g) s answer is)
+
+pub address_there : (shape : Shape) (vs : List Value) (s : World) (fact : FactValue) (answer : Option Value) → IsSound s.memory
+    → built s.templates shape.relation (parts_of shape.slots vs) ≡ Ok fact → (asserted shape vs s).answer ≡ Ok answer
+    → (ix : ℕ) × (answer ≡ Some (value.Fact ix)) × (fact_at (asserted shape vs s).state.memory.facts ix ≡ Some fact)
+address_there shape vs s fact answer sound made h =
+    let it = answered shape vs s fact answer made h in
+    (it.ix, it.answer_is, ap (λ (m : Memory). fact_at m.facts it.ix) it.memory_is ∙ has_index s.memory fact it.ix sound it.index_is)
+
+pub one_asserted : (shape : Shape) (vs : List Value) (s : World) (fact : FactValue) (answer : Option Value) → built s.templates shape.relation (parts_of shape.slots vs) ≡ Ok fact
+    → (asserted shape vs s).answer ≡ Ok answer → AreAsserted s.memory (fact ∷ []) (asserted shape vs s).state.memory
+one_asserted shape vs s fact answer made h = let it = answered shape vs s fact answer made h in (it.ix, it.index_is, sym it.memory_is)
+
+pub fault_stays : (shape : Shape) (vs : List Value) (s : World) (f : Fault) → built s.templates shape.relation (parts_of shape.slots vs) ≡ Err f → (asserted shape vs s).state ≡ s
+fault_stays shape vs s f h = ap (λ r. ((give_or_fault r >>= added) s).state) h
+
+-- a retraction, by whether each value is one that can be retracted, and by what it leaves
+module _ (vs : List Value) (s : World) where
+  fine_by : (t : Bool) (o : Memory × Bool) (answer : Option Value) → IsSound s.memory → list_all is_retractable vs ≡ t → retracted_all s.memory vs ≡ o
+      → (if t then taken o s else stop (ended.Fault WrongType) s).answer ≡ Ok answer → LeavesUnnamed s.memory vs (if t then taken o s else stop (ended.Fault WrongType) s).state.memory
+  fine_by true (m, true) answer sound may e h = fine s.memory m vs sound may e
+  fine_by true (m, false) answer sound may e h = absurd (cc)
+  fine_by false o answer sound may e h = absurd (cc)
+
+  missing_by : (t : Bool) (o : Memory × Bool) → IsSound s.memory → list_all is_retractable vs ≡ t → retracted_all s.memory vs ≡ o
+      → (if t then taken o s else stop (ended.Fault WrongType) s).answer ≡ Err (ended.Fault NoSuchFact)
+      → LeavesUpToMissing s.memory vs (if t then taken o s else stop (ended.Fault WrongType) s).state.memory
+  missing_by true (m, true) sound may e h = absurd (cc)
+  missing_by true (m, false) sound may e h = fault s.memory m vs sound may e
+  missing_by false o sound may e h = absurd (cc)
+
+  wrong_by : (t : Bool) (o : Memory × Bool) → (if t then taken o s else stop (ended.Fault WrongType) s).answer ≡ Err (ended.Fault WrongType)
+      → (if t then taken o s else stop (ended.Fault WrongType) s).state ≡ s
+  wrong_by true (m, true) h = absurd (cc)
+  wrong_by true (m, false) h = absurd (cc)
+  wrong_by false o h = refl
+
+  pub fine_left : (answer : Option Value) → IsSound s.memory → (retracted vs s).answer ≡ Ok answer → LeavesUnnamed s.memory vs (retracted vs s).state.memory
+  fine_left answer sound h = fine_by (list_all is_retractable vs) (retracted_all s.memory vs) answer sound refl refl h
+
+  pub missing_left : IsSound s.memory → (retracted vs s).answer ≡ Err (ended.Fault NoSuchFact) → LeavesUpToMissing s.memory vs (retracted vs s).state.memory
+  missing_left sound h = missing_by (list_all is_retractable vs) (retracted_all s.memory vs) sound refl refl h
+
+  pub wrong_stays : (retracted vs s).answer ≡ Err (ended.Fault WrongType) → (retracted vs s).state ≡ s
+  wrong_stays h = wrong_by (list_all is_retractable vs) (retracted_all s.memory vs) h

@@ -1,0 +1,11 @@
+use Rattle.cb_laws.proofs.ActLaws.{fine_left, missing_left, wrong_stays}
+use Rattle.cb_laws.proofs.acting.a_retraction_takes_what_is_named.Goals as goal
+
+pub returns-clause-fine : goal.returns-clause-fine
+returns-clause-fine c = fine_left
+
+pub returns-clause-missing : goal.returns-clause-missing
+returns-clause-missing c = missing_left
+
+pub returns-clause-wrong_type : goal.returns-clause-wrong_type
+returns-clause-wrong_type c = wrong_stays

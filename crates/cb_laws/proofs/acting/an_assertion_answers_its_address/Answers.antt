@@ -1,0 +1,11 @@
+use Rattle.cb_laws.proofs.ActLaws.{address_there, fault_stays, one_asserted}
+use Rattle.cb_laws.proofs.acting.an_assertion_answers_its_address.Goals as goal
+
+pub returns-clause-asserted : goal.returns-clause-asserted
+returns-clause-asserted c = address_there
+
+pub returns-clause-one : goal.returns-clause-one
+returns-clause-one c = one_asserted
+
+pub returns-clause-fault : goal.returns-clause-fault
+returns-clause-fault c = fault_stays

@@ -1,0 +1,8 @@
+use Rattle.cb_laws.proofs.OpenLaws.{what_fits, what_is_too_long}
+use Rattle.cb_laws.proofs.open_item.what_is_not_carried_out_is_open.Goals as goal
+
+pub returns-clause-fits : goal.returns-clause-fits
+returns-clause-fits c = what_fits
+
+pub returns-clause-too_long : goal.returns-clause-too_long
+returns-clause-too_long c = what_is_too_long

@@ -1,0 +1,49 @@
+//! What `assert` and `retract` do to the facts once their arguments have values.
+ghost use Rattle.std.specs.Prelude.{◌≡◌, ◌∷◌, ℕ, List, [], Option, Some, Ok, Err};
+ghost use Rattle.cb_actions.specs.Effects.{asserted, parts_of, retracted};
+ghost use Rattle.cb_actions.specs.Worlds.{World};
+ghost use Rattle.cb_actions.specs.declared.act.Ended.TheVariants as ended;
+ghost use Rattle.cb_exprs.specs.Shapes.{Shape};
+ghost use Rattle.cb_facts.specs.FactLists.{fact_at};
+ghost use Rattle.cb_facts.specs.Facts.{FactValue};
+ghost use Rattle.cb_facts.specs.declared.value.Value.{Value};
+ghost use Rattle.cb_facts.specs.declared.value.Value.TheVariants as value;
+ghost use Rattle.cb_forms.specs.declared.fault.Fault.{Fault};
+ghost use Rattle.cb_forms.specs.declared.fault.Fault.TheVariants.{NoSuchFact, WrongType};
+ghost use Rattle.cb_laws.specs.Memories.{AreAsserted, IsSound};
+ghost use Rattle.cb_laws.specs.Naming.{LeavesUnnamed, LeavesUpToMissing};
+ghost use Rattle.cb_templates.specs.Building.{built};
+
+/// An `assert` that ends without a fault or a limit has asserted its one fact, and its answer is the address under which that fact is
+/// there. One whose fact is at fault changes nothing.
+pub fn an_assertion_answers_its_address()
+    ensures asserted { (shape : Shape) (vs : List Value) (s : World) (fact : FactValue)
+        (answer : Option Value)
+        → IsSound s.memory
+        → built s.templates shape.relation (parts_of shape.slots vs) ≡ Ok fact
+        → (asserted shape vs s).answer ≡ Ok answer
+        → (ix : ℕ) × (answer ≡ Some (value.Fact ix))
+        × (fact_at (asserted shape vs s).state.memory.facts ix ≡ Some fact) }
+    ensures one { (shape : Shape) (vs : List Value) (s : World) (fact : FactValue)
+        (answer : Option Value)
+        → built s.templates shape.relation (parts_of shape.slots vs) ≡ Ok fact
+        → (asserted shape vs s).answer ≡ Ok answer
+        → AreAsserted s.memory (fact ∷ []) (asserted shape vs s).state.memory }
+    ensures fault { (shape : Shape) (vs : List Value) (s : World) (fault : Fault)
+        → built s.templates shape.relation (parts_of shape.slots vs) ≡ Err fault
+        → (asserted shape vs s).state ≡ s }
+{}
+
+/// A `retract` without a fault leaves exactly the facts that no argument names. With the fault that there is no such fact (CB20) it
+/// leaves those that no argument before that one names. A value of another type (CB17) comes before any retraction.
+pub fn a_retraction_takes_what_is_named()
+    ensures fine { (vs : List Value) (s : World) (answer : Option Value) → IsSound s.memory
+        → (retracted vs s).answer ≡ Ok answer
+        → LeavesUnnamed s.memory vs (retracted vs s).state.memory }
+    ensures missing { (vs : List Value) (s : World) → IsSound s.memory
+        → (retracted vs s).answer ≡ Err (ended.Fault NoSuchFact)
+        → LeavesUpToMissing s.memory vs (retracted vs s).state.memory }
+    ensures wrong_type { (vs : List Value) (s : World)
+        → (retracted vs s).answer ≡ Err (ended.Fault WrongType)
+        → (retracted vs s).state ≡ s }
+{}

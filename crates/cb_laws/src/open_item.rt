@@ -1,0 +1,16 @@
+//! What is not carried out is the open item.
+ghost use Rattle.std.specs.Prelude.{◌≡◌, ◌<◌, ◌≤◌, ◌++◌, ℕ, List, length};
+ghost use Rattle.cb_forms.specs.Items.{rest};
+ghost use Rattle.cb_session.specs.Transcripts.{complete, so_far, too_long};
+ghost use Rattle.cb_session.specs.declared.limits.Limits.{Limits};
+
+/// A script so far is the whole script of what stands before its open item. If that item has more bytes than an item may have, the
+/// line of the limit follows, unless the script has ended before.
+pub fn what_is_not_carried_out_is_open()
+    ensures fits { (limits : Limits) (p before : List ℕ)
+        → p ≡ before ++ rest p → length (rest p) ≤ limits.max_form
+        → so_far limits p ≡ complete limits before }
+    ensures too_long { (limits : Limits) (p before : List ℕ)
+        → p ≡ before ++ rest p → limits.max_form < length (rest p)
+        → so_far limits p ≡ too_long (complete limits before) }
+{}

@@ -1,0 +1,21 @@
+//! What holds of every state that a script can reach.
+ghost use Rattle.std.specs.Prelude.{ℕ, List};
+ghost use Rattle.cb_forms.specs.Trees.{Reading};
+ghost use Rattle.cb_laws.specs.Reached.{AreWellKept};
+ghost use Rattle.cb_session.specs.States.{State};
+ghost use Rattle.cb_session.specs.Transcripts.{complete, executed, so_far};
+ghost use Rattle.cb_session.specs.declared.limits.Limits.{Limits};
+
+/// Whatever the limits, the script and how far it has come: no two facts are equal, their indices rise, none comes after the index
+/// given last, each fact of a relation with a template has the template's slots, and each other fact is ordered.
+pub fn facts_and_templates_are_well_kept()
+    ensures item { (s : State) (r : Reading)
+        → AreWellKept s.world.memory s.world.templates
+        → AreWellKept (executed s r).state.world.memory (executed s r).state.world.templates }
+    ensures so_far { (limits : Limits) (p : List ℕ)
+        → AreWellKept (so_far limits p).state.world.memory
+        (so_far limits p).state.world.templates }
+    ensures whole { (limits : Limits) (script : List ℕ)
+        → AreWellKept (complete limits script).state.world.memory
+        (complete limits script).state.world.templates }
+{}
