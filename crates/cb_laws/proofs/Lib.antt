@@ -14,3 +14,4 @@ mod ScriptLaws
 mod OpenTexts
 mod OpenLaws
 mod ActLaws
+mod DefaultLaws

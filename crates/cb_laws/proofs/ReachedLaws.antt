@@ -1,5 +1,6 @@
 -- What is done to facts and templates leaves them well kept.
-use Rattle.std.proofs.Common.{◌≡◌, ◌≤◌, ◌⊎◌, inl, inr, ◌∙◌, ◌||◌, ℕ, Bool, true, false, cond, List, [], ◌∷◌, Option, Some, None, Result, Ok, Err, map, refl, sym, ap, subst, arith, if◌then◌else◌}
+use Rattle.std.proofs.Common.{◌≡◌, ◌≤◌, ◌⊎◌, inl, inr, ◌∙◌, ◌||◌, ℕ, Bool, true, false, cond, List, [], ◌∷◌, Option, Some, None, Result, Ok, Err, All, refl, sym, ap, subst, arith, if◌then◌else◌}
+use Rattle.std.proofs.lemmas.List.Elements.{All-head, All-tail}
 use Rattle.std.specs.BTreeMap.{is_at}
 use Rattle.std.specs.Cmp.Lexicographic.{bytes_decides}
 use Rattle.std.specs.List.{list_any}
@@ -7,41 +8,73 @@ use Rattle.std.specs.List.Sorted.{IsStrictlySortedBy}
 use Rattle.std.specs.Ordering.{nat_cmp}
 use Rattle.std.specs.Str.{bytes_eq}
 use Rattle.cb_facts.specs.FactLists.{IndexedFacts, fact_at}
-use Rattle.cb_facts.specs.Facts.{FactValue, fields, ordered_fact, slots, template_fact}
-use Rattle.cb_facts.specs.Values.{spliced}
+use Rattle.cb_facts.specs.Facts as content
+use Rattle.cb_facts.specs.Facts.{FactValue, ordered_fact}
+use Rattle.cb_facts.specs.Values.{is_multifield, spliced}
+use Rattle.cb_facts.specs.Results.{ok_then, with_first}
 use Rattle.cb_facts.specs.declared.value.Value.{Value}
+use Rattle.cb_facts.specs.declared.value.Value.TheVariants as value
+use Rattle.cb_forms.specs.declared.fault.Fault.{Fault}
 use Rattle.cb_laws.proofs.AssertLaws.{OneMore, none_more, one_more, stays_in_range}
 use Rattle.cb_laws.proofs.RetractLaws.{shrinks}
-use Rattle.cb_laws.proofs.SlotLaws.{is_built}
+use Rattle.cb_laws.proofs.SlotLaws.{default_is, is_built, one_of}
 use Rattle.cb_laws.specs.Memories.{IsSound}
-use Rattle.cb_laws.specs.Reached.{AreSlotsOf, AreWellKept, HasItsSlots}
+use Rattle.cb_laws.specs.Reached.{AreSlotsOf, AreWellKept, FillSlots, HasItsDefault, HasItsSlots, IsTemplate}
 use Rattle.cb_laws.specs.SlotValues.{Defines}
-use Rattle.cb_templates.proofs.SlotLaws.{fact_has_slots}
-use Rattle.cb_templates.specs.Building.{PartValues, built, built_by, field_values, slot_values}
-use Rattle.cb_templates.specs.Slots.{SlotShape, names}
+use Rattle.cb_templates.specs.Building.{Given, PartValues, built, built_by, field_values, filled, given_for, one_value, slot_values, value_or_default}
+use Rattle.cb_templates.specs.Slots.{SlotShape}
 use Rattle.cb_templates.specs.Templates.{Templates, slots_of}
 use Rattle.cb_working_memory.specs.WorkingMemory.{Memory, asserted_one, empty_memory, greatest_index, retracted_all}
+
+-- each relation that has a template has one whose slots are right
+abbrev AreTemplates : Templates → Type 0
+AreTemplates templates = (relation : List ℕ) (slots : List SlotShape) → slots_of templates relation ≡ Some slots → IsTemplate slots
 
 no_indices : IsStrictlySortedBy nat_cmp []
 unfolding IsStrictlySortedBy
 no_indices = tt
 
-pub empty_kept : (templates : Templates) → AreWellKept empty_memory templates
-empty_kept templates = record {
+pub empty_kept : (templates : Templates) → AreTemplates templates → AreWellKept empty_memory templates
+empty_kept templates made = record {
   sound = record { rising = no_indices; distinct = λ fact i j p q. absurd (cc); none_after = λ ix above. refl };
   in_range = omega arith;
+  templates_are = made;
   slots = λ ix fact at. absurd (cc);
 }
 
+-- what a slot is filled with is a multifield exactly in a multislot
+given_kind : (vs : List Value) (v : Value) (t : Bool) → (if t then Ok (value.Multi (spliced vs)) else one_value vs) ≡ Ok v → is_multifield v ≡ t
+given_kind vs v true h = let same : value.Multi (spliced vs) ≡ v = cc in ap is_multifield (sym same)
+given_kind vs v false h = (one_of vs v h).is_single
+
+value_kind : (s : SlotShape) (o : Option (List Value)) (v : Value) → HasItsDefault s → value_or_default s o ≡ Ok v → is_multifield v ≡ s.is_multi
+value_kind s None v fine h = fine v (default_is s.default v h)
+value_kind s (Some vs) v fine h = given_kind vs v s.is_multi h
+
+filled_slots : (slots : List SlotShape) (given : Given) (pairs : List (List ℕ × Value)) → All HasItsDefault slots → filled slots given ≡ Ok pairs → FillSlots slots pairs
+filled_slots [] given pairs fine h =
+    let same : [] ≡ pairs = cc in
+    subst (FillSlots []) same tt
+filled_slots (s ∷ slots) given pairs fine h =
+    by (value_or_default s (given_for given s.name)) refl (filled slots given) h (λ others is. filled_slots slots given others (All-tail HasItsDefault s slots fine) is)
+  where
+    by : (r : Result Value Fault) → value_or_default s (given_for given s.name) ≡ r → (rest : Result (List (List ℕ × Value)) Fault) → with_first (ok_then (λ v. (s.name, v)) r) rest ≡ Ok pairs
+        → ((others : List (List ℕ × Value)) → rest ≡ Ok others → FillSlots slots others) → FillSlots (s ∷ slots) pairs
+    by (Err f) e rest is more = absurd (cc)
+    by (Ok v) e (Err f) is more = absurd (cc)
+    by (Ok v) e (Ok others) is more =
+        let same : (s.name, v) ∷ others ≡ pairs = cc in
+        subst (FillSlots (s ∷ slots)) same (refl, value_kind s (given_for given s.name) v (All-head HasItsDefault s slots fine) e, more others refl)
+
 -- a fact that was built has the slots of its template
-has_its_slots : (templates : Templates) (relation : List ℕ) (parts : PartValues) (fact : FactValue) → built templates relation parts ≡ Ok fact → HasItsSlots templates fact
-has_its_slots templates relation parts fact h = by (slots_of templates relation) refl parts h
+has_its_slots : (templates : Templates) (relation : List ℕ) (parts : PartValues) (fact : FactValue) → AreTemplates templates → built templates relation parts ≡ Ok fact → HasItsSlots templates fact
+has_its_slots templates relation parts fact are h = by (slots_of templates relation) refl parts h
   where
     by : (o : Option (List SlotShape)) → slots_of templates relation ≡ o → (parts : PartValues) → built templates relation parts ≡ Ok fact → HasItsSlots templates fact
     by None e (field_values vs) is =
         let made : Ok (ordered_fact relation (spliced vs)) ≡ Ok fact = sym (ap (λ o. built_by relation o (field_values vs)) e) ∙ is in
         let same : ordered_fact relation (spliced vs) ≡ fact = cc in
-        subst (HasItsSlots templates) same (subst (λ o. AreSlotsOf o (fields (spliced vs))) (sym e) tt)
+        subst (HasItsSlots templates) same (subst (λ o. AreSlotsOf o (content.fields (spliced vs))) (sym e) tt)
     by None e (slot_values given) is =
         let bad : built_by relation None (slot_values given) ≡ Ok fact = sym (ap (λ o. built_by relation o (slot_values given)) e) ∙ is in
         absurd (cc)
@@ -50,8 +83,8 @@ has_its_slots templates relation parts fact h = by (slots_of templates relation)
         absurd (cc)
     by (Some them) e (slot_values given) is =
         let made = is_built templates relation them given fact e is in
-        let named : map (λ p. p.0) made.pairs ≡ names them = fact_has_slots templates relation (slot_values given) them (template_fact relation made.pairs) e (is ∙ ap Ok (sym made.fact_is)) in
-        subst (HasItsSlots templates) made.fact_is (subst (λ o. AreSlotsOf o (slots made.pairs)) (sym e) named)
+        let full : FillSlots them made.pairs = filled_slots them given made.pairs (are relation them e).defaults made.filling in
+        subst (HasItsSlots templates) made.fact_is (subst (λ o. AreSlotsOf o (content.slots made.pairs)) (sym e) full)
 
 -- an assertion
 pub asserted_kept : (m : Memory) (templates : Templates) (relation : List ℕ) (parts : PartValues) (fact : FactValue) → AreWellKept m templates → built templates relation parts ≡ Ok fact
@@ -60,19 +93,19 @@ asserted_kept m templates relation parts fact kept made = by (asserted_one m fac
   where
     which : (ix : ℕ) (g : FactValue) → (fact_at m.facts ix ≡ Some g) ⊎ (fact ≡ g) → HasItsSlots templates g
     which ix g (inl was) = kept.slots ix g was
-    which ix g (inr same) = subst (HasItsSlots templates) same (has_its_slots templates relation parts fact made)
+    which ix g (inr same) = subst (HasItsSlots templates) same (has_its_slots templates relation parts fact kept.templates_are made)
 
     by : (o : Option ℕ) → (asserted_one m fact).1 ≡ o → AreWellKept (asserted_one m fact).0 templates
     by None e = subst (λ n. AreWellKept n templates) (none_more m fact e) kept
     by (Some ix) e =
         let more = one_more m fact ix kept.sound e in
-        record { sound = more.sound; in_range = stays_in_range m fact kept.in_range; slots = λ q g at. which q g (more.only q g at) }
+        record { sound = more.sound; in_range = stays_in_range m fact kept.in_range; templates_are = kept.templates_are; slots = λ q g at. which q g (more.only q g at) }
 
 -- a retraction
 pub retracted_kept : (m : Memory) (templates : Templates) (vs : List Value) → AreWellKept m templates → AreWellKept (retracted_all m vs).0 templates
 retracted_kept m templates vs kept =
     let less = shrinks vs m kept.sound in
-    record { sound = less.sound; in_range = subst (λ n. n ≤ greatest_index) (sym less.last) kept.in_range; slots = λ ix fact at. kept.slots ix fact (less.kept ix fact at) }
+    record { sound = less.sound; in_range = subst (λ n. n ≤ greatest_index) (sym less.last) kept.in_range; templates_are = kept.templates_are; slots = λ ix fact at. kept.slots ix fact (less.kept ix fact at) }
 
 -- no fact that is there has the relation
 pub not_first : (s t : Bool) → (s || t) ≡ false → s ≡ false
@@ -96,12 +129,23 @@ not_named ((i, there) ∷ facts) name ix fact none at =
     by false is more = more is
 
 -- a definition of a template for a relation that no fact has
-pub defined_kept : (m : Memory) (old new : Templates) (name : List ℕ) → AreWellKept m old → ((other : List ℕ) → (other ≡ name → ⊥) → slots_of new other ≡ slots_of old other)
-    → list_any (λ entry. bytes_eq entry.1.relation name) m.facts ≡ false → AreWellKept m new
-defined_kept m old new name kept others none = record { sound = kept.sound; in_range = kept.in_range; slots = λ ix fact at. by ix fact at }
-  where
-    by : (ix : ℕ) (fact : FactValue) → fact_at m.facts ix ≡ Some fact → HasItsSlots new fact
-    by ix fact at =
-        let no : bytes_eq fact.relation name ≡ false = not_named m.facts name ix fact none at in
-        let differs : fact.relation ≡ name → ⊥ = λ e. let yes : bytes_eq fact.relation name ≡ true = (bytes_decides fact.relation name).1 e in cc in
-        subst (λ o. AreSlotsOf o fact.content) (sym (others fact.relation differs)) (kept.slots ix fact at)
+pub defined_kept : (m : Memory) (old new : Templates) (name : List ℕ) (them : List SlotShape) → AreWellKept m old → IsTemplate them → slots_of new name ≡ Some them
+    → ((other : List ℕ) → (other ≡ name → ⊥) → slots_of new other ≡ slots_of old other) → list_any (λ entry. bytes_eq entry.1.relation name) m.facts ≡ false → AreWellKept m new
+defined_kept m old new name them kept right here others none = record {
+  sound = kept.sound;
+  in_range = kept.in_range;
+  templates_are = λ relation slots at. template relation slots (bytes_eq relation name) refl at;
+  slots = λ ix fact at. by ix fact at;
+} where
+  differs : (relation : List ℕ) → bytes_eq relation name ≡ false → relation ≡ name → ⊥
+  differs relation apart e = let yes : bytes_eq relation name ≡ true = (bytes_decides relation name).1 e in cc
+
+  template : (relation : List ℕ) (slots : List SlotShape) (t : Bool) → bytes_eq relation name ≡ t → slots_of new relation ≡ Some slots → IsTemplate slots
+  template relation slots true e at =
+      let same : Some them ≡ Some slots = sym here ∙ sym (ap (slots_of new) ((bytes_decides relation name).0 e)) ∙ at in
+      let is : them ≡ slots = cc in
+      subst IsTemplate is right
+  template relation slots false e at = kept.templates_are relation slots (sym (others relation (differs relation e)) ∙ at)
+
+  by : (ix : ℕ) (fact : FactValue) → fact_at m.facts ix ≡ Some fact → HasItsSlots new fact
+  by ix fact at = subst (λ o. AreSlotsOf o fact.content) (sym (others fact.relation (differs fact.relation (not_named m.facts name ix fact none at)))) (kept.slots ix fact at)

@@ -15,11 +15,13 @@ use Rattle.cb_forms.specs.Members.{head_and_rest}
 use Rattle.cb_forms.specs.Trees.{Reading, Trees}
 use Rattle.cb_forms.specs.declared.fault.Fault.{Fault}
 use Rattle.cb_forms.specs.declared.fault.Fault.TheVariants.{MalformedForm}
+use Rattle.cb_laws.proofs.DefaultLaws.{slots_suit}
 use Rattle.cb_laws.proofs.DefinedLaws.{is_defined, not_in_use}
 use Rattle.cb_laws.proofs.ExpressionLaws.{WellKept, anew_keeps, expression_keeps, facts_keep, globals_keep}
 use Rattle.cb_laws.proofs.Keeping.{Keeps, keeps_then}
 use Rattle.cb_laws.proofs.ReachedLaws.{defined_kept, empty_kept, not_first}
-use Rattle.cb_laws.specs.Reached.{AreWellKept}
+use Rattle.cb_laws.proofs.SlotFormLaws.{each_slot}
+use Rattle.cb_laws.specs.Reached.{AreWellKept, IsTemplate}
 use Rattle.cb_requests.specs.Requests as asked
 use Rattle.cb_requests.specs.Requests.{Request, request_of}
 use Rattle.cb_session.specs.Actions.{acted, initials_kept, is_in_use, is_name_in_use, on_world, performed, performed_and_shown, reset_to, shown, started_over}
@@ -27,12 +29,22 @@ use Rattle.cb_session.specs.States.{State}
 use Rattle.cb_session.specs.Transcripts.{Run, after, after_all, after_status, begun, complete, concluded, executed, so_far, too_long, too_long_status}
 use Rattle.cb_session.specs.declared.limits.Limits.{Limits}
 use Rattle.cb_session.specs.declared.status.Status.{Status}
-use Rattle.cb_templates.specs.Templates.{Templates, defined}
+use Rattle.cb_templates.specs.Slots.{SlotShape}
+use Rattle.cb_templates.specs.Templates.{Templates, defined, slots_after, slots_of, without_comment}
 use Rattle.cb_working_memory.specs.Deffacts.{facts_in, is_named_in_deffacts}
 
 -- the facts and the templates of a state are well kept
 abbrev Kept : State → Type 0
 Kept s = AreWellKept s.world.memory s.world.templates
+
+-- slots that were read make a template
+right_template : (forms : Trees) (slots : List SlotShape) → slots_after [] forms ≡ Ok slots → IsTemplate slots
+right_template forms slots h =
+    let each = (each_slot forms slots).0 h in
+    record { differ = each.1; defaults = slots_suit forms slots each.0 }
+
+no_templates : (relation : List ℕ) (slots : List SlotShape) → slots_of [] relation ≡ Some slots → IsTemplate slots
+no_templates relation slots h = absurd (cc)
 
 -- A template is defined only for a relation that no fact has.
 template_keeps : (s : State) (ts : Trees) → Kept s → WellKept (template_defined (is_name_in_use s ts) ts s.world).state
@@ -48,12 +60,12 @@ template_keeps s ts h = by (defined s.world.templates (is_name_in_use s ts) ts) 
     by (Err f) e = h
     by (Ok new) e =
         let it = is_defined s.world.templates new (is_name_in_use s ts) ts e in
-        defined_kept s.world.memory s.world.templates new it.name h it.others (none it.name it.written it.head (not_in_use s.world.templates new (is_name_in_use s ts) ts e))
+        defined_kept s.world.memory s.world.templates new it.name it.slots h (right_template (without_comment it.written) it.slots it.read) it.here it.others (none it.name it.written it.head (not_in_use s.world.templates new (is_name_in_use s ts) ts e))
 
 reset_keeps : (gs : List GlobalTerm) (facts : List FactTerm) → Keeps WellKept (reset_to gs facts)
 reset_keeps gs facts =
     keeps_then WellKept (all_evaluated gs) (λ _. started_over >>= (λ _. all_asserted facts)) (anew_keeps gs)
-    (λ _. keeps_then WellKept started_over (λ _. all_asserted facts) (λ w h. empty_kept w.templates) (λ _. facts_keep facts))
+    (λ _. keeps_then WellKept started_over (λ _. all_asserted facts) (λ w h. empty_kept w.templates h.templates_are) (λ _. facts_keep facts))
 
 performed_keeps : (request : Request) → Keeps Kept (performed request)
 performed_keeps (asked.act t) s h = expression_keeps t s.world h
@@ -62,7 +74,7 @@ performed_keeps (asked.define_deffacts name facts) s h = h
 performed_keeps (asked.define_globals gs) s h = keeps_then Kept (on_world (globals_defined gs)) (λ _. initials_kept gs) (λ u k. globals_keep gs u.world k) (λ _ u k. k) s h
 performed_keeps asked.list_facts s h = h
 performed_keeps asked.reset s h = reset_keeps s.globals (facts_in s.deffacts) s.world h
-performed_keeps asked.clear s h = empty_kept []
+performed_keeps asked.clear s h = empty_kept [] no_templates
 
 request_keeps : (r : Result Request Fault) → Keeps Kept (give_or_fault r)
 request_keeps (Ok request) s h = h
@@ -97,8 +109,8 @@ long_keeps None run h = h
 long_keeps (Some status) run h = h
 
 run_keeps : (b : Bool) (limits : Limits) (some all : List Reading) → Kept (if b then too_long (after_all (begun limits) some) else after_all (begun limits) all).state
-run_keeps true limits some all = long_keeps (after_all (begun limits) some).status (after_all (begun limits) some) (items_keep (begun limits) some (empty_kept []))
-run_keeps false limits some all = items_keep (begun limits) all (empty_kept [])
+run_keeps true limits some all = long_keeps (after_all (begun limits) some).status (after_all (begun limits) some) (items_keep (begun limits) some (empty_kept [] no_templates))
+run_keeps false limits some all = items_keep (begun limits) all (empty_kept [] no_templates)
 
 pub so_far_kept : (limits : Limits) (p : List ℕ) → Kept (so_far limits p).state
 unfolding so_far

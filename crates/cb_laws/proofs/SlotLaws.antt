@@ -153,7 +153,7 @@ pub record IsOne (vs : List Value) (v : Value) : Type 0 where
   pub alone : vs ≡ v ∷ []
   pub is_single : is_multifield v ≡ false
 
-one_of : (vs : List Value) (v : Value) → one_value vs ≡ Ok v → IsOne vs v
+pub one_of : (vs : List Value) (v : Value) → one_value vs ≡ Ok v → IsOne vs v
 one_of [] v h = absurd (cc)
 one_of (x ∷ y ∷ vs) v h = absurd (cc)
 one_of (x ∷ []) v h = by (is_multifield x) refl h
@@ -177,7 +177,7 @@ one_slot templates relation slots given fact name slot vs has at h single is =
     let one = one_by vs there.v slot.is_multi single made in
     (there.v, one.alone, one.is_single, there.is)
 
-default_is : (o : Option Value) (v : Value) → ok_or o FactDoesNotFit ≡ Ok v → o ≡ Some v
+pub default_is : (o : Option Value) (v : Value) → ok_or o FactDoesNotFit ≡ Ok v → o ≡ Some v
 default_is None v h = absurd (cc)
 default_is (Some w) v h = let same : w ≡ v = cc in ap Some same
 
