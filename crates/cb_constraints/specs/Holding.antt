@@ -70,6 +70,22 @@ after_demand (each cs) v env = after_checks cs v env
 after_demand (either None alternatives) v env = provided (one_holds alternatives v env) env
 after_demand (either (Some x) alternatives) v env = option_and_then (λ grown. provided (one_holds alternatives v grown) grown) (taken x v env)
 
+-- a check for a constant holds; one for a variable or an expression, with `~` or without, counts as holding
+abbrev pub constant_holds : Value → Bool → Test → Bool
+constant_holds v negated (constant w) = opposite_if negated (same v w)
+constant_holds v negated (variable x) = true
+constant_holds v negated (predicate e) = true
+constant_holds v negated (return_value e) = true
+
+abbrev pub constants_hold : Value → List Check → Bool
+constants_hold v cs = list_all (λ c. constant_holds v c.negated c.test) cs
+
+-- the constraint holds of the value, variables and expressions aside
+abbrev pub may_hold : Demand → Value → Bool
+may_hold nothing v = true
+may_hold (each cs) v = constants_hold v cs
+may_hold (either first alternatives) v = list_any (constants_hold v) alternatives
+
 -- a call returned whether a constraint holds, and where it does left these bindings
 abbrev pub Meets : Bool → Bindings → Option Bindings → Type 0
 Meets true env after = after ≡ Some env

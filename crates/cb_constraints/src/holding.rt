@@ -1,8 +1,8 @@
 //! Whether a constraint holds of a value.
 ghost use Rattle.std.specs.Prelude.{◌≡◌, IfOk, map};
-ghost use Rattle.std.specs.List.{list_all};
+ghost use Rattle.std.specs.List.{list_all, list_any};
 ghost use Rattle.cb_constraints.specs.Constraints.{check_of, demand_of, test_of};
-ghost use Rattle.cb_constraints.specs.Holding.{Meets, after_check, after_checks, after_demand, check_holds, one_holds, taken, test_holds, tested_value, value_if_any};
+ghost use Rattle.cb_constraints.specs.Holding.{Meets, after_check, after_checks, after_demand, check_holds, constant_holds, constants_hold, may_hold, one_holds, taken, test_holds, tested_value, value_if_any};
 ghost use Rattle.cb_eval.specs.Evaluation.{value_of};
 ghost use Rattle.cb_exprs.specs.Terms.{term_of};
 
@@ -189,5 +189,53 @@ fn value_if_any(
         Ok(value) => Ok(Some(value)),
         Err(Refused::Fault(_)) => Ok(None),
         Err(Refused::NoMemory) => Err(NoMemory),
+    }
+}
+
+/// Whether a constraint may hold of the value in its place: what it asks by constants alone, where each variable and each
+/// expression counts as true. Where this is `false`, `meets` is too, whatever values variables have. It takes no memory.
+pub fn may_hold(demand: &Demand, tested: Tested<'_>) -> bool
+    ensures { result ≡ may_hold (demand_of demand.now) (tested_value tested.entry) }
+{
+    match demand {
+        Demand::Nothing => true,
+        Demand::Each(checks) => constants_hold(checks, tested),
+        Demand::Either(_, alternatives) => one_may_hold(alternatives, tested),
+    }
+}
+
+/// Whether the constants of one of the alternatives hold.
+fn one_may_hold(alternatives: &[Vec<Check>], tested: Tested<'_>) -> bool
+    ensures { result ≡ list_any (constants_hold (tested_value tested.entry))
+        (map (λ cs. map check_of cs.items) alternatives.now) }
+{
+    for alternative in alternatives {
+        if constants_hold(alternative, tested) {
+            return true;
+        }
+    }
+    false
+}
+
+/// Whether all checks for constants hold.
+fn constants_hold(checks: &[Check], tested: Tested<'_>) -> bool
+    ensures { result ≡ constants_hold (tested_value tested.entry) (map check_of checks.now) }
+{
+    for check in checks {
+        if !constant_holds(check, tested) {
+            return false;
+        }
+    }
+    true
+}
+
+/// Whether a check holds, if it is for a constant.
+fn constant_holds(check: &Check, tested: Tested<'_>) -> bool
+    ensures { result ≡ constant_holds (tested_value tested.entry) (check_of check.now).negated
+        (check_of check.now).test }
+{
+    match &check.test {
+        Test::Constant(value) => tested.is(value) != check.is_negated,
+        Test::Variable(_) | Test::Predicate(_) | Test::ReturnValue(_) => true,
     }
 }

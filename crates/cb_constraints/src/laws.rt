@@ -2,7 +2,7 @@
 ghost use Rattle.std.specs.Prelude.{◌≡◌, ◌∷◌, ℕ, List, Option, None, Some, Ok, Err, true, false};
 ghost use Rattle.std.specs.Option.{option_and_then};
 ghost use Rattle.cb_constraints.specs.Constraints.{Check, Demand, Test, constant, each, either, nothing, predicate, return_value, variable};
-ghost use Rattle.cb_constraints.specs.Holding.{after_demand, one_holds, test_holds};
+ghost use Rattle.cb_constraints.specs.Holding.{after_demand, may_hold, one_holds, test_holds};
 ghost use Rattle.cb_constraints.specs.Laws.{one_of, only, opposite, plain};
 ghost use Rattle.cb_eval.specs.Evaluation.{value_of};
 ghost use Rattle.cb_exprs.specs.Bindings.{Bindings, value_at, with_variable};
@@ -98,4 +98,10 @@ pub fn what_is_set_apart_comes_first()
         → after_demand (only (plain (variable x))) v env ≡ Some grown
         → after_demand (either (Some x) alternatives) v env
         ≡ after_demand (one_of alternatives) v grown }
+{}
+
+/// A constraint that holds may hold: what its constants ask is so.
+pub fn what_holds_may_hold()
+    ensures { (d : Demand) (v : Value) (env grown : Bindings)
+        → after_demand d v env ≡ Some grown → may_hold d v ≡ true }
 {}

@@ -1,7 +1,13 @@
 -- What a returned place and a returned answer say.
-use Rattle.std.proofs.Common.{◌≡◌, Bool, true, false, ℕ, Option, None, Some, Result, Ok, Err, OnOk, IfSome, is_some, rules, subst}
-use Rattle.cb_constraints.specs.Holding.{Meets}
+use Rattle.std.proofs.Common.{◌≡◌, ◌&&◌, Bool, true, false, ℕ, List, [], ◌∷◌, Option, None, Some, Result, Ok, Err, OnOk, IfSome, is_some, refl, rules, subst}
+use Rattle.std.specs.Option.{option_and_then}
+use Rattle.cb_constraints.proofs.MayHold.{holds-may}
+use Rattle.cb_constraints.specs.Constraints.{Constraint}
+use Rattle.cb_constraints.specs.Holding.{Meets, after_demand, may_hold}
 use Rattle.cb_exprs.specs.Bindings.{Bindings}
+use Rattle.cb_facts.specs.Values.{value_of_field}
+use Rattle.cb_facts.specs.declared.single.Single.{Single}
+use Rattle.cb_fit.specs.Steps.{after_ones, may_take}
 
 pub some-place : (o : Option ℕ) (at n : ℕ) → o ≡ Some at → IfSome o (λ a. a ≡ n) → at ≡ n
 some-place o at n e h = subst (λ p. IfSome p (λ a. a ≡ n)) e h
@@ -19,3 +25,17 @@ on-ok (Err e) f h = h
 
 pub none-met : (o : Option ℕ) (env : Bindings) (after : Option Bindings) → o ≡ None → Meets (is_some o) env after → after ≡ None
 none-met o env after e h = subst (λ p. Meets (is_some p) env after) e h
+
+-- what constants rule out takes nothing
+pub nothing-taken : (cs : List Constraint) (fs : List Single) (env : Bindings) → may_take cs fs ≡ false → after_ones cs fs env ≡ None
+nothing-taken [] fs env e = let never : true ≡ false = e in cc
+nothing-taken (c ∷ cs) [] env e = refl
+nothing-taken (c ∷ cs) (f ∷ fs) env e = by (after_demand c.demand (value_of_field f) env) (λ g. holds-may c.demand (value_of_field f) env g) (λ g. nothing-taken cs fs g)
+  where
+    others : (a b : Bool) → a ≡ true → a && b ≡ false → b ≡ false
+    others true b d h = h
+    others false b d h = let never : false ≡ true = d in cc
+    by : (o : Option Bindings) → ((g : Bindings) → o ≡ Some g → may_hold c.demand (value_of_field f) ≡ true) → ((g : Bindings) → may_take cs fs ≡ false → after_ones cs fs g ≡ None)
+        → option_and_then (after_ones cs fs) o ≡ None
+    by None holds more = refl
+    by (Some g) holds more = more g (others (may_hold c.demand (value_of_field f)) (may_take cs fs) (holds g refl) e)

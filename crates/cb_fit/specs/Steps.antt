@@ -1,9 +1,9 @@
 -- What a search for ways keeps: how far each has got with a row.
-use Rattle.std.specs.Prelude.{◌+◌, ◌≤◌, ◌==◌, ℕ, All, Bool, true, false, List, [], ◌∷◌, ◌++◌, Option, Some, None, map, length, take, drop, flat_map, nat_le, option_map, option_to_list, replicate, if◌then◌else◌}
+use Rattle.std.specs.Prelude.{◌+◌, ◌≤◌, ◌==◌, ◌&&◌, ℕ, All, Bool, true, false, List, [], ◌∷◌, ◌++◌, Option, Some, None, map, length, take, drop, flat_map, nat_le, option_map, option_to_list, replicate, if◌then◌else◌}
 use Rattle.std.specs.List.{list_all}
 use Rattle.std.specs.Option.{option_and_then}
 use Rattle.cb_constraints.specs.Constraints.{Constraint}
-use Rattle.cb_constraints.specs.Holding.{after_demand}
+use Rattle.cb_constraints.specs.Holding.{after_demand, may_hold}
 use Rattle.cb_constraints.specs.Rows.{fields_wanted, segments_wanted}
 use Rattle.cb_exprs.specs.Bindings.{Bindings}
 use Rattle.cb_facts.specs.Values.{value_of_field}
@@ -38,6 +38,12 @@ abbrev pub after_ones : List Constraint → List Single → Bindings → Option 
 after_ones [] fields env = Some env
 after_ones (c ∷ cs) [] env = None
 after_ones (c ∷ cs) (f ∷ fs) env = option_and_then (after_ones cs fs) (after_demand c.demand (value_of_field f) env)
+
+-- constraints for one field may take one each, from the first on, by what they ask by constants
+abbrev pub may_take : List Constraint → List Single → Bool
+may_take [] fields = true
+may_take (c ∷ cs) [] = false
+may_take (c ∷ cs) (f ∷ fs) = may_hold c.demand (value_of_field f) && may_take cs fs
 
 -- a constraint takes n fields, and then those for one field that follow it take one each
 abbrev pub with_group : Constraint → List Constraint → Begun → ℕ → List Begun

@@ -3,12 +3,12 @@ ghost use Rattle.std.specs.Prelude.{◌≡◌, ◌++◌, ◌+◌, ◌-◌, ◌�
 ghost use Rattle.cb_constraints.specs.Constraints.{constraint_of};
 ghost use Rattle.cb_constraints.specs.Holding.{Meets};
 ghost use Rattle.cb_fit.specs.FieldLists.{fields_of};
-ghost use Rattle.cb_fit.specs.Steps.{AreWithin, after_ones, begun_of, with_group};
+ghost use Rattle.cb_fit.specs.Steps.{AreWithin, after_ones, begun_of, may_take, with_group};
 ghost use Rattle.cb_fit.specs.Ways.{after_segment};
 
 use crate::beginning::{Beginning, with_lengths};
 use crate::fields::Fields;
-use cb_constraints::{Constraint, Demand, Tested, meets};
+use cb_constraints::{Constraint, Demand, Tested, may_hold, meets};
 use cb_exprs::Env;
 use cb_forms::NoMemory;
 use cb_functions::Constants;
@@ -23,6 +23,25 @@ pub(crate) struct Look<'a> {
 }
 
 impl Look<'_> {
+    /// Whether constraints for one field may take one each, from a place on: what they ask by constants alone. It takes no
+    /// memory, so a fact that a constant rules out is refused before any variable takes a value.
+    pub(crate) fn may_take(self, constraints: &[Constraint], from: usize) -> bool
+        requires { from ≤ length (fields_of self.fields) }
+        ensures { result ≡ may_take (map constraint_of constraints.now) (drop from (fields_of self.entry.fields)) }
+    {
+        let mut at = from;
+        for constraint in constraints {
+            let Some(tested) = self.fields.get(at) else {
+                return false;
+            };
+            if at >= self.fields.len() || !may_hold(&constraint.demand, tested) {
+                return false;
+            }
+            at += 1;
+        }
+        true
+    }
+
     /// Constraints for one field take one each, from a place on, if they hold. Returns the place after them.
     pub(crate) fn take_ones(
         self,
@@ -101,6 +120,9 @@ impl Look<'_> {
             ++ with_group (constraint_of constraint.now) (map constraint_of ones.now)
             (begun_of (fields_of self.entry.fields) begun.now) (to - begun.now.at)) }
     {
+        if !self.may_take(ones, to) {
+            return Ok(());
+        }
         let mut env = begun.env.clone()?;
         if !self.take_segment(constraint, begun.at, to, &mut env)? {
             return Ok(());

@@ -27,6 +27,9 @@ impl Look<'_> {
             return Ok(());
         }
         let (leading, rest) = split_ones(row.constraints());
+        if !self.may_take(leading, 0) {
+            return Ok(());
+        }
         let mut begun = begun;
         let Some(at) = self.take_ones(leading, 0, &mut begun.env)? else {
             return Ok(());

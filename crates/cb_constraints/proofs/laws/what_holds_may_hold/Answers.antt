@@ -1,0 +1,5 @@
+use Rattle.cb_constraints.proofs.MayHold.{holds-may}
+use Rattle.cb_constraints.proofs.laws.what_holds_may_hold.Goals as goal
+
+pub returns : goal.returns
+returns c = holds-may
