@@ -31,6 +31,18 @@ made c os fields cuts more from to at env g1 g2 h e m s o =
     ∙ (ap (λ x. record { cuts = x; left = drop (length os) (drop (to - from) (drop from fields)); env = g2 } ∷ []) (sym m)
     ∙ ap (λ x. record { cuts = more; left = x; env = g2 } ∷ []) (drop_past fields from to (length os) at h e))))
 
+none-of : {X : Type 0} (f : Bindings → X) (next : Bindings → Option Bindings) (o : Option Bindings) → ((g : Bindings) → next g ≡ None) → option_to_list (option_map f (option_and_then next o)) ≡ []
+none-of f next None h = refl
+none-of f next (Some g) h = ap (λ x. option_to_list (option_map f x)) (h g)
+
+-- none is, where those for one field take nothing
+pub none-made : (c : Constraint) (os : List Constraint) (fields : List Single) (cuts : List ℕ) (from to : ℕ) (env : Bindings)
+    → from ≤ to → ((g : Bindings) → after_ones os (drop to fields) g ≡ None)
+    → with_group c os (record { cuts = cuts; left = drop from fields; env = env }) (to - from) ≡ []
+none-made c os fields cuts from to env h e =
+    none-of (grown_to (record { cuts = cuts; left = drop from fields; env = env }) (to - from) (length os)) (after_ones os (drop (to - from) (drop from fields)))
+    (after_segment c (take (to - from) (drop from fields)) env) (λ g. ap (λ x. after_ones os x g) (drop_to fields from to h) ∙ e g)
+
 -- what becomes of it
 pub after-group : (rest os : List Constraint) (b : Begun) (n : ℕ) (after : Option Bindings)
     → flat_map (endings rest) (option_to_list (option_map (grown_to b n (length os)) after))

@@ -35,6 +35,7 @@ nothing-taken (c ∷ cs) (f ∷ fs) env e = by (after_demand c.demand (value_of_
     others : (a b : Bool) → a ≡ true → a && b ≡ false → b ≡ false
     others true b d h = h
     others false b d h = let never : false ≡ true = d in cc
+
     by : (o : Option Bindings) → ((g : Bindings) → o ≡ Some g → may_hold c.demand (value_of_field f) ≡ true) → ((g : Bindings) → may_take cs fs ≡ false → after_ones cs fs g ≡ None)
         → option_and_then (after_ones cs fs) o ≡ None
     by None holds more = refl

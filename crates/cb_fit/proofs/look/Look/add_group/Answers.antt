@@ -1,8 +1,8 @@
 use Rattle.std.proofs.Common.{arith, ◌≡◌, ◌∙◌, ◌++◌, ◌+◌, ◌-◌, ◌∷◌, [], ap, drop, length, map, refl, replicate, rules, slice_range, sym}
-use Rattle.std.proofs.lemmas.List.{length-map, map-append}
+use Rattle.std.proofs.lemmas.List.{append-nil, length-map, map-append}
 use Rattle.cb_constraints.specs.Constraints.{constraint_of}
-use Rattle.cb_fit.proofs.Groups.{made}
-use Rattle.cb_fit.proofs.Takes.{is-met, some-met, some-place}
+use Rattle.cb_fit.proofs.Groups.{made, none-made}
+use Rattle.cb_fit.proofs.Takes.{is-met, nothing-taken, some-met, some-place}
 use Rattle.cb_fit.specs.FieldLists.{fields_of}
 use Rattle.cb_fit.specs.Steps.{after_ones, begun_of}
 use Rattle.cb_fit.specs.Ways.{after_segment}
@@ -20,3 +20,10 @@ returns-clause-kept c =
     c.requires.order count (c.in_ok-cuts.ensures ∙ ap (λ k. c.args.begun.now.cuts.items ++ ((c.args.to - c.args.begun.now.at) ∷ replicate k 1)) (sym (length-map c.args.ones.now constraint_of)))
     (is-met c.in_ok-take_segment.field-0 c.take_segment.new.env (after_segment (constraint_of c.args.constraint.now) (slice_range (fields_of c.args.self.fields) c.args.begun.now.at c.args.to) c.args.begun.now.env) c.if-not-branch.false (search rules))
     (some-met c.in_ok-at.field-0 c.in-Some.at c.take_ones.new.env (after_ones (map constraint_of c.args.ones.now) (drop c.args.to (fields_of c.args.self.fields)) c.take_segment.new.env) c.in-Some.is c.in_ok-at.ensures.holds))))
+
+pub returns-then-not-may_take-clause-kept : goal.returns-then-not-may_take-clause-kept
+returns-then-not-may_take-clause-kept c =
+    sym (ap (λ xs. map (begun_of (fields_of c.args.self.fields)) c.args.kept.now.items ++ xs)
+    (none-made (constraint_of c.args.constraint.now) (map constraint_of c.args.ones.now) (fields_of c.args.self.fields) c.args.begun.now.cuts.items c.args.begun.now.at c.args.to c.args.begun.now.env c.requires.order
+    (λ g. nothing-taken (map constraint_of c.args.ones.now) (drop c.args.to (fields_of c.args.self.fields)) g (sym c.may_take.ensures ∙ c.if-not-may_take.true)))
+    ∙ append-nil (map (begun_of (fields_of c.args.self.fields)) c.args.kept.now.items))

@@ -4,7 +4,7 @@ use Rattle.cb_constraints.specs.Constraints.{constraint_of}
 use Rattle.cb_constraints.specs.Rows.{fields_wanted, segments_wanted}
 use Rattle.cb_fit.proofs.Groups.{leading-none, leading-some, wrong-length}
 use Rattle.cb_fit.proofs.Splits.{ones-want}
-use Rattle.cb_fit.proofs.Takes.{none-met, on-ok, some-met, some-place}
+use Rattle.cb_fit.proofs.Takes.{none-met, nothing-taken, on-ok, some-met, some-place}
 use Rattle.cb_fit.specs.FieldLists.{fields_of}
 use Rattle.cb_fit.specs.Steps.{after_ones, endings, taken_of, takes_length}
 use Rattle.cb_fit.specs.Ways.{after_cuts, ways_of_row}
@@ -13,6 +13,16 @@ use Rattle.cb_fit.proofs.look.Look.take_row.Goals as goal
 pub returns-then-not-takes_length : goal.returns-then-not-takes_length
 returns-then-not-takes_length c =
     sym (ap (λ xs. map taken_of c.args.kept.now.items ++ map (after_cuts c.args.begun.cuts.items) xs) (wrong-length c.args.row.now (fields_of c.args.self.fields) c.args.begun.env (sym (c.takes_length.ensures ∙ ap (takes_length c.args.row.now) c.len.ensures) ∙ c.if-not-takes_length.true))
+    ∙ append-nil (map taken_of c.args.kept.now.items))
+
+pub returns-then-not-may_take : goal.returns-then-not-may_take
+returns-then-not-may_take c =
+    let row-is : c.args.row.now ≡ map constraint_of c.split_ones.result.0.now ++ map constraint_of c.split_ones.result.1.now =
+    sym (sym (map-append constraint_of c.split_ones.result.0.now c.split_ones.result.1.now) ∙ (ap (map constraint_of) c.split_ones.ensures.all ∙ c.constraints.ensures)) in
+    sym (ap (λ xs. map taken_of c.args.kept.now.items ++ map (after_cuts c.args.begun.cuts.items) xs)
+    (ap (λ cs. ways_of_row cs (fields_of c.args.self.fields) c.args.begun.env) row-is
+    ∙ leading-none (map constraint_of c.split_ones.result.0.now) (map constraint_of c.split_ones.result.1.now) (fields_of c.args.self.fields) c.args.begun.env c.split_ones.ensures.ones
+    (nothing-taken (map constraint_of c.split_ones.result.0.now) (fields_of c.args.self.fields) c.args.begun.env (sym c.may_take.ensures ∙ c.if-not-may_take.true)))
     ∙ append-nil (map taken_of c.args.kept.now.items))
 
 pub returns-in_default : goal.returns-in_default
