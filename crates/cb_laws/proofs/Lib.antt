@@ -15,3 +15,4 @@ mod OpenTexts
 mod OpenLaws
 mod ActLaws
 mod DefaultLaws
+mod FitLaws

@@ -4,7 +4,7 @@ ghost use Rattle.cb_facts.specs.Facts.{FactValue};
 ghost use Rattle.cb_facts.specs.Values.{is_multifield, spliced};
 ghost use Rattle.cb_facts.specs.declared.value.Value.{Value};
 ghost use Rattle.cb_facts.specs.declared.value.Value.TheVariants as value;
-ghost use Rattle.cb_laws.specs.SlotValues.{IsGiven, IsLeftOut, slot_value};
+ghost use Rattle.cb_laws.specs.SlotValues.{FitsSlots, IsGiven, IsLeftOut, slot_value};
 ghost use Rattle.cb_templates.specs.Building.{Given, built, slot_values};
 ghost use Rattle.cb_templates.specs.Slots.{SlotShape, slot_named};
 ghost use Rattle.cb_templates.specs.Templates.{Templates, slots_of};
@@ -35,4 +35,12 @@ pub fn a_slot_has_what_it_is_given()
         → slots_of templates relation ≡ Some slots
         → built templates relation (slot_values given) ≡ Ok fact
         → fact.relation ≡ relation }
+{}
+
+/// What fits the slots of a relation's template makes a fact.
+pub fn what_fits_is_a_fact()
+    ensures { (templates : Templates) (relation : List ℕ) (slots : List SlotShape)
+        (given : Given)
+        → slots_of templates relation ≡ Some slots → FitsSlots slots given
+        → (fact : FactValue) × (built templates relation (slot_values given) ≡ Ok fact) }
 {}
