@@ -16,3 +16,4 @@ mod OpenLaws
 mod ActLaws
 mod DefaultLaws
 mod FitLaws
+mod OnlyFitLaws

@@ -55,7 +55,7 @@ found_given (g ∷ given) name vs h = by (bytes_eq g.0 name) refl h (found_given
     by false e is more = contains_there g (name, vs) given (more is)
 
 -- what is not given is not found
-left_out : (given : Given) (name : List ℕ) → IsLeftOut given name → given_for given name ≡ None
+pub left_out : (given : Given) (name : List ℕ) → IsLeftOut given name → given_for given name ≡ None
 left_out given name none = by (given_for given name) refl
   where
     by : (o : Option (List Value)) → given_for given name ≡ o → given_for given name ≡ None

@@ -37,10 +37,14 @@ pub fn a_slot_has_what_it_is_given()
         → fact.relation ≡ relation }
 {}
 
-/// What fits the slots of a relation's template makes a fact.
+/// What is given makes a fact of a relation with a template exactly where it fits the template's slots.
 pub fn what_fits_is_a_fact()
-    ensures { (templates : Templates) (relation : List ℕ) (slots : List SlotShape)
+    ensures fits { (templates : Templates) (relation : List ℕ) (slots : List SlotShape)
         (given : Given)
         → slots_of templates relation ≡ Some slots → FitsSlots slots given
         → (fact : FactValue) × (built templates relation (slot_values given) ≡ Ok fact) }
+    ensures only { (templates : Templates) (relation : List ℕ) (slots : List SlotShape)
+        (given : Given) (fact : FactValue)
+        → slots_of templates relation ≡ Some slots
+        → built templates relation (slot_values given) ≡ Ok fact → FitsSlots slots given }
 {}
