@@ -23,7 +23,8 @@ pub fn a_slot_has_what_it_is_given()
         → slots_of templates relation ≡ Some slots → slot_named slots name ≡ Some slot
         → built templates relation (slot_values given) ≡ Ok fact
         → slot.is_multi ≡ false → IsGiven given name vs
-        → (v : Value) × (vs ≡ v ∷ []) × (is_multifield v ≡ false) × (slot_value fact name ≡ Some v) }
+        → (v : Value) × (vs ≡ v ∷ []) × (is_multifield v ≡ false)
+        × (slot_value fact name ≡ Some v) }
     ensures default { (templates : Templates) (relation : List ℕ) (slots : List SlotShape)
         (given : Given) (fact : FactValue) (name : List ℕ) (slot : SlotShape)
         → slots_of templates relation ≡ Some slots → slot_named slots name ≡ Some slot
