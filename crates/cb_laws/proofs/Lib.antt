@@ -17,3 +17,4 @@ mod ActLaws
 mod DefaultLaws
 mod FitLaws
 mod OnlyFitLaws
+mod PrintedLaws
