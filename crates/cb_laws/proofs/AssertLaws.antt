@@ -5,13 +5,13 @@ use Rattle.std.proofs.lemmas.Cmp.{nat_cmp_total}
 use Rattle.std.specs.BTreeMap.{is_at}
 use Rattle.std.specs.Ordering.{nat_cmp}
 use Rattle.cb_facts.proofs.FactListLaws.{is_at-Decides}
-use Rattle.cb_facts.specs.FactLists.{fact_at, with_fact}
+use Rattle.cb_facts.specs.FactLists.{IsAbsent, fact_at, with_fact}
 use Rattle.cb_facts.specs.Facts.{FactValue}
 use Rattle.cb_laws.proofs.EntryLaws.{put_here, put_elsewhere, rising_put}
 use Rattle.cb_laws.proofs.Members.{first_or_other}
-use Rattle.cb_laws.proofs.MemoryBasics.{found_there, not_found}
+use Rattle.cb_laws.proofs.MemoryBasics.{base_of, found_there, not_found}
 use Rattle.cb_laws.specs.Memories.{AreAsserted, IsSound, IsThere}
-use Rattle.cb_working_memory.proofs.IndexLaws.{contains_here, contains_there}
+use Rattle.cb_working_memory.proofs.IndexLaws.{contains_here, contains_there, index_of-absent, index_of-there}
 use Rattle.cb_working_memory.specs.WorkingMemory.{Memory, asserted_beside, asserted_one, greatest_index, grown, index_of}
 
 -- A fact was asserted and has this index: it is there, the others are as before, and there are no more.
@@ -156,3 +156,25 @@ several_there m n (f ∷ fs) g sound h (inr c) = by (first_or_other f g fs c) (�
 
 pub there_where : (m n : Memory) (fs : List FactValue) (g : FactValue) → IsSound m → AreAsserted m fs n → IsThere n g ↔ (IsThere m g ⊎ Contains fs g)
 there_where m n fs g sound h = (several_only m n fs g sound h, several_there m n fs g sound h)
+
+-- where the fact was there, and where it was not
+pub known : (m : Memory) (f : FactValue) (ix : ℕ) → IsSound m → fact_at m.facts ix ≡ Some f → asserted_one m f ≡ (m, Some ix)
+known m f ix sound at = ap (asserted_beside m f) (index_of-there m.facts f ix (base_of m sound) at)
+
+room_left : (m : Memory) (f : FactValue) (room : Bool) → room ≡ true → (if◌then◌else◌ {A = Memory × Option ℕ} room (grown m f, Some (m.last + 1)) (m, None)).1 ≡ Some (m.last + 1)
+room_left m f true e = refl
+room_left m f false e = absurd (cc)
+
+pub next_index : (m : Memory) (f : FactValue) → IsSound m → IsAbsent m.facts f → m.last < greatest_index → (asserted_one m f).1 ≡ Some (m.last + 1)
+next_index m f sound absent below =
+    let room : nat_lt m.last greatest_index ≡ true = search rules in
+    ap (λ o. (asserted_beside m f o).1) (index_of-absent m.facts f (base_of m sound) absent) ∙ room_left m f (nat_lt m.last greatest_index) room
+
+no_room : (m : Memory) (f : FactValue) (room : Bool) → room ≡ false → if◌then◌else◌ {A = Memory × Option ℕ} room (grown m f, Some (m.last + 1)) (m, None) ≡ (m, None)
+no_room m f true e = absurd (cc)
+no_room m f false e = refl
+
+pub no_index : (m : Memory) (f : FactValue) → IsSound m → IsAbsent m.facts f → greatest_index ≤ m.last → asserted_one m f ≡ (m, None)
+no_index m f sound absent above =
+    let full : nat_lt m.last greatest_index ≡ false = search rules in
+    ap (asserted_beside m f) (index_of-absent m.facts f (base_of m sound) absent) ∙ no_room m f (nat_lt m.last greatest_index) full

@@ -15,3 +15,6 @@ mod OpenTexts
 mod OpenLaws
 mod ActLaws
 mod DefaultLaws
+mod FitLaws
+mod OnlyFitLaws
+mod PrintedLaws

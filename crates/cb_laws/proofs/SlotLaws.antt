@@ -21,7 +21,7 @@ use Rattle.cb_templates.specs.Templates.{Templates, slots_of}
 use Rattle.cb_working_memory.proofs.IndexLaws.{contains_here, contains_there}
 
 -- what is given is found, where no slot is given twice
-given_found : (given : Given) (name : List ℕ) (vs : List Value) → are_distinct given ≡ true → IsGiven given name vs → given_for given name ≡ Some vs
+pub given_found : (given : Given) (name : List ℕ) (vs : List Value) → are_distinct given ≡ true → IsGiven given name vs → given_for given name ≡ Some vs
 given_found [] name vs apart is = absurd (none_among (name, vs) is)
 given_found (g ∷ given) name vs apart is = by (first_or_other g (name, vs) given is) (given_found given name vs (second_so (not (is_some (given_for given g.0))) (are_distinct given) apart))
   where
@@ -44,7 +44,7 @@ given_found (g ∷ given) name vs apart is = by (first_or_other g (name, vs) giv
     by (inr c) more = there (bytes_eq g.0 name) refl (more c)
 
 -- what is found is given
-found_given : (given : Given) (name : List ℕ) (vs : List Value) → given_for given name ≡ Some vs → IsGiven given name vs
+pub found_given : (given : Given) (name : List ℕ) (vs : List Value) → given_for given name ≡ Some vs → IsGiven given name vs
 found_given [] name vs h = absurd (cc)
 found_given (g ∷ given) name vs h = by (bytes_eq g.0 name) refl h (found_given given name vs)
   where
@@ -55,7 +55,7 @@ found_given (g ∷ given) name vs h = by (bytes_eq g.0 name) refl h (found_given
     by false e is more = contains_there g (name, vs) given (more is)
 
 -- what is not given is not found
-left_out : (given : Given) (name : List ℕ) → IsLeftOut given name → given_for given name ≡ None
+pub left_out : (given : Given) (name : List ℕ) → IsLeftOut given name → given_for given name ≡ None
 left_out given name none = by (given_for given name) refl
   where
     by : (o : Option (List Value)) → given_for given name ≡ o → given_for given name ≡ None

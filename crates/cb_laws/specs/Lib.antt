@@ -3,3 +3,4 @@ pub mod Naming
 pub mod SlotValues
 pub mod Written
 pub mod Reached
+pub mod Words

@@ -7,6 +7,7 @@ pub mod acting;
 pub mod asserting;
 pub mod equality;
 pub mod open_item;
+pub mod printed;
 pub mod reached;
 pub mod retracting;
 pub mod slots;

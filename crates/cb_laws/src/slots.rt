@@ -4,7 +4,7 @@ ghost use Rattle.cb_facts.specs.Facts.{FactValue};
 ghost use Rattle.cb_facts.specs.Values.{is_multifield, spliced};
 ghost use Rattle.cb_facts.specs.declared.value.Value.{Value};
 ghost use Rattle.cb_facts.specs.declared.value.Value.TheVariants as value;
-ghost use Rattle.cb_laws.specs.SlotValues.{IsGiven, IsLeftOut, slot_value};
+ghost use Rattle.cb_laws.specs.SlotValues.{FitsSlots, IsGiven, IsLeftOut, slot_value};
 ghost use Rattle.cb_templates.specs.Building.{Given, built, slot_values};
 ghost use Rattle.cb_templates.specs.Slots.{SlotShape, slot_named};
 ghost use Rattle.cb_templates.specs.Templates.{Templates, slots_of};
@@ -23,7 +23,8 @@ pub fn a_slot_has_what_it_is_given()
         → slots_of templates relation ≡ Some slots → slot_named slots name ≡ Some slot
         → built templates relation (slot_values given) ≡ Ok fact
         → slot.is_multi ≡ false → IsGiven given name vs
-        → (v : Value) × (vs ≡ v ∷ []) × (is_multifield v ≡ false) × (slot_value fact name ≡ Some v) }
+        → (v : Value) × (vs ≡ v ∷ []) × (is_multifield v ≡ false)
+        × (slot_value fact name ≡ Some v) }
     ensures default { (templates : Templates) (relation : List ℕ) (slots : List SlotShape)
         (given : Given) (fact : FactValue) (name : List ℕ) (slot : SlotShape)
         → slots_of templates relation ≡ Some slots → slot_named slots name ≡ Some slot
@@ -35,4 +36,16 @@ pub fn a_slot_has_what_it_is_given()
         → slots_of templates relation ≡ Some slots
         → built templates relation (slot_values given) ≡ Ok fact
         → fact.relation ≡ relation }
+{}
+
+/// What is given makes a fact of a relation with a template exactly where it fits the template's slots.
+pub fn what_fits_is_a_fact()
+    ensures fits { (templates : Templates) (relation : List ℕ) (slots : List SlotShape)
+        (given : Given)
+        → slots_of templates relation ≡ Some slots → FitsSlots slots given
+        → (fact : FactValue) × (built templates relation (slot_values given) ≡ Ok fact) }
+    ensures only { (templates : Templates) (relation : List ℕ) (slots : List SlotShape)
+        (given : Given) (fact : FactValue)
+        → slots_of templates relation ≡ Some slots
+        → built templates relation (slot_values given) ≡ Ok fact → FitsSlots slots given }
 {}

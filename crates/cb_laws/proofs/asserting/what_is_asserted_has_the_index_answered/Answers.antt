@@ -1,5 +1,14 @@
-use Rattle.cb_laws.proofs.AssertLaws.{has_index}
+use Rattle.cb_laws.proofs.AssertLaws.{has_index, known, next_index, no_index}
 use Rattle.cb_laws.proofs.asserting.what_is_asserted_has_the_index_answered.Goals as goal
 
-pub returns : goal.returns
-returns c = has_index
+pub returns-clause-there : goal.returns-clause-there
+returns-clause-there c = has_index
+
+pub returns-clause-known : goal.returns-clause-known
+returns-clause-known c = known
+
+pub returns-clause-next : goal.returns-clause-next
+returns-clause-next c = next_index
+
+pub returns-clause-none : goal.returns-clause-none
+returns-clause-none c = no_index
