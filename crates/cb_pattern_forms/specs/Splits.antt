@@ -1,4 +1,4 @@
--- What the program reads next of a row of constraints.
+-- What the program reads next of a row of constraints: needed by the code alone.
 use Rattle.std.specs.Prelude.{◌≡◌, ◌++◌, false, List, [], ◌∷◌, Option, Vec, map}
 use Rattle.std.specs.Global.{Global}
 use Rattle.cb_constraints.specs.Constraints.{Check, Constraint, check_of}
