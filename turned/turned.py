@@ -25,8 +25,8 @@ SEEN = SCRATCH / "seen.json"
 NOTHING = "nothing yet"
 WAYS = {"test": 1, "run": 1, "law": 2, "example": 1}
 SECONDS = int(os.environ.get("TURNED_SECONDS", "1800"))
-FAILED_TEST = re.compile(r"(?im)\btests? failed\b|\btest\b.*\bfailed\b|\bFAILED\b|\b[1-9]\d* failed\b|assertion.*failed")
-NOT_BUILT = re.compile(r"(?im)\bcould not compile\b|\bdoes not compile\b|^error\[E\d+\]|^error: .*\b(syntax|expected|cannot find)\b")
+FAILED_TEST = re.compile(r"(?im)\btests? failed\b|\btest\b.*\b(failed|stopped)\b|\b[1-9]\d* failed\b|\bassert|\bpanicked\b")
+NOT_BUILT = re.compile(r"(?im)\b(could|does|did) not compile\b|\.rt:\d+:\d+: error|^(rattle: )?error\b")
 
 
 class Wrong(Exception):
@@ -143,11 +143,13 @@ def check(turns):
 
 
 def copied():
-    """A copy of the repository without what was built, in a folder that stays for the next run."""
+    """A copy of the repository without what was built; what is built in the copy stays for the next run."""
     root = SCRATCH / "copy"
-    shutil.rmtree(root, ignore_errors=True)
+    for path in sorted(root.rglob("*")) if root.is_dir() else []:
+        if path.is_file() and "out" not in path.relative_to(root).parts:
+            path.unlink()
     SCRATCH.mkdir(parents=True, exist_ok=True)
-    shutil.copytree(TOP, root, ignore=shutil.ignore_patterns("out", ".git"))
+    shutil.copytree(TOP, root, ignore=shutil.ignore_patterns("out", ".git"), dirs_exist_ok=True)
     return root
 
 
@@ -179,28 +181,25 @@ def by_run(folder):
     return True, "the run writes something else"
 
 
-def by_check(folder, pattern, words):
-    _, _, output = called(["nice", "-n", "10", "rt", "check", "--allow-holes"], folder)
-    for line in output.splitlines():
-        if pattern.search(line):
-            return True, words
-    return False, last_line(output)
-
-
 def last_line(output):
     lines = [line.strip() for line in output.splitlines() if line.strip()]
     return lines[-1][:120] if lines else "nothing was written"
 
 
+def by_check(folder, pattern):
+    _, _, output = called(["nice", "-n", "10", "rt", "check", "--allow-holes"], folder)
+    for line in output.splitlines():
+        if pattern.search(line):
+            return True, line.strip()[:120]
+    return False, last_line(output)
+
+
 def by_law(folder, name):
-    bad = r"(not proved|unproved|must prove|hole|error|⊢|goal)"
-    word = rf"\b{re.escape(name)}\b"
-    return by_check(folder, re.compile(rf"(?i){word}.*{bad}|{bad}.*{word}"), f"{name} is not proved")
+    return by_check(folder, re.compile(rf"^fn {folder.name}::\S*\b{re.escape(name)}: (no proof|not proved)"))
 
 
 def by_example(folder):
-    pattern = re.compile(r"(?i)Examples(\.antt)?\b.*(error|fail|mismatch|expected)|(error|fail|mismatch).*Examples(\.antt)?\b|Examples\.antt:\d+")
-    return by_check(folder, pattern, "an example is wrong")
+    return by_check(folder, re.compile(r"proofs/Examples\.antt:\d+.*error"))
 
 
 def refused(turn, root):
