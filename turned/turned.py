@@ -5,7 +5,7 @@ turned/turned.py            turns each definition, runs what has to refuse it, a
 turned/turned.py NAME ..    does so with these alone
 turned/turned.py --list     writes the table of docs/TURNED.md
 turned/turned.py --table    writes the table into docs/TURNED.md, with what the last runs saw
-turned/turned.py --check    only checks that each old text stands exactly once, and runs nothing
+turned/turned.py --check    only checks that each old text stands exactly once and what has to refuse is there; runs nothing
 
 The exit status is 0 where all are refused, or right with --check, else 1. docs/TURNED.md says what a file holds.
 """
@@ -13,6 +13,7 @@ import json
 import os
 import re
 import shutil
+import signal
 import subprocess
 import sys
 from pathlib import Path
@@ -128,15 +129,41 @@ def chosen(turns, names):
     return [known[name] for name in names]
 
 
+def stands_on(crate):
+    """The crate, and all that it stands on by `crates.txt`."""
+    lines = (line.partition(":") for line in (TOP / "crates.txt").read_text().splitlines())
+    uses = {name: words.split() for name, _, words in lines}
+    found, open_ones = set(), [crate]
+    while open_ones:
+        name = open_ones.pop()
+        if name not in found:
+            found.add(name)
+            open_ones += uses.get(name, [])
+    return found
+
+
+def check_way(turn):
+    """Complains if what has to refuse the turn isn't there, or can't see the definition."""
+    if turn.by == NOTHING:
+        return
+    crate = TOP / "crates" / turn.way[1]
+    wanted = {"test": "src/tests.rt", "run": "stdout", "law": "src", "example": "proofs/Examples.antt"}[turn.way[0]]
+    if not (crate / wanted).exists():
+        raise Wrong(f"not there: {turn.way[1]}/{wanted}")
+    if turn.definition().split("/")[1] not in stands_on(turn.way[1]):
+        raise Wrong(f"{turn.way[1]} doesn't stand on the definition's crate")
+    if turn.way[0] == "law" and not any(f"fn {turn.way[2]}" in file.read_text() for file in crate.glob("src/*.rt")):
+        raise Wrong(f"no such law: {turn.way[2]}")
+
+
 def check(turns):
-    """What is wrong with the texts of turns."""
+    """What is wrong with the texts of turns, and with what has to refuse them."""
     wrong = []
     for turn in turns:
         try:
             for part in turn.parts:
                 part.changed((TOP / part.path).read_text())
-            if turn.by != NOTHING and not (TOP / "crates" / turn.way[1]).is_dir():
-                raise Wrong(f"no such crate: {turn.way[1]}")
+            check_way(turn)
         except (Wrong, OSError) as error:
             wrong.append(f"{turn.name}: {error}")
     return wrong
@@ -153,13 +180,17 @@ def copied():
     return root
 
 
-def called(command, folder, text=None):
-    """The exit status and all that the command wrote."""
-    try:
-        done = subprocess.run(command, cwd=folder, input=text, capture_output=True, timeout=SECONDS)
-    except subprocess.TimeoutExpired:
-        return None, b"", "no end within the time"
-    return done.returncode, done.stdout, (done.stdout + done.stderr).decode("utf-8", "replace")
+def called(command, folder, text=b""):
+    """The exit status, what the command wrote on standard output, and all that it wrote."""
+    pipe = subprocess.PIPE
+    with subprocess.Popen(command, cwd=folder, stdin=pipe, stdout=pipe, stderr=pipe, start_new_session=True) as child:
+        try:
+            written, errors = child.communicate(text, timeout=SECONDS)
+        except subprocess.TimeoutExpired:
+            os.killpg(child.pid, signal.SIGKILL)
+            child.communicate()
+            return None, b"", "no end within the time"
+    return child.returncode, written, (written + errors).decode("utf-8", "replace")
 
 
 def by_test(folder):
@@ -167,7 +198,7 @@ def by_test(folder):
     if status == 0:
         return False, "all tests pass"
     if status == 4 or (FAILED_TEST.search(output) and not NOT_BUILT.search(output)):
-        return True, "a test fails"
+        return True, f"a test fails, and rt ends with {status}"
     return False, last_line(output)
 
 
@@ -178,7 +209,7 @@ def by_run(folder):
         return False, "the run writes the same"
     if not written or status is None or NOT_BUILT.search(output):
         return False, last_line(output)
-    return True, "the run writes something else"
+    return True, f"the run writes something else, and ends with {status}"
 
 
 def last_line(output):
