@@ -1,0 +1,326 @@
+#!/usr/bin/env python3
+"""Definitions made wrong, each of which a test, a stored run, a law or an example has to refuse.
+
+turned/turned.py            turns each definition, runs what has to refuse it, and takes the change back
+turned/turned.py NAME ..    does so with these alone
+turned/turned.py --list     writes the table of docs/TURNED.md
+turned/turned.py --table    writes the table into docs/TURNED.md, with what the last runs saw
+turned/turned.py --check    only checks that each old text stands exactly once and what has to refuse is there; runs nothing
+
+The exit status is 0 where all are refused, or right with --check, else 1. docs/TURNED.md says what a file holds.
+"""
+import json
+import os
+import re
+import shutil
+import signal
+import subprocess
+import sys
+from pathlib import Path
+
+TOP = Path(__file__).resolve().parent.parent
+TURNED = TOP / "turned"
+PAGE = TOP / "docs" / "TURNED.md"
+SCRATCH = Path(os.environ.get("TURNED_SCRATCH", "/tmp/clipsbatch-turned"))
+SEEN = SCRATCH / "seen.json"
+NOTHING = "nothing yet"
+WAYS = {"test": 1, "run": 1, "law": 2, "example": 1}
+SECONDS = int(os.environ.get("TURNED_SECONDS", "1800"))
+FAILED_TEST = re.compile(r"(?im)\btests? failed\b|\btest\b.*\b(failed|stopped)\b|\b[1-9]\d* failed\b|\bassert|\bpanicked\b")
+NOT_BUILT = re.compile(r"(?im)\b(could|does|did) not compile\b|\.rt:\d+:\d+: error|^(rattle: )?error\b")
+
+
+class Wrong(Exception):
+    """A file that says something that can't be."""
+
+
+class Part:
+    """A file that is changed, and its pairs of an old and a new text."""
+
+    def __init__(self, kind, path):
+        self.kind, self.path, self.pairs = kind, path, []
+
+    def add(self, word, text):
+        if word == "old" and (not self.pairs or self.pairs[-1][1] is not None):
+            self.pairs.append([[], None])
+        if not self.pairs:
+            raise Wrong(f"{self.path}: a new text without an old one")
+        pair = self.pairs[-1]
+        if word == "new" and pair[1] is None:
+            pair[1] = []
+        pair[0 if word == "old" else 1].append(text)
+
+    def changed(self, text):
+        """The text of the file with each pair applied, one after another."""
+        for old, new in self.pairs:
+            if new is None:
+                raise Wrong(f"{self.path}: an old text without a new one")
+            wanted, count = "\n".join(old), text.count("\n".join(old))
+            if count != 1:
+                raise Wrong(f"{self.path}: {count} times: {wanted}")
+            text = text.replace(wanted, "\n".join(new))
+        return text
+
+    def crate(self):
+        return self.path.split("/")[1]
+
+
+class Turn:
+    """A definition made wrong."""
+
+    def __init__(self, path):
+        self.name, self.parts, self.by, self.because = path.stem, [], "", ""
+        for line in path.read_text().splitlines():
+            self.read(line)
+        kinds = [part.kind for part in self.parts]
+        if kinds.count("definition") != 1 or not self.by or not self.because:
+            raise Wrong("a definition, `refused by:` and `because:` are wanted")
+        self.way = self.by.split()
+        if self.by != NOTHING and len(self.way) - 1 != WAYS.get(self.way[0]):
+            raise Wrong(f"not a way to refuse: {self.by}")
+
+    def read(self, line):
+        word, colon, text = line.partition(":")
+        if not colon:
+            raise Wrong(f"not a line of a turn: {line}")
+        if word in ("definition", "code"):
+            self.parts.append(Part(word, text.strip()))
+        elif word in ("old", "new"):
+            self.parts[-1].add(word, text)
+        elif word == "refused by":
+            self.by = text.strip()
+        elif word == "because":
+            self.because = text.strip()
+        else:
+            raise Wrong(f"not a line of a turn: {line}")
+
+    def definition(self):
+        return next(part for part in self.parts if part.kind == "definition").path
+
+    def wanted(self, root):
+        """The files with their turned texts: all, or the definition alone for a law or an example of its own crate."""
+        here = self.by != NOTHING and self.way[0] in ("law", "example") and self.way[1] == self.definition().split("/")[1]
+        texts = {}
+        for part in self.parts:
+            if part.kind == "code" and here:
+                continue
+            before = texts.get(part.path) or (root / part.path).read_text()
+            texts[part.path] = part.changed(before)
+        return texts
+
+
+def all_turns():
+    turns, wrong = [], []
+    for path in sorted(TURNED.glob("*.turn")):
+        try:
+            turns.append(Turn(path))
+        except Wrong as error:
+            wrong.append(f"{path.stem}: {error}")
+    return turns, wrong
+
+
+def chosen(turns, names):
+    if not names:
+        return turns
+    known = {turn.name: turn for turn in turns}
+    for name in names:
+        if name not in known:
+            sys.exit(f"no turn of this name: {name}")
+    return [known[name] for name in names]
+
+
+def stands_on(crate):
+    """The crate, and all that it stands on by `crates.txt`."""
+    lines = (line.partition(":") for line in (TOP / "crates.txt").read_text().splitlines())
+    uses = {name: words.split() for name, _, words in lines}
+    found, open_ones = set(), [crate]
+    while open_ones:
+        name = open_ones.pop()
+        if name not in found:
+            found.add(name)
+            open_ones += uses.get(name, [])
+    return found
+
+
+def check_way(turn):
+    """Complains if what has to refuse the turn isn't there, or can't see the definition."""
+    if turn.by == NOTHING:
+        return
+    crate = TOP / "crates" / turn.way[1]
+    wanted = {"test": "src/tests.rt", "run": "stdout", "law": "src", "example": "proofs/Examples.antt"}[turn.way[0]]
+    if not (crate / wanted).exists():
+        raise Wrong(f"not there: {turn.way[1]}/{wanted}")
+    if turn.definition().split("/")[1] not in stands_on(turn.way[1]):
+        raise Wrong(f"{turn.way[1]} doesn't stand on the definition's crate")
+    if turn.way[0] == "law" and not any(f"fn {turn.way[2]}" in file.read_text() for file in crate.glob("src/*.rt")):
+        raise Wrong(f"no such law: {turn.way[2]}")
+
+
+def check(turns):
+    """What is wrong with the texts of turns, and with what has to refuse them."""
+    wrong = []
+    for turn in turns:
+        try:
+            for part in turn.parts:
+                part.changed((TOP / part.path).read_text())
+            check_way(turn)
+        except (Wrong, OSError) as error:
+            wrong.append(f"{turn.name}: {error}")
+    return wrong
+
+
+def copied():
+    """A copy of the repository without what was built; what is built in the copy stays for the next run."""
+    root = SCRATCH / "copy"
+    for path in sorted(root.rglob("*")) if root.is_dir() else []:
+        if path.is_file() and "out" not in path.relative_to(root).parts:
+            path.unlink()
+    SCRATCH.mkdir(parents=True, exist_ok=True)
+    shutil.copytree(TOP, root, ignore=shutil.ignore_patterns("out", ".git"), dirs_exist_ok=True)
+    return root
+
+
+def called(command, folder, text=b""):
+    """The exit status, what the command wrote on standard output, and all that it wrote."""
+    pipe = subprocess.PIPE
+    with subprocess.Popen(command, cwd=folder, stdin=pipe, stdout=pipe, stderr=pipe, start_new_session=True) as child:
+        try:
+            written, errors = child.communicate(text, timeout=SECONDS)
+        except subprocess.TimeoutExpired:
+            os.killpg(child.pid, signal.SIGKILL)
+            child.communicate()
+            return None, b"", "no end within the time"
+    return child.returncode, written, (written + errors).decode("utf-8", "replace")
+
+
+def by_test(folder):
+    status, _, output = called(["nice", "-n", "10", "rt", "try", "--test"], folder)
+    if status == 0:
+        return False, "all tests pass"
+    if status == 4 or (FAILED_TEST.search(output) and not NOT_BUILT.search(output)):
+        return True, f"a test fails, and rt ends with {status}"
+    return False, last_line(output)
+
+
+def by_run(folder):
+    script = (folder / "stdin").read_bytes()
+    status, written, output = called(["nice", "-n", "10", "rt", "try"], folder, script)
+    if written == (folder / "stdout").read_bytes():
+        return False, "the run writes the same"
+    if not written or status is None or NOT_BUILT.search(output):
+        return False, last_line(output)
+    return True, f"the run writes something else, and ends with {status}"
+
+
+def last_line(output):
+    lines = [line.strip() for line in output.splitlines() if line.strip()]
+    return lines[-1][:120] if lines else "nothing was written"
+
+
+def by_check(folder, pattern):
+    _, _, output = called(["nice", "-n", "10", "rt", "check", "--allow-holes"], folder)
+    for line in output.splitlines():
+        if pattern.search(line):
+            return True, line.strip()[:120]
+    return False, last_line(output)
+
+
+def by_law(folder, name):
+    return by_check(folder, re.compile(rf"^fn {folder.name}::\S*\b{re.escape(name)}: (no proof|not proved)"))
+
+
+def by_example(folder):
+    return by_check(folder, re.compile(r"proofs/Examples\.antt:\d+.*error"))
+
+
+def refused(turn, root):
+    """Whether the turn is refused, and what was seen."""
+    folder = root / "crates" / turn.way[1]
+    if turn.way[0] == "test":
+        return by_test(folder)
+    if turn.way[0] == "run":
+        return by_run(folder)
+    if turn.way[0] == "law":
+        return by_law(folder, turn.way[2])
+    return by_example(folder)
+
+
+def tried(turn, root):
+    """Turns the definition, runs what has to refuse it, and takes the change back."""
+    texts = turn.wanted(root)
+    before = {path: (root / path).read_text() for path in texts}
+    try:
+        for path, text in texts.items():
+            (root / path).write_text(text)
+        return refused(turn, root)
+    finally:
+        for path, text in before.items():
+            (root / path).write_text(text)
+
+
+def cell(text):
+    return text.replace("|", "\\|")
+
+
+def rows(turns, seen):
+    lines = ["| Turned | Definition | Refused by | Why | Seen |", "|---|---|---|---|---|"]
+    for turn in turns:
+        path = turn.definition().removeprefix("crates/").replace("/specs/", " ").removesuffix(".antt")
+        cells = [f"`{turn.name}`", path, turn.by, turn.because, seen.get(turn.name, "")]
+        lines.append("| " + " | ".join(cell(text) for text in cells) + " |")
+    return "\n".join(lines)
+
+
+def last_seen():
+    return json.loads(SEEN.read_text()) if SEEN.is_file() else {}
+
+
+def write_table(turns):
+    """Writes the table in the place of the one on the page, which is its last part."""
+    head, _, _ = PAGE.read_text().partition("| Turned |")
+    PAGE.write_text(head + rows(turns, last_seen()) + "\n")
+
+
+def run_all(turns):
+    """Tries each turn; returns how many were not refused."""
+    root, seen, counts = copied(), last_seen(), {"refused": 0, "not refused": 0, NOTHING: 0}
+    for turn in turns:
+        if turn.by == NOTHING:
+            counts[NOTHING] += 1
+            print(f"{turn.name}: NOT REFUSED ({NOTHING})", flush=True)
+            continue
+        is_refused, words = tried(turn, root)
+        counts["refused" if is_refused else "not refused"] += 1
+        seen[turn.name] = words if is_refused else f"not refused: {words}"
+        SEEN.write_text(json.dumps(seen, indent=1))
+        print(f"{turn.name}: " + (f"refused by {turn.by}: {words}" if is_refused else f"NOT REFUSED by {turn.by}: {words}"), flush=True)
+    print(", ".join(f"{count} {what}" for what, count in counts.items()))
+    return counts["not refused"] + counts[NOTHING]
+
+
+def main():
+    words = sys.argv[1:]
+    options = [word for word in words if word.startswith("-")]
+    if set(options) - {"--list", "--table", "--check"}:
+        sys.exit(__doc__)
+    turns, wrong = all_turns()
+    turns = chosen(turns, [word for word in words if not word.startswith("-")])
+    if "--list" in options:
+        print(rows(turns, {}))
+        return 0
+    wrong += check(turns)
+    for line in wrong:
+        print(line)
+    if wrong:
+        return 1
+    if "--table" in options:
+        write_table(turns)
+        return 0
+    if "--check" in options:
+        print(f"{len(turns)} turns, each old text once")
+        return 0
+    return 1 if run_all(turns) else 0
+
+
+if __name__ == "__main__":
+    sys.exit(main())
