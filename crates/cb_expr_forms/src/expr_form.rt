@@ -1,12 +1,12 @@
 //! Expressions and facts as they are written.
-ghost use Rattle.std.specs.Prelude.{◌≡◌, ℕ, List, [], map};
+ghost use Rattle.std.specs.Prelude.{◌≡◌, ◌++◌, ℕ, List, [], map};
 ghost use Rattle.std.specs.Option.{option_and_then};
 ghost use Rattle.cb_expr_forms.specs.Actions.{joined};
 ghost use Rattle.cb_expr_forms.specs.ExprFaults.{all_faults, are_filled, fact_faults, facts_faults, faults_of, list_faults, slots_faults, token_faults, type_faults, value_faults, values_faults};
 ghost use Rattle.cb_expr_forms.specs.ExprForms.{assertions, expr_of, exprs_of, fact_of, list_expr, slot_exprs, slot_names, token_expr};
 ghost use Rattle.cb_expr_forms.specs.FaultLists.{Reads};
 ghost use Rattle.cb_expr_forms.specs.Plans.{filling_expr, filling_faults, if_expr, if_faults, plan_expr, plan_faults, while_expr, while_faults};
-ghost use Rattle.cb_exprs.specs.Terms.{Term, term_of};
+ghost use Rattle.cb_exprs.specs.Terms.{Term, bind, bind_global, term_of};
 ghost use Rattle.cb_forms.specs.Members.{members};
 ghost use Rattle.cb_forms.specs.Trees.{tree_of};
 
@@ -99,16 +99,8 @@ fn read_action(
 {
     match action {
         ActionForm::Retract(values) => Ok(Expr::Retract(read_all(names, scope, values)?)),
-        ActionForm::Bind(name, values) => {
-            let name = known_variable(names, scope, name)?;
-            let value = read_joined(names, scope, values)?;
-            Ok(Expr::Bind(name, value))
-        }
-        ActionForm::BindGlobal(name, values) => {
-            let name = known_global(names, scope, name)?;
-            let value = read_joined(names, scope, values)?;
-            Ok(Expr::BindGlobal(name, value))
-        }
+        ActionForm::Bind(name, values) => read_bind(names, scope, name, values),
+        ActionForm::BindGlobal(name, values) => read_bind_global(names, scope, name, values),
         ActionForm::If(test, yes, no) => read_if(names, scope, test, yes, no),
         ActionForm::While(test, actions) => read_while(names, scope, test, actions),
         ActionForm::Printout(channel, values) => {
@@ -117,6 +109,40 @@ fn read_action(
         ActionForm::Print(values) => Ok(Expr::Print(read_all(names, scope, values)?)),
         ActionForm::Println(values) => Ok(Expr::Println(read_all(names, scope, values)?)),
     }
+}
+
+/// A variable that is given a value.
+#[cycle(reading)]
+fn read_bind(
+    names: &mut Names,
+    scope: &Scope<'_>,
+    name: &[u8],
+    values: &[Form],
+) -> Result<Expr, Refused>
+    ensures { Reads term_of result
+        (token_faults scope.now (Token.Var name.now) ++ all_faults scope.now (members values.now))
+        (bind name.now (joined (exprs_of scope.now.templates (members values.now)))) }
+{
+    let name = known_variable(names, scope, name)?;
+    let value = read_joined(names, scope, values)?;
+    Ok(Expr::Bind(name, value))
+}
+
+/// The same of a global variable.
+#[cycle(reading)]
+fn read_bind_global(
+    names: &mut Names,
+    scope: &Scope<'_>,
+    name: &[u8],
+    values: &[Form],
+) -> Result<Expr, Refused>
+    ensures { Reads term_of result
+        (token_faults scope.now (Token.Global name.now) ++ all_faults scope.now (members values.now))
+        (bind_global name.now (joined (exprs_of scope.now.templates (members values.now)))) }
+{
+    let name = known_global(names, scope, name)?;
+    let value = read_joined(names, scope, values)?;
+    Ok(Expr::BindGlobal(name, value))
 }
 
 /// The value of several expressions.

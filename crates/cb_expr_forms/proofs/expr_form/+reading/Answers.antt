@@ -1,5 +1,6 @@
 use Rattle.std.proofs.Common.{◌≡◌, ◌<◌, ◌+◌, ◌*◌, ◌∙◌, ◌++◌, [], ℕ, List, Result, Err, Vec, Global, arith, ap, get_or, map, rules, subst, sym}
 use Rattle.std.specs.Option.{option_and_then}
+use Rattle.cb_expr_forms.specs.Actions.{joined}
 use Rattle.cb_expr_forms.specs.ExprFaults.{all_faults, slots_faults, token_faults, value_faults, values_faults}
 use Rattle.cb_expr_forms.specs.ExprForms.{exprs_of, expr_of, slot_exprs, slot_names}
 use Rattle.cb_expr_forms.specs.FaultLists.{Reads, first_of}
@@ -8,7 +9,7 @@ use Rattle.cb_expr_forms.specs.Sizes.{tree_size}
 use Rattle.cb_expr_forms.specs.declared.action_form.ActionForm.{ActionForm}
 use Rattle.cb_expr_forms.proofs.Faulty.{fails, fails_told, item_fits, next_slot}
 use Rattle.cb_expr_forms.proofs.Heads.{first_append}
-use Rattle.cb_exprs.specs.Terms.{Term, term_of}
+use Rattle.cb_exprs.specs.Terms.{Term, bind, term_of}
 use Rattle.cb_exprs.specs.declared.expr.Expr.{Expr}
 use Rattle.cb_facts.specs.declared.name.Name.{Name}
 use Rattle.cb_facts.specs.declared.refused.Refused.{Refused}
@@ -90,14 +91,13 @@ read_values-returns-in_err-read_value t c =
     ap first_of (sym c.loop-first.invariant.0 ∙ ap (λ fs. values_faults s types (members fs)) c.in-Some.ensures.cases.0) ∙ first_append (value_faults s types first following) (values_faults s types following) f h)
     c.in_err-read_value.ensures)
 
-pub read_action-returns-in_err-name-in-Bind : goal.read_action-returns-in_err-name-in-Bind
-read_action-returns-in_err-name-in-Bind t c =
+pub read_bind-returns-in_err-name : goal.read_bind-returns-in_err-name
+read_bind-returns-in_err-name t c =
     let s = c.args.scope.now in
-    let name = c.in-Bind.name.now in
-    let values = members c.in-Bind.values.now in
-    let fault = c.in_err-name-in-Bind.field-0.0 in
-    let r : c.from_residual-in_err-name-in-Bind.result ≡ Err fault = search rules in
-    subst (λ (it : Result Expr Refused). Reads term_of it (plan_faults s c.args.action) (plan_expr s.templates c.args.action)) (sym r)
-    (subst (λ (a : ActionForm). Reads term_of (Err fault) (plan_faults s a) (plan_expr s.templates a)) (sym c.in-Bind.is)
+    let name = c.args.name.now in
+    let values = members c.args.values.now in
+    let fault = c.in_err-name.field-0.0 in
+    let r : c.from_residual.result ≡ Err fault = search rules in
+    subst (λ (it : Result Expr Refused). Reads term_of it (token_faults s (token.Var name) ++ all_faults s values) (bind name (joined (exprs_of s.templates values)))) (sym r)
     (fails (λ (n : List ℕ). n) name term_of _ fault (token_faults s (token.Var name)) (token_faults s (token.Var name) ++ all_faults s values)
-    (λ f h. first_append (token_faults s (token.Var name)) (all_faults s values) f h) c.in_err-name-in-Bind.ensures))
+    (λ f h. first_append (token_faults s (token.Var name)) (all_faults s values) f h) c.in_err-name.ensures)

@@ -35,8 +35,14 @@ decreases-read_if l = 8 * (tree_size (tree_of l.test.now) + (trees_size (members
 abbrev pub decreases-read_while : goal.decreases-read_while
 decreases-read_while l = 8 * (tree_size (tree_of l.test.now) + trees_size (members l.actions.now)) + 2
 
+abbrev pub decreases-read_bind : goal.decreases-read_bind
+decreases-read_bind l = 8 * trees_size (members l.values.now) + 3
+
+abbrev pub decreases-read_bind_global : goal.decreases-read_bind_global
+decreases-read_bind_global l = 8 * trees_size (members l.values.now) + 3
+
 abbrev pub decreases-read_action : goal.decreases-read_action
-decreases-read_action l = 8 * plan_size l.action + 3
+decreases-read_action l = 8 * plan_size l.action + 4
 
 abbrev pub decreases-read_slot : goal.decreases-read_slot
 decreases-read_slot l = 8 * filling_size l.slot + 3
