@@ -27,7 +27,8 @@ impl Look<'_> {
     /// memory, so a fact that a constant rules out is refused before any variable takes a value.
     pub(crate) fn may_take(self, constraints: &[Constraint], from: usize) -> bool
         requires { from ≤ length (fields_of self.fields) }
-        ensures { result ≡ may_take (map constraint_of constraints.now) (drop from (fields_of self.entry.fields)) }
+        ensures { result ≡ may_take (map constraint_of constraints.now)
+            (drop from (fields_of self.entry.fields)) }
     {
         let mut at = from;
         for constraint in constraints {
