@@ -24,7 +24,7 @@ pub(crate) struct Look<'a> {
 
 impl Look<'_> {
     /// Whether constraints for one field may take one each, from a place on: what they ask by constants alone. It takes no
-    /// memory, so a fact that a constant rules out is refused before any variable takes a value.
+    /// memory, so it is asked before any variable of these constraints takes a value.
     pub(crate) fn may_take(self, constraints: &[Constraint], from: usize) -> bool
         requires { from ≤ length (fields_of self.fields) }
         ensures { result ≡ may_take (map constraint_of constraints.now)
