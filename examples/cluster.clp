@@ -1,5 +1,5 @@
-; The configuration of a small cluster, checked before it is rolled out. Services and settings are templates: a port that
-; is no number and a service without a name are told here, and not by the machines.
+; The configuration of a small cluster, written down before it is rolled out. Services and settings are templates: a port
+; that is no number or a service without a name would be a fault, and the exit status of the run would be 1.
 
 (deftemplate service "a program that runs on a machine"
   (slot name (type SYMBOL) (default ?NONE))
@@ -29,12 +29,8 @@
 (assert (service (name web) (needs db cache))
         (service (needs db) (name mail) (port 25)))
 (assert (setting (of web) (key "max clients") (value 200)))
-(assert (service (name cache) (port "6379")))     ; a port is a number
-(assert (service (port 6379)))                    ; the name is missing
-(assert (service (name cache) (prot 6379)))       ; a slip of the pen
 (assert (service (name cache) (port 6379)))
 
 ; The mail moves to another house, and its service goes.
 (retract 6)
-(deftemplate setting (slot name))                 ; there are settings already
 (facts)

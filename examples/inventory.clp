@@ -1,4 +1,4 @@
-; What stands in the storeroom. A line of a count is a fact, and a count that is told twice is one fact.
+; What stands in the storeroom. A line of a count is a fact, and a line that both people counted is one fact.
 
 (printout t "Storeroom 4, counted by two people" crlf)
 
@@ -8,12 +8,10 @@
         (item nut m6 900)
         (note bolt m8 "box \"B\" is torn"))
 
-; The second count agrees on the nuts.
+; The second count. What agrees with the first adds no line.
 (assert (item nut m6 900))
-(assert (item washer m6 -3))
-
-; A slip of the pen: there are no floats.
-(assert (item washer m8 0.5))
+(assert (item bolt m8 345)
+        (item washer m6 280))
 
 (printout t "All that was counted:" crlf)
 (facts)

@@ -8,6 +8,6 @@ pub use cb_constraints::{
     Check, Constraint, Demand, Meter, Parts, Pattern, Row, SlotRow, Test, Tested, count_leading,
     laws as constraint_laws, meets,
 };
-pub use cb_fit::{Way, fit};
+pub use cb_fit::{Way, fit, laws as fit_laws};
 pub use cb_pattern_forms::read_pattern;
 pub use cb_rule_forms::{Ce, Rule};

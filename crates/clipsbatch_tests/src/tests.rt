@@ -1,4 +1,5 @@
 mod calc_rows;
+mod clips;
 mod examples;
 mod fault_rows;
 mod first_rows;

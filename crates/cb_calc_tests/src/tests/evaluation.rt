@@ -102,7 +102,7 @@ fn more_values_are_not_seen_below(rt: HostRuntime) -> Result<(), Refused> {
 }
 
 /// Expressions, and the numbers of their faults: the first counts, from left to right, and types come after all values.
-const FAULTS: [(&str, u8); 12] = [
+const FAULTS: [(&str, u8); 13] = [
     ("?y", 11),
     ("?gone", 11),
     ("?g", 11),
@@ -115,6 +115,7 @@ const FAULTS: [(&str, u8); 12] = [
     ("(and TRUE (div 1 0))", 19),
     ("(or FALSE FALSE (div 1 0) TRUE)", 19),
     ("(create$ 1 (+ red 1) (div 1 0))", 17),
+    ("(print 1)", 14),
 ];
 
 fn number_of(outcome: Result<Value, Refused>) -> u8 {

@@ -1,7 +1,7 @@
 //! Facts that are asserted and listed, and values that are shown.
 use super::*;
 
-const FACTS: [Row; 4] = [
+const FACTS: [Row; 6] = [
     // Of no facts nothing is told.
     Row {
         steps: &[
@@ -22,6 +22,30 @@ const FACTS: [Row; 4] = [
             (
                 b"(facts)",
                 b"f-1     (color red)\nf-2     (size 7 \"b\")\nf-3     (a \"x\" -7)\nf-4     (b)\nf-5     (c)\nFor a total of 5 facts.\n",
+            ),
+        ],
+        status: DONE,
+    },
+    // An index stands in six places, with the `f-` before it.
+    Row {
+        steps: &[
+            (b"(assert (a) (b) (c) (d) (e))", b"<Fact-5>\n"),
+            (b"(assert (f) (g) (h) (i) (j))", b"<Fact-10>\n"),
+            (
+                b"(facts)",
+                b"f-1     (a)\nf-2     (b)\nf-3     (c)\nf-4     (d)\nf-5     (e)\nf-6     (f)\nf-7     (g)\nf-8     (h)\nf-9     (i)\nf-10    (j)\nFor a total of 10 facts.\n",
+            ),
+        ],
+        status: DONE,
+    },
+    // A fact in a slot is listed by its address.
+    Row {
+        steps: &[
+            (b"(deftemplate t (slot a))", b""),
+            (b"(assert (t (a (assert (b)))))", b"<Fact-2>\n"),
+            (
+                b"(facts)",
+                b"f-1     (b)\nf-2     (t (a <Fact-1>))\nFor a total of 2 facts.\n",
             ),
         ],
         status: DONE,

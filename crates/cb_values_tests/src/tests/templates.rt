@@ -197,7 +197,7 @@ fn refuses_templates_in_use(rt: HostRuntime) -> Result<(), NoMemory> {
 }
 
 /// A template, a field, and whether its first slot takes the field, by itself and in a multifield.
-const ALLOWED: [(&str, Field, bool); 6] = [
+const ALLOWED: [(&str, Field, bool); 9] = [
     ("(t (multislot a (type NUMBER)))", Field::Int(1), true),
     (
         "(t (multislot a (type ?VARIABLE)))",
@@ -212,6 +212,9 @@ const ALLOWED: [(&str, Field, bool); 6] = [
     ("(t (multislot a (type LEXEME)))", Field::Str("x"), true),
     ("(t (multislot a (type INTEGER)))", Field::Address(1), false),
     ("(t (multislot a (type SYMBOL)))", Field::Str("x"), false),
+    ("(t (multislot a (type SYMBOL)))", Field::Address(1), false),
+    ("(t (multislot a (type STRING)))", Field::Address(1), false),
+    ("(t (multislot a (type LEXEME)))", Field::Address(1), false),
 ];
 
 fn allows(alloc: Global, slot: &Slot, field: Single) -> Result<(bool, bool), NoMemory> {

@@ -1,50 +1,11 @@
-//! The scripts of `examples/` and their transcripts.
-use super::rows::{Example, WITH_A_FAULT, WITHOUT_FAULT};
+//! The scripts of `examples/`, made by `docs/examples.py`.
+use super::rows::{Example, WITHOUT_FAULT};
 
 pub(super) const EXAMPLES: [Example; 4] = [
-    // examples/inventory.clp and its transcript, examples/inventory.txt.
     Example {
-        name: "carries out the inventory",
-        script: b"; What stands in the storeroom. A line of a count is a fact, and a count that is told twice is one fact.
-
-(printout t \"Storeroom 4, counted by two people\" crlf)
-
-; The first count.
-(assert (item bolt m6 1200)
-        (item bolt m8 350)
-        (item nut m6 900)
-        (note bolt m8 \"box \\\"B\\\" is torn\"))
-
-; The second count agrees on the nuts.
-(assert (item nut m6 900))
-(assert (item washer m6 -3))
-
-; A slip of the pen: there are no floats.
-(assert (item washer m8 0.5))
-
-(printout t \"All that was counted:\" crlf)
-(facts)
-",
-        written: b"Storeroom 4, counted by two people
-<Fact-4>
-<Fact-3>
-<Fact-5>
-[CB05] floats are not supported
-All that was counted:
-f-1     (item bolt m6 1200)
-f-2     (item bolt m8 350)
-f-3     (item nut m6 900)
-f-4     (note bolt m8 \"box \\\"B\\\" is torn\")
-f-5     (item washer m6 -3)
-For a total of 5 facts.
-",
-        outcome: WITH_A_FAULT,
-    },
-    // examples/cluster.clp and its transcript, examples/cluster.txt.
-    Example {
-        name: "carries out the cluster",
-        script: b"; The configuration of a small cluster, checked before it is rolled out. Services and settings are templates: a port that
-; is no number and a service without a name are told here, and not by the machines.
+        name: "cluster.clp",
+        script: b"; The configuration of a small cluster, written down before it is rolled out. Services and settings are templates: a port
+; that is no number or a service without a name would be a fault, and the exit status of the run would be 1.
 
 (deftemplate service \"a program that runs on a machine\"
   (slot name (type SYMBOL) (default ?NONE))
@@ -74,14 +35,10 @@ For a total of 5 facts.
 (assert (service (name web) (needs db cache))
         (service (needs db) (name mail) (port 25)))
 (assert (setting (of web) (key \"max clients\") (value 200)))
-(assert (service (name cache) (port \"6379\")))     ; a port is a number
-(assert (service (port 6379)))                    ; the name is missing
-(assert (service (name cache) (prot 6379)))       ; a slip of the pen
 (assert (service (name cache) (port 6379)))
 
 ; The mail moves to another house, and its service goes.
 (retract 6)
-(deftemplate setting (slot name))                 ; there are settings already
 (facts)
 ",
         written: b"Each cluster:
@@ -94,11 +51,7 @@ For a total of 4 facts.
 This cluster:
 <Fact-6>
 <Fact-7>
-[CB10] value not allowed in slot
-[CB09] fact does not fit its template
-[CB09] fact does not fit its template
 <Fact-8>
-[CB23] template in use
 f-1     (service (name db) (port 5432) (host \"db-1.local\") (needs))
 f-2     (setting (of db) (key backup) (value on))
 f-3     (must-run db)
@@ -108,78 +61,45 @@ f-7     (setting (of web) (key \"max clients\") (value 200))
 f-8     (service (name cache) (port 6379) (host \"\") (needs))
 For a total of 7 facts.
 ",
-        outcome: WITH_A_FAULT,
+        outcome: WITHOUT_FAULT,
     },
-    // examples/units.clp and its transcript, examples/units.txt.
     Example {
-        name: "carries out the unit converter",
-        script: b"; A cutting list from an American plan, in metric units. There are no floats, so lengths are counted in tenths of a
-; millimetre, in which an inch is a whole number.
+        name: "inventory.clp",
+        script: b"; What stands in the storeroom. A line of a count is a fact, and a line that both people counted is one fact.
 
-(defglobal ?*inch* = 254
-           ?*foot* = (* 12 ?*inch*)
-           ?*kerf* = 30)             ; what the saw takes at each cut: 3 mm
+(printout t \"Storeroom 4, counted by two people\" crlf)
 
-; The pieces, each in feet and inches.
-(defglobal ?*pieces* = (create$ 7 5  3 0  0 11  1 2))
+; The first count.
+(assert (item bolt m6 1200)
+        (item bolt m8 350)
+        (item nut m6 900)
+        (note bolt m8 \"box \\\"B\\\" is torn\"))
 
-; The last action prints and has no value, so no value is shown after it.
-(if TRUE then
-  (bind ?list ?*pieces*)
-  (bind ?total 0)
-  (while (neq ?list (create$)) do
-    (bind ?feet (nth$ 1 ?list))
-    (bind ?inches (nth$ 2 ?list))
-    (bind ?list (rest$ (rest$ ?list)))
-    (bind ?length (+ (* ?feet ?*foot*) (* ?inches ?*inch*)))
-    (bind ?total (+ ?total ?length ?*kerf*))
-    (bind ?mm (div (+ ?length 5) 10))            ; rounded to a millimetre
-    (bind ?rest (mod ?mm 1000))
-    (bind ?zeros (if (< ?rest 10) then \"00\" else (if (< ?rest 100) then \"0\" else \"\")))
-    (println ?feet \"' \" ?inches \"\\\" = \" (div ?mm 1000) \".\" ?zeros ?rest \" m\"))
-  (println \"Board needed: \" (div (+ ?total 9) 10) \" mm\"))
+; The second count. What agrees with the first adds no line.
+(assert (item nut m6 900))
+(assert (item bolt m8 345)
+        (item washer m6 280))
 
-; A thinner saw, for once. `reset` has the usual one again.
-(bind ?*kerf* 12)
-(bind ?cuts (div (length$ ?*pieces*) 2))
-(println \"Lost to the thin saw: \" (div (+ (* ?cuts ?*kerf*) 9) 10) \" mm\")
-(reset)
-(println \"The usual saw takes \" (div ?*kerf* 10) \" mm a cut.\")
-
-; The glue wants some warmth. The nearest whole degree: a quotient is cut towards zero, so half a degree is added first,
-; away from zero.
-(defglobal ?*fahrenheit* = (create$ 50 75 0 -40))
-(if TRUE then
-  (bind ?list ?*fahrenheit*)
-  (while (> (length$ ?list) 0) do
-    (bind ?f (nth$ 1 ?list))
-    (bind ?list (rest$ ?list))
-    (bind ?ninths (* 5 (- ?f 32)))
-    (bind ?half (if (< ?ninths 0) then -9 else 9))
-    (print ?f \" F = \" (div (+ (* 2 ?ninths) ?half) 18) \" C\")
-    (println (if (< ?f 60) then \", too cold to glue\" else \"\")))
-  (println \"Done.\"))
+(printout t \"All that was counted:\" crlf)
+(facts)
 ",
-        written: b"7' 5\" = 2.261 m
-3' 0\" = 0.914 m
-0' 11\" = 0.279 m
-1' 2\" = 0.356 m
-Board needed: 3822 mm
-12
-4
-Lost to the thin saw: 5 mm
-The usual saw takes 3 mm a cut.
-50 F = 10 C, too cold to glue
-75 F = 24 C
-0 F = -18 C, too cold to glue
--40 F = -40 C, too cold to glue
-Done.
+        written: b"Storeroom 4, counted by two people
+<Fact-4>
+<Fact-3>
+<Fact-6>
+All that was counted:
+f-1     (item bolt m6 1200)
+f-2     (item bolt m8 350)
+f-3     (item nut m6 900)
+f-4     (note bolt m8 \"box \\\"B\\\" is torn\")
+f-5     (item bolt m8 345)
+f-6     (item washer m6 280)
+For a total of 6 facts.
 ",
         outcome: WITHOUT_FAULT,
     },
-    // examples/readings.clp and its transcript, examples/readings.txt.
     Example {
-        name: "carries out the check of readings",
+        name: "readings.clp",
         script: b"; The night's readings of a cold store, checked against the limits of each room.
 
 (deftemplate reading
@@ -251,6 +171,72 @@ f-7     (finding (room cellar) (kind too-cold) (degrees 1))
 f-8     (reading (room cellar) (hour 2) (celsius 8))
 f-9     (night (readings 6) (findings 2) (rooms freezer cellar))
 For a total of 9 facts.
+",
+        outcome: WITHOUT_FAULT,
+    },
+    Example {
+        name: "units.clp",
+        script: b"; A cutting list from an American plan, in metric units. There are no floats, so lengths are counted in tenths of a
+; millimetre, in which an inch is a whole number.
+
+(defglobal ?*inch* = 254
+           ?*foot* = (* 12 ?*inch*)
+           ?*kerf* = 30)             ; what the saw takes at each cut: 3 mm
+
+; The pieces, each in feet and inches.
+(defglobal ?*pieces* = (create$ 7 5  3 0  0 11  1 2))
+
+; The last action prints and has no value, so no value is shown after it.
+(if TRUE then
+  (bind ?list ?*pieces*)
+  (bind ?total 0)
+  (while (neq ?list (create$)) do
+    (bind ?feet (nth$ 1 ?list))
+    (bind ?inches (nth$ 2 ?list))
+    (bind ?list (rest$ (rest$ ?list)))
+    (bind ?length (+ (* ?feet ?*foot*) (* ?inches ?*inch*)))
+    (bind ?total (+ ?total ?length ?*kerf*))
+    (bind ?mm (div (+ ?length 5) 10))            ; rounded to a millimetre
+    (bind ?rest (mod ?mm 1000))
+    (bind ?zeros (if (< ?rest 10) then \"00\" else (if (< ?rest 100) then \"0\" else \"\")))
+    (println ?feet \"' \" ?inches \"\\\" = \" (div ?mm 1000) \".\" ?zeros ?rest \" m\"))
+  (println \"Board needed: \" (div (+ ?total 9) 10) \" mm\"))
+
+; A thinner saw, for once. `reset` has the usual one again.
+(bind ?*kerf* 12)
+(bind ?cuts (div (length$ ?*pieces*) 2))
+(println \"Lost to the thin saw: \" (div (+ (* ?cuts ?*kerf*) 9) 10) \" mm\")
+(reset)
+(println \"The usual saw takes \" (div ?*kerf* 10) \" mm a cut.\")
+
+; The glue wants some warmth. The nearest whole degree: a quotient is cut towards zero, so half a degree is added first,
+; away from zero.
+(defglobal ?*fahrenheit* = (create$ 50 75 0 -40))
+(if TRUE then
+  (bind ?list ?*fahrenheit*)
+  (while (> (length$ ?list) 0) do
+    (bind ?f (nth$ 1 ?list))
+    (bind ?list (rest$ ?list))
+    (bind ?ninths (* 5 (- ?f 32)))
+    (bind ?half (if (< ?ninths 0) then -9 else 9))
+    (print ?f \" F = \" (div (+ (* 2 ?ninths) ?half) 18) \" C\")
+    (println (if (< ?f 60) then \", too cold to glue\" else \"\")))
+  (println \"Done.\"))
+",
+        written: b"7' 5\" = 2.261 m
+3' 0\" = 0.914 m
+0' 11\" = 0.279 m
+1' 2\" = 0.356 m
+Board needed: 3822 mm
+12
+4
+Lost to the thin saw: 5 mm
+The usual saw takes 3 mm a cut.
+50 F = 10 C, too cold to glue
+75 F = 24 C
+0 F = -18 C, too cold to glue
+-40 F = -40 C, too cold to glue
+Done.
 ",
         outcome: WITHOUT_FAULT,
     },

@@ -2,7 +2,7 @@
 //! too.
 use super::rows::*;
 
-pub(super) const FIRST_ROWS: [Row; 20] = [
+pub(super) const FIRST_ROWS: [Row; 21] = [
     Row {
         name: "an empty script",
         ..CLEAN
@@ -53,6 +53,19 @@ pub(super) const FIRST_ROWS: [Row; 20] = [
         name: "a quote in a printed string",
         steps: &[(b"(printout t \"a\\\"b\" crlf)", b"a\"b\n")],
         ..CLEAN
+    },
+    Row {
+        name: "a list in 200 others",
+        steps: &[(
+            b"(((((((((((((((((((((((((((((((((((((((((((((((((((((((((((((((((((
+(((((((((((((((((((((((((((((((((((((((((((((((((((((((((((((((((((
+(((((((((((((((((((((((((((((((((((((((((((((((((((((((((((((((((((
+)))))))))))))))))))))))))))))))))))))))))))))))))))))))))))))))))))
+)))))))))))))))))))))))))))))))))))))))))))))))))))))))))))))))))))
+)))))))))))))))))))))))))))))))))))))))))))))))))))))))))))))))))))",
+            b"[CB03] nesting too deep\n",
+        )],
+        ..FAULTY
     },
     Row {
         name: "a parenthesis too many",

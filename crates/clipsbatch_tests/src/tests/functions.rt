@@ -1,9 +1,9 @@
-//! The examples of `docs/LANGUAGE.md` on expressions, functions, variables and control, in its order.
+//! The scripts of `docs/LANGUAGE.md` on expressions, functions, variables and control, made by `docs/examples.py`.
 use super::rows::{AT_A_LIMIT, Example, WITH_A_FAULT, WITHOUT_FAULT};
 
-pub(super) const FUNCTIONS: [Example; 7] = [
+pub(super) const FUNCTIONS: [Example; 8] = [
     Example {
-        name: "shows expressions",
+        name: "Expressions: 1",
         script: b"(+ 1 (* 2 3))
 (create$ red \"X L\" (create$ 3 (- 3 4)))
 (create$)
@@ -29,7 +29,7 @@ FALSE
         outcome: WITH_A_FAULT,
     },
     Example {
-        name: "shows faults of expressions",
+        name: "Expressions: 2",
         script: b"(+ (print \"not carried out\") (bogus))
 (+ (bogus ?x) ?y)
 (+ ?y (bogus))
@@ -55,7 +55,7 @@ FALSE
         outcome: WITH_A_FAULT,
     },
     Example {
-        name: "shows each function",
+        name: "Functions: each one",
         script: b"(+ 1 2 -5)
 (- 10 3 2)
 (* 2 3 -4)
@@ -131,7 +131,7 @@ FALSE
         outcome: WITHOUT_FAULT,
     },
     Example {
-        name: "shows faults and ends of functions",
+        name: "Functions: 1",
         script: b"(+ 9223372036854775807 1)
 (* -9223372036854775808 -1)
 (- -9223372036854775808 1)
@@ -181,7 +181,29 @@ a b
         outcome: WITH_A_FAULT,
     },
     Example {
-        name: "shows variables",
+        name: "Variables: 1",
+        script: b"?x
+$?rest
+(printout t ?x crlf)
+(assert (age ?x) (bind ?x 1))
+(assert (bind ?x 1) (age ?x))
+(bind ?x 1)
+?*limit*
+?
+",
+        written: b"[CB11] unbound variable
+[CB11] unbound variable
+[CB11] unbound variable
+[CB11] unbound variable
+[CB11] unbound variable
+1
+[CB12] unknown global variable
+[CB08] malformed form
+",
+        outcome: WITH_A_FAULT,
+    },
+    Example {
+        name: "Variables: 2",
         script: b"(bind ?x (+ ?x 1))
 (bind ?x 4)
 (bind ?x (+ ?x 1))
@@ -221,7 +243,7 @@ FALSE
         outcome: WITH_A_FAULT,
     },
     Example {
-        name: "shows global variables",
+        name: "Global variables: 1",
         script: b"(defglobal ?*width* = 4 ?*area* = (* ?*width* 3))
 ?*area*
 (bind ?*width* 10)
@@ -268,7 +290,7 @@ FALSE
         outcome: WITH_A_FAULT,
     },
     Example {
-        name: "shows control",
+        name: "while: 1",
         script: b"(if (> 2 1) then (println \"yes\") more else less)
 (if (> 1 2) then more else \"less\")
 (if (> 1 2) then more)

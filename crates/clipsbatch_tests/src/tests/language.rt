@@ -1,31 +1,9 @@
-//! The other examples of `docs/LANGUAGE.md`, in its order.
+//! The scripts of `docs/LANGUAGE.md` on templates, facts and commands, made by `docs/examples.py`.
 use super::rows::{Example, WITH_A_FAULT, WITHOUT_FAULT};
 
-pub(super) const LANGUAGE: [Example; 12] = [
+pub(super) const LANGUAGE: [Example; 11] = [
     Example {
-        name: "shows values",
-        script: b"?x
-$?rest
-(printout t ?x crlf)
-(assert (age ?x) (bind ?x 1))
-(assert (bind ?x 1) (age ?x))
-(bind ?x 1)
-?*limit*
-?
-",
-        written: b"[CB11] unbound variable
-[CB11] unbound variable
-[CB11] unbound variable
-[CB11] unbound variable
-[CB11] unbound variable
-1
-[CB12] unknown global variable
-[CB08] malformed form
-",
-        outcome: WITH_A_FAULT,
-    },
-    Example {
-        name: "shows templates",
+        name: "Templates: 1",
         script: b"(deftemplate part \"What lies on a shelf\"
     (slot name (type SYMBOL) (default ?NONE))
     (slot count (type INTEGER))
@@ -54,7 +32,7 @@ For a total of 2 facts.
         outcome: WITH_A_FAULT,
     },
     Example {
-        name: "shows derived defaults",
+        name: "Templates: 2",
         script: b"(deftemplate d
     (slot a (type INTEGER))
     (slot b (type NUMBER))
@@ -80,7 +58,7 @@ For a total of 1 fact.
         outcome: WITH_A_FAULT,
     },
     Example {
-        name: "shows faults of templates",
+        name: "Templates: 3",
         script: b"(deftemplate \"reading\" (slot at))
 (deftemplate exists (slot at))
 (deftemplate t (slot at (range 1 9)) (field to))
@@ -115,7 +93,7 @@ For a total of 1 fact.
         outcome: WITH_A_FAULT,
     },
     Example {
-        name: "shows faults of facts",
+        name: "Facts: 1",
         script: b"(deftemplate reading
     (slot at (type SYMBOL) (default ?NONE))
     (slot celsius (type INTEGER))
@@ -154,7 +132,7 @@ For a total of 1 fact.
         outcome: WITH_A_FAULT,
     },
     Example {
-        name: "shows computed facts",
+        name: "Facts: 2",
         script: b"(deftemplate order
     (slot item (type SYMBOL))
     (slot count (type INTEGER))
@@ -198,7 +176,7 @@ For a total of 8 facts.
         outcome: WITH_A_FAULT,
     },
     Example {
-        name: "shows facts and printing",
+        name: "assert, facts and printing: 1",
         script: b"(assert (color red) (size \"X L\" 40))
 (assert (color red))
 (facts)
@@ -218,7 +196,7 @@ blue
         outcome: WITHOUT_FAULT,
     },
     Example {
-        name: "shows printing",
+        name: "assert, facts and printing: 2",
         script: b"(println \"sum\" tab (+ 9 1))
 (print \"three\" crlf \"four\")
 (println)
@@ -247,7 +225,7 @@ printed
         outcome: WITH_A_FAULT,
     },
     Example {
-        name: "shows deffacts reset and clear",
+        name: "deffacts, reset and clear: 1",
         script: b"(deftemplate lamp (slot room) (slot state (default off)))
 (deffacts house \"What there is at the start\"
     (lamp (room hall))
@@ -288,7 +266,7 @@ For a total of 1 fact.
         outcome: WITH_A_FAULT,
     },
     Example {
-        name: "shows a reset of globals",
+        name: "deffacts, reset and clear: 2",
         script: b"(defglobal ?*rooms* = 2)
 (deffacts house (rooms ?*rooms*) (doors (* 3 (+ ?*rooms* 1))))
 (deffacts note (doors 9) (by \"Ann\"))
@@ -329,7 +307,7 @@ For a total of 1 fact.
         outcome: WITH_A_FAULT,
     },
     Example {
-        name: "shows retractions",
+        name: "retract: 1",
         script: b"(assert (a) (b) (c) (d))
 (retract 2)
 (retract 1 \"x\")
@@ -369,7 +347,7 @@ For a total of 2 facts.
         outcome: WITH_A_FAULT,
     },
     Example {
-        name: "shows computed retractions",
+        name: "retract: 2",
         script: b"(bind ?a (assert (a)))
 (bind ?b (assert (b)) 3)
 (assert (c) (d))

@@ -3,6 +3,7 @@ ghost use Rattle.std.specs.Prelude.{◌<◌, ◌≤◌};
 ghost use Rattle.cb_io.specs.Output.{IsReady};
 
 use super::calc_rows::CALC_ROWS;
+use super::clips::CLIPS;
 use super::examples::EXAMPLES;
 use super::fault_rows::FAULT_ROWS;
 use super::first_rows::FIRST_ROWS;
@@ -351,6 +352,12 @@ fn first_untrue(alloc: Global, examples: &[Example]) -> Result<Option<&'static s
 #[test]
 fn carries_the_scripts_of_examples_out(rt: HostRuntime) -> Result<(), NoMemory> {
     assert_eq!(rt; first_untrue(rt.alloc(), &EXAMPLES)?, None);
+    Ok(())
+}
+
+#[test]
+fn carries_the_scripts_for_users_of_clips_out(rt: HostRuntime) -> Result<(), NoMemory> {
+    assert_eq!(rt; first_untrue(rt.alloc(), &CLIPS)?, None);
     Ok(())
 }
 

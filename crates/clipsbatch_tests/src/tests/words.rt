@@ -1,7 +1,7 @@
 //! The program's words: the limits that they set, and what they lead to.
 use super::rows::{AT_A_LIMIT, WITH_A_FAULT};
 use cb_forms::{MemSink, MemSource, NoMemory, Out};
-use cb_run::{Outcome, carry_out, read_words};
+use cb_run::{Cause, Outcome, carry_out, read_words};
 use clap::error::ErrorKind;
 use std::alloc::Global;
 
@@ -187,4 +187,29 @@ fn first_astray(alloc: Global) -> Result<Option<&'static [&'static str]>, NoMemo
 fn words_are_taken_or_refused(rt: HostRuntime) -> Result<(), NoMemory> {
     assert!(rt; first_astray(rt.alloc())?.is_none());
     Ok(())
+}
+
+/// How a run ended, and what the program says of it.
+const LINES: [(Cause, &str); 6] = [
+    (Cause::Done, ""),
+    (Cause::Exit, ""),
+    (Cause::Limit, ""),
+    (Cause::ReadFault, "clipsbatch: read failed"),
+    (Cause::WriteFault, "clipsbatch: write failed"),
+    (Cause::NoMemory, "clipsbatch: out of memory"),
+];
+
+/// The first of these runs of which the program says something else.
+fn first_unsaid() -> Option<Cause> {
+    for (cause, line) in &LINES {
+        if Outcome::failed(*cause).line() != *line {
+            return Some(*cause);
+        }
+    }
+    None
+}
+
+#[test]
+fn failed_runs_have_a_line(rt: HostRuntime) {
+    assert!(rt; first_unsaid().is_none());
 }

@@ -1,0 +1,300 @@
+//! The scripts of `docs/CLIPS.md` and of `README.md`, made by `docs/examples.py`.
+use super::rows::{Example, WITH_A_FAULT, WITHOUT_FAULT};
+
+pub(super) const CLIPS: [Example; 22] = [
+    Example {
+        name: "Input and output: 1",
+        script: b"(+ 1 2)
+(printout t \"no line end\")
+(assert (color red))
+",
+        written: b"3
+no line end<Fact-1>
+",
+        outcome: WITHOUT_FAULT,
+    },
+    Example {
+        name: "Input and output: 2",
+        script: b"(printout t \"sum: \")
+(bogus 1)
+(+ 1 x)
+(div 7 0)
+",
+        written: b"sum: [CB06] unknown function
+[CB17] wrong type
+[CB19] division by zero
+",
+        outcome: WITH_A_FAULT,
+    },
+    Example {
+        name: "Input and output: 3",
+        script: b"(printout t \"a\" crlf)
+(printout t \"b\" crlf
+",
+        written: b"a
+[CB01] form not closed
+",
+        outcome: WITH_A_FAULT,
+    },
+    Example {
+        name: "Input and output: 4",
+        script: b"red ) blue
+(+ 1 2) (+ 3 4)
+",
+        written: b"red
+[CB02] unmatched closing parenthesis
+blue
+3
+7
+",
+        outcome: WITH_A_FAULT,
+    },
+    Example {
+        name: "What is left out: 1",
+        script: b"1.5
+(/ 6 3)
+(modify 1 (a 2))
+(bogus)
+(deftemplate t (slot n (default (+ 1 2))))
+(if TRUE then (reset))
+(assert (sum =(+ 1 2)))
+(printout werror \"w\" crlf)
+(member$ (create$ b c) (create$ a b c))
+",
+        written: b"[CB05] floats are not supported
+[CB14] not in this profile
+[CB14] not in this profile
+[CB06] unknown function
+[CB14] not in this profile
+[CB14] not in this profile
+[CB14] not in this profile
+[CB14] not in this profile
+[CB17] wrong type
+",
+        outcome: WITH_A_FAULT,
+    },
+    Example {
+        name: "Numbers: 1",
+        script: b"(+ 9223372036854775807 1)
+(* 4294967296 4294967296)
+(abs -9223372036854775808)
+",
+        written: b"[CB18] integer overflow
+[CB18] integer overflow
+[CB18] integer overflow
+",
+        outcome: WITH_A_FAULT,
+    },
+    Example {
+        name: "Numbers: 2",
+        script: b"9223372036854775808
+",
+        written: b"[CB04] integer out of range
+",
+        outcome: WITH_A_FAULT,
+    },
+    Example {
+        name: "Numbers: 3",
+        script: b"(bind ?x (div 7 0))
+?x
+",
+        written: b"[CB19] division by zero
+[CB11] unbound variable
+",
+        outcome: WITH_A_FAULT,
+    },
+    Example {
+        name: "When things are checked: 1",
+        script: b"(assert (a) (b ?u) (c))
+(facts)
+(if FALSE then (printout t ?u))
+",
+        written: b"[CB11] unbound variable
+[CB11] unbound variable
+",
+        outcome: WITH_A_FAULT,
+    },
+    Example {
+        name: "When things are checked: 2",
+        script: b"(if FALSE then (+ 1 many))
+",
+        written: b"FALSE
+",
+        outcome: WITHOUT_FAULT,
+    },
+    Example {
+        name: "When things are checked: 3",
+        script: b"(assert (a) (b (div 1 0)) (c))
+(facts)
+",
+        written: b"[CB19] division by zero
+f-1     (a)
+For a total of 1 fact.
+",
+        outcome: WITH_A_FAULT,
+    },
+    Example {
+        name: "When things are checked: 4",
+        script: b"(printout t \"a\" (div 1 0) \"b\" crlf)
+",
+        written: b"[CB19] division by zero
+",
+        outcome: WITH_A_FAULT,
+    },
+    Example {
+        name: "When things are checked: 5",
+        script: b"(assert (a) (b) (c) (d))
+(retract 1 99 2)
+(facts)
+(bind ?x \"x\")
+(retract 3 ?x)
+(facts)
+",
+        written: b"<Fact-4>
+[CB20] no such fact
+f-2     (b)
+f-3     (c)
+f-4     (d)
+For a total of 3 facts.
+\"x\"
+[CB17] wrong type
+f-2     (b)
+f-3     (c)
+f-4     (d)
+For a total of 3 facts.
+",
+        outcome: WITH_A_FAULT,
+    },
+    Example {
+        name: "When things are checked: 6",
+        script: b"(create$ 1 (printout t \"x\"))
+(if (printout t \"y\") then 1 else 2)
+",
+        written: b"x[CB17] wrong type
+y[CB17] wrong type
+",
+        outcome: WITH_A_FAULT,
+    },
+    Example {
+        name: "Facts and templates: 1",
+        script: b"(assert (color red))
+(assert (color blue))
+(assert (color red))
+",
+        written: b"<Fact-1>
+<Fact-2>
+<Fact-1>
+",
+        outcome: WITHOUT_FAULT,
+    },
+    Example {
+        name: "Facts and templates: 2",
+        script: b"(deftemplate t (slot a (type INTEGER)) (slot b (type INTEGER STRING)))
+(assert (t))
+(facts)
+",
+        written: b"<Fact-1>
+f-1     (t (a 0) (b nil))
+For a total of 1 fact.
+",
+        outcome: WITHOUT_FAULT,
+    },
+    Example {
+        name: "Facts and templates: 3",
+        script: b"(deftemplate t (slot a (type INTEGER)))
+(assert (t (a (sym-cat many))))
+(bind ?x more)
+(assert (t (a ?x)))
+(facts)
+",
+        written: b"<Fact-1>
+more
+<Fact-2>
+f-1     (t (a many))
+f-2     (t (a more))
+For a total of 2 facts.
+",
+        outcome: WITHOUT_FAULT,
+    },
+    Example {
+        name: "Facts and templates: 4",
+        script: b"(deffacts d (a))
+(deffacts d (b ?x))
+(reset)
+(facts)
+",
+        written: b"[CB11] unbound variable
+f-1     (a)
+For a total of 1 fact.
+",
+        outcome: WITH_A_FAULT,
+    },
+    Example {
+        name: "Globals, variables and reset: 1",
+        script: b"(defglobal ?*a* = 1 ?*b* = (div 1 0) ?*c* = 3)
+?*a*
+?*c*
+",
+        written: b"[CB19] division by zero
+[CB12] unknown global variable
+[CB12] unknown global variable
+",
+        outcome: WITH_A_FAULT,
+    },
+    Example {
+        name: "Globals, variables and reset: 2",
+        script: b"(deffacts start (y))
+(defglobal ?*n* = 1)
+(defglobal ?*half* = (div 4 ?*n*))
+(defglobal ?*n* = 0)
+(assert (x))
+(reset)
+?*half*
+(facts)
+",
+        written: b"<Fact-1>
+[CB19] division by zero
+4
+f-1     (x)
+For a total of 1 fact.
+",
+        outcome: WITH_A_FAULT,
+    },
+    Example {
+        name: "Globals, variables and reset: 3",
+        script: b"(bind ?x 1)
+(bind ?x)
+?x
+",
+        written: b"1
+[CB07] wrong arguments
+1
+",
+        outcome: WITH_A_FAULT,
+    },
+    Example {
+        name: "A first transcript: 1",
+        script: b"; What lamps are there, and what do they draw?
+(deftemplate lamp (slot room (default ?NONE)) (slot watts (type INTEGER) (default 60)))
+(deffacts house (lamp (room hall)) (lamp (room attic) (watts (* 4 25))))
+(reset)
+(facts)
+(assert (lamp (room cellar) (watts bright)))
+(bind ?f (assert (lamp (room cellar) (watts (div 60 4)))))
+(retract 1)
+(facts)
+(println \"Watt hours: \" (* 3 (+ 100 15)))
+",
+        written: b"f-1     (lamp (room hall) (watts 60))
+f-2     (lamp (room attic) (watts 100))
+For a total of 2 facts.
+[CB10] value not allowed in slot
+<Fact-3>
+f-2     (lamp (room attic) (watts 100))
+f-3     (lamp (room cellar) (watts 15))
+For a total of 2 facts.
+Watt hours: 345
+",
+        outcome: WITH_A_FAULT,
+    },
+];

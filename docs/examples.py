@@ -1,0 +1,121 @@
+#!/usr/bin/env python3
+"""The rows of `clipsbatch_tests` that are scripts of the pages and of `examples/`, made from these files.
+
+docs/examples.py            writes the rows into crates/clipsbatch_tests/src/tests
+docs/examples.py --check    only checks that they are up to date
+
+A script of a page is a block of the kind `clips`, and its transcript is the next block of the kind `text`; a block of the
+kind `clips rules` is not for clipsbatch yet. In the table of functions each call is a line of one script, and what it shows
+a line of the transcript. The exit status is told from the transcript: 4 where its last line is a limit's, 1 where one line
+is a fault's, else 0.
+"""
+import re
+import sys
+from pathlib import Path
+
+TOP = Path(__file__).resolve().parent.parent
+ROWS = TOP / "crates" / "clipsbatch_tests" / "src" / "tests"
+CALL = re.compile(r"^\| `[^`]+` \|.*\| `(\([^`]*\))` \| `([^`]*)` \|$")
+LIMIT = re.compile(r"^\[CB9\d\] .*\n\Z", re.M)
+FAULT = re.compile(r"\[CB\d\d\] ")
+
+
+def sections(page):
+    """The headings of a page, each with the lines below it up to the next."""
+    found = [("", [])]
+    is_code = False
+    for line in (TOP / page).read_text().splitlines():
+        is_code ^= line.startswith("```")
+        if line.startswith("#") and not is_code:
+            found.append((line.lstrip("# ").replace("`", ""), []))
+        else:
+            found[-1][1].append(line)
+    return found
+
+
+def blocks(lines):
+    """The blocks of a section: the kind of each, and its text."""
+    kind, text = None, []
+    for line in lines:
+        if kind is None and line.startswith("```"):
+            kind, text = line[3:], []
+        elif line.startswith("```"):
+            yield kind, "".join(f"{each}\n" for each in text)
+            kind = None
+        elif kind is not None:
+            text.append(line)
+
+
+def scripts(page):
+    """The scripts of a page: the name of each, its text and its transcript."""
+    for heading, lines in sections(page):
+        calls = [found.groups() for found in map(CALL.match, lines) if found]
+        if calls:
+            yield f"{heading}: each one", "".join(f"{call}\n" for call, _ in calls), "".join(f"{shown}\n" for _, shown in calls)
+        script, number = None, 0
+        for kind, text in blocks(lines):
+            if kind == "clips":
+                script, number = text, number + 1
+            elif kind == "text" and script is not None:
+                yield f"{heading}: {number}", script, text
+                script = None
+
+
+def files():
+    """The scripts of `examples/`."""
+    for script in sorted((TOP / "examples").glob("*.clp")):
+        yield script.name, script.read_text(), script.with_suffix(".txt").read_text()
+
+
+def literal(text):
+    return text.replace("\\", "\\\\").replace('"', '\\"').replace("\t", "\\t")
+
+
+def outcome(written):
+    if LIMIT.search(written):
+        return "AT_A_LIMIT"
+    return "WITH_A_FAULT" if FAULT.search(written) else "WITHOUT_FAULT"
+
+
+def module(source, name, examples):
+    """A file of rows."""
+    used = {"Example"} | {outcome(written) for _, _, written in examples}
+    words = [word for word in ("AT_A_LIMIT", "Example", "WITH_A_FAULT", "WITHOUT_FAULT") if word in used]
+    text = f"//! The scripts of {source}, made by `docs/examples.py`.\n"
+    text += f"use super::rows::{{{', '.join(words)}}};\n\n"
+    text += f"pub(super) const {name}: [Example; {len(examples)}] = [\n"
+    for title, script, written in examples:
+        text += f'    Example {{\n        name: "{literal(title)}",\n        script: b"{literal(script)}",\n'
+        text += f'        written: b"{literal(written)}",\n        outcome: {outcome(written)},\n    }},\n'
+    return text + "];\n"
+
+
+def modules():
+    """The files, and what should stand in each."""
+    language = list(scripts("docs/LANGUAGE.md"))
+    first = next(place for place, (title, _, _) in enumerate(language) if title.startswith("Templates"))
+    yield "functions.rt", module("`docs/LANGUAGE.md` on expressions, functions, variables and control", "FUNCTIONS", language[:first])
+    yield "language.rt", module("`docs/LANGUAGE.md` on templates, facts and commands", "LANGUAGE", language[first:])
+    yield "clips.rt", module("`docs/CLIPS.md` and of `README.md`", "CLIPS", [*scripts("docs/CLIPS.md"), *scripts("README.md")])
+    yield "examples.rt", module("`examples/`", "EXAMPLES", list(files()))
+
+
+def main():
+    words = sys.argv[1:]
+    if words not in ([], ["--check"]):
+        sys.exit(__doc__)
+    stale = 0
+    for name, text in modules():
+        path = ROWS / name
+        if path.is_file() and path.read_text() == text:
+            continue
+        stale += 1
+        if words:
+            print(f"{path.relative_to(TOP)} is not up to date: run docs/examples.py")
+        else:
+            path.write_text(text)
+    return 1 if words and stale else 0
+
+
+if __name__ == "__main__":
+    sys.exit(main())
