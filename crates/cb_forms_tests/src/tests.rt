@@ -1,5 +1,6 @@
 mod bytes;
 mod errors;
+mod faults;
 mod forms;
 mod held;
 mod limits;
