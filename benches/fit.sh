@@ -1,13 +1,14 @@
 #!/bin/sh
 # Measures how long one test of a pattern against a fact takes, by the number of the fact's fields: for constraints for one
 # field each, for one segment, for two segments with a constant between, and where the number of fields can't fit, which is
-# seen without looking at them.
-# Run it from anywhere, with GNU time as /usr/bin/time:
+# seen without looking at them. And it counts what a test allocates where the pattern fits in no way, which must be nothing but
+# the values of segments.
+# Run it from anywhere, with GNU time as /usr/bin/time, a C compiler and the GNU C library:
 #
 #     benches/fit.sh
 #
-# It proves and builds the program pattern_fits first, and ends with status 1 where a ratio is over what is wanted. No test
-# depends on it.
+# It proves and builds the program pattern_fits first, and ends with status 1 where a ratio is over what is wanted, or where a
+# test allocates more. No test depends on it.
 set -eu
 
 BUILT=pattern_fits
@@ -65,7 +66,83 @@ row() {
     }' || missed=1
 }
 
+# Counts the calls of malloc, calloc and realloc, and writes their number to the file CALLS at the end.
+cat >"$place/counting.c" <<'END'
+#include <stdio.h>
+#include <stdlib.h>
+
+extern void *__libc_malloc(size_t);
+extern void *__libc_calloc(size_t, size_t);
+extern void *__libc_realloc(void *, size_t);
+
+static long calls;
+
+void *malloc(size_t size) { calls++; return __libc_malloc(size); }
+void *calloc(size_t n, size_t size) { calls++; return __libc_calloc(n, size); }
+void *realloc(void *old, size_t size) { calls++; return __libc_realloc(old, size); }
+
+__attribute__((destructor)) static void end(void) {
+    long counted = calls;
+    FILE *file = fopen(getenv("CALLS"), "w");
+    if (file) {
+        fprintf(file, "%ld\n", counted);
+        fclose(file);
+    }
+}
+END
+cc -O1 -fPIC -shared -o "$place/counting.so" "$place/counting.c"
+
+# How often a run of the script in the folder allocates.
+allocations() {
+    LD_PRELOAD=$place/counting.so CALLS=$place/calls "$program" <"$place/script" >"$place/transcript"
+    cat "$place/calls"
+}
+
+# Patterns and facts that they fit in no way, and how often a test may allocate: only the value of a segment with a name, which
+# is one block that shares the fact's fields, where it is made before a later constraint fails.
+unfitting() {
+    cat <<'END'
+another relation	(p ?x)	(q a)	0
+another number of fields	(p ?x ?y)	(p a)	0
+too few fields beside a segment	(p ?x ?y $?)	(p a)	0
+a constant at the front	(p a ?x $?y)	(p b 1 2)	0
+a constant at the end	(p ?x ?y a)	(p 1 2 b)	0
+a constant in the first slot	(part (name a) (weight 1) (sizes 1 $?))	(part (name b) (weight 1) (sizes 1 2))	0
+a constant in the second slot	(part (name a) (weight 1) (sizes 1 $?))	(part (name a) (weight 2) (sizes 1 2))	0
+a constant in the third slot	(part (name ?x) (weight ?y) (sizes 1 $?z))	(part (name a) (weight 1) (sizes 2 1))	0
+alternatives	(p ?x a|b|c)	(p 1 d)	0
+a second occurrence of a variable	(p ?x ?x)	(p a b)	0
+a second occurrence in another slot	(part (name ?x) (weight ?x))	(part (name a) (weight 1))	0
+a predicate of one argument	(p ?x&:(evenp ?x))	(p 1)	0
+a predicate of two arguments	(p ?x&:(> ?x 2))	(p 1)	0
+a segment that is too short	(p $?x&:(> (length$ ?x) 1) ?)	(p 1 2)	1
+a return value	(p ?x =(+ ?x 1))	(p 1 3)	0
+a variable with ~	(p ?x ~?x)	(p a a)	0
+a constant with ~	(p ?x ~a)	(p 1 a)	0
+a segment before a constant at the end	(p $?x a)	(p 1 2 b)	0
+a constant that occurs nowhere	(p $?x a $?y)	(p 1 2 3)	0
+a constant that occurs once, and a predicate	(p $?x a ?y&:(> ?y 2) $?z)	(p 1 a 2 3)	1
+a constant that occurs once, and a variable	(p $?x a $?x)	(p 1 a 2)	2
+two constants, of which one occurs	(p $?x a $?y b $?z)	(p 1 a 2)	1
+eight variables	(p ?a ?b ?c ?d ?e ?f ?g ?h ?h)	(p 1 2 3 4 5 6 7 8 9)	0
+END
+}
+
+# Counts what $3 tests of the pattern $1 against the fact $2 allocate, beside what reading them does.
+allocated() {
+    for n in 0 "$3"; do
+        echo "(deftemplate part (slot name) (slot weight) (multislot sizes))(defrule r $1 =>)(again $n $2)(fits $2)" >"$place/script"
+        allocations
+    done | awk 'NR == 1 { without = $1 } END { print $1 - without }'
+}
+
 missed=0
+unfitting >"$place/unfitting"
+while IFS='	' read -r what pattern fact most; do
+    count=$(allocated "$pattern" "$fact" 1000)
+    printf '%-46s %s allocations in 1000 tests (wanted: at most %s)\n' "$what:" "$count" $((1000 * most))
+    [ "$count" -le $((1000 * most)) ] && grep -q '^none$' "$place/transcript" || missed=1
+done <"$place/unfitting"
 row constraints 'as many constraints as fields' 12000000 'by fields' 15
 row segment 'one segment' 700000 'for all' 2
 row between 'two segments with a constant between' 4000000 'by fields' 15

@@ -1,12 +1,12 @@
 #!/usr/bin/env python3
-"""Makes the index of docs/DEFINITIONS.md from the comments in crates/*/specs/*.antt.
+"""Makes the index of docs/DEFINITIONS.md from the comments in crates/*/specs.
 
     docs/definitions.py            writes the index anew
     docs/definitions.py --check    says whether the page is up to date; exit status 0 if so, else 1
 
 A definition has a row: its name, what it says, and its place. What it says is the comment before it in its file; where it
 has none, the sentence for it in docs/definitions.txt (lines `crate File name: sentence`); else its type.
-docs/definitions.txt also says what only the code needs (lines `code: crate File` for a whole file, `code: crate File name`).
+What only the code needs stands in the module `Internal` of a crate, and has an index of its own.
 """
 import re
 import sys
@@ -31,7 +31,7 @@ class Definition:
         return f"{self.crate} {self.file} {self.name}"
 
 
-def read_file(crate, path):
+def read_file(crate, path, file):
     """The definitions of a file, in its order, each with the comment before it and its type."""
     comment, in_mutual = [], False
     for number, text in enumerate(path.read_text(encoding="utf-8").split("\n"), 1):
@@ -43,7 +43,7 @@ def read_file(crate, path):
         if bare.startswith("--"):
             comment.append(bare.lstrip("-").strip())
         elif match:
-            yield Definition(crate, path.stem, match.group(1), number, " ".join(comment), type_of(match.group(2)))
+            yield Definition(crate, file, match.group(1), number, " ".join(comment), type_of(match.group(2)))
             comment = []
         elif not bare.endswith("mutual"):
             comment = []
@@ -55,21 +55,19 @@ def type_of(rest):
 
 def all_definitions():
     for folder in sorted((TOP / "crates").glob("*/specs")):
-        for path in sorted(folder.glob("*.antt")):
+        for path in sorted(folder.glob("**/*.antt")):
             if path.stem != "Lib":
-                yield from read_file(folder.parent.name, path)
+                yield from read_file(folder.parent.name, path, str(path.relative_to(folder).with_suffix("")))
 
 
 def read_notes():
-    """Sentences by definition, and what only the code needs: files and definitions."""
-    sentences, code = {}, set()
+    """The sentences, by definition."""
+    sentences = {}
     for text in NOTES.read_text(encoding="utf-8").split("\n"):
-        if text.startswith("code: "):
-            code.add(text[len("code: "):].strip())
-        elif text.strip() and not text.startswith("#"):
+        if text.strip() and not text.startswith("#"):
             name, sentence = text.split(": ", 1)
             sentences[name] = sentence.strip()
-    return sentences, code
+    return sentences
 
 
 def says(definition, sentences):
@@ -85,8 +83,8 @@ def as_sentence(comment):
     return text if text[-1] in ".:?!" else text + "."
 
 
-def is_of_code(definition, code):
-    return f"{definition.crate} {definition.file}" in code or definition.key() in code
+def is_of_code(definition):
+    return definition.file.split("/")[0] == "Internal"
 
 
 def table(definitions, sentences):
@@ -106,16 +104,17 @@ def by_crate(definitions):
 
 
 def index():
-    sentences, code = read_notes()
+    sentences = read_notes()
     found = list(all_definitions())
-    public = [d for d in found if not is_of_code(d, code)]
-    private = [d for d in found if is_of_code(d, code)]
+    public = [d for d in found if not is_of_code(d)]
+    private = [d for d in found if is_of_code(d)]
     out = [BEGIN, "", "## Index: what the contracts promise", "",
            "The crates are in the order of `crates.txt`. `File 12` is line 12 of `crates/CRATE/specs/File.antt`.", ""]
     for crate, definitions in by_crate(public):
         out += [f"### `{crate}`", ""] + table(definitions, sentences) + [""]
     out += ["## Index: what only the code needs", "",
-            "These may be skipped: hashes, states of the scanner, how values are stored for the logic, what a step keeps.", ""]
+            "These may be skipped: hashes, states of the scanner, how values are stored for the logic, what a step keeps. They stand "
+            "in the modules `Internal`: in `crates/CRATE/specs/Internal.antt`, and in the folder of that name.", ""]
     for crate, definitions in by_crate(private):
         out += [f"### `{crate}`, of the code", ""] + table(definitions, sentences) + [""]
     return "\n".join(out).rstrip("\n") + "\n"
@@ -132,10 +131,8 @@ def with_line_counts(by_hand):
 
 def stale():
     """The notes that name no definition."""
-    sentences, code = read_notes()
     keys = {d.key() for d in all_definitions()}
-    files = {" ".join(k.split(" ")[:2]) for k in keys}
-    return sorted(n for n in set(sentences) | code if n not in keys and n not in files)
+    return sorted(name for name in read_notes() if name not in keys)
 
 
 def main():

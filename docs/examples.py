@@ -1,12 +1,12 @@
 #!/usr/bin/env python3
-"""The rows of `clipsbatch_tests` that are scripts of the pages and of `examples/`, made from these files.
+"""The rows of `clipsbatch_tests` that are scripts of the pages, of the man page and of `examples/`, made from these files.
 
 docs/examples.py            writes the rows into crates/clipsbatch_tests/src/tests
 docs/examples.py --check    only checks that they are up to date
 
 A script of a page is a block of the kind `clips`, and its transcript is the next block of the kind `text`; a block of the
 kind `clips rules` is not for clipsbatch yet. In the table of functions each call is a line of one script, and what it shows
-a line of the transcript. The exit status is told from the transcript: 4 where its last line is a limit's, 1 where one line
+a line of the transcript. In the man page the script is what `echo` writes. The exit status is told from the transcript: 4 where its last line is a limit's, 1 where one line
 is a fault's, else 0.
 """
 import re
@@ -14,8 +14,10 @@ import sys
 from pathlib import Path
 
 TOP = Path(__file__).resolve().parent.parent
+MAN = "docs/clipsbatch.1"
 ROWS = TOP / "crates" / "clipsbatch_tests" / "src" / "tests"
 CALL = re.compile(r"^\| `[^`]+` \|.*\| `(\([^`]*\))` \| `([^`]*)` \|$")
+PIPED = re.compile(r"^\$ echo '([^']*)' \| clipsbatch\n(.*?)^\.Ed$", re.M | re.S)
 LIMIT = re.compile(r"^\[CB9\d\] .*\n\Z", re.M)
 FAULT = re.compile(r"\[CB\d\d\] ")
 
@@ -61,6 +63,12 @@ def scripts(page):
                 script = None
 
 
+def piped_scripts():
+    """The scripts of the man page."""
+    for number, (script, written) in enumerate(PIPED.findall((TOP / MAN).read_text()), 1):
+        yield f"The man page: {number}", f"{script}\n", written
+
+
 def files():
     """The scripts of `examples/`."""
     for script in sorted((TOP / "examples").glob("*.clp")):
@@ -96,7 +104,8 @@ def modules():
     first = next(place for place, (title, _, _) in enumerate(language) if title.startswith("Templates"))
     yield "functions.rt", module("`docs/LANGUAGE.md` on expressions, functions, variables and control", "FUNCTIONS", language[:first])
     yield "language.rt", module("`docs/LANGUAGE.md` on templates, facts and commands", "LANGUAGE", language[first:])
-    yield "clips.rt", module("`docs/CLIPS.md` and of `README.md`", "CLIPS", [*scripts("docs/CLIPS.md"), *scripts("README.md")])
+    others = [*scripts("docs/CLIPS.md"), *scripts("README.md"), *piped_scripts()]
+    yield "clips.rt", module("`docs/CLIPS.md`, of `README.md` and of the man page", "CLIPS", others)
     yield "examples.rt", module("`examples/`", "EXAMPLES", list(files()))
 
 

@@ -1,5 +1,5 @@
-; The configuration of a small cluster, written down before it is rolled out. Services and settings are templates: a port
-; that is no number or a service without a name would be a fault, and the exit status of the run would be 1.
+; The configuration of a small cluster, checked before it is rolled out. Services and settings have templates: a port
+; that isn't a number or a service without a name would be a fault, and the exit status would be 1.
 
 (deftemplate service "a program that runs on a machine"
   (slot name (type SYMBOL) (default ?NONE))
@@ -31,6 +31,6 @@
 (assert (setting (of web) (key "max clients") (value 200)))
 (assert (service (name cache) (port 6379)))
 
-; The mail moves to another house, and its service goes.
+; Mail moves to another host, and its service is removed.
 (retract 6)
 (facts)

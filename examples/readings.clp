@@ -15,7 +15,7 @@
   (slot findings (type INTEGER))
   (multislot rooms))                 ; those with a finding
 
-; Each room, with the least and the greatest temperature that it may have.
+; Each room, with its lowest and highest allowed temperature.
 (defglobal ?*limits* = (create$ dairy 2 6  freezer -25 -18  cellar 8 14))
 
 ; When the readings were taken, and what they were, room by room.

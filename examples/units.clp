@@ -24,14 +24,14 @@
     (println ?feet "' " ?inches "\" = " (div ?mm 1000) "." ?zeros ?rest " m"))
   (println "Board needed: " (div (+ ?total 9) 10) " mm"))
 
-; A thinner saw, for once. `reset` has the usual one again.
+; A thinner saw, for once. `reset` brings back the usual one.
 (bind ?*kerf* 12)
 (bind ?cuts (div (length$ ?*pieces*) 2))
 (println "Lost to the thin saw: " (div (+ (* ?cuts ?*kerf*) 9) 10) " mm")
 (reset)
 (println "The usual saw takes " (div ?*kerf* 10) " mm a cut.")
 
-; The glue wants some warmth. The nearest whole degree: a quotient is cut towards zero, so half a degree is added first,
+; The glue needs some warmth. The nearest whole degree: `div` truncates towards zero, so half a degree is added first,
 ; away from zero.
 (defglobal ?*fahrenheit* = (create$ 50 75 0 -40))
 (if TRUE then

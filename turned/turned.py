@@ -4,7 +4,7 @@
 turned/turned.py            turns each definition, runs what has to refuse it, and takes the change back
 turned/turned.py NAME ..    does so with these alone
 turned/turned.py --list     writes the table of docs/TURNED.md
-turned/turned.py --table    writes the table into docs/TURNED.md, with what the last runs saw
+turned/turned.py --table    writes the table into docs/TURNED.md, with what the last runs saw; of others what stands there stays
 turned/turned.py --check    only checks that each old text stands exactly once and what has to refuse is there; runs nothing
 
 The exit status is 0 where all are refused, or right with --check, else 1. docs/TURNED.md says what a file holds.
@@ -217,20 +217,28 @@ def last_line(output):
     return lines[-1][:120] if lines else "nothing was written"
 
 
-def by_check(folder, pattern):
-    _, _, output = called(["nice", "-n", "10", "rt", "check", "--allow-holes"], folder)
-    for line in output.splitlines():
-        if pattern.search(line):
-            return True, line.strip()[:120]
-    return False, last_line(output)
+def by_check(folder, only, pattern, what):
+    """Whether the check of the crate refuses what the pattern finds the name of. It is ended when that is seen."""
+    command = ["timeout", str(SECONDS), "nice", "-n", "10", "rt", "check", "--allow-holes", *only]
+    lines = []
+    with subprocess.Popen(command, cwd=folder, stdin=subprocess.DEVNULL, stdout=subprocess.PIPE, stderr=subprocess.STDOUT,
+                          text=True, errors="replace", start_new_session=True) as child:
+        for line in child.stdout:
+            lines.append(line)
+            if found := re.search(pattern, line):
+                os.killpg(child.pid, signal.SIGTERM)
+                return True, f"the {what} {found[1]} is not proved"
+    return False, last_line("".join(lines))
 
 
 def by_law(folder, name):
-    return by_check(folder, re.compile(rf"^fn {folder.name}::\S*\b{re.escape(name)}: (no proof|not proved)"))
+    module = next(file.stem for file in (folder / "src").glob("*.rt") if f"fn {name}" in file.read_text())
+    path = f"{module}::{name}"
+    return by_check(folder, ["--only", path], rf"^fn {folder.name}::{module}::({name}): (?:no proof|not proved)", "law")
 
 
 def by_example(folder):
-    return by_check(folder, re.compile(r"proofs/Examples\.antt:\d+.*error"))
+    return by_check(folder, [], r"proofs/Examples\.antt:\d+:\d+: error: `(\w+)`", "example")
 
 
 def refused(turn, root):
@@ -275,10 +283,20 @@ def last_seen():
     return json.loads(SEEN.read_text()) if SEEN.is_file() else {}
 
 
+def seen_before(turns):
+    """What the table says was seen of the turns whose way to be refused is still the same."""
+    found = {}
+    for turn in turns:
+        row = re.search(rf"^\| `{turn.name}` \| .* \| {re.escape(turn.by)} \| .* \| (.*) \|$", PAGE.read_text(), re.M)
+        if row:
+            found[turn.name] = row[1]
+    return found
+
+
 def write_table(turns):
     """Writes the table in the place of the one on the page, which is its last part."""
     head, _, _ = PAGE.read_text().partition("| Turned |")
-    PAGE.write_text(head + rows(turns, last_seen()) + "\n")
+    PAGE.write_text(head + rows(turns, seen_before(turns) | last_seen()) + "\n")
 
 
 def run_all(turns):

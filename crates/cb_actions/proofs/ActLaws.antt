@@ -4,15 +4,16 @@ use Rattle.std.proofs.lemmas.Grind.{flat_map-append}
 use Rattle.std.proofs.lemmas.List.{append-nil, take_more, take-append-drop}
 use Rattle.std.specs.List.{flat_map}
 use Rattle.cb_actions.specs.Acts.{Effect, Act, after_writing, follow}
-use Rattle.cb_actions.specs.Went.{extent_at, break_extent, Answers, Went, Quietly}
+use Rattle.cb_actions.specs.Went.{extent_at}
+use Rattle.cb_actions.specs.Internal.{break_extent, Answers, Went, Quietly}
 use Rattle.cb_actions.specs.declared.act.Break.{Break}
 use Rattle.cb_actions.specs.declared.act.Break.TheVariants as break
 use Rattle.cb_actions.specs.declared.act.Ended.{Ended}
 use Rattle.cb_actions.specs.declared.stop.Stop.{Stop}
 use Rattle.cb_actions.specs.declared.stop.Stop.TheVariants as stop
-use Rattle.cb_io.specs.Histories.{Writes}
+use Rattle.cb_io.specs.Histories.{PastWrites}
 use Rattle.cb_io.specs.Output.{OutState, Puts}
-use Rattle.cb_io.proofs.Putting.{puts_none, puts_then, puts_nothing, puts_less, puts_failed, puts_as}
+use Rattle.cb_io.proofs.Cited.{puts_none, puts_then, puts_nothing, puts_less, puts_failed, puts_as}
 
 -- what follows an act that answered
 pub follow-ok : {S A B : Type 0} (m : Effect S A) (s : S) (a : A) (next : A → Act S B) → s ≡ m.state → m.answer ≡ Ok a → follow m.state m.written m.answer next ≡ after_writing m.written (next a s)
@@ -36,7 +37,7 @@ follow_begins s w (Ok a) next = record { more = (next a s).written; is = refl }
 follow_begins s w (Err e) next = record { more = []; is = sym (append-nil w) }
 
 -- more was to be put after a call that stopped
-pub stopped-more : {K : Type 0} (writes : K → Writes) (o o1 : OutState K) (s : Stop) (w v : List ℕ) → Puts writes o o1 (extent_at s) w → Puts writes o o1 (extent_at s) (w ++ v)
+pub stopped-more : {K : Type 0} (writes : K → PastWrites) (o o1 : OutState K) (s : Stop) (w v : List ℕ) → Puts writes o o1 (extent_at s) w → Puts writes o o1 (extent_at s) (w ++ v)
 stopped-more writes o o1 stop.NoMemory w v h = puts_less writes o o1 w v h
 stopped-more writes o o1 stop.WriteFault w v h = puts_failed writes o o1 w v h
 
@@ -45,7 +46,7 @@ answers_after w s (Ok b) n h = h
 answers_after w s (Err (break.Ended e)) n h = h
 answers_after w s (Err (break.Stop t)) n h = tt
 
-module _ {K S A B : Type 0} (writes : K → Writes) where
+module _ {K S A B : Type 0} (writes : K → PastWrites) where
   -- a call after one that answered
   pub went_then : (o o1 o2 : OutState K) (s1 s2 : S) (a : A) (r : Result B Break) (m : Effect S A) (next : A → Act S B) → Went writes o o1 s1 (Ok a) m → Went writes o1 o2 s2 r (next a s1)
       → Went writes o o2 s2 r (follow m.state m.written m.answer next)
@@ -69,7 +70,7 @@ module _ {K S A B : Type 0} (writes : K → Writes) where
       let begins = follow_begins m.state m.written m.answer next in
       record { puts = puts_as writes o o1 _ _ _ _ refl begins.is (puts_failed writes o o1 m.written begins.more h.puts); answers = tt }
 
-module _ {K S A : Type 0} (writes : K → Writes) where
+module _ {K S A : Type 0} (writes : K → PastWrites) where
   -- a call that puts nothing
   pub went_quietly : (o : OutState K) (s : S) (r : Result A Break) (m : Effect S A) → o.fault ≡ false → Quietly s r m → Went writes o o s r m
   went_quietly o s (Ok a) m fine h = record { puts = puts_as writes o o _ _ _ _ refl (ap (λ it. it.written) h) (puts_none writes o fine); answers = (sym (ap (λ it. it.state) h), ap (λ it. it.answer) h) }

@@ -2,7 +2,7 @@
 use Rattle.std.proofs.Common.{◌≡◌, ◌<◌, ◌≤◌, Bool, true, false, List, [], ◌∷◌, length, get_or, drop, Option, Some, Result, Ok, Err, refl, ap, arith}
 use Rattle.cb_actions.specs.Actions.{carried, carried_values}
 use Rattle.cb_actions.specs.Effects.{called, valued, ends}
-use Rattle.cb_actions.specs.Went.{Went, Quietly}
+use Rattle.cb_actions.specs.Internal.{Went, Quietly}
 use Rattle.cb_actions.specs.Worlds.{World}
 use Rattle.cb_actions.specs.declared.act.Break.{Break}
 use Rattle.cb_actions.proofs.ActLaws.{went_then, went_off, went_quietly}
@@ -11,7 +11,7 @@ use Rattle.cb_actions.proofs.WentLaws.{went_fine}
 use Rattle.cb_exprs.specs.Terms.{call, term_of, terms_of}
 use Rattle.cb_exprs.specs.declared.expr.Expr.{Expr}
 use Rattle.cb_facts.specs.declared.value.Value.{Value}
-use Rattle.cb_io.specs.Histories.{Writes}
+use Rattle.cb_io.specs.Histories.{PastWrites}
 use Rattle.cb_io.specs.Output.{OutState}
 use Rattle.cb_words.specs.declared.function.Function.{Function}
 
@@ -22,7 +22,7 @@ none_left (a ∷ []) few = refl
 none_left (a ∷ b ∷ []) few = refl
 none_left (a ∷ b ∷ d ∷ xs) few = absurd (omega arith)
 
-module _ {K : Type 0} (writes : K → Writes) (f : Function) (es : List Expr) where
+module _ {K : Type 0} (writes : K → PastWrites) (f : Function) (es : List Expr) where
   -- the arguments broke off
   pub call_off : (o o1 : OutState K) (s s1 : World) (e : Break) → Went {K = K} {S = World} {A = List Value} writes o o1 s1 (Err e) (carried_values (Some f) [] (terms_of es) s)
       → Went {K = K} {S = World} {A = Option Value} writes o o1 s1 (Err e) (carried (call f (terms_of es)) s)

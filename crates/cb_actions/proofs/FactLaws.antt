@@ -3,7 +3,7 @@ use Rattle.std.proofs.Common.{◌≡◌, ◌<◌, ◌+◌, ℕ, List, [], ◌∷
 use Rattle.cb_actions.specs.Acts.{Effect, Act, after_writing, follow, ◌>>=◌}
 use Rattle.cb_actions.specs.Actions.{carried}
 use Rattle.cb_actions.specs.Definitions.{all_asserted}
-use Rattle.cb_actions.specs.Went.{Went}
+use Rattle.cb_actions.specs.Internal.{Went}
 use Rattle.cb_actions.specs.Worlds.{World}
 use Rattle.cb_actions.specs.declared.act.Break.{Break}
 use Rattle.cb_actions.specs.declared.act.Ended.{Ended}
@@ -12,10 +12,10 @@ use Rattle.cb_actions.proofs.DefinitionLaws.{next_of}
 use Rattle.cb_exprs.specs.FactTerms.{FactTerm}
 use Rattle.cb_exprs.specs.Terms.{assert}
 use Rattle.cb_facts.specs.declared.value.Value.{Value}
-use Rattle.cb_io.specs.Histories.{Writes}
+use Rattle.cb_io.specs.Histories.{PastWrites}
 use Rattle.cb_io.specs.Output.{OutState}
 
-module _ {K : Type 0} (writes : K → Writes) (fs : List FactTerm) (i : ℕ) (d : FactTerm) (is : d ≡ get_or fs i d) (lt : i < length fs) where
+module _ {K : Type 0} (writes : K → PastWrites) (fs : List FactTerm) (i : ℕ) (d : FactTerm) (is : d ≡ get_or fs i d) (lt : i < length fs) where
   pub facts_then : (o o1 o2 : OutState K) (s s1 s2 : World) (v : Option Value) (r : Result (Option Value) Break) → Went writes o o1 s1 (Ok v) (carried (assert d.shape d.values) s)
       → Went writes o1 o2 s2 r (all_asserted (drop (i + 1) fs) s1) → Went writes o o2 s2 r (all_asserted (drop i fs) s)
   facts_then o o1 o2 s s1 s2 v r first now =
@@ -46,7 +46,7 @@ append_is (x ∷ xs) ys s =
     let m = carried (assert x.shape x.values) s in
     follow_twice m.state m.written m.answer (λ _. all_asserted xs) (λ _. all_asserted (xs ++ ys)) (λ _. all_asserted ys) (λ _. append_is xs ys m.state)
 
-module _ {K : Type 0} (writes : K → Writes) (xs ys : List FactTerm) where
+module _ {K : Type 0} (writes : K → PastWrites) (xs ys : List FactTerm) where
   pub groups_then : (o o1 o2 : OutState K) (s s1 s2 : World) (v : Option Value) (r : Result (Option Value) Break) → Went writes o o1 s1 (Ok v) (all_asserted xs s)
       → Went writes o1 o2 s2 r (all_asserted ys s1) → Went writes o o2 s2 r (all_asserted (xs ++ ys) s)
   groups_then o o1 o2 s s1 s2 v r first now =

@@ -1,11 +1,8 @@
 -- Acts that leave no more of something than there was.
 use Rattle.std.proofs.Common.{◌≤◌, ℕ, List, Result, Ok, Err, arith}
 use Rattle.cb_actions.specs.Acts.{Act, follow, ◌>>=◌}
+use Rattle.cb_actions.specs.Internal.{Falls}
 use Rattle.cb_actions.specs.declared.act.Ended.{Ended}
-
--- an act leaves no more than there was, counted so
-abbrev pub Falls : {S A : Type 0} → (S → ℕ) → Act S A → Type 0
-Falls {S} count act = (s : S) → count (act s).state ≤ count s
 
 follow_falls : {S A B : Type 0} (count : S → ℕ) (s : S) (w : List ℕ) (r : Result A Ended) (next : A → Act S B) → ((a : A) → Falls count (next a)) → count (follow s w r next).state ≤ count s
 follow_falls count s w (Ok a) next h = h a s

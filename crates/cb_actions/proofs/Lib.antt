@@ -1,8 +1,9 @@
-pub mod ActLaws
+pub mod Cited
+mod ActLaws
 mod GivenLaws
 mod WentLaws
-pub mod Falling
-pub mod TurnLaws
+mod Falling
+mod TurnLaws
 mod LoopLaws
 mod CallLaws
 mod DefinitionLaws

@@ -2,7 +2,7 @@
 use Rattle.std.proofs.Common.{◌≡◌, Bool, true, false, Option, Some, None, Ok, Err, refl, ap, ◌∙◌}
 use Rattle.cb_actions.specs.Acts.{Act, after_writing, give, ◌>>=◌}
 use Rattle.cb_actions.specs.Actions.{carried}
-use Rattle.cb_actions.specs.Effects.{wanted, valued, tested, chosen, turn, turn_of}
+use Rattle.cb_actions.specs.Effects.{wanted, valued, truth_of, chosen, turn, turn_of}
 use Rattle.cb_actions.specs.Laws.{with_answer}
 use Rattle.cb_actions.specs.Worlds.{World}
 use Rattle.cb_actions.specs.declared.act.Ended.{Ended}
@@ -21,19 +21,19 @@ abbrev told : Value → Act World Bool
 told v = give (is_true v)
 
 module _ (act : Act World (Option Value)) (s : World) where
-  tested_value : (v : Value) → (act s).answer ≡ Ok (Some v) → tested act s ≡ with_answer (act s) (Ok (is_true v))
+  tested_value : (v : Value) → (act s).answer ≡ Ok (Some v) → truth_of act s ≡ with_answer (act s) (Ok (is_true v))
   tested_value v is =
       let m = act s in
       let value : valued act s ≡ with_answer m (Ok v) = follow-ok m m.state (Some v) wanted refl is ∙ nothing_more m.state m.written (Ok v) in
       ap (then_next told) value ∙ nothing_more m.state m.written (Ok (is_true v))
 
-  tested_none : (act s).answer ≡ Ok None → tested act s ≡ with_answer (act s) (Err (ended.Fault WrongType))
+  tested_none : (act s).answer ≡ Ok None → truth_of act s ≡ with_answer (act s) (Err (ended.Fault WrongType))
   tested_none is =
       let m = act s in
       let value : valued act s ≡ with_answer m (Err (ended.Fault WrongType)) = follow-ok m m.state None wanted refl is ∙ nothing_more m.state m.written (Err (ended.Fault WrongType)) in
       ap (then_next told) value
 
-  tested_ended : (e : Ended) → (act s).answer ≡ Err e → tested act s ≡ with_answer (act s) (Err e)
+  tested_ended : (e : Ended) → (act s).answer ≡ Err e → truth_of act s ≡ with_answer (act s) (Err e)
   tested_ended e is = ap (then_next told) (follow-err (act s) e wanted is)
 
 -- an `if`, by its test

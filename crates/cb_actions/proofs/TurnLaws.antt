@@ -3,9 +3,10 @@ use Rattle.std.proofs.Common.{◌≡◌, ◌<◌, ◌≤◌, ℕ, zero, suc, Boo
 use Rattle.std.specs.List.{list_all}
 use Rattle.cb_actions.specs.Acts.{Act, after_writing, become, follow, give, stop, give_or_fault, ◌>>=◌}
 use Rattle.cb_actions.specs.Actions.{carried, carried_all, carried_values, round, rounds}
-use Rattle.cb_actions.proofs.Falling.{Falls, falls_then}
+use Rattle.cb_actions.proofs.Falling.{falls_then}
 use Rattle.cb_actions.specs.Definitions.{all_asserted, all_evaluated, globals_after, globals_defined, one_evaluated, template_defined}
-use Rattle.cb_actions.specs.Effects.{found, wanted, valued, tested, ends, called, added, addressed, asserted, taken, retracted, bound, global_bound, chosen, turn, turn_of}
+use Rattle.cb_actions.specs.Effects.{found, wanted, valued, truth_of, ends, called, fact_added, addressed, asserted, taken, retracted, bound, global_bound, chosen, turn, turn_of}
+use Rattle.cb_actions.specs.Internal.{Falls, turns_left}
 use Rattle.cb_actions.specs.Worlds.{World}
 use Rattle.cb_actions.specs.declared.act.Ended.{Ended}
 use Rattle.cb_actions.specs.declared.act.Ended.TheVariants as ended
@@ -17,19 +18,14 @@ use Rattle.cb_exprs.specs.Terms.{Term, constant, variable, global, call, assert,
 use Rattle.cb_facts.specs.declared.value.Value.{Value}
 use Rattle.cb_forms.specs.declared.fault.Fault.{Fault}
 use Rattle.cb_forms.specs.declared.fault.Fault.TheVariants.{UnboundVariable, UnknownGlobal, WrongType}
-use Rattle.cb_forms.specs.Trees.{Trees}
 use Rattle.cb_functions.specs.Applied.{applied}
 use Rattle.cb_functions.specs.Constants.{false_symbol}
 use Rattle.cb_functions.specs.Logic.{is_true}
 use Rattle.cb_templates.specs.Building.{built}
-use Rattle.cb_templates.specs.Templates.{defined}
+use Rattle.cb_templates.specs.Slots.{SlotShape}
 use Rattle.cb_words.specs.declared.function.Function.{Function}
 use Rattle.cb_working_memory.specs.WorkingMemory.{Memory, asserted_one, is_retractable, retracted_all}
 use Rattle.cb_actions.specs.Effects.{parts_of}
-
--- the turns that are left
-abbrev pub turns_left : World → ℕ
-turns_left s = s.turns
 
 chosen_falls : {A : Type 0} (b : Bool) (p q : Act World A) → Falls turns_left p → Falls turns_left q → Falls turns_left (chosen b p q)
 chosen_falls true p q f g s = f s
@@ -55,7 +51,7 @@ wanted_falls (Some v) s = omega arith
 valued_falls : (act : Act World (Option Value)) → Falls turns_left act → Falls turns_left (valued act)
 valued_falls act f = falls_then turns_left act wanted f wanted_falls
 
-pub tested_falls : (act : Act World (Option Value)) → Falls turns_left act → Falls turns_left (tested act)
+pub tested_falls : (act : Act World (Option Value)) → Falls turns_left act → Falls turns_left (truth_of act)
 tested_falls act f = falls_then turns_left (valued act) (λ v. give (is_true v)) (valued_falls act f) (λ v s. omega arith)
 
 found_falls : (f : Fault) (o : Option Value) → Falls turns_left (found f o)
@@ -76,7 +72,7 @@ addressed_falls (m, None) s = omega arith
 asserted_falls : (shape : _) (vs : List Value) → Falls turns_left (asserted shape vs)
 asserted_falls shape vs s =
     let r = built s.templates shape.relation (parts_of shape.slots vs) in
-    falls_then turns_left (give_or_fault r) added (read_falls r) (λ fact u. addressed_falls (asserted_one u.memory fact) u) s
+    falls_then turns_left (give_or_fault r) fact_added (read_falls r) (λ fact u. addressed_falls (asserted_one u.memory fact) u) s
 
 taken_falls : (o : Memory × Bool) → Falls turns_left (taken o)
 taken_falls (m, true) s = omega arith
@@ -97,8 +93,8 @@ mutual
   never_rises (bind x t) s = falls_then turns_left (valued (carried t)) (bound x) (valued_falls (carried t) (never_rises t)) (λ v u. omega arith) s
   never_rises (bind_global x t) s = falls_then turns_left (valued (carried t)) (global_bound x) (valued_falls (carried t) (never_rises t)) (λ v u. omega arith) s
   never_rises (choose t u w) s =
-      falls_then turns_left (tested (carried t)) (λ b. chosen b (carried u) (carried w)) (tested_falls (carried t) (never_rises t)) (λ b. chosen_falls b _ _ (never_rises u) (never_rises w)) s
-  never_rises (repeat t u) s = rounds_fall (suc s.turns) (tested (carried t)) (carried u) (tested_falls (carried t) (never_rises t)) (never_rises u) s
+      falls_then turns_left (truth_of (carried t)) (λ b. chosen b (carried u) (carried w)) (tested_falls (carried t) (never_rises t)) (λ b. chosen_falls b _ _ (never_rises u) (never_rises w)) s
+  never_rises (repeat t u) s = rounds_fall (suc s.turns) (truth_of (carried t)) (carried u) (tested_falls (carried t) (never_rises t)) (never_rises u) s
   never_rises (actions ts) s = all_never_rise (Some false_symbol) ts s
   never_rises (printout on ts) s = falls_then turns_left (carried_values None [] ts) _ (values_never_rise None [] ts) (λ vs u. omega arith) s
   never_rises (print ts) s = falls_then turns_left (carried_values None [] ts) _ (values_never_rise None [] ts) (λ vs u. omega arith) s
@@ -143,12 +139,12 @@ enough (suc n) zero test action s f g h k = absurd (omega arith)
 enough (suc n) (suc m) test action s f g h k = round_same test action (rounds n test action) (rounds m test action) s f g (λ u lt. enough n m test action u f g (omega arith) (omega arith))
 
 -- a loop is a round and the loop again
-pub again : (t u : Term) (s : World) → carried (repeat t u) s ≡ round (tested (carried t)) (carried u) (carried (repeat t u)) s
+pub again : (t u : Term) (s : World) → carried (repeat t u) s ≡ round (truth_of (carried t)) (carried u) (carried (repeat t u)) s
 again t u s =
     let f = tested_falls (carried t) (never_rises t) in
     let g = never_rises u in
-    round_same (tested (carried t)) (carried u) (rounds s.turns (tested (carried t)) (carried u)) (carried (repeat t u)) s f g
-    (λ v lt. enough s.turns (suc v.turns) (tested (carried t)) (carried u) v f g lt (omega arith))
+    round_same (truth_of (carried t)) (carried u) (rounds s.turns (truth_of (carried t)) (carried u)) (carried (repeat t u)) s f g
+    (λ v lt. enough s.turns (suc v.turns) (truth_of (carried t)) (carried u) v f g lt (omega arith))
 
 -- what is put in place where it has no fault
 put_falls : {A : Type 0} (put : A → World) (s : World) → ((a : A) → (put a).turns ≤ s.turns) → (r : Result A Fault) → ((give_or_fault r >>= (λ a. become (put a))) s).state.turns ≤ s.turns
@@ -156,8 +152,8 @@ put_falls put s h (Ok a) = h a
 put_falls put s h (Err f) = omega arith
 
 -- what is defined, and what a reset does again
-pub template_falls : (in_use : Bool) (ts : Trees) → Falls turns_left (template_defined in_use ts)
-template_falls in_use ts s = put_falls (λ templates. record s { templates = templates }) s (λ templates. omega arith) (defined s.templates in_use ts)
+pub template_falls : (template : List ℕ × List SlotShape) → Falls turns_left (template_defined template)
+template_falls template s = omega arith
 
 pub globals_fall : (gs : List GlobalTerm) → Falls turns_left (globals_defined gs)
 globals_fall gs s = put_falls (λ env. record s { env = env }) s (λ env. omega arith) (globals_after s.env gs)

@@ -1,17 +1,17 @@
 -- What a call that carried something out left, and calls that were refused memory.
 use Rattle.std.proofs.Common.{◌≡◌, false, Result, Ok, Err, OnOk, refl, sym, ap, subst, ◌∙◌}
 use Rattle.cb_actions.specs.Acts.{Effect, Act, follow}
-use Rattle.cb_actions.specs.Went.{Went}
+use Rattle.cb_actions.specs.Internal.{Went}
 use Rattle.cb_actions.specs.declared.act.Break.{Break}
 use Rattle.cb_actions.specs.declared.act.Break.TheVariants as break
 use Rattle.cb_actions.specs.declared.act.Ended.{Ended}
 use Rattle.cb_actions.specs.declared.stop.Stop.TheVariants as stop
 use Rattle.cb_actions.proofs.ActLaws.{follow_begins, follow-err}
-use Rattle.cb_io.specs.Histories.{Writes}
+use Rattle.cb_io.specs.Histories.{PastWrites}
 use Rattle.cb_io.specs.Output.{OutState}
-use Rattle.cb_io.proofs.Putting.{puts_nothing, puts_refused, puts_as, puts_fine}
+use Rattle.cb_io.proofs.Cited.{puts_nothing, puts_refused, puts_as, puts_fine}
 
-module _ {K S A : Type 0} (writes : K → Writes) where
+module _ {K S A : Type 0} (writes : K → PastWrites) where
   -- memory was refused before anything was put
   pub went_unbegun : (o : OutState K) (s : S) (m : Effect S A) → o.fault ≡ false → Went {K = K} {S = S} {A = A} writes o o s (Err (break.Stop stop.NoMemory)) m
   went_unbegun o s m fine = record { puts = puts_nothing writes o m.written fine; answers = tt }
@@ -33,7 +33,7 @@ module _ {K S A : Type 0} (writes : K → Writes) where
       let P : S → Type 0 = λ it. Went writes o o1 it r m in
       subst P (sym same) h
 
-module _ {K S A B : Type 0} (writes : K → Writes) where
+module _ {K S A B : Type 0} (writes : K → PastWrites) where
   -- memory was refused after a call that answered
   pub went_refused : (o o1 : OutState K) (s1 s2 : S) (a : A) (m : Effect S A) (next : A → Act S B) → Went writes o o1 s1 (Ok a) m
       → Went {K = K} {S = S} {A = B} writes o o1 s2 (Err (break.Stop stop.NoMemory)) (follow m.state m.written m.answer next)

@@ -40,8 +40,8 @@ abbrev pub valued : Act World (Option Value) → Act World Value
 valued act = act >>= wanted
 
 -- whether a value counts as true
-abbrev pub tested : Act World (Option Value) → Act World Bool
-tested act = do
+abbrev pub truth_of : Act World (Option Value) → Act World Bool
+truth_of act = do
   v ← valued act
   give (is_true v)
 
@@ -71,12 +71,12 @@ abbrev pub addressed : Memory × Option ℕ → Act World (Option Value)
 addressed (m, Some ix) s = give (Some (value.Fact ix)) (record s { memory = m })
 addressed (m, None) s = stop (ended.Limit Indices) (record s { memory = m })
 
-abbrev pub added : FactValue → Act World (Option Value)
-added fact s = addressed (asserted_one s.memory fact) s
+abbrev pub fact_added : FactValue → Act World (Option Value)
+fact_added fact s = addressed (asserted_one s.memory fact) s
 
 -- a fact of this shape is built of these values and asserted
 abbrev pub asserted : Shape → List Value → Act World (Option Value)
-asserted shape vs s = (give_or_fault (built s.templates shape.relation (parts_of shape.slots vs)) >>= added) s
+asserted shape vs s = (give_or_fault (built s.templates shape.relation (parts_of shape.slots vs)) >>= fact_added) s
 
 -- after facts were retracted: whether each index was one that a fact had
 abbrev pub taken : Memory × Bool → Act World (Option Value)

@@ -1,8 +1,9 @@
-pub mod Acts
-pub mod Went
-pub mod Printing
-pub mod Worlds
-pub mod Effects
 pub mod Actions
+pub mod Acts
 pub mod Definitions
+pub mod Effects
+pub mod Internal
 pub mod Laws
+pub mod Printing
+pub mod Went
+pub mod Worlds

@@ -1,6 +1,6 @@
 //! How an act ends.
 ghost use Rattle.std.specs.Prelude.{◌≡◌};
-ghost use Rattle.cb_actions.specs.Went.{broken_by};
+ghost use Rattle.cb_actions.specs.Internal.{broken_by};
 ghost use Rattle.cb_actions.specs.declared.act.Break.TheVariants as broken;
 ghost use Rattle.cb_actions.specs.declared.stop.Stop.TheVariants as stop;
 

@@ -1,8 +1,8 @@
 //! Carrying out expressions.
 ghost use Rattle.std.specs.Prelude.{◌≡◌, [], None, OnOk, Some, false};
 ghost use Rattle.cb_actions.specs.Actions.{carried, carried_all, carried_values};
-ghost use Rattle.cb_actions.specs.Effects.{tested, valued};
-ghost use Rattle.cb_actions.specs.Went.{Went, listed};
+ghost use Rattle.cb_actions.specs.Effects.{truth_of, valued};
+ghost use Rattle.cb_actions.specs.Internal.{Went, items_answered};
 ghost use Rattle.cb_exprs.specs.Terms.{call, term_of, terms_of};
 ghost use Rattle.cb_functions.specs.Constants.{false_symbol};
 
@@ -126,7 +126,7 @@ impl World {
     fn holds<K: Sink>(&mut self, test: &Expr, out: &mut Out<K>) -> Result<bool, Break>
         requires { out.old.fault ≡ false }
         ensures went { Went K.writes out.old out.new self.new result
-            (tested (carried (term_of test.now)) self.old) }
+            (truth_of (carried (term_of test.now)) self.old) }
         ensures fine { OnOk result (out.new.fault ≡ false) }
     {
         let value = self.carry_value(test, out)?;
@@ -142,7 +142,7 @@ impl World {
         out: &mut Out<K>,
     ) -> Result<Vec<Value>, Break>
         requires { out.old.fault ≡ false }
-        ensures went { Went K.writes out.old out.new self.new (listed result)
+        ensures went { Went K.writes out.old out.new self.new (items_answered result)
             (carried_values function [] (terms_of exprs.now) self.old) }
         ensures fine { OnOk result (out.new.fault ≡ false) }
     {

@@ -2,9 +2,9 @@
 ghost use Rattle.std.specs.Prelude.{◌≡◌, OnOk, false};
 ghost use Rattle.cb_actions.specs.Actions.{carried};
 ghost use Rattle.cb_actions.specs.Definitions.{all_asserted};
-ghost use Rattle.cb_actions.specs.Went.{Went};
+ghost use Rattle.cb_actions.specs.Internal.{Went};
 ghost use Rattle.cb_exprs.specs.Terms.{assert};
-ghost use Rattle.cb_working_memory.specs.Deffacts.{facts_in};
+ghost use Rattle.cb_working_memory.specs.Deffacts.{kept_facts};
 
 use crate::act::Break;
 use crate::world::World;
@@ -23,7 +23,7 @@ impl World {
     ) -> Result<Option<Value>, Break>
         requires { out.old.fault ≡ false }
         ensures went { Went K.writes out.old out.new self.new result
-            (all_asserted (facts_in deffacts.now) self.old) }
+            (all_asserted (kept_facts deffacts.now) self.old) }
         ensures fine { OnOk result (out.new.fault ≡ false) }
     {
         for group in deffacts.iter() {

@@ -1,10 +1,11 @@
 //! Laws of carrying out expressions. Each is the contract of a function that does nothing.
-ghost use Rattle.std.specs.Prelude.{◌≡◌, ◌≤◌, Bool, List, [], ◌∷◌, ◌++◌, Option, Err, None, Ok, Some, false, true};
+ghost use Rattle.std.specs.Prelude.{◌≡◌, ◌≤◌, ℕ, Bool, List, [], ◌∷◌, ◌++◌, Option, Err, None, Ok, Some, false, true};
 ghost use Rattle.cb_actions.specs.Actions.{carried, carried_values, round};
 ghost use Rattle.cb_actions.specs.Acts.{Act, after_writing};
 ghost use Rattle.cb_actions.specs.Definitions.{all_asserted, all_evaluated, globals_defined, template_defined};
-ghost use Rattle.cb_actions.specs.Effects.{ends, tested};
+ghost use Rattle.cb_actions.specs.Effects.{ends, truth_of};
 ghost use Rattle.cb_actions.specs.Laws.{answer_of, has_no_effect, one_then, with_answer};
+ghost use Rattle.cb_actions.specs.Went.{extent_at};
 ghost use Rattle.cb_actions.specs.Worlds.{World};
 ghost use Rattle.cb_actions.specs.declared.act.Ended.{Ended};
 ghost use Rattle.cb_actions.specs.declared.act.Ended.TheVariants as ended;
@@ -16,17 +17,21 @@ ghost use Rattle.cb_exprs.specs.Terms.{Term, Terms, actions, choose, print, prin
 ghost use Rattle.cb_exprs.specs.declared.channel.Channel.{Channel};
 ghost use Rattle.cb_facts.specs.declared.value.Value.{Value};
 ghost use Rattle.cb_forms.specs.Laws.{BeginsWith};
-ghost use Rattle.cb_forms.specs.Trees.{Trees};
 ghost use Rattle.cb_forms.specs.declared.fault.Fault.TheVariants.{WrongType};
 ghost use Rattle.cb_functions.specs.Constants.{false_symbol};
 ghost use Rattle.cb_functions.specs.Logic.{is_true};
+ghost use Rattle.cb_io.specs.Output.{OutState, Puts};
+ghost use Rattle.cb_actions.specs.declared.stop.Stop.{Stop};
+ghost use Rattle.cb_templates.specs.Slots.{SlotShape};
 ghost use Rattle.cb_words.specs.declared.function.Function.{Function};
+
+use cb_io::Sink;
 
 /// No expression leaves more turns than there were, and no definition, and nothing that a `reset` does again.
 pub fn turns_never_rise()
     ensures expression { (t : Term) (s : World) → (carried t s).state.turns ≤ s.turns }
-    ensures template { (in_use : Bool) (ts : Trees) (s : World)
-        → (template_defined in_use ts s).state.turns ≤ s.turns }
+    ensures template { (template : List ℕ × List SlotShape) (s : World)
+        → (template_defined template s).state.turns ≤ s.turns }
     ensures globals { (gs : List GlobalTerm) (s : World)
         → (globals_defined gs s).state.turns ≤ s.turns }
     ensures anew { (gs : List GlobalTerm) (s : World)
@@ -35,10 +40,16 @@ pub fn turns_never_rise()
         → (all_asserted fs s).state.turns ≤ s.turns }
 {}
 
+/// A call that stopped may have been to put more bytes: what it put is a beginning of those too.
+pub fn what_stops_may_have_been_longer<K: Sink>()
+    ensures { (o o1 : OutState K) (s : Stop) (w v : List ℕ)
+        → Puts K.writes o o1 (extent_at s) w → Puts K.writes o o1 (extent_at s) (w ++ v) }
+{}
+
 /// A loop is a test and, where it holds, a turn, the action, and the loop again.
 pub fn a_loop_goes_round()
     ensures { (t u : Term) (s : World) → carried (repeat t u) s
-        ≡ round (tested (carried t)) (carried u) (carried (repeat t u)) s }
+        ≡ round (truth_of (carried t)) (carried u) (carried (repeat t u)) s }
 {}
 
 /// Of actions, one after another, what the first writes comes first. Where it ends with a fault or at a limit, the others are

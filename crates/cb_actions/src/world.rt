@@ -1,14 +1,13 @@
 //! What actions see and change, and what each kind of action does with the values that it is given.
 ghost use Rattle.std.specs.Prelude.{◌≡◌, [], false, IfOk, OnOk, Some, ◌∷◌};
-ghost use Rattle.cb_forms.specs.Members.{members};
 ghost use Rattle.cb_facts.specs.Results.{Returns};
 ghost use Rattle.cb_eval.specs.Evaluation.{value_of};
 ghost use Rattle.cb_exprs.specs.Terms.{term_of};
 ghost use Rattle.cb_actions.specs.Acts.{give, write};
 ghost use Rattle.cb_actions.specs.Definitions.{template_defined};
-ghost use Rattle.cb_actions.specs.Effects.{added, asserted, bound, called, each_given, ends, global_bound, global_looked_up, looked_up, parts_of, printed_line, retracted, turn};
+ghost use Rattle.cb_actions.specs.Effects.{fact_added, asserted, bound, called, each_given, ends, global_bound, global_looked_up, looked_up, parts_of, printed_line, retracted, turn};
 ghost use Rattle.cb_actions.specs.Printing.{printed};
-ghost use Rattle.cb_actions.specs.Went.{Quietly, Went};
+ghost use Rattle.cb_actions.specs.Internal.{Quietly, Went};
 ghost use Rattle.cb_actions.specs.Worlds.{World as State, cleared, first_world, without_facts, without_variables};
 ghost use Rattle.cb_functions.specs.Constants.{false_symbol};
 ghost use Rattle.cb_templates.specs.Building.{part_values};
@@ -18,10 +17,10 @@ use crate::output::put;
 use crate::print::{put_printed, put_values};
 use cb_eval::eval;
 use cb_exprs::{Channel, Env, Expr, FactShape};
-use cb_facts::{Fact, Name, Names, Refused, Value};
-use cb_forms::{Fault, Form, NoMemory, Out, Sink};
+use cb_facts::{Fact, Name, Refused, Value};
+use cb_forms::{Fault, NoMemory, Out, Sink};
 use cb_functions::{Constants, apply, decides};
-use cb_templates::{GivenSlot, Parts, Relations, build_fact};
+use cb_templates::{GivenSlot, Parts, Relations, Template, build_fact};
 use cb_words::Function;
 use cb_working_memory::{WorkingMemory, are_retractable};
 use std::alloc::Global;
@@ -90,16 +89,15 @@ impl World {
         &self.env
     }
 
-    /// Defines a template, as `Relations::define_template` does.
+    /// Takes a template for the one that its relation had, if it had one.
     pub fn define_template(
         &mut self,
-        names: &mut Names,
-        forms: &[Form],
-        in_use: bool,
+        relation: Name,
+        template: Template,
     ) -> Result<Option<Value>, Break>
-        ensures { Quietly self.new result (template_defined in_use (members forms.now) self.old) }
+        ensures { Quietly self.new result (template_defined (relation, template) self.old) }
     {
-        self.relations.define_template(names, forms, in_use)?;
+        self.relations.insert(relation, template)?;
         Ok(None)
     }
 
@@ -215,7 +213,7 @@ impl World {
 
     /// Asserts a fact. The answer is its address.
     fn add(&mut self, fact: Fact) -> Result<Option<Value>, Break>
-        ensures { Quietly self.new result (added fact self.old) }
+        ensures { Quietly self.new result (fact_added fact self.old) }
     {
         match self.memory.assert_one(fact)? {
             Some(ix) => Ok(Some(Value::Fact(ix))),

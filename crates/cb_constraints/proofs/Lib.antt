@@ -1,1 +1,2 @@
-pub mod MayHold
+pub mod Cited
+mod MayHold

@@ -1,11 +1,12 @@
 -- A constraint that holds may hold.
-use Rattle.std.proofs.Common.{◌≡◌, ◌∙◌, ◌&&◌, ◌||◌, Bool, true, false, List, [], ◌∷◌, Option, None, Some, ap, refl}
+use Rattle.std.proofs.Common.{◌≡◌, ◌∙◌, ◌&&◌, ◌||◌, Bool, true, false, List, [], ◌∷◌, Option, None, Some, ap, refl, sym}
 use Rattle.std.specs.List.{list_all, list_any}
 use Rattle.std.specs.Option.{option_and_then}
 use Rattle.cb_constraints.specs.Constraints.{Test, constant, variable, predicate, return_value, Check, Demand, nothing, each, either}
-use Rattle.cb_constraints.specs.Holding.{after_check, after_checks, after_demand, after_test, check_holds, constant_holds, constants_hold, may_hold, one_holds, opposite_if, provided, taken, test_holds}
+use Rattle.cb_constraints.specs.Holding.{are_of_constants, is_constant, is_of_constants, after_check, after_checks, after_demand, after_test, check_holds, constant_holds, constants_hold, may_hold, one_holds, opposite_if, provided, after_variable, test_holds}
 use Rattle.cb_exprs.specs.Bindings.{Bindings}
 use Rattle.cb_facts.specs.declared.value.Value.{Value}
+use Rattle.cb_functions.specs.Comparison.{same}
 
 provided-if : (t : Bool) (env grown : Bindings) → provided t env ≡ Some grown → t ≡ true
 provided-if true env grown e = refl
@@ -68,5 +69,42 @@ holds-may nothing v env grown e = refl
 holds-may (each cs) v env grown e = checks-may cs v env grown e
 holds-may (either None alternatives) v env grown e = any-may alternatives v env (provided-if (one_holds alternatives v env) env grown e)
 holds-may (either (Some x) alternatives) v env grown e =
-    let w = then-some (λ mid. provided (one_holds alternatives v mid) mid) (taken x v env) grown e in
+    let w = then-some (λ mid. provided (one_holds alternatives v mid) mid) (after_variable x v env) grown e in
     any-may alternatives v w.0 (provided-if (one_holds alternatives v w.0) w.0 grown w.2)
+
+pub never_holds : (d : Demand) (v : Value) (env : Bindings) → may_hold d v ≡ false → after_demand d v env ≡ None
+never_holds d v env e = by (after_demand d v env) (λ g. holds-may d v env g)
+  where
+    by : (o : Option Bindings) → ((g : Bindings) → o ≡ Some g → may_hold d v ≡ true) → o ≡ None
+    by None may = refl
+    by (Some g) may = let never : false ≡ true = sym e ∙ may g refl in cc
+
+-- a check for a constant that holds changes nothing
+pub constant_is_met : (negated : Bool) (w v : Value) (env : Bindings) → opposite_if negated (same v w) ≡ true → after_test negated (constant w) v env ≡ Some env
+constant_is_met true w v env e = ap (λ t. provided t env) e
+constant_is_met false w v env e = ap (λ t. provided t env) e
+
+pub first_holds : (c : Check) (cs : List Check) (v : Value) → constants_hold v (c ∷ cs) ≡ true → constant_holds v c.negated c.test ≡ true
+first_holds c cs v e = (both-true (constant_holds v c.negated c.test) (constants_hold v cs) e).0
+
+pub others_hold : (c : Check) (cs : List Check) (v : Value) → constants_hold v (c ∷ cs) ≡ true → constants_hold v cs ≡ true
+others_hold c cs v e = (both-true (constant_holds v c.negated c.test) (constants_hold v cs) e).1
+
+-- where all are constants, they decide
+test-decides : (negated : Bool) (t : Test) (v : Value) (env : Bindings) → is_constant t ≡ true → opposite_if negated (test_holds t v env) ≡ constant_holds v negated t
+test-decides negated (constant w) v env e = refl
+test-decides negated (variable x) v env e = let never : false ≡ true = e in cc
+test-decides negated (predicate t) v env e = let never : false ≡ true = e in cc
+test-decides negated (return_value t) v env e = let never : false ≡ true = e in cc
+
+checks-decide : (cs : List Check) (v : Value) (env : Bindings) → is_of_constants cs ≡ true → list_all (check_holds v env) cs ≡ constants_hold v cs
+checks-decide [] v env e = refl
+checks-decide (c ∷ cs) v env e =
+    let w = both-true (is_constant c.test) (is_of_constants cs) e in
+    ap (λ t. t && list_all (check_holds v env) cs) (test-decides c.negated c.test v env w.0) ∙ ap (λ t. constant_holds v c.negated c.test && t) (checks-decide cs v env w.1)
+
+pub constants_decide : (alternatives : List (List Check)) (v : Value) (env : Bindings) → are_of_constants alternatives ≡ true → one_holds alternatives v env ≡ list_any (constants_hold v) alternatives
+constants_decide [] v env e = refl
+constants_decide (cs ∷ more) v env e =
+    let w = both-true (is_of_constants cs) (are_of_constants more) e in
+    ap (λ t. t || one_holds more v env) (checks-decide cs v env w.0) ∙ ap (λ t. constants_hold v cs || t) (constants_decide more v env w.1)

@@ -34,14 +34,14 @@ pub record Constraint : Type 0 where
   pub segment : Bool
   pub demand : Demand
 
-abbrev pub test_of : program_test.Test → Test
-test_of (test.Constant v) = constant v
-test_of (test.Variable x) = variable x
-test_of (test.Predicate e) = predicate (term_of e)
-test_of (test.ReturnValue e) = return_value (term_of e)
+abbrev pub asked_test : program_test.Test → Test
+asked_test (test.Constant v) = constant v
+asked_test (test.Variable x) = variable x
+asked_test (test.Predicate e) = predicate (term_of e)
+asked_test (test.ReturnValue e) = return_value (term_of e)
 
 abbrev pub check_of : program_check.Check → Check
-check_of c = record { negated = c.is_negated; test = test_of c.test }
+check_of c = record { negated = c.is_negated; test = asked_test c.test }
 
 abbrev pub demand_of : program_demand.Demand → Demand
 demand_of demand.Nothing = nothing

@@ -43,12 +43,12 @@ provided true env = Some env
 provided false env = None
 
 -- a variable without a value takes this one, and one with a value has to have this one
-abbrev pub taken : List ℕ → Value → Bindings → Option Bindings
-taken x v env = option_map_or (λ w. provided (same v w) env) (value_at x env.variables) (Some (with_variable x v env))
+abbrev pub after_variable : List ℕ → Value → Bindings → Option Bindings
+after_variable x v env = option_map_or (λ w. provided (same v w) env) (value_at x env.variables) (Some (with_variable x v env))
 
 -- what the bindings are after a check among those joined by `&`, if it holds: a variable without `~` may take the value
 abbrev pub after_test : Bool → Test → Value → Bindings → Option Bindings
-after_test false (variable x) v env = taken x v env
+after_test false (variable x) v env = after_variable x v env
 after_test negated t v env = provided (opposite_if negated (test_holds t v env)) env
 
 abbrev pub after_check : Check → Value → Bindings → Option Bindings
@@ -68,7 +68,7 @@ abbrev pub after_demand : Demand → Value → Bindings → Option Bindings
 after_demand nothing v env = Some env
 after_demand (each cs) v env = after_checks cs v env
 after_demand (either None alternatives) v env = provided (one_holds alternatives v env) env
-after_demand (either (Some x) alternatives) v env = option_and_then (λ grown. provided (one_holds alternatives v grown) grown) (taken x v env)
+after_demand (either (Some x) alternatives) v env = option_and_then (λ grown. provided (one_holds alternatives v grown) grown) (after_variable x v env)
 
 -- a check for a constant holds; one for a variable or an expression, with `~` or without, counts as holding
 abbrev pub constant_holds : Value → Bool → Test → Bool
@@ -79,6 +79,19 @@ constant_holds v negated (return_value e) = true
 
 abbrev pub constants_hold : Value → List Check → Bool
 constants_hold v cs = list_all (λ c. constant_holds v c.negated c.test) cs
+
+-- a test for a constant; one for a variable or an expression is none
+abbrev pub is_constant : Test → Bool
+is_constant (constant v) = true
+is_constant (variable x) = false
+is_constant (predicate e) = false
+is_constant (return_value e) = false
+
+abbrev pub is_of_constants : List Check → Bool
+is_of_constants cs = list_all (λ c. is_constant c.test) cs
+
+abbrev pub are_of_constants : List (List Check) → Bool
+are_of_constants alternatives = list_all is_of_constants alternatives
 
 -- the constraint holds of the value, variables and expressions aside
 abbrev pub may_hold : Demand → Value → Bool

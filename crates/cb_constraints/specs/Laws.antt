@@ -15,5 +15,5 @@ abbrev pub only : Check → Demand
 only c = each (c ∷ [])
 
 -- a constraint of alternatives
-abbrev pub one_of : List (List Check) → Demand
-one_of alternatives = either None alternatives
+abbrev pub any_of_these : List (List Check) → Demand
+any_of_these alternatives = either None alternatives

@@ -1,6 +1,6 @@
-pub mod Codes
 pub mod Constraints
 pub mod Holding
+pub mod Internal
 pub mod Laws
 pub mod Meters
 pub mod PartValues

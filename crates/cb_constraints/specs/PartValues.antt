@@ -5,9 +5,9 @@ use Rattle.cb_constraints.specs.declared.parts.Parts as program
 use Rattle.cb_constraints.specs.declared.parts.Parts.TheVariants as parts
 use Rattle.cb_constraints.specs.declared.parts.SlotRow.{SlotRow}
 
-abbrev pub slot_of : SlotRow → SlotValue
-slot_of slot = record { name = slot.name; place = slot.place; row = slot.row }
+abbrev pub asked_slot : SlotRow → SlotValue
+asked_slot slot = record { name = slot.name; place = slot.place; row = slot.row }
 
-abbrev pub parts_of : program.Parts → Parts
-parts_of (parts.Fields row) = fields row
-parts_of (parts.Slots rows) = slots (map slot_of rows.items)
+abbrev pub asked_parts : program.Parts → Parts
+asked_parts (parts.Fields row) = fields row
+asked_parts (parts.Slots rows) = slots (map asked_slot rows.items)

@@ -1,5 +1,5 @@
 -- Constraints in a row, and how many fields they take.
-use Rattle.std.specs.Prelude.{◌+◌, ℕ, zero, List, [], ◌∷◌, if◌then◌else◌}
+use Rattle.std.specs.Prelude.{◌+◌, ℕ, zero, List, [], ◌∷◌, nat_lt, if◌then◌else◌}
 use Rattle.cb_constraints.specs.Constraints.{Constraint}
 
 -- how many of the constraints take one field
@@ -16,3 +16,8 @@ segments_wanted (c ∷ cs) = (if c.segment then 1 else 0) + segments_wanted cs
 abbrev pub before_segments : List Constraint → ℕ
 before_segments [] = zero
 before_segments (c ∷ cs) = if c.segment then 0 else 1 + before_segments cs
+
+-- how many stand after the last that takes a segment, or all where none does: each of them has its place from the end
+abbrev pub after_segments : List Constraint → ℕ
+after_segments [] = zero
+after_segments (c ∷ cs) = (if nat_lt 0 (segments_wanted (c ∷ cs)) then 0 else 1) + after_segments cs

@@ -1,8 +1,8 @@
 //! Whether a constraint holds of a value.
-ghost use Rattle.std.specs.Prelude.{◌≡◌, IfOk, map};
+ghost use Rattle.std.specs.Prelude.{◌≡◌, IfOk, map, true};
 ghost use Rattle.std.specs.List.{list_all, list_any};
-ghost use Rattle.cb_constraints.specs.Constraints.{check_of, demand_of, test_of};
-ghost use Rattle.cb_constraints.specs.Holding.{Meets, after_check, after_checks, after_demand, check_holds, constant_holds, constants_hold, may_hold, one_holds, taken, test_holds, tested_value, value_if_any};
+ghost use Rattle.cb_constraints.specs.Constraints.{check_of, demand_of, asked_test};
+ghost use Rattle.cb_constraints.specs.Holding.{Meets, are_of_constants, is_constant, is_of_constants, after_check, after_checks, after_demand, check_holds, constant_holds, constants_hold, may_hold, one_holds, after_variable, test_holds, tested_value, value_if_any};
 ghost use Rattle.cb_eval.specs.Evaluation.{value_of};
 ghost use Rattle.cb_exprs.specs.Terms.{term_of};
 
@@ -19,6 +19,7 @@ use std::alloc::Global;
 /// Where it holds, variables that had no value may have taken this one; where it doesn't, they may be any.
 ///
 /// An expression that faults doesn't hold. Growth is refused as `NoMemory`, and then the values of variables may be any.
+#[tactic(auto, using(crate::proofs::MayHold::never_holds))]
 pub fn meets(
     alloc: Global,
     constants: &Constants,
@@ -26,6 +27,25 @@ pub fn meets(
     tested: Tested<'_>,
     env: &mut Env,
 ) -> Result<bool, NoMemory>
+    ensures { IfOk result (λ holds. Meets holds env.new
+        (after_demand (demand_of demand.now) (tested_value tested.entry) env.old)) }
+{
+    if !may_hold(demand, tested) {
+        return Ok(false);
+    }
+    meets_beyond_constants(alloc, constants, demand, tested, env)
+}
+
+/// What `meets` returns where `may_hold` has returned `true`: constants aren't compared again, but for those of alternatives
+/// among which a variable or an expression stands.
+pub fn meets_beyond_constants(
+    alloc: Global,
+    constants: &Constants,
+    demand: &Demand,
+    tested: Tested<'_>,
+    env: &mut Env,
+) -> Result<bool, NoMemory>
+    requires { may_hold (demand_of demand.now) (tested_value tested) ≡ true }
     ensures { IfOk result (λ holds. Meets holds env.new
         (after_demand (demand_of demand.now) (tested_value tested.entry) env.old)) }
 {
@@ -44,7 +64,8 @@ pub fn meets(
     }
 }
 
-/// Whether checks joined by `&` hold, from left to right.
+/// Whether checks joined by `&`, of which those for constants hold, all hold, from left to right.
+#[tactic(auto, using(crate::proofs::MayHold::first_holds, crate::proofs::MayHold::others_hold))]
 fn meets_each(
     alloc: Global,
     constants: &Constants,
@@ -52,6 +73,7 @@ fn meets_each(
     tested: Tested<'_>,
     env: &mut Env,
 ) -> Result<bool, NoMemory>
+    requires { constants_hold (tested_value tested) (map check_of checks.now) ≡ true }
     ensures { IfOk result (λ holds. Meets holds env.new
         (after_checks (map check_of checks.now) (tested_value tested.entry) env.old)) }
 {
@@ -64,6 +86,7 @@ fn meets_each(
 }
 
 /// Whether one of them holds. A variable without `~` may take the value.
+#[tactic(auto, using(crate::proofs::MayHold::constant_is_met))]
 fn meets_one(
     alloc: Global,
     constants: &Constants,
@@ -71,9 +94,14 @@ fn meets_one(
     tested: Tested<'_>,
     env: &mut Env,
 ) -> Result<bool, NoMemory>
+    requires { constant_holds (tested_value tested) (check_of check.now).negated
+        (check_of check.now).test ≡ true }
     ensures { IfOk result (λ holds. Meets holds env.new
         (after_check (check_of check.now) (tested_value tested.entry) env.old)) }
 {
+    if let Test::Constant(_) = &check.test {
+        return Ok(true);
+    }
     if !check.is_negated {
         if let Test::Variable(name) = &check.test {
             return take(name, tested, env);
@@ -85,7 +113,7 @@ fn meets_one(
 /// Whether a variable takes the value, or has it already.
 fn take(name: &Name, tested: Tested<'_>, env: &mut Env) -> Result<bool, NoMemory>
     ensures { IfOk result (λ holds. Meets holds env.new
-        (taken name.now (tested_value tested.entry) env.old)) }
+        (after_variable name.now (tested_value tested.entry) env.old)) }
 {
     if let Some(value) = env.get(name) {
         return Ok(tested.is(value));
@@ -94,7 +122,7 @@ fn take(name: &Name, tested: Tested<'_>, env: &mut Env) -> Result<bool, NoMemory
     Ok(true)
 }
 
-/// Whether one of the alternatives holds.
+/// Whether one of the alternatives holds, where the constants of one do.
 fn one_holds(
     alloc: Global,
     constants: &Constants,
@@ -102,15 +130,54 @@ fn one_holds(
     tested: Tested<'_>,
     env: &Env,
 ) -> Result<bool, NoMemory>
+    requires { list_any (constants_hold (tested_value tested))
+        (map (λ cs. map check_of cs.items) alternatives.now) ≡ true }
     ensures { IfOk result (λ holds. holds ≡ one_holds
         (map (λ cs. map check_of cs.items) alternatives.now) (tested_value tested.entry) env.now) }
 {
+    if are_of_constants(alternatives) {
+        return Ok(true);
+    }
     for alternative in alternatives {
         if all_hold(alloc, constants, alternative.as_slice(), tested, env)? {
             return Ok(true);
         }
     }
     Ok(false)
+}
+
+/// Whether all alternatives are of constants alone.
+fn are_of_constants(alternatives: &[Vec<Check>]) -> bool
+    ensures { result ≡ are_of_constants (map (λ cs. map check_of cs.items) alternatives.now) }
+{
+    for alternative in alternatives {
+        if !is_of_constants(alternative) {
+            return false;
+        }
+    }
+    true
+}
+
+/// Whether all checks are for constants.
+fn is_of_constants(checks: &[Check]) -> bool
+    ensures { result ≡ is_of_constants (map check_of checks.now) }
+{
+    for check in checks {
+        if !is_constant(&check.test) {
+            return false;
+        }
+    }
+    true
+}
+
+/// Whether a test is for a constant.
+fn is_constant(test: &Test) -> bool
+    ensures { result ≡ is_constant (asked_test test.now) }
+{
+    match test {
+        Test::Constant(_) => true,
+        Test::Variable(_) | Test::Predicate(_) | Test::ReturnValue(_) => false,
+    }
 }
 
 /// Whether all checks of an alternative hold.
@@ -156,7 +223,7 @@ fn test_holds(
     env: &Env,
 ) -> Result<bool, NoMemory>
     ensures { IfOk result (λ holds. holds
-        ≡ test_holds (test_of test.now) (tested_value tested.entry) env.now) }
+        ≡ test_holds (asked_test test.now) (tested_value tested.entry) env.now) }
 {
     match test {
         Test::Constant(value) => Ok(tested.is(value)),

@@ -3,7 +3,7 @@ ghost use Rattle.std.specs.Prelude.{◌≡◌, ◌∷◌, ℕ, List, Option, Non
 ghost use Rattle.std.specs.Option.{option_and_then};
 ghost use Rattle.cb_constraints.specs.Constraints.{Check, Demand, Test, constant, each, either, nothing, predicate, return_value, variable};
 ghost use Rattle.cb_constraints.specs.Holding.{after_demand, may_hold, one_holds, test_holds};
-ghost use Rattle.cb_constraints.specs.Laws.{one_of, only, opposite, plain};
+ghost use Rattle.cb_constraints.specs.Laws.{any_of_these, only, opposite, plain};
 ghost use Rattle.cb_eval.specs.Evaluation.{value_of};
 ghost use Rattle.cb_exprs.specs.Bindings.{Bindings, value_at, with_variable};
 ghost use Rattle.cb_exprs.specs.Terms.{Term};
@@ -83,9 +83,9 @@ pub fn the_first_check_comes_first()
 pub fn one_alternative_is_enough()
     ensures holds { (alternatives : List (List Check)) (v : Value) (env : Bindings)
         → one_holds alternatives v env ≡ true
-        → after_demand (one_of alternatives) v env ≡ Some env }
+        → after_demand (any_of_these alternatives) v env ≡ Some env }
     ensures fails { (alternatives : List (List Check)) (v : Value) (env : Bindings)
-        → one_holds alternatives v env ≡ false → after_demand (one_of alternatives) v env ≡ None }
+        → one_holds alternatives v env ≡ false → after_demand (any_of_these alternatives) v env ≡ None }
 {}
 
 /// A variable that is set apart comes first: `?x&red|blue` is `?x` and then `red|blue`.
@@ -97,7 +97,7 @@ pub fn what_is_set_apart_comes_first()
         → (v : Value) (env grown : Bindings)
         → after_demand (only (plain (variable x))) v env ≡ Some grown
         → after_demand (either (Some x) alternatives) v env
-        ≡ after_demand (one_of alternatives) v grown }
+        ≡ after_demand (any_of_these alternatives) v grown }
 {}
 
 /// A constraint that holds may hold: what its constants ask is so.

@@ -13,7 +13,7 @@ mod row;
 mod tested;
 
 pub use constraint::{Check, Constraint, Demand, Test};
-pub use holding::{may_hold, meets};
+pub use holding::{may_hold, meets, meets_beyond_constants};
 pub use meter::Meter;
 pub use parts::{Parts, SlotRow};
 pub use pattern::Pattern;

@@ -1,7 +1,7 @@
 //! Patterns.
 ghost use Rattle.std.specs.Prelude.{◌≡◌};
 ghost use Rattle.cb_constraints.specs.Meters.{one_more};
-ghost use Rattle.cb_constraints.specs.PartValues.{parts_of};
+ghost use Rattle.cb_constraints.specs.PartValues.{asked_parts};
 
 use crate::meter::Meter;
 use crate::parts::Parts;
@@ -23,21 +23,21 @@ pub struct Pattern<T> {
 
 impl<T> Model for Pattern<T> {
     ghost use Rattle.std.specs.Coded.{codes};
-    ghost use Rattle.cb_constraints.specs.Codes.{pattern_code};
+    ghost use Rattle.cb_constraints.specs.Internal.{pattern_code};
     ghost use Rattle.cb_constraints.specs.PatternValues.{PatternValue};
-    ghost use Rattle.cb_constraints.specs.PartValues.{parts_of};
+    ghost use Rattle.cb_constraints.specs.PartValues.{asked_parts};
 
     ghost Value = { PatternValue };
 
     ghost coded = { pattern_code (Prim.hlevel codes) (Prim.hlevel codes) (Prim.hlevel codes) };
 
-    ghost view = { λ p. record { relation = p.relation; parts = parts_of p.parts } };
+    ghost view = { λ p. record { relation = p.relation; parts = asked_parts p.parts } };
 }
 
 impl<T> Pattern<T> {
     /// A pattern for the facts of a relation.
     pub fn new(relation: Name, parts: Parts) -> Pattern<T>
-        ensures { result ≡ record { relation = relation; parts = parts_of parts } }
+        ensures { result ≡ record { relation = relation; parts = asked_parts parts } }
     {
         Pattern {
             relation,
@@ -55,7 +55,7 @@ impl<T> Pattern<T> {
 
     /// What it asks of a fact, for one test of the pattern: the meter goes up by one.
     pub fn open(&self, meter: &mut Meter<T>) -> &Parts
-        ensures parts { parts_of result.now ≡ self.now.parts }
+        ensures parts { asked_parts result.now ≡ self.now.parts }
         ensures counted { meter.new ≡ one_more meter.old }
     {
         meter.count();

@@ -1,7 +1,7 @@
 //! Constraints in a row.
 ghost use Rattle.std.specs.Prelude.{◌≡◌, map};
 ghost use Rattle.cb_constraints.specs.Constraints.{constraint_of};
-ghost use Rattle.cb_constraints.specs.Rows.{before_segments, fields_wanted, segments_wanted};
+ghost use Rattle.cb_constraints.specs.Rows.{after_segments, before_segments, fields_wanted, segments_wanted};
 
 use crate::constraint::Constraint;
 use std::marker::Model;
@@ -15,14 +15,15 @@ pub struct Row {
     fields: usize,
     segments: usize,
     leading: usize,
+    trailing: usize,
 }
 
 impl Model for Row {
     ghost use Rattle.std.specs.Coded.{codes};
     ghost use Rattle.std.specs.Prelude.{◌≡◌, List, map};
-    ghost use Rattle.cb_constraints.specs.Codes.{row_code};
+    ghost use Rattle.cb_constraints.specs.Internal.{row_code};
     ghost use Rattle.cb_constraints.specs.Constraints.{Constraint, constraint_of};
-    ghost use Rattle.cb_constraints.specs.Rows.{before_segments, fields_wanted, segments_wanted};
+    ghost use Rattle.cb_constraints.specs.Rows.{after_segments, before_segments, fields_wanted, segments_wanted};
 
     ghost Value = { List Constraint };
 
@@ -30,7 +31,7 @@ impl Model for Row {
 
     ghost view = { λ r. map constraint_of r.constraints.items };
 
-    ghost invariant = { λ r. (r.fields ≡ fields_wanted (map constraint_of r.constraints.items)) × (r.segments ≡ segments_wanted (map constraint_of r.constraints.items)) × (r.leading ≡ before_segments (map constraint_of r.constraints.items)) };
+    ghost invariant = { λ r. (r.fields ≡ fields_wanted (map constraint_of r.constraints.items)) × (r.segments ≡ segments_wanted (map constraint_of r.constraints.items)) × (r.leading ≡ before_segments (map constraint_of r.constraints.items)) × (r.trailing ≡ after_segments (map constraint_of r.constraints.items)) };
 }
 
 impl Row {
@@ -41,11 +42,13 @@ impl Row {
         let fields = count_fields(constraints.as_slice());
         let segments = count_segments(constraints.as_slice());
         let leading = count_leading(constraints.as_slice());
+        let trailing = count_trailing(constraints.as_slice(), segments);
         Row {
             constraints,
             fields,
             segments,
             leading,
+            trailing,
         }
     }
 
@@ -76,6 +79,13 @@ impl Row {
         ensures { result ≡ before_segments self.now }
     {
         self.leading
+    }
+
+    /// How many stand after the last that takes a segment, or all where none does: each of these has its place from the end.
+    pub fn trailing(&self) -> usize
+        ensures { result ≡ after_segments self.now }
+    {
+        self.trailing
     }
 }
 
@@ -117,4 +127,21 @@ pub fn count_leading(constraints: &[Constraint]) -> usize
         leading += 1;
     }
     leading
+}
+
+/// How many stand after the last that takes a segment, where so many do.
+fn count_trailing(constraints: &[Constraint], segments: usize) -> usize
+    requires { segments ≡ segments_wanted (map constraint_of constraints.now) }
+    ensures { result ≡ after_segments (map constraint_of constraints.now) }
+{
+    let mut left = segments;
+    let mut trailing = 0;
+    for constraint in constraints {
+        if constraint.takes_segment {
+            left -= 1;
+        } else if left == 0 {
+            trailing += 1;
+        }
+    }
+    trailing
 }

@@ -1,4 +1,4 @@
--- The values of two arguments.
+-- The values of one argument and of two.
 use Rattle.std.proofs.Common.{◌≡◌, ◌≤◌, ◌<◌, ◌∙◌, Bool, true, false, cond, List, [], ◌∷◌, Ok, Result, length, get_or, refl, sym, ap, ap₂, arith}
 use Rattle.cb_eval.specs.Evaluation.{value_of, values_of}
 use Rattle.cb_exprs.specs.Bindings.{Bindings}
@@ -9,6 +9,12 @@ use Rattle.cb_facts.specs.declared.value.Value.{Value}
 use Rattle.cb_forms.specs.declared.fault.Fault.{Fault}
 use Rattle.cb_functions.specs.Logic.{decides}
 use Rattle.cb_words.specs.declared.function.Function.{Function}
+
+-- a list of one item, by what stands at its place
+pub one_item : {X : Type 0} (xs : List X) (x : X) → 1 ≤ length xs → length xs < 2 → x ≡ get_or xs 0 x → xs ≡ x ∷ []
+one_item [] x least most first = absurd (omega arith)
+one_item (a ∷ []) x least most first = ap (λ p. p ∷ []) (sym first)
+one_item (a ∷ b ∷ xs) x least most first = absurd (omega arith)
 
 -- a list of two items, by what stands at its places
 pub two_items : {X : Type 0} (xs : List X) (x y : X) → 2 ≤ length xs → length xs < 3 → x ≡ get_or xs 0 x → y ≡ get_or xs 1 y → xs ≡ x ∷ y ∷ []
@@ -30,3 +36,10 @@ pub two_values : (f : Function) (args : List Expr) (first second : Expr) (v w : 
     → value_of (term_of first) env ≡ Ok v → decides f v ≡ false → value_of (term_of second) env ≡ Ok w → values_of f [] (terms_of args) env ≡ Ok (v ∷ w ∷ [])
 two_values f args first second v w env are one goes_on other =
     ap (λ es. values_of f [] (terms_of es) env) are ∙ both f (value_of (term_of first) env) (value_of (term_of second) env) v w one goes_on other
+
+alone : (f : Function) (a : Result Value Fault) (v : Value) → a ≡ Ok v → and_then a (λ x. cond (decides f x) (Ok (x ∷ [])) (Ok (x ∷ []))) ≡ Ok (v ∷ [])
+alone f a v is = rw is (either (decides f v) (Ok (v ∷ [])))
+
+-- the value of the only argument, whether it decides the call or not
+pub value_alone : (f : Function) (args : List Expr) (only : Expr) (v : Value) (env : Bindings) → args ≡ only ∷ [] → value_of (term_of only) env ≡ Ok v → values_of f [] (terms_of args) env ≡ Ok (v ∷ [])
+value_alone f args only v env are is = ap (λ es. values_of f [] (terms_of es) env) are ∙ alone f (value_of (term_of only) env) v is

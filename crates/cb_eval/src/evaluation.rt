@@ -18,7 +18,7 @@ use std::alloc::Global;
 /// The arguments of a call are evaluated from left to right, and those after one that decides it (see
 /// `cb_functions::decides`) are not. The faults are CB11 for a variable without a value, CB12 for a global variable without
 /// one, and those of `cb_functions::apply`. An expression with an effect has no value here: it is CB14. Growth is refused
-/// as `NoMemory`; a constant, a variable and a call of two arguments take no memory of their own.
+/// as `NoMemory`; a constant, a variable and a call of one argument or two take no memory of their own.
 ///
 /// It calls itself as deep as the expression is nested.
 #[cycle(evaluation)]
@@ -55,7 +55,11 @@ fn call(
     ensures { Returns result
         (and_then (values_of function [] (terms_of args.now) env.now) (applied function)) }
 {
-    // Most calls have two arguments, and need no vector.
+    // Most calls have one argument or two, and need no vector.
+    if let [only] = args {
+        let value = eval(alloc, constants, only, env)?;
+        return apply(alloc, constants, function, &[value]);
+    }
     if let [first, second] = args {
         let first = eval(alloc, constants, first, env)?;
         if decides(function, &first) {

@@ -5,8 +5,8 @@ use Rattle.std.specs.Option.{unwrap_or}
 use Rattle.cb_expr_forms.specs.Actions.{action_of}
 use Rattle.cb_expr_forms.specs.ExprFaults.{action_faults, all_faults, arguments_fault, facts_faults}
 use Rattle.cb_expr_forms.specs.ExprForms.{assertions, call_expr, exprs_of, no_expr}
-use Rattle.cb_expr_forms.specs.FaultLists.{first_of, unless}
-use Rattle.cb_expr_forms.specs.Plans.{HasPlan, IsCall, IsCallFault, IsHeaded, IsHeadedFault, plan_expr}
+use Rattle.cb_templates.specs.FaultLists.{first_of, unless}
+use Rattle.cb_expr_forms.specs.Internal.{HasPlan, IsCall, IsCallFault, IsHeaded, IsHeadedFault, plan_expr}
 use Rattle.cb_expr_forms.specs.Scopes.{Scope, effect_fault, may_act}
 use Rattle.cb_expr_forms.specs.declared.action_form.ActionForm.{ActionForm}
 use Rattle.cb_expr_forms.specs.declared.call_form.CallForm.{CallForm}

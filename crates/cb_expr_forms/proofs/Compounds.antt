@@ -2,7 +2,7 @@
 use Rattle.std.proofs.Common.{◌≡◌, ℕ, Bool, true, false, List, [], ◌∷◌, Option, Some, None, codes, refl, option_map, if◌then◌else◌}
 use Rattle.std.specs.List.{list_any}
 use Rattle.std.specs.Option.{unwrap_or}
-use Rattle.cb_expr_forms.specs.Actions.{is_word, branches, after_else, is_else, bind_of, if_of, while_of, retract_of, printout_of, named_channel, action_of}
+use Rattle.cb_expr_forms.specs.Actions.{is_this_word, branches, after_else, is_else, bind_of, if_of, while_of, retract_of, printout_of, named_channel, action_of}
 use Rattle.cb_expr_forms.specs.ExprForms.{no_expr, list_expr, call_expr, exprs_of, assertions}
 use Rattle.cb_exprs.specs.Terms.{Term, constant, variable, global, call, assert, retract, bind, bind_global, choose, repeat, actions, printout, print, println}
 use Rattle.cb_exprs.specs.declared.channel.Channel.{Channel}
@@ -61,7 +61,7 @@ bind-compound (println us ∷ ts) = tt
 if-compound : (ts : List Term) → OrNone (if_of ts)
 if-compound [] = tt
 if-compound (t ∷ []) = tt
-if-compound (t ∷ word ∷ ts) = chosen (is_word (codes "then") word) (branches t ts) (refused (list_any is_else (after_else ts)) _ tt)
+if-compound (t ∷ word ∷ ts) = chosen (is_this_word (codes "then") word) (branches t ts) (refused (list_any is_else (after_else ts)) _ tt)
 
 while-compound : (ts : List Term) → OrNone (while_of ts)
 while-compound [] = tt
@@ -141,7 +141,7 @@ list-compound templates (tree (atom token.Or) ts) = tt
 list-compound templates (tree (atom token.Not) ts) = tt
 
 -- such an expression is no word, and names nothing
-pub compound-word : (word : List ℕ) (t : Term) → IsCompound t → is_word word t ≡ false
+pub compound-word : (word : List ℕ) (t : Term) → IsCompound t → is_this_word word t ≡ false
 compound-word word (constant v) h = absurd h
 compound-word word (variable x) h = refl
 compound-word word (global x) h = refl

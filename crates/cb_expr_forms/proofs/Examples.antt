@@ -3,7 +3,7 @@ use Rattle.std.proofs.Common.{◌≡◌, ℕ, List, [], ◌∷◌, Some, None, c
 use Rattle.cb_expr_forms.specs.Bound.{bound_in}
 use Rattle.cb_expr_forms.specs.ExprFaults.{faults_of}
 use Rattle.cb_expr_forms.specs.ExprForms.{expr_of}
-use Rattle.cb_expr_forms.specs.FaultLists.{first_of}
+use Rattle.cb_templates.specs.FaultLists.{first_of}
 use Rattle.cb_expr_forms.specs.Scopes.{Scope, scope_on}
 use Rattle.cb_expr_forms.specs.Variables.{variables_of}
 use Rattle.cb_expr_forms.specs.declared.scope.Side.TheVariants.{Top, Left, Actions}
@@ -89,6 +89,16 @@ no_then = refl
 while_is : expr_of [] (list (word (codes "while") ∷ word (codes "do") ∷ int 1 ∷ [])) ≡ repeat (constant (value.Symbol (codes "do"))) (actions (term (constant (value.Int (pos 1))) no_terms))
 unfolding head_of
 while_is = refl
+
+-- (while TRUE do 1), (while TRUE then 1)
+while_do_is : expr_of [] (list (word (codes "while") ∷ word (codes "TRUE") ∷ word (codes "do") ∷ int 1 ∷ [])) ≡ repeat (constant (value.Symbol (codes "TRUE"))) (actions (term (constant (value.Int (pos 1))) no_terms))
+unfolding head_of
+while_do_is = refl
+
+while_then_is : expr_of [] (list (word (codes "while") ∷ word (codes "TRUE") ∷ word (codes "then") ∷ int 1 ∷ []))
+    ≡ repeat (constant (value.Symbol (codes "TRUE"))) (actions (term (constant (value.Symbol (codes "then"))) (term (constant (value.Int (pos 1))) no_terms)))
+unfolding head_of
+while_then_is = refl
 
 -- (bind ?x 1 2), (bind ?x), (bind ?*u* (bogus)), (bind ? 1)
 bind_is : expr_of [] (list (word (codes "bind") ∷ var (codes "x") ∷ int 1 ∷ int 2 ∷ []))

@@ -2,9 +2,9 @@
 use Rattle.std.proofs.Common.{◌≡◌, ◌≤◌, ◌<◌, ◌+◌, ◌∙◌, ℕ, suc, zero, List, [], ◌∷◌, Some, Err, arith, drop, get_or, length, sym, ap}
 use Rattle.std.proofs.lemmas.List.{at_drop_more}
 use Rattle.cb_expr_forms.specs.ExprFaults.{slot_faults, slots_faults}
-use Rattle.cb_expr_forms.specs.FaultLists.{Reads, first_of}
+use Rattle.cb_templates.specs.FaultLists.{ReadsAs, first_of}
 use Rattle.cb_expr_forms.specs.Scopes.{Scope}
-use Rattle.cb_expr_forms.specs.Sizes.{tree_size, trees_size}
+use Rattle.cb_expr_forms.specs.Internal.Sizes.{tree_size, trees_size}
 use Rattle.cb_expr_forms.proofs.Heads.{first_append}
 use Rattle.cb_facts.specs.Results.{Tells}
 use Rattle.cb_facts.specs.declared.refused.Refused.{Refused}
@@ -17,11 +17,11 @@ use Rattle.cb_templates.specs.Slots.{SlotShape}
 
 -- its first fault is the first of the whole
 pub fails : {T V U W : Type 0} (view : T → V) (v : V) (other : U → W) (w : W) (r : Refused) (fs gs : List Fault) → ((f : Fault) → first_of fs ≡ Some f → first_of gs ≡ Some f)
-    → Reads view (Err r) fs v → Reads other (Err r) gs w
+    → ReadsAs view (Err r) fs v → ReadsAs other (Err r) gs w
 fails view v other w (refused.Fault f) fs gs same h = same f h
 fails view v other w refused.NoMemory fs gs same h = tt
 
-pub fails_told : {U W : Type 0} (other : U → W) (w : W) (r : Refused) (P : Fault → Type 0) (gs : List Fault) → ((f : Fault) → P f → first_of gs ≡ Some f) → Tells r P → Reads other (Err r) gs w
+pub fails_told : {U W : Type 0} (other : U → W) (w : W) (r : Refused) (P : Fault → Type 0) (gs : List Fault) → ((f : Fault) → P f → first_of gs ≡ Some f) → Tells r P → ReadsAs other (Err r) gs w
 fails_told other w (refused.Fault f) P gs same h = same f h
 fails_told other w refused.NoMemory P gs same h = tt
 

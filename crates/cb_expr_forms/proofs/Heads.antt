@@ -1,9 +1,9 @@
 -- Forms by the symbol that they begin with.
 use Rattle.std.proofs.Common.{◌≡◌, ◌++◌, ℕ, suc, List, [], ◌∷◌, Option, Some, None, length, refl, ap}
-use Rattle.cb_expr_forms.specs.Actions.{is_word}
-use Rattle.cb_expr_forms.specs.ExprFaults.{count, fact_faults, is_symbol, list_faults, slot_faults}
+use Rattle.cb_expr_forms.specs.Actions.{is_this_word}
+use Rattle.cb_expr_forms.specs.ExprFaults.{count, fact_faults, is_this_symbol, list_faults, slot_faults}
 use Rattle.cb_expr_forms.specs.ExprForms.{expr_of, list_expr}
-use Rattle.cb_expr_forms.specs.FaultLists.{first_of}
+use Rattle.cb_templates.specs.FaultLists.{first_of}
 use Rattle.cb_expr_forms.specs.Scopes.{Scope}
 use Rattle.cb_expr_forms.proofs.Compounds.{compound-word, list-compound}
 use Rattle.cb_forms.specs.Members.{call_of, head_and_rest, members}
@@ -88,7 +88,7 @@ unslotted_faults s slots given (branch (tree (atom token.Or) ts)) h = refl
 unslotted_faults s slots given (branch (tree (atom token.Not) ts)) h = refl
 
 -- a word among the expressions is the symbol among the forms
-pub word_symbol : (templates : Templates) (word : List ℕ) (t : Tree) → is_word word (expr_of templates t) ≡ is_symbol word t
+pub word_symbol : (templates : Templates) (word : List ℕ) (t : Tree) → is_this_word word (expr_of templates t) ≡ is_this_symbol word t
 word_symbol templates word (branch ts) = compound-word word (list_expr templates ts) (list-compound templates ts)
 word_symbol templates word (atom (token.Symbol bytes)) = refl
 word_symbol templates word (atom (token.Str bytes)) = refl

@@ -6,7 +6,7 @@ use Rattle.std.specs.List.{list_any}
 use Rattle.std.specs.Str.{bytes_eq}
 use Rattle.cb_expr_forms.specs.Scopes.{is_known, names_of}
 use Rattle.cb_exprs.specs.Bindings.{Values, value_at}
-use Rattle.cb_facts.proofs.FactListLaws.{false-from_not}
+use Rattle.std.proofs.lemmas.Bool.{false_from_ne_true}
 use Rattle.cb_facts.specs.declared.value.Value.{Value}
 use Rattle.cb_templates.specs.Places.{place_in}
 
@@ -14,7 +14,7 @@ pub same_words : (n k : List ℕ) → bytes_eq n k ≡ bytes_eq k n
 same_words n k = same (bytes_eq n k) refl where
   same : (t : Bool) → bytes_eq n k ≡ t → t ≡ bytes_eq k n
   same true h = sym ((bytes_eq-Decides k n).1 (sym ((bytes_eq-Decides n k).0 h)))
-  same false h = sym (false-from_not (bytes_eq k n) (λ e. let yes : bytes_eq n k ≡ true = (bytes_eq-Decides n k).1 (sym ((bytes_eq-Decides k n).0 e)) in cc))
+  same false h = sym (false_from_ne_true (bytes_eq k n) (λ e. let yes : bytes_eq n k ≡ true = (bytes_eq-Decides n k).1 (sym ((bytes_eq-Decides k n).0 e)) in cc))
 
 either : (t : Bool) (v : Value) (o : Option Value) → is_some (if t then Some v else o) ≡ (t || is_some o)
 either true v o = refl

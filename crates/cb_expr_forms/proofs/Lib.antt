@@ -1,12 +1,13 @@
-pub mod Calls
-pub mod Compounds
-pub mod Elses
+pub mod Cited
+mod Calls
+mod Compounds
+mod Elses
 mod Examples
-pub mod Faulty
-pub mod Heads
-pub mod Ifs
-pub mod Known
-pub mod PlanLaws
-pub mod RightLaws
-pub mod SideLaws
-pub mod SlotLaws
+mod Faulty
+mod Heads
+mod Ifs
+mod Known
+mod PlanLaws
+mod RightLaws
+mod SideLaws
+mod SlotLaws

@@ -4,10 +4,10 @@ use Rattle.std.proofs.lemmas.Slice.Eq.{bytes_eq-Decides}
 use Rattle.std.specs.Prelude.{MatchResult}
 use Rattle.std.specs.List.{list_all}
 use Rattle.std.specs.Str.{bytes_eq}
-use Rattle.cb_expr_forms.specs.ExprFaults.{slot_by, type_faults, values_faults}
+use Rattle.cb_expr_forms.specs.ExprFaults.{given_slot_faults, type_faults, values_faults}
 use Rattle.cb_expr_forms.specs.ExprForms.{slot_expr, exprs_of}
-use Rattle.cb_expr_forms.specs.FaultLists.{first_of, unless}
-use Rattle.cb_expr_forms.specs.Plans.{IsFact, IsSlot, IsSlotFault, IsFilling, IsFillingFault, content_by}
+use Rattle.cb_templates.specs.FaultLists.{first_of, unless}
+use Rattle.cb_expr_forms.specs.Internal.{IsFact, IsSlot, IsSlotFault, IsFilling, IsFillingFault, content_by}
 use Rattle.cb_expr_forms.specs.Scopes.{is_known}
 use Rattle.cb_expr_forms.specs.declared.slot_form.SlotForm.{SlotForm}
 use Rattle.cb_expr_forms.proofs.Heads.{called}
@@ -52,7 +52,7 @@ is_slot slots given t name ts slot is_given (Ok c) h has known filling =
     let there : IsSlot slots given (branch (tree (atom (token.Symbol name)) ts)) c = record {
       name_is = sym same ∙ sym filling.slot_is;
       expr_is = λ templates. ap (λ o. slot_expr o (exprs_of templates ts)) has ∙ filling.expr_is templates;
-      faults_are = λ s. ap₂ (λ o b. slot_by o b ts (λ types. values_faults s types ts)) has so ∙ filling.faults_are s;
+      faults_are = λ s. ap₂ (λ o b. given_slot_faults o b ts (λ types. values_faults s types ts)) has so ∙ filling.faults_are s;
       smaller = let less = filling.smaller in omega arith;
     } in
     subst (λ it. IsSlot slots given it c) (sym (called t name ts h)) there
@@ -60,7 +60,7 @@ is_slot slots given t name ts slot is_given (Err (refused.Fault f)) h has known 
     let same : slot.name ≡ name = named_so slots name slot has in
     let so : is_known given name ≡ is_given = ap (is_known given) (sym same) ∙ sym known in
     let there : IsSlotFault slots given (branch (tree (atom (token.Symbol name)) ts)) f =
-    λ s. ap₂ (λ o b. first_of (slot_by o b ts (λ types. values_faults s types ts))) has so ∙ filling s in
+    λ s. ap₂ (λ o b. first_of (given_slot_faults o b ts (λ types. values_faults s types ts))) has so ∙ filling s in
     subst (λ it. IsSlotFault slots given it f) (sym (called t name ts h)) there
 is_slot slots given t name ts slot is_given (Err refused.NoMemory) h has known filling = tt
 

@@ -2,7 +2,7 @@
 use Rattle.std.proofs.Common.{◌≡◌, ◌↔◌, ◌∙◌, ◌++◌, ◌&&◌, Bool, true, false, not, List, [], ◌∷◌, Option, Some, None, refl, ap, ap₂, sym}
 use Rattle.cb_expr_forms.specs.ExprFaults.{all_faults, begins_with_list, call_faults, count, equals_faults, faults_of, is_equals, type_faults, values_faults}
 use Rattle.cb_expr_forms.specs.ExprForms.{expr_of}
-use Rattle.cb_expr_forms.specs.FaultLists.{first_of, unless}
+use Rattle.cb_templates.specs.FaultLists.{first_of, unless}
 use Rattle.cb_expr_forms.specs.Laws.{AreFaultless, AreRight, NoListAfterEquals, followed_by}
 use Rattle.cb_expr_forms.specs.Scopes.{Scope}
 use Rattle.cb_expr_forms.proofs.Heads.{first_append}

@@ -7,7 +7,7 @@ use Rattle.std.specs.List.{Contains}
 use Rattle.std.specs.Str.{bytes_eq}
 use Rattle.cb_expr_forms.specs.ExprFaults.{action_faults, all_faults, call_faults, count, facts_faults, faults_of, list_faults, token_faults}
 use Rattle.cb_expr_forms.specs.ExprForms.{assertions, call_expr, expr_of, exprs_of, list_expr, token_expr}
-use Rattle.cb_expr_forms.specs.FaultLists.{first_of, unless}
+use Rattle.cb_templates.specs.FaultLists.{first_of, unless}
 use Rattle.cb_expr_forms.specs.Laws.{ArePlain, IsPlain, list_of}
 use Rattle.cb_expr_forms.specs.Scopes.{Scope, effect_fault, is_known, may_act, may_use_globals}
 use Rattle.cb_expr_forms.specs.declared.scope.Side.TheVariants.{Left}

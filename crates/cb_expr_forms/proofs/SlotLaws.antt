@@ -7,9 +7,9 @@ use Rattle.std.proofs.lemmas.Map.Keys.{IsDistinct-IsPermutation, IsDistinct-head
 use Rattle.std.specs.Prelude.{IsPermutation}
 use Rattle.std.specs.List.{All, AllByRecursion, IsDistinct}
 use Rattle.std.specs.Str.{bytes_eq}
-use Rattle.cb_expr_forms.specs.ExprFaults.{are_filled, content_faults, fact_faults, slot_by, slot_faults, slots_faults, values_faults}
+use Rattle.cb_expr_forms.specs.ExprFaults.{are_filled, content_faults, fact_faults, given_slot_faults, slot_faults, slots_faults, values_faults}
 use Rattle.cb_expr_forms.specs.ExprForms.{exprs_of, fact_of, fact_with, given_slot, slot_exprs, slot_name, slot_names}
-use Rattle.cb_expr_forms.specs.FaultLists.{first_of, unless}
+use Rattle.cb_templates.specs.FaultLists.{first_of, unless}
 use Rattle.cb_expr_forms.specs.Laws.{AreFaultless, AreRight, GiveSlots, GiveTheSame, NoListAfterEquals, fact_giving, followed_by, list_of}
 use Rattle.cb_expr_forms.specs.Scopes.{Scope, is_known}
 use Rattle.cb_expr_forms.proofs.Heads.{called, first_append, unslotted_faults}
@@ -48,7 +48,7 @@ ordered_right s relation ts h =
     (λ none. let parts = both.0 none in (parts.0, fields_right s ts parts.1), λ right. both.1 (right.0, right_fields s ts right.1.0 right.1.1))
 
 -- a slot after those with these names is right where it has another name and is right by itself
-alone_by : (o : Option SlotShape) (b : Bool) (ts : Trees) (values : Types → List Fault) → (slot_by o b ts values ≡ []) ↔ ((b ≡ false) × (slot_by o false ts values ≡ []))
+alone_by : (o : Option SlotShape) (b : Bool) (ts : Trees) (values : Types → List Fault) → (given_slot_faults o b ts values ≡ []) ↔ ((b ≡ false) × (given_slot_faults o false ts values ≡ []))
 alone_by None b ts values = (λ h. absurd (cc), λ h. absurd (let some = h.1 in cc))
 alone_by (Some slot) true ts values = (λ h. absurd (cc), λ h. absurd (let given = h.0 in cc))
 alone_by (Some slot) false ts values = (λ h. (refl, h), λ h. h.1)

@@ -11,23 +11,23 @@ use Rattle.cb_words.specs.declared.head.Action.{Action}
 use Rattle.cb_words.specs.declared.head.Action.TheVariants as action
 
 -- the argument is this word
-abbrev pub is_word : List ℕ → Term → Bool
-is_word word (constant (value.Symbol bytes)) = bytes_eq bytes word
-is_word word t = false
+abbrev pub is_this_word : List ℕ → Term → Bool
+is_this_word word (constant (value.Symbol bytes)) = bytes_eq bytes word
+is_this_word word t = false
 
 -- the value of several expressions: a multifield, unless there is one
-abbrev pub joined : List Term → Term
-joined (t ∷ []) = t
-joined ts = call function.Create (terms ts)
+abbrev pub as_one_value : List Term → Term
+as_one_value (t ∷ []) = t
+as_one_value ts = call function.Create (terms ts)
 
 -- `(bind ?name value ..)`, `(bind ?*name* value ..)`
 abbrev pub bind_of : List Term → Option Term
-bind_of (variable x ∷ t ∷ ts) = Some (bind x (joined (t ∷ ts)))
-bind_of (global x ∷ t ∷ ts) = Some (bind_global x (joined (t ∷ ts)))
+bind_of (variable x ∷ t ∷ ts) = Some (bind x (as_one_value (t ∷ ts)))
+bind_of (global x ∷ t ∷ ts) = Some (bind_global x (as_one_value (t ∷ ts)))
 bind_of ts = None
 
 abbrev pub is_else : Term → Bool
-is_else t = is_word (codes "else") t
+is_else t = is_this_word (codes "else") t
 
 -- the actions up to the first `else`, and those after it
 abbrev pub before_else : List Term → List Term
@@ -45,13 +45,13 @@ branches test ts =
 
 -- `(if test then action .. else action ..)`
 abbrev pub if_of : List Term → Option Term
-if_of (test ∷ word ∷ ts) = if is_word (codes "then") word then branches test ts else None
+if_of (test ∷ word ∷ ts) = if is_this_word (codes "then") word then branches test ts else None
 if_of ts = None
 
 -- the actions of a `while`, before which `do` may stand
 abbrev pub after_do : List Term → List Term
 after_do [] = []
-after_do (t ∷ ts) = if is_word (codes "do") t then ts else t ∷ ts
+after_do (t ∷ ts) = if is_this_word (codes "do") t then ts else t ∷ ts
 
 -- `(while test do action ..)`
 abbrev pub while_of : List Term → Option Term

@@ -5,7 +5,7 @@ use Rattle.std.specs.Option.{option_map_or}
 use Rattle.std.specs.Str.{bytes_eq}
 use Rattle.cb_expr_forms.specs.Actions.{action_of}
 use Rattle.cb_expr_forms.specs.ExprForms.{expr_of, exprs_of, slot_name}
-use Rattle.cb_expr_forms.specs.FaultLists.{unless}
+use Rattle.cb_templates.specs.FaultLists.{unless}
 use Rattle.cb_expr_forms.specs.Scopes.{Scope, effect_fault, is_known, may_act, may_name, may_use_globals}
 use Rattle.cb_exprs.specs.Terms.{Term, constant}
 use Rattle.cb_forms.specs.Members.{symbol_of}
@@ -16,6 +16,7 @@ use Rattle.cb_forms.specs.declared.token.Token.{Token}
 use Rattle.cb_forms.specs.declared.token.Token.TheVariants as token
 use Rattle.cb_templates.specs.Reserved.{is_reserved}
 use Rattle.cb_templates.specs.Slots.{SlotShape, Types, allows_all, slot_named}
+use Rattle.cb_templates.specs.TemplateFaults.{is_none, is_one}
 use Rattle.cb_templates.specs.Templates.{slots_of}
 use Rattle.cb_words.specs.Arities.{arity_of, takes}
 use Rattle.cb_words.specs.Words.{head_of}
@@ -39,14 +40,6 @@ abbrev pub count : Trees → ℕ
 count no_trees = zero
 count (tree t ts) = suc (count ts)
 
-abbrev pub is_none : Trees → Bool
-is_none no_trees = true
-is_none ts = false
-
-abbrev pub is_one : Trees → Bool
-is_one (tree t no_trees) = true
-is_one ts = false
-
 -- wrong arguments of a call with an effect: `printout` to what is no channel is not in the profile
 abbrev pub arguments_fault : Action → Fault
 arguments_fault action.Printout = NotInProfile
@@ -58,11 +51,11 @@ begins_with_list (tree (branch us) ts) = true
 begins_with_list ts = false
 
 -- the form is this symbol
-abbrev pub is_symbol : List ℕ → Tree → Bool
-is_symbol word t = option_map_or (λ name. bytes_eq name word) (symbol_of t) false
+abbrev pub is_this_symbol : List ℕ → Tree → Bool
+is_this_symbol word t = option_map_or (λ name. bytes_eq name word) (symbol_of t) false
 
 abbrev pub is_equals : Tree → Bool
-is_equals t = is_symbol (codes "=") t
+is_equals t = is_this_symbol (codes "=") t
 
 -- in a fact the symbol `=` before a list is no constant
 abbrev pub equals_faults : Tree → Trees → List Fault
@@ -96,9 +89,9 @@ content_faults None fields slots = fields
 content_faults (Some shapes) fields slots = slots shapes
 
 -- what is wrong with a slot: the template has it, it is given once, it takes so many values, and then these faults of them
-abbrev pub slot_by : Option SlotShape → Bool → Trees → (Types → List Fault) → List Fault
-slot_by None is_given ts values = FactDoesNotFit ∷ []
-slot_by (Some slot) is_given ts values =
+abbrev pub given_slot_faults : Option SlotShape → Bool → Trees → (Types → List Fault) → List Fault
+given_slot_faults None is_given ts values = FactDoesNotFit ∷ []
+given_slot_faults (Some slot) is_given ts values =
     unless (not is_given) FactDoesNotFit ++ (unless (slot.is_multi || is_one ts) FactDoesNotFit ++ values slot.types)
 
 abbrev mutual
@@ -136,7 +129,7 @@ abbrev mutual
   -- a slot is a list that begins with its name
   pub slot_faults : Scope → List SlotShape → List (List ℕ) → Tree → List Fault
   slot_faults s slots given (branch (tree (atom (token.Symbol name)) ts)) =
-      slot_by (slot_named slots name) (is_known given name) ts (λ types. values_faults s types ts)
+      given_slot_faults (slot_named slots name) (is_known given name) ts (λ types. values_faults s types ts)
   slot_faults s slots given t = FactDoesNotFit ∷ []
 
   -- what is wrong with the values of a slot, or with the fields of an ordered fact

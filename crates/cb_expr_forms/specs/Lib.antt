@@ -2,9 +2,7 @@ pub mod Actions
 pub mod Bound
 pub mod ExprFaults
 pub mod ExprForms
-pub mod FaultLists
+pub mod Internal
 pub mod Laws
-pub mod Plans
 pub mod Scopes
-pub mod Sizes
 pub mod Variables

@@ -4,7 +4,7 @@ use Rattle.std.specs.List.{list_any}
 use Rattle.std.specs.Str.{bytes_eq}
 use Rattle.cb_expr_forms.specs.declared.scope.Side.{Side}
 use Rattle.cb_expr_forms.specs.declared.scope.Side.TheVariants as side
-use Rattle.cb_exprs.specs.Bindings.{Values}
+use Rattle.cb_exprs.specs.Bindings.{Bindings, Values}
 use Rattle.cb_forms.specs.declared.fault.Fault.{Fault}
 use Rattle.cb_forms.specs.declared.fault.Fault.TheVariants.{NotOnLeftSide, NotInProfile}
 use Rattle.cb_templates.specs.Templates.{Templates}
@@ -50,6 +50,10 @@ known_on side.Actions valued given = given
 -- what may be named there, by the variables that have a value, those given besides, and the globals
 abbrev pub scope_on : Side → List (List ℕ) → List (List ℕ) → List (List ℕ) → Templates → Scope
 scope_on on valued given globals templates = record { side = on; variables = known_on on valued given; globals = globals; templates = templates }
+
+-- In a construct: no variable is known, and besides the globals that have a value these, which the construct has given.
+abbrev pub plain_scope : Templates → Bindings → List (List ℕ) → Scope
+plain_scope templates env given = record { side = side.Plain; variables = []; globals = names_of env.globals ++ given; templates = templates }
 
 abbrev pub is_known : List (List ℕ) → List ℕ → Bool
 is_known names name = list_any (λ n. bytes_eq n name) names

@@ -1,12 +1,12 @@
 //! Calls with an effect as they are written.
-ghost use Rattle.std.specs.Prelude.{◌≡◌, ◌≤◌, ◌+◌, ◌++◌, codes};
+ghost use Rattle.std.specs.Prelude.{◌≡◌, ◌≤◌, codes};
 ghost use Rattle.std.specs.List.{list_any};
-ghost use Rattle.cb_expr_forms.specs.Actions.{after_do, after_else, before_else, is_else};
-ghost use Rattle.cb_expr_forms.specs.ExprFaults.{all_faults, arguments_fault, is_symbol};
+ghost use Rattle.cb_expr_forms.specs.Actions.{after_do, is_else};
+ghost use Rattle.cb_expr_forms.specs.ExprFaults.{all_faults, arguments_fault, is_this_symbol};
 ghost use Rattle.cb_expr_forms.specs.ExprForms.{exprs_of};
-ghost use Rattle.cb_expr_forms.specs.Plans.{HasPlan};
+ghost use Rattle.cb_expr_forms.specs.Internal.{HasPlan, IsCutAtElse};
 ghost use Rattle.cb_expr_forms.specs.Scopes.{Scope};
-ghost use Rattle.cb_expr_forms.specs.Sizes.{trees_size};
+ghost use Rattle.cb_expr_forms.specs.Internal.Sizes.{trees_size};
 ghost use Rattle.cb_forms.specs.Members.{members};
 ghost use Rattle.cb_forms.specs.Trees.{tree_of};
 ghost use Rattle.cb_templates.specs.Templates.{Templates};
@@ -105,14 +105,7 @@ fn split_if<'a>(args: &'a [Form]) -> Option<ActionForm<'a>>
 
 /// The actions before the first `else`, and those after it.
 fn split_else<'a>(actions: &'a [Form]) -> (&'a [Form], &'a [Form])
-    ensures before { (t : Templates) → exprs_of t (members result.0.now)
-        ≡ before_else (exprs_of t (members actions.now)) }
-    ensures after { (t : Templates) → exprs_of t (members result.1.now)
-        ≡ after_else (exprs_of t (members actions.now)) }
-    ensures faults { (s : Scope) → all_faults s (members actions.now)
-        ≡ all_faults s (members result.0.now) ++ all_faults s (members result.1.now) }
-    ensures sizes { trees_size (members result.0.now) + trees_size (members result.1.now)
-        ≤ trees_size (members actions.now) }
+    ensures { IsCutAtElse (members actions.now) (members result.0.now) (members result.1.now) }
 {
     let mut rest = actions;
     let mut count = 0;
@@ -138,7 +131,7 @@ fn has_else(actions: &[Form]) -> bool
 }
 
 fn is_else(form: &Form) -> bool
-    ensures { result ≡ is_symbol (codes "else") (tree_of form.now) }
+    ensures { result ≡ is_this_symbol (codes "else") (tree_of form.now) }
 {
     is_symbol(form, b"else")
 }

@@ -1,6 +1,6 @@
 //! Calls as they are written.
 ghost use Rattle.std.specs.Prelude.{◌≡◌, ◌≢◌, MatchResult, Some, true};
-ghost use Rattle.cb_expr_forms.specs.Plans.{IsCall, IsCallFault, IsHeaded, IsHeadedFault};
+ghost use Rattle.cb_expr_forms.specs.Internal.{IsCall, IsCallFault, IsHeaded, IsHeadedFault};
 ghost use Rattle.cb_expr_forms.specs.Scopes.{may_act};
 ghost use Rattle.cb_facts.specs.Results.{Tells};
 ghost use Rattle.cb_forms.specs.Members.{members};

@@ -1,12 +1,12 @@
 //! Expressions and facts as they are written.
-ghost use Rattle.std.specs.Prelude.{◌≡◌, ◌++◌, ℕ, List, [], map};
+ghost use Rattle.std.specs.Prelude.{◌≡◌, ℕ, List, [], map};
 ghost use Rattle.std.specs.Option.{option_and_then};
-ghost use Rattle.cb_expr_forms.specs.Actions.{joined};
+ghost use Rattle.cb_expr_forms.specs.Actions.{as_one_value};
 ghost use Rattle.cb_expr_forms.specs.ExprFaults.{all_faults, are_filled, fact_faults, facts_faults, faults_of, list_faults, slots_faults, token_faults, type_faults, value_faults, values_faults};
 ghost use Rattle.cb_expr_forms.specs.ExprForms.{assertions, expr_of, exprs_of, fact_of, list_expr, slot_exprs, slot_names, token_expr};
-ghost use Rattle.cb_expr_forms.specs.FaultLists.{Reads};
-ghost use Rattle.cb_expr_forms.specs.Plans.{filling_expr, filling_faults, if_expr, if_faults, plan_expr, plan_faults, while_expr, while_faults};
-ghost use Rattle.cb_exprs.specs.Terms.{Term, bind, bind_global, term_of};
+ghost use Rattle.cb_templates.specs.FaultLists.{ReadsAs};
+ghost use Rattle.cb_expr_forms.specs.Internal.{filling_expr, filling_faults, if_expr, if_faults, plan_expr, plan_faults, while_expr, while_faults};
+ghost use Rattle.cb_exprs.specs.Terms.{Term, term_of};
 ghost use Rattle.cb_forms.specs.Members.{members};
 ghost use Rattle.cb_forms.specs.Trees.{tree_of};
 
@@ -25,7 +25,7 @@ use cb_words::Function;
 /// The expression that a form is in this scope, or its first fault (`docs/LANGUAGE.md`, "Faults").
 #[cycle(reading)]
 pub fn read_expr(names: &mut Names, scope: &Scope<'_>, form: &Form) -> Result<Expr, Refused>
-    ensures { Reads term_of result (faults_of scope.now (tree_of form.now))
+    ensures { ReadsAs term_of result (faults_of scope.now (tree_of form.now))
         (expr_of scope.now.templates (tree_of form.now)) }
 {
     match form {
@@ -35,7 +35,7 @@ pub fn read_expr(names: &mut Names, scope: &Scope<'_>, form: &Form) -> Result<Ex
 }
 
 fn read_token(names: &mut Names, scope: &Scope<'_>, token: &Token) -> Result<Expr, Refused>
-    ensures { Reads term_of result (token_faults scope.now token.now) (token_expr token.now) }
+    ensures { ReadsAs term_of result (token_faults scope.now token.now) (token_expr token.now) }
 {
     match token {
         Token::Var(name) | Token::MultiVar(name) => {
@@ -51,7 +51,7 @@ fn read_token(names: &mut Names, scope: &Scope<'_>, token: &Token) -> Result<Exp
 
 /// The name of a variable that may stand there.
 fn known_variable(names: &mut Names, scope: &Scope<'_>, name: &[u8]) -> Result<Name, Refused>
-    ensures { Reads (λ n. n) result (token_faults scope.now (Token.Var name.now)) name.now }
+    ensures { ReadsAs (λ n. n) result (token_faults scope.now (Token.Var name.now)) name.now }
 {
     let name = names.name(name)?;
     if !scope.takes_variable(&name) {
@@ -62,7 +62,7 @@ fn known_variable(names: &mut Names, scope: &Scope<'_>, name: &[u8]) -> Result<N
 
 /// The same of a global variable.
 fn known_global(names: &mut Names, scope: &Scope<'_>, name: &[u8]) -> Result<Name, Refused>
-    ensures { Reads (λ n. n) result (token_faults scope.now (Token.Global name.now)) name.now }
+    ensures { ReadsAs (λ n. n) result (token_faults scope.now (Token.Global name.now)) name.now }
 {
     if !scope.side.may_use_globals() {
         return Err(Refused::Fault(Fault::NotOnLeftSide));
@@ -76,12 +76,12 @@ fn known_global(names: &mut Names, scope: &Scope<'_>, name: &[u8]) -> Result<Nam
 
 #[cycle(reading)]
 fn read_list(names: &mut Names, scope: &Scope<'_>, forms: &[Form]) -> Result<Expr, Refused>
-    ensures { Reads term_of result (list_faults scope.now (members forms.now))
+    ensures { ReadsAs term_of result (list_faults scope.now (members forms.now))
         (list_expr scope.now.templates (members forms.now)) }
 {
     match split_call(scope.side, forms)? {
         CallForm::Function(function, args) => {
-            Ok(Expr::Call(function, read_all(names, scope, args)?))
+            Ok(Expr::Call(function, read_exprs(names, scope, args)?))
         }
         CallForm::Assert(facts) => Ok(Expr::Actions(read_facts(names, scope, facts)?)),
         CallForm::Action(action) => read_action(names, scope, action),
@@ -94,64 +94,36 @@ fn read_action(
     scope: &Scope<'_>,
     action: ActionForm<'_>,
 ) -> Result<Expr, Refused>
-    ensures { Reads term_of result (plan_faults scope.now action.entry)
+    ensures { ReadsAs term_of result (plan_faults scope.now action.entry)
         (plan_expr scope.now.templates action.entry) }
 {
     match action {
-        ActionForm::Retract(values) => Ok(Expr::Retract(read_all(names, scope, values)?)),
-        ActionForm::Bind(name, values) => read_bind(names, scope, name, values),
-        ActionForm::BindGlobal(name, values) => read_bind_global(names, scope, name, values),
+        ActionForm::Retract(values) => Ok(Expr::Retract(read_exprs(names, scope, values)?)),
+        ActionForm::Bind(name, values) => {
+            let name = known_variable(names, scope, name)?;
+            Ok(Expr::Bind(name, read_joined(names, scope, values)?))
+        }
+        ActionForm::BindGlobal(name, values) => {
+            let name = known_global(names, scope, name)?;
+            Ok(Expr::BindGlobal(name, read_joined(names, scope, values)?))
+        }
         ActionForm::If(test, yes, no) => read_if(names, scope, test, yes, no),
         ActionForm::While(test, actions) => read_while(names, scope, test, actions),
         ActionForm::Printout(channel, values) => {
-            Ok(Expr::Printout(channel, read_all(names, scope, values)?))
+            Ok(Expr::Printout(channel, read_exprs(names, scope, values)?))
         }
-        ActionForm::Print(values) => Ok(Expr::Print(read_all(names, scope, values)?)),
-        ActionForm::Println(values) => Ok(Expr::Println(read_all(names, scope, values)?)),
+        ActionForm::Print(values) => Ok(Expr::Print(read_exprs(names, scope, values)?)),
+        ActionForm::Println(values) => Ok(Expr::Println(read_exprs(names, scope, values)?)),
     }
-}
-
-/// A variable that is given a value.
-#[cycle(reading)]
-fn read_bind(
-    names: &mut Names,
-    scope: &Scope<'_>,
-    name: &[u8],
-    values: &[Form],
-) -> Result<Expr, Refused>
-    ensures { Reads term_of result
-        (token_faults scope.now (Token.Var name.now) ++ all_faults scope.now (members values.now))
-        (bind name.now (joined (exprs_of scope.now.templates (members values.now)))) }
-{
-    let name = known_variable(names, scope, name)?;
-    let value = read_joined(names, scope, values)?;
-    Ok(Expr::Bind(name, value))
-}
-
-/// The same of a global variable.
-#[cycle(reading)]
-fn read_bind_global(
-    names: &mut Names,
-    scope: &Scope<'_>,
-    name: &[u8],
-    values: &[Form],
-) -> Result<Expr, Refused>
-    ensures { Reads term_of result
-        (token_faults scope.now (Token.Global name.now) ++ all_faults scope.now (members values.now))
-        (bind_global name.now (joined (exprs_of scope.now.templates (members values.now)))) }
-{
-    let name = known_global(names, scope, name)?;
-    let value = read_joined(names, scope, values)?;
-    Ok(Expr::BindGlobal(name, value))
 }
 
 /// The value of several expressions.
 #[cycle(reading)]
 fn read_joined(names: &mut Names, scope: &Scope<'_>, forms: &[Form]) -> Result<Box<Expr>, Refused>
-    ensures { Reads (λ e. term_of e.value) result (all_faults scope.now (members forms.now))
-        (joined (exprs_of scope.now.templates (members forms.now))) }
+    ensures { ReadsAs (λ e. term_of e.value) result (all_faults scope.now (members forms.now))
+        (as_one_value (exprs_of scope.now.templates (members forms.now))) }
 {
-    let exprs = read_all(names, scope, forms)?;
+    let exprs = read_exprs(names, scope, forms)?;
     Ok(Box::new(names.alloc(), join(exprs))?)
 }
 
@@ -163,14 +135,14 @@ fn read_if(
     yes: &[Form],
     no: &[Form],
 ) -> Result<Expr, Refused>
-    ensures { Reads term_of result
+    ensures { ReadsAs term_of result
         (if_faults scope.now (tree_of test.now) (members yes.now) (members no.now))
         (if_expr scope.now.templates (tree_of test.now) (members yes.now) (members no.now)) }
 {
     let alloc = names.alloc();
     let test = Box::new(alloc, read_expr(names, scope, test)?)?;
-    let yes = Box::new(alloc, Expr::Actions(read_all(names, scope, yes)?))?;
-    let no = Box::new(alloc, Expr::Actions(read_all(names, scope, no)?))?;
+    let yes = Box::new(alloc, Expr::Actions(read_exprs(names, scope, yes)?))?;
+    let no = Box::new(alloc, Expr::Actions(read_exprs(names, scope, no)?))?;
     Ok(Expr::If(test, yes, no))
 }
 
@@ -181,20 +153,24 @@ fn read_while(
     test: &Form,
     actions: &[Form],
 ) -> Result<Expr, Refused>
-    ensures { Reads term_of result
+    ensures { ReadsAs term_of result
         (while_faults scope.now (tree_of test.now) (members actions.now))
         (while_expr scope.now.templates (tree_of test.now) (members actions.now)) }
 {
     let alloc = names.alloc();
     let test = Box::new(alloc, read_expr(names, scope, test)?)?;
-    let actions = Box::new(alloc, Expr::Actions(read_all(names, scope, actions)?))?;
+    let actions = Box::new(alloc, Expr::Actions(read_exprs(names, scope, actions)?))?;
     Ok(Expr::While(test, actions))
 }
 
-/// The expressions that forms are, or the first fault.
+/// The expressions that forms are in this scope, or the first fault.
 #[cycle(reading)]
-fn read_all(names: &mut Names, scope: &Scope<'_>, forms: &[Form]) -> Result<Vec<Expr>, Refused>
-    ensures { Reads (λ es. map term_of es.items) result (all_faults scope.now (members forms.now))
+pub fn read_exprs(
+    names: &mut Names,
+    scope: &Scope<'_>,
+    forms: &[Form],
+) -> Result<Vec<Expr>, Refused>
+    ensures { ReadsAs (λ es. map term_of es.items) result (all_faults scope.now (members forms.now))
         (exprs_of scope.now.templates (members forms.now)) }
 {
     let mut exprs = Vec::with_capacity(names.alloc(), forms.len())?;
@@ -207,7 +183,7 @@ fn read_all(names: &mut Names, scope: &Scope<'_>, forms: &[Form]) -> Result<Vec<
 /// To assert the facts that forms are, or the first fault.
 #[cycle(reading)]
 fn read_facts(names: &mut Names, scope: &Scope<'_>, forms: &[Form]) -> Result<Vec<Expr>, Refused>
-    ensures { Reads (λ es. map term_of es.items) result
+    ensures { ReadsAs (λ es. map term_of es.items) result
         (facts_faults scope.now (members forms.now))
         (assertions scope.now.templates (members forms.now)) }
 {
@@ -221,7 +197,7 @@ fn read_facts(names: &mut Names, scope: &Scope<'_>, forms: &[Form]) -> Result<Ve
 /// The fact that a form is in this scope, or its first fault (`docs/LANGUAGE.md`, "Faults").
 #[cycle(reading)]
 pub fn read_fact(names: &mut Names, scope: &Scope<'_>, form: &Form) -> Result<FactExpr, Refused>
-    ensures { Reads (λ f. f) result (fact_faults scope.now (tree_of form.now))
+    ensures { ReadsAs (λ f. f) result (fact_faults scope.now (tree_of form.now))
         (fact_of scope.now.templates (tree_of form.now)) }
 {
     let (relation, forms) = split_fact(form)?;
@@ -246,7 +222,7 @@ fn read_slots(
     template: &Template,
     forms: &[Form],
 ) -> Result<(Vec<Name>, Vec<Expr>), Refused>
-    ensures { Reads {V = List (List ℕ) × List Term}
+    ensures { ReadsAs {V = List (List ℕ) × List Term}
         (λ r. (r.0.items, map term_of r.1.items)) result
         (slots_faults scope.now template.now [] (members forms.now)) (
           slot_names (members forms.now),
@@ -269,7 +245,7 @@ fn read_slots(
 /// The value of a slot.
 #[cycle(reading)]
 fn read_slot(names: &mut Names, scope: &Scope<'_>, slot: SlotForm<'_>) -> Result<Expr, Refused>
-    ensures { Reads term_of result (filling_faults scope.now slot.entry)
+    ensures { ReadsAs term_of result (filling_faults scope.now slot.entry)
         (filling_expr scope.now.templates slot.entry) }
 {
     match slot {
@@ -289,7 +265,7 @@ fn read_values(
     slot: Option<&Slot>,
     forms: &[Form],
 ) -> Result<Vec<Expr>, Refused>
-    ensures { Reads (λ es. map term_of es.items) result
+    ensures { ReadsAs (λ es. map term_of es.items) result
         (values_faults scope.now (option_and_then (λ s. s.now.types) slot.entry) (members forms.now))
         (exprs_of scope.now.templates (members forms.now)) }
 {
@@ -311,7 +287,7 @@ fn read_value(
     form: &Form,
     following: &[Form],
 ) -> Result<Expr, Refused>
-    ensures { Reads term_of result
+    ensures { ReadsAs term_of result
         (value_faults scope.now (option_and_then (λ s. s.now.types) slot.entry) (tree_of form.now) (members following.now))
         (expr_of scope.now.templates (tree_of form.now)) }
 {
@@ -325,7 +301,7 @@ fn read_value(
 
 /// Whether a value may stand in a slot by its types: what is computed may be anything.
 fn check_type(slot: Option<&Slot>, value: &Expr) -> Result<(), Refused>
-    ensures { Reads (λ _. tt {0}) result
+    ensures { ReadsAs (λ _. tt {0}) result
         (type_faults (option_and_then (λ s. s.now.types) slot.entry) (term_of value.now)) tt }
 {
     let Some(slot) = slot else {
@@ -344,7 +320,7 @@ fn check_type(slot: Option<&Slot>, value: &Expr) -> Result<(), Refused>
 
 /// The value of several expressions: a multifield, unless there is one.
 fn join(exprs: Vec<Expr>) -> Expr
-    ensures { term_of result ≡ joined (map term_of exprs.items) }
+    ensures { term_of result ≡ as_one_value (map term_of exprs.items) }
 {
     let mut exprs = exprs;
     if exprs.len() == 1 {

@@ -2,7 +2,7 @@
 ghost use Rattle.std.specs.Prelude.{◌≡◌, ◌↔◌, ℕ, List, [], Contains, None, Some, false, true, IsPermutation};
 ghost use Rattle.cb_expr_forms.specs.ExprFaults.{all_faults, are_filled, count, fact_faults, facts_faults, faults_of, slot_faults};
 ghost use Rattle.cb_expr_forms.specs.ExprForms.{expr_of, fact_of, slot_names};
-ghost use Rattle.cb_expr_forms.specs.FaultLists.{first_of};
+ghost use Rattle.cb_templates.specs.FaultLists.{first_of};
 ghost use Rattle.cb_expr_forms.specs.Laws.{AreFaultless, AreRight, GiveSlots, GiveTheSame, IsPlain, NoListAfterEquals, followed_by, list_of};
 ghost use Rattle.cb_expr_forms.specs.Scopes.{Scope, scope_on};
 ghost use Rattle.cb_expr_forms.specs.declared.scope.Side.TheVariants.{Actions, Left};

@@ -15,7 +15,7 @@ mod variables;
 mod words;
 
 pub use bound::{bound_in_all, bound_variables};
-pub use expr_form::{read_expr, read_fact};
+pub use expr_form::{read_expr, read_exprs, read_fact};
 pub use name_list::NameList;
 pub use scope::{Scope, Side};
 pub use variables::knows_all;

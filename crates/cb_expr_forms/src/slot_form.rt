@@ -1,6 +1,6 @@
 //! Facts and their slots as they are written.
 ghost use Rattle.std.specs.Prelude.{◌≡◌, MatchResult};
-ghost use Rattle.cb_expr_forms.specs.Plans.{IsFact, IsFactFault, IsFilling, IsFillingFault, IsSlot, IsSlotFault, slot_of};
+ghost use Rattle.cb_expr_forms.specs.Internal.{IsFact, IsFactFault, IsFilling, IsFillingFault, IsSlot, IsSlotFault, slot_of};
 ghost use Rattle.cb_facts.specs.Results.{Tells};
 ghost use Rattle.cb_forms.specs.Members.{members};
 ghost use Rattle.cb_forms.specs.Trees.{tree_of};

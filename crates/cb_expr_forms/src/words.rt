@@ -1,7 +1,7 @@
 //! Words among forms.
 ghost use Rattle.std.specs.Prelude.{◌≡◌, None, Some, MatchOption};
 ghost use Rattle.cb_expr_forms.specs.Actions.{named_channel};
-ghost use Rattle.cb_expr_forms.specs.ExprFaults.{begins_with_list, is_symbol};
+ghost use Rattle.cb_expr_forms.specs.ExprFaults.{begins_with_list, is_this_symbol};
 ghost use Rattle.cb_forms.specs.Members.{members};
 ghost use Rattle.cb_forms.specs.Trees.{tree_of};
 
@@ -10,7 +10,7 @@ use cb_forms::Form;
 
 /// Whether a form is the symbol with these bytes.
 pub fn is_symbol(form: &Form, word: &[u8]) -> bool
-    ensures { result ≡ is_symbol word.now (tree_of form.now) }
+    ensures { result ≡ is_this_symbol word.now (tree_of form.now) }
 {
     match form.symbol() {
         Some(name) => name == word,

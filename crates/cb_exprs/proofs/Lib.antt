@@ -1,4 +1,6 @@
-pub mod Ordered
-pub mod TermLaws
-pub mod Trees
-pub mod ValueLaws
+pub mod Cited
+mod Ordered
+mod RecentLaws
+mod TermLaws
+mod Trees
+mod ValueLaws

@@ -10,7 +10,7 @@ use Rattle.std.specs.Str.{bytes_eq}
 use Rattle.std.specs.declared.cmp.Ordering.{Ordering}
 use Rattle.std.specs.declared.cmp.Ordering.TheVariants.{Less, Equal, Greater}
 use Rattle.cb_exprs.specs.Bindings.{Values, value_at, with_value, without_value}
-use Rattle.cb_exprs.specs.Trees.{IsOrdered}
+use Rattle.cb_exprs.specs.Internal.Trees.{IsOrdered}
 use Rattle.cb_facts.specs.declared.value.Value.{Value}
 
 abbrev order : List ℕ → List ℕ → Ordering

@@ -1,7 +1,6 @@
 pub mod Bindings
-pub mod Codes
 pub mod FactTerms
 pub mod GlobalTerms
+pub mod Internal
 pub mod Shapes
 pub mod Terms
-pub mod Trees

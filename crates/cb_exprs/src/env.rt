@@ -3,6 +3,7 @@ ghost use Rattle.std.specs.Prelude.{◌≡◌, [], None, IfOk, OnOk, OnErr, opti
 ghost use Rattle.cb_exprs.specs.Bindings.{no_bindings, value_at, with_global, with_variable, with_variables, without_variable};
 
 use crate::values::Values;
+use crate::variables::Variables;
 use cb_facts::{Name, Value};
 use cb_forms::NoMemory;
 use std::alloc::{AllocError, Global};
@@ -10,14 +11,15 @@ use std::marker::Model;
 
 /// The values that variables and global variables have. A variable and a global variable of one name are two.
 ///
-/// A value is found in logarithmic time, whatever the names are. A clone shares all values until one of the two changes: it
-/// takes no memory, and is refused only where the count of sharers is full.
+/// The first eight variables that take a value stand in the value itself, and are looked through; all others are found in
+/// logarithmic time, whatever the names are. A clone copies those eight and shares all others until one of the two changes:
+/// it takes no memory, and is refused only where a count of sharers is full.
 ///
 /// Contracts see the pairs of a name and its value, those of the variables and those of the globals, each in the order of
 /// the names.
 #[derive(Drop)]
 pub struct Env {
-    variables: Values,
+    variables: Variables,
     globals: Values,
 }
 
@@ -45,7 +47,7 @@ impl Env {
         ensures { result ≡ no_bindings }
     {
         Env {
-            variables: Values::new(alloc),
+            variables: Variables::new(alloc),
             globals: Values::new(alloc),
         }
     }
@@ -58,7 +60,8 @@ impl Env {
     }
 
     /// Gives a variable a value, in place of the one that it has, if it has one. Growth is refused as `NoMemory`, and then
-    /// nothing has changed; a variable that has a value takes no memory where no clone shares the way to it.
+    /// nothing has changed. The first eight variables take no memory; nor does one that has a value, from the second time on
+    /// that it is given one, where no clone shares the way to it.
     pub fn set(&mut self, name: &Name, value: Value) -> Result<(), NoMemory>
         ensures ok { OnOk result (self.new ≡ with_variable name.now value self.old) }
         ensures err { OnErr result (self.new ≡ self.old) }
@@ -92,7 +95,7 @@ impl Env {
     pub fn drop_variables(&mut self, alloc: Global)
         ensures { self.new ≡ record { variables = []; globals = self.old.globals } }
     {
-        self.variables = Values::new(alloc);
+        self.variables = Variables::new(alloc);
     }
 
     /// The value of a global variable, or `None` where it has none.

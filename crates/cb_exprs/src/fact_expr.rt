@@ -18,7 +18,8 @@ pub struct FactExpr {
 
 impl Model for FactExpr {
     ghost use Rattle.std.specs.Coded.{codes};
-    ghost use Rattle.cb_exprs.specs.FactTerms.{FactTerm, fact_code};
+    ghost use Rattle.cb_exprs.specs.FactTerms.{FactTerm};
+    ghost use Rattle.cb_exprs.specs.Internal.{fact_code};
 
     ghost Value = { FactTerm };
 

@@ -17,7 +17,8 @@ pub struct GlobalExpr {
 
 impl Model for GlobalExpr {
     ghost use Rattle.std.specs.Coded.{codes};
-    ghost use Rattle.cb_exprs.specs.GlobalTerms.{GlobalTerm, global_code};
+    ghost use Rattle.cb_exprs.specs.GlobalTerms.{GlobalTerm};
+    ghost use Rattle.cb_exprs.specs.Internal.{global_code};
     ghost use Rattle.cb_exprs.specs.Terms.{term_of};
 
     ghost Value = { GlobalTerm };

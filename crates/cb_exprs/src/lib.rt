@@ -12,6 +12,7 @@ mod global_expr;
 pub mod laws;
 mod tree;
 mod values;
+mod variables;
 
 pub use channel::Channel;
 pub use env::Env;

@@ -1,7 +1,7 @@
 //! A search tree of names, each with its value, whose nodes are shared.
 ghost use Rattle.std.specs.Prelude.{◌≡◌, ◌∷◌, ◌++◌, IfErr, IfOk, OnErr, OnOk, option_copied};
 ghost use Rattle.cb_exprs.specs.Bindings.{value_at, with_value, without_value};
-ghost use Rattle.cb_exprs.specs.Trees.{IsOrdered, pairs_of, pairs_under};
+ghost use Rattle.cb_exprs.specs.Internal.Trees.{IsOrdered, pairs_of, pairs_under};
 
 use cb_facts::{Name, Value};
 use cb_forms::NoMemory;

@@ -1,5 +1,6 @@
 -- `==` of these types is equality.
 use Rattle.std.proofs.Common.{◌≡◌, ◌&&◌, List, Bool, true, ℕ, ap, ap₂, rules}
+use Rattle.std.proofs.lemmas.Bool.{and_from}
 use Rattle.std.specs.Bool.{Decides}
 use Rattle.std.specs.Cmp.{first_so, second_so}
 use Rattle.std.specs.Cmp.Lexicographic.{pointwise, pointwise_decides, bytes_decides}
@@ -60,16 +61,13 @@ value-Decides (v.Multi a) (v.Int b) = search (hashing, rules)
 value-Decides (v.Multi a) (v.Fact b) = search (hashing, rules)
 value-Decides (v.Multi a) (v.Multi b) = search (hashing, rules, singles-Decides a b)
 
-pub both-true : (a b : Bool) → a ≡ true → b ≡ true → (a && b) ≡ true
-both-true a b p q = search rules
-
 slot-same : (s t : List ℕ × Value) → s.0 ≡ t.0 → s.1 ≡ t.1 → s ≡ t
 slot-same s t p q = ap₂ (λ (n : List ℕ) (v : Value). (n, v)) p q
 
 pub slot-Decides : (s t : List ℕ × Value) → Decides (slot_eq s t) (s ≡ t)
 slot-Decides s t = (
   λ e. slot-same s t ((bytes_decides s.0 t.0).0 (first_so _ _ e)) ((value-Decides s.1 t.1).0 (second_so _ _ e)),
-  λ e. both-true _ _ ((bytes_decides s.0 t.0).1 (ap (λ (u : List ℕ × Value). u.0) e)) ((value-Decides s.1 t.1).1 (ap (λ (u : List ℕ × Value). u.1) e)),
+  λ e. and_from _ _ ((bytes_decides s.0 t.0).1 (ap (λ (u : List ℕ × Value). u.0) e)) ((value-Decides s.1 t.1).1 (ap (λ (u : List ℕ × Value). u.1) e)),
 )
 
 pub slots-Decides : (ss ts : List (List ℕ × Value)) → Decides (pointwise slot_eq ss ts) (ss ≡ ts)

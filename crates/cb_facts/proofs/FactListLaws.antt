@@ -1,23 +1,20 @@
 -- What adding a fact and removing one keep.
 use Rattle.std.proofs.Common.{◌≡◌, ◌≢◌, ◌⊎◌, inl, inr, ℕ, Bool, true, false, Option, Some, None, refl, sym, ◌∙◌, subst}
-use Rattle.std.proofs.lemmas.Bool.{eqb-true, eq-eqb}
+use Rattle.std.proofs.lemmas.Bool.{eqb-true, eq-eqb, false_from_ne_true}
 use Rattle.std.specs.BTreeMap as tree
 use Rattle.std.specs.BTreeMap.{is_at, BTreeMap}
 use Rattle.std.specs.Bool.{Decides}
 use Rattle.std.specs.Cmp.{unsigned_tied}
 use Rattle.std.specs.Ordering.{nat_cmp}
-use Rattle.cb_facts.specs.FactLists.{IndexedFacts, fact_at, IsAbsent, IsFactBase, ChangesOnly, IsIndexed}
-use Rattle.cb_facts.specs.FactLaws.{fact_tied}
+use Rattle.cb_facts.specs.FactLists.{IndexedFacts, fact_at, IsAbsent, IsFactBase, ChangesOnly}
+use Rattle.cb_facts.specs.Internal.{IsIndexed}
+use Rattle.cb_facts.specs.Internal.FactLaws.{fact_tied}
 use Rattle.cb_facts.specs.Facts.{FactValue, fact_cmp, fact_eq}
 use Rattle.cb_facts.proofs.FactEquality.{fact-Decides}
 use Rattle.cb_facts.proofs.Inverses.{as_before, known-added, known-removed, listed-added, listed-removed}
 
 pub is_at-Decides : (i j : ℕ) → Decides (is_at (nat_cmp i) j) (i ≡ j)
 is_at-Decides i j = (λ e. eqb-true i j (sym (unsigned_tied i j) ∙ e), λ e. unsigned_tied i j ∙ eq-eqb i j e)
-
-pub false-from_not : (t : Bool) → (t ≡ true → ⊥) → t ≡ false
-false-from_not true n = absurd (n refl)
-false-from_not false n = refl
 
 is_or_not : (f g : FactValue) (t : Bool) → fact_eq f g ≡ t → (f ≡ g) ⊎ (f ≢ g)
 is_or_not f g true e = inl ((fact-Decides f g).0 e)
@@ -36,13 +33,13 @@ fact_base facts find inv = record {
 pub facts-change : (m n : BTreeMap ℕ FactValue) (ix : ℕ) (answer : Option FactValue) → tree.Updates nat_cmp m n ix answer → ChangesOnly (fact_at m.entries) (fact_at n.entries) ix answer
 facts-change m n ix answer u = record {
   here = u.1;
-  others = λ q apart. u.2 q (false-from_not (is_at (nat_cmp ix) q) (λ e. apart ((is_at-Decides ix q).0 e)));
+  others = λ q apart. u.2 q (false_from_ne_true (is_at (nat_cmp ix) q) (λ e. apart ((is_at-Decides ix q).0 e)));
 }
 
 pub indices-change : (m n : BTreeMap FactValue ℕ) (fact : FactValue) (answer : Option ℕ) → tree.Updates fact_cmp m n fact answer → ChangesOnly (tree.get fact_cmp m) (tree.get fact_cmp n) fact answer
 indices-change m n fact answer u = record {
   here = u.1;
-  others = λ g differs. u.2 g (false-from_not (is_at (fact_cmp fact) g) (λ e. differs ((fact-Decides fact g).0 (fact_tied fact g ∙ e))));
+  others = λ g differs. u.2 g (false_from_ne_true (is_at (fact_cmp fact) g) (λ e. differs ((fact-Decides fact g).0 (fact_tied fact g ∙ e))));
 }
 
 pub indexed-insert : (old new : BTreeMap ℕ FactValue) (m n : BTreeMap FactValue ℕ) (ix : ℕ) (fact shared : FactValue)

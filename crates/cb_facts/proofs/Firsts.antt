@@ -2,12 +2,8 @@
 use Rattle.std.proofs.Common.{◌≡◌, List, [], ◌∷◌, ◌++◌, Result, Ok, Err, refl, ap, append_assoc}
 use Rattle.std.proofs.lemmas.List.{append-nil}
 use Rattle.cb_forms.specs.declared.fault.Fault.{Fault}
+use Rattle.cb_facts.specs.Internal.{after_those}
 use Rattle.cb_facts.specs.Results.{and_then, with_first}
-
--- results after those that are there
-abbrev pub after_those : {X : Type 0} → List X → Result (List X) Fault → Result (List X) Fault
-after_those xs (Ok ys) = Ok (xs ++ ys)
-after_those xs (Err f) = Err f
 
 pub after_none : {X : Type 0} (r : Result (List X) Fault) → after_those [] r ≡ r
 after_none (Ok ys) = refl

@@ -1,8 +1,9 @@
-pub mod CountLaws
-pub mod Equality
-pub mod FactEquality
-pub mod FactListLaws
-pub mod Firsts
-pub mod Inverses
-pub mod ListLaws
-pub mod PartLaws
+pub mod Cited
+mod CountLaws
+mod Equality
+mod FactEquality
+mod FactListLaws
+mod Firsts
+mod Inverses
+mod ListLaws
+mod PartLaws

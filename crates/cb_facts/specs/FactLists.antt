@@ -39,9 +39,3 @@ pub record IsFactBase (facts : IndexedFacts) : Type 0 where
 pub record ChangesOnly {K V : Type 0} (old new : K → Option V) (key : K) (answer : Option V) : Type 0 where
   pub here : new key ≡ answer
   pub others : (k : K) → key ≢ k → new k ≡ old k
-
--- The indices rise, and the look-up by facts gives an index exactly where that index has the fact.
-pub record IsIndexed (facts : IndexedFacts) (find : FactValue → Option ℕ) : Type 0 where
-  pub rising : IsStrictlySortedBy nat_cmp (keys_of facts)
-  pub listed : (fact : FactValue) (ix : ℕ) → find fact ≡ Some ix → fact_at facts ix ≡ Some fact
-  pub known : (fact : FactValue) (ix : ℕ) → fact_at facts ix ≡ Some fact → find fact ≡ Some ix

@@ -1,5 +1,5 @@
 -- Facts, when two are equal, in which order tables have them, and what is kept of one.
-use Rattle.std.specs.Prelude.{◌≡◌, ◌&&◌, ◌++◌, ℕ, Bool, false, List, [], ◌∷◌, fold, nat_eq}
+use Rattle.std.specs.Prelude.{◌&&◌, ◌++◌, ℕ, Bool, false, List, [], ◌∷◌, fold, nat_eq}
 use Rattle.std.specs.Cmp.Lexicographic.{pointwise, slice_cmp}
 use Rattle.std.specs.Hash as fed
 use Rattle.std.specs.Hash.{HashWrites}
@@ -13,7 +13,6 @@ use Rattle.cb_facts.specs.contracts.single.SingleHash.TheImpl as single_hash
 use Rattle.cb_facts.specs.contracts.value.ValuePartialEq.TheImpl as value_eq
 use Rattle.cb_facts.specs.contracts.value.ValueOrd.TheImpl as value_ord
 use Rattle.cb_facts.specs.contracts.value.ValueHash.TheImpl as value_hash
-use Rattle.cb_facts.specs.declared.fact.Body.{Body}
 use Rattle.cb_facts.specs.declared.fact.Content.{Content}
 use Rattle.cb_facts.specs.declared.fact.Content.TheVariants as content
 use Rattle.cb_facts.specs.declared.single.Single.{Single}
@@ -90,11 +89,3 @@ rest_cmp = then_cmp (on (λ f. f.relation) (slice_cmp nat_cmp)) (on (λ f. f.con
 -- facts in the order in which tables have them: by their hashes, and those with the same hash by what they say
 abbrev pub fact_cmp : FactValue → FactValue → Ordering
 fact_cmp = then_cmp (on hash_of nat_cmp) rest_cmp
-
--- what the body of a fact says
-abbrev pub fact_in : Body → FactValue
-fact_in body = record { relation = body.relation; content = content_of body.content }
-
--- this is the hash of the fact with the body
-abbrev pub IsHashOf : ℕ → Body → Type 0
-IsHashOf hash body = hash ≡ hash_of (fact_in body)

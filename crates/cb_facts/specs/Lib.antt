@@ -1,6 +1,6 @@
-pub mod FactLaws
 pub mod FactLists
 pub mod Facts
+pub mod Internal
 pub mod RelationCounts
 pub mod Results
 pub mod Texts

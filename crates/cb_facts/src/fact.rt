@@ -4,8 +4,9 @@ ghost use Rattle.std.specs.Hash as fed;
 ghost use Rattle.std.specs.Hash.FoldHasher as folding;
 ghost use Rattle.std.specs.Cmp.{partial_equiv_from_equiv, po};
 ghost use Rattle.std.specs.Ordering.{as_partial_cmp};
-ghost use Rattle.cb_facts.specs.Facts.{ordered_fact, template_fact, content_of, content_writes, content_cmp, fact_cmp, fact_eq, fact_in, hash_of, rest_cmp};
-ghost use Rattle.cb_facts.specs.FactLaws.{fact_equiv, fact_fed, fact_tied, fact_total};
+ghost use Rattle.cb_facts.specs.Facts.{ordered_fact, template_fact, content_of, content_writes, content_cmp, fact_cmp, fact_eq, hash_of, rest_cmp};
+ghost use Rattle.cb_facts.specs.Internal.{body_fact};
+ghost use Rattle.cb_facts.specs.Internal.FactLaws.{fact_equiv, fact_fed, fact_tied, fact_total};
 
 use crate::multifield::Multifield;
 use crate::name::Name;
@@ -62,7 +63,7 @@ struct Body {
 
 impl Body {
     fn order(&self, other: &Body) -> Ordering
-        ensures { result ≡ rest_cmp (fact_in self.now) (fact_in other.now) }
+        ensures { result ≡ rest_cmp (body_fact self.now) (body_fact other.now) }
     {
         match self.relation.cmp(&other.relation) {
             Ordering::Equal => self.content.order(&other.content),
@@ -88,11 +89,12 @@ pub struct Fact {
 impl Model for Fact {
     ghost use Rattle.std.specs.Prelude.{◌≡◌};
     ghost use Rattle.std.specs.Rc.{rc_value};
-    ghost use Rattle.cb_facts.specs.Facts.{FactValue, fact_in, IsHashOf};
+    ghost use Rattle.cb_facts.specs.Facts.{FactValue};
+    ghost use Rattle.cb_facts.specs.Internal.{body_fact, IsHashOf};
 
     ghost Value = { FactValue };
 
-    ghost view = { λ f. fact_in (rc_value f.body) };
+    ghost view = { λ f. body_fact (rc_value f.body) };
 
     ghost invariant = { λ f. IsHashOf f.hash (rc_value f.body) };
 }

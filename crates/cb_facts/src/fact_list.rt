@@ -26,7 +26,8 @@ pub struct FactList {
 impl Model for FactList {
     ghost use Rattle.std.specs.BTreeMap.{get};
     ghost use Rattle.cb_facts.specs.Facts.{fact_cmp};
-    ghost use Rattle.cb_facts.specs.FactLists.{IndexedFacts, IsIndexed};
+    ghost use Rattle.cb_facts.specs.FactLists.{IndexedFacts};
+    ghost use Rattle.cb_facts.specs.Internal.{IsIndexed};
 
     ghost Value = { IndexedFacts };
 

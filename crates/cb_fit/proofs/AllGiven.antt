@@ -7,10 +7,10 @@ use Rattle.std.specs.Cmp.Lexicographic.{bytes_decides}
 use Rattle.std.specs.Option.{option_and_then, option_map_or}
 use Rattle.std.specs.Str.{bytes_eq}
 use Rattle.cb_constraints.specs.Constraints.{Test, constant, variable, predicate, return_value, Check, Demand, nothing, each, either, Constraint}
-use Rattle.cb_constraints.specs.Holding.{after_check, after_checks, after_demand, after_test, one_holds, opposite_if, provided, taken, test_holds}
+use Rattle.cb_constraints.specs.Holding.{after_check, after_checks, after_demand, after_test, one_holds, opposite_if, provided, after_variable, test_holds}
 use Rattle.cb_constraints.specs.PatternValues.{Parts, PatternValue, SlotValue}
 use Rattle.cb_constraints.specs.PatternValues as pattern
-use Rattle.cb_exprs.proofs.ValueLaws.{value_at-with_value, value_at_set}
+use Rattle.cb_exprs.proofs.Cited.{value_at-with_value, value_at_set}
 use Rattle.cb_exprs.specs.Bindings.{Bindings, value_at, with_variable, with_variables}
 use Rattle.cb_facts.specs.Facts.{FactContent, FactValue}
 use Rattle.cb_facts.specs.Facts as fact
@@ -21,7 +21,7 @@ use Rattle.cb_functions.specs.Comparison.{same}
 use Rattle.cb_fit.proofs.Givings.{given_more}
 use Rattle.cb_fit.proofs.Segments.{then-some}
 use Rattle.cb_fit.proofs.WithoutVariables.{provided-if}
-use Rattle.cb_fit.specs.Bound.{Given, binder, binders, binders_in, binders_in_parts, binders_of, given_all, given_one, newly_bound}
+use Rattle.cb_fit.specs.Bound.{GivenSoFar, binder, binders, binders_in, binders_in_parts, binders_of, given_all, given_one, newly_bound}
 use Rattle.cb_fit.specs.Related.{Fits, HoldInTurn, PartsFit, RowFits, SlotsFit}
 use Rattle.cb_fit.specs.Ways.{after_segment, segment_value}
 
@@ -32,7 +32,7 @@ Keeps before after = (x : List ℕ) (v : Value) → value_at x before.variables 
 keeps-all : (env grown : Bindings) → env ≡ grown → Keeps env grown
 keeps-all env grown e = subst (Keeps env) e (λ x v h. h)
 
-abbrev gave : List (List ℕ × Value) → Bindings → Given
+abbrev gave : List (List ℕ × Value) → Bindings → GivenSoFar
 gave bound env = record { bound = bound; env = env }
 
 -- from the one to the other just these variables get values, and each has its value afterwards
@@ -77,10 +77,10 @@ others-keep x v env none y w e = value_at-with_value env.variables y x v ∙ (ap
 takes-first : (x : List ℕ) (v : Value) (env : Bindings) (o p : Option Value) (bound : List (List ℕ × Value)) → o ≡ None → p ≡ Some v → given_one x o p (gave bound env) ≡ gave (bound ++ (x, v) ∷ []) (with_variable x v env)
 takes-first x v env o p bound e d = ap (λ q. given_one x q p (gave bound env)) e ∙ ap (λ q. given_one x None q (gave bound env)) d
 
-has-already : (x : List ℕ) (w : Value) (o p : Option Value) (g : Given) → o ≡ Some w → given_one x o p g ≡ g
+has-already : (x : List ℕ) (w : Value) (o p : Option Value) (g : GivenSoFar) → o ≡ Some w → given_one x o p g ≡ g
 has-already x w o p g e = ap (λ q. given_one x q p g) e
 
-takes : (x : List ℕ) (v : Value) (env grown : Bindings) → taken x v env ≡ Some grown → Step (x ∷ []) env grown
+takes : (x : List ℕ) (v : Value) (env grown : Bindings) → after_variable x v env ≡ Some grown → Step (x ∷ []) env grown
 takes x v env grown e = by (value_at x env.variables) refl e
   where
     same-one : (a b : Bindings) → Some a ≡ Some b → a ≡ b
@@ -124,7 +124,7 @@ demand-gives nothing v env grown e = gives-none env grown (same-one env grown e)
 demand-gives (each cs) v env grown e = checks-give cs v env grown e
 demand-gives (either None alternatives) v env grown e = gives-none env grown (provided-if (one_holds alternatives v env) env grown e).1
 demand-gives (either (Some x) alternatives) v env grown e =
-    let w = then-some (λ mid. provided (one_holds alternatives v mid) mid) (taken x v env) grown e in
+    let w = then-some (λ mid. provided (one_holds alternatives v mid) mid) (after_variable x v env) grown e in
     subst (Step (x ∷ []) env) (provided-if (one_holds alternatives v w.0) w.0 grown w.2).1 (takes x v env w.0 w.1)
 
 turn-gives : (cs : List Constraint) (ss : List (List Single)) (before after : Bindings) → HoldInTurn cs ss before after → Step (binders_in cs) before after

@@ -25,7 +25,7 @@ use Rattle.cb_fit.proofs.CutsFix.{cuts-as-many}
 use Rattle.cb_fit.proofs.Listed.{Among, among-cases, among-flat-back, among-map-back, numbers-from}
 use Rattle.cb_fit.proofs.Related.{row-fits, slot-fits, step-back, StepBack, first_taken}
 use Rattle.cb_fit.proofs.Rows.{step}
-use Rattle.cb_fit.specs.Ways.{Taken, WayValue, after_cuts, after_segment, and_then, numbers, slot_at, way_with, ways, ways_of_parts, ways_of_row, ways_of_slot, ways_of_slots}
+use Rattle.cb_fit.specs.Ways.{Taken, WayValue, after_cuts, after_segment, each_followed_by, numbers, slot_at, way_with, ways, ways_of_parts, ways_of_row, ways_of_slot, ways_of_slots}
 
 -- the first has the shorter segment where their lengths first differ
 abbrev pub Before : List ℕ → List ℕ → Type 0
@@ -88,7 +88,7 @@ rising-numbers f n (suc k) h begins =
 no-more : (ts : List Taken) → Rising ts → Rising (ts ++ [])
 no-more ts h = rising-both ts [] h tt (λ t u m l. absurd l)
 
-rising-step : (next : Bindings → List Taken) (n : ℕ) (o : Option Bindings) → ((env : Bindings) → Rising (next env)) → Rising (and_then next (first_taken n o))
+rising-step : (next : Bindings → List Taken) (n : ℕ) (o : Option Bindings) → ((env : Bindings) → Rising (next env)) → Rising (each_followed_by next (first_taken n o))
 rising-step next n None h = tt
 rising-step next n (Some grown) h = no-more (map (after_cuts (n ∷ [])) (next grown)) (rising-after (n ∷ []) (next grown) (h grown))
 
@@ -108,10 +108,10 @@ slot-rising s env None = tt
 slot-rising s env (Some v) = row-rising s.row (fields_in v) env
 
 -- what comes of each of several that rise and are equally long
-rising-then : (next : Bindings → List Taken) (k : ℕ) (firsts : List Taken) → ((env : Bindings) → Rising (next env)) → ((t : Taken) → Among t firsts → length t.cuts ≡ k) → Rising firsts → Rising (and_then next firsts)
+rising-then : (next : Bindings → List Taken) (k : ℕ) (firsts : List Taken) → ((env : Bindings) → Rising (next env)) → ((t : Taken) → Among t firsts → length t.cuts ≡ k) → Rising firsts → Rising (each_followed_by next firsts)
 rising-then next k [] h long r = tt
 rising-then next k (t ∷ ts) h long r =
-    rising-both (map (after_cuts t.cuts) (next t.env)) (and_then next ts) (rising-after t.cuts (next t.env) (h t.env)) (rising-then next k ts h (λ u m. long u (inr m)) r.1)
+    rising-both (map (after_cuts t.cuts) (next t.env)) (each_followed_by next ts) (rising-after t.cuts (next t.env) (h t.env)) (rising-then next k ts h (λ u m. long u (inr m)) r.1)
     (λ v w m l.
     let one = among-map-back (after_cuts t.cuts) v (next t.env) m in
     let from = among-flat-back (λ u. map (after_cuts u.cuts) (next u.env)) w ts l in

@@ -13,8 +13,8 @@ use Rattle.cb_facts.specs.declared.single.Single.{Single}
 use Rattle.cb_fit.proofs.Numbers.{at-both-ends, flat-flat, flat-same, numbers-split}
 use Rattle.cb_fit.proofs.Places.{drop_past, drop_to}
 use Rattle.cb_fit.proofs.Rows.{all-of-ones, cuts-together, nothing-follows, ones-before, ones_then, shorter, step, too-short}
-use Rattle.cb_fit.specs.Steps.{Begun, after_ones, endings, lengths_to_try, takes_length, with_group}
-use Rattle.cb_fit.specs.Ways.{Taken, after_cuts, after_segment, and_then, numbers, ways_of_row, with_length}
+use Rattle.cb_fit.specs.Internal.{Begun, after_ones, endings, lengths_to_try, takes_length, with_group}
+use Rattle.cb_fit.specs.Ways.{Taken, after_cuts, after_segment, each_followed_by, numbers, ways_of_row, with_length}
 
 abbrev pub grown_to : Begun → ℕ → ℕ → Bindings → Begun
 grown_to b n k grown = record { cuts = b.cuts ++ (n ∷ replicate k 1); left = drop k (drop n b.left); env = grown }
@@ -55,7 +55,7 @@ after-group rest os b n (Some grown) =
 
 pub of-one-length : (rest os : List Constraint) (b : Begun) (n : ℕ) (after : Option Bindings) → segments_wanted os ≡ 0
     → flat_map (endings rest) (option_to_list (option_map (grown_to b n (length os)) (option_and_then (after_ones os (drop n b.left)) after)))
-    ≡ map (after_cuts b.cuts) (and_then (ways_of_row (os ++ rest) (drop n b.left)) (option_to_list (option_map (λ grown. record { cuts = n ∷ []; env = grown }) after)))
+    ≡ map (after_cuts b.cuts) (each_followed_by (ways_of_row (os ++ rest) (drop n b.left)) (option_to_list (option_map (λ grown. record { cuts = n ∷ []; env = grown }) after)))
 of-one-length rest os b n None e = refl
 of-one-length rest os b n (Some grown) e =
     after-group rest os b n (after_ones os (drop n b.left) grown)

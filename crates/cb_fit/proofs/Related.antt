@@ -20,7 +20,7 @@ use Rattle.cb_fit.proofs.Listed.{Among, among-contained, among-flat, among-flat-
 use Rattle.cb_fit.proofs.Rows.{step}
 use Rattle.cb_fit.proofs.Segments.{same-some}
 use Rattle.cb_fit.specs.Related.{Fits, HoldInTurn, PartsFit, RowFits, SlotsFit}
-use Rattle.cb_fit.specs.Ways.{Taken, WayValue, after_cuts, after_segment, and_then, numbers, slot_at, taken_way, way_with, ways, ways_of_parts, ways_of_row, ways_of_slot, ways_of_slots}
+use Rattle.cb_fit.specs.Ways.{Taken, WayValue, after_cuts, after_segment, each_followed_by, numbers, slot_at, taken_way, way_with, ways, ways_of_parts, ways_of_row, ways_of_slot, ways_of_slots}
 
 -- what was taken so far, and what variables have
 abbrev pub took : List ℕ → Bindings → Taken
@@ -30,15 +30,15 @@ took cuts env = record { cuts = cuts; env = env }
 abbrev pub first_taken : ℕ → Option Bindings → List Taken
 first_taken n o = option_to_list (option_map (λ grown. took (n ∷ []) grown) o)
 
-pub stepped : (next : Bindings → List Taken) (n : ℕ) (o : Option Bindings) (grown : Bindings) (t : Taken) → o ≡ Some grown → Among t (next grown) → Among (after_cuts (n ∷ []) t) (and_then next (first_taken n o))
+pub stepped : (next : Bindings → List Taken) (n : ℕ) (o : Option Bindings) (grown : Bindings) (t : Taken) → o ≡ Some grown → Among t (next grown) → Among (after_cuts (n ∷ []) t) (each_followed_by next (first_taken n o))
 stepped next n o grown t e h =
-    subst (λ p. Among (after_cuts (n ∷ []) t) (and_then next (first_taken n p))) (sym e)
+    subst (λ p. Among (after_cuts (n ∷ []) t) (each_followed_by next (first_taken n p))) (sym e)
     (among-left (after_cuts (n ∷ []) t) (map (after_cuts (n ∷ [])) (next grown)) [] (among-map (after_cuts (n ∷ [])) t (next grown) h))
 
 abbrev pub StepBack : (Bindings → List Taken) → ℕ → Option Bindings → Taken → Type 0
 StepBack next n o t = (grown : Bindings) × (u : Taken) × (o ≡ Some grown) × (after_cuts (n ∷ []) u ≡ t) × Among u (next grown)
 
-pub step-back : (next : Bindings → List Taken) (n : ℕ) (o : Option Bindings) (t : Taken) → Among t (and_then next (first_taken n o)) → StepBack next n o t
+pub step-back : (next : Bindings → List Taken) (n : ℕ) (o : Option Bindings) (t : Taken) → Among t (each_followed_by next (first_taken n o)) → StepBack next n o t
 step-back next n None t h = absurd h
 step-back next n (Some grown) t h = by (among-cases t (map (after_cuts (n ∷ [])) (next grown)) [] h)
   where

@@ -12,13 +12,13 @@ use Rattle.cb_facts.specs.Values.{value_of_field}
 use Rattle.cb_facts.specs.declared.single.Single.{Single}
 use Rattle.cb_facts.specs.declared.value.Value.{Value}
 use Rattle.cb_fit.proofs.Numbers.{at-both-ends, nothing-of-all}
-use Rattle.cb_fit.specs.Ways.{Taken, after_cuts, after_segment, and_then, numbers, segment_value, ways_of_row, with_length}
-use Rattle.cb_fit.specs.Steps.{after_ones}
+use Rattle.cb_fit.specs.Ways.{Taken, after_cuts, after_segment, each_followed_by, numbers, segment_value, ways_of_row, with_length}
+use Rattle.cb_fit.specs.Internal.{after_ones}
 
 -- nothing comes of what nothing can follow
-pub nothing-follows : (next : Bindings → List Taken) (firsts : List Taken) → ((env : Bindings) → next env ≡ []) → and_then next firsts ≡ []
+pub nothing-follows : (next : Bindings → List Taken) (firsts : List Taken) → ((env : Bindings) → next env ≡ []) → each_followed_by next firsts ≡ []
 nothing-follows next [] h = refl
-nothing-follows next (t ∷ ts) h = ap (λ xs. map (after_cuts t.cuts) xs ++ and_then next ts) (h t.env) ∙ nothing-follows next ts h
+nothing-follows next (t ∷ ts) h = ap (λ xs. map (after_cuts t.cuts) xs ++ each_followed_by next ts) (h t.env) ∙ nothing-follows next ts h
 
 -- a constraint for one field takes no other number
 pub not-one : (segment : Bool) (i : ℕ) (fields : List Single) → segment ≡ false → i ≤ length fields → i ≢ 1 → segment_value segment (take i fields) ≡ None
@@ -35,7 +35,7 @@ takes-no-other c fields env i e h d =
 
 -- what comes of a constraint with this length, before these
 abbrev pub step : Constraint → List Constraint → List Single → Bindings → ℕ → List Taken
-step c cs fields env n = and_then (ways_of_row cs (drop n fields)) (with_length c fields env n)
+step c cs fields env n = each_followed_by (ways_of_row cs (drop n fields)) (with_length c fields env n)
 
 pub shorter : (xs : List Single) (i m : ℕ) → length xs - i < m → length (drop i xs) < m
 shorter xs i m h = rw (length-drop i xs) h
@@ -44,11 +44,11 @@ shorter xs i m h = rw (length-drop i xs) h
 pub short-step : (c : Constraint) (cs : List Constraint) (fields : List Single) (env : Bindings) (i : ℕ) (segment : Bool) → c.segment ≡ segment → i ≤ length fields
     → length fields < (if segment then 0 else 1) + fields_wanted cs
     → ((fs : List Single) (e : Bindings) → length fs < fields_wanted cs → ways_of_row cs fs e ≡ [])
-    → and_then (ways_of_row cs (drop i fields)) (with_length c fields env i) ≡ []
+    → each_followed_by (ways_of_row cs (drop i fields)) (with_length c fields env i) ≡ []
 short-step c cs fields env i true s h w ih = nothing-follows (ways_of_row cs (drop i fields)) (with_length c fields env i) (λ e. ih (drop i fields) e (shorter fields i (fields_wanted cs) (omega arith)))
-short-step c cs fields env zero false s h w ih = ap (and_then (ways_of_row cs (drop zero fields))) (takes-no-other c fields env zero s h (λ d. absurd (omega arith)))
+short-step c cs fields env zero false s h w ih = ap (each_followed_by (ways_of_row cs (drop zero fields))) (takes-no-other c fields env zero s h (λ d. absurd (omega arith)))
 short-step c cs fields env (suc zero) false s h w ih = nothing-follows (ways_of_row cs (drop 1 fields)) (with_length c fields env 1) (λ e. ih (drop 1 fields) e (shorter fields 1 (fields_wanted cs) (omega arith)))
-short-step c cs fields env (suc (suc i)) false s h w ih = ap (and_then (ways_of_row cs (drop (suc (suc i)) fields))) (takes-no-other c fields env (suc (suc i)) s h (λ d. absurd (omega arith)))
+short-step c cs fields env (suc (suc i)) false s h w ih = ap (each_followed_by (ways_of_row cs (drop (suc (suc i)) fields))) (takes-no-other c fields env (suc (suc i)) s h (λ d. absurd (omega arith)))
 
 -- a row takes no fewer fields than it has constraints for one field
 pub too-short : (cs : List Constraint) (fields : List Single) (env : Bindings) → length fields < fields_wanted cs → ways_of_row cs fields env ≡ []
@@ -71,19 +71,19 @@ first-of-one true f fs e = search rules
 first-of-one false f fs e = refl
 
 pub that-one : (cs : List Constraint) (fs : List Single) (after : Option Bindings)
-    → and_then (ways_of_row cs fs) (option_to_list (option_map (λ grown. record { cuts = 1 ∷ []; env = grown }) after)) ≡ after_one cs fs after
+    → each_followed_by (ways_of_row cs fs) (option_to_list (option_map (λ grown. record { cuts = 1 ∷ []; env = grown }) after)) ≡ after_one cs fs after
 that-one cs fs None = refl
 that-one cs fs (Some grown) = append-nil (map (after_cuts (1 ∷ [])) (ways_of_row cs fs grown))
 
 -- a constraint for one field takes the first
 pub one-step : (c : Constraint) (cs : List Constraint) (fields : List Single) (env : Bindings) → c.segment ≡ false → ways_of_row (c ∷ cs) fields env ≡ one_then c cs fields env
-one-step c cs [] env e = nothing-of-all (step c cs [] env) 0 1 (λ i a b. ap (and_then (ways_of_row cs (drop i []))) (takes-no-other c [] env i e (omega arith) (λ d. absurd (omega arith))))
+one-step c cs [] env e = nothing-of-all (step c cs [] env) 0 1 (λ i a b. ap (each_followed_by (ways_of_row cs (drop i []))) (takes-no-other c [] env i e (omega arith) (λ d. absurd (omega arith))))
 one-step c cs (f ∷ fs) env e =
     at-both-ends (step c cs (f ∷ fs) env) 1 1 (suc (length fs) + 1) (omega arith)
-    (λ i a. ap (and_then (ways_of_row cs (drop i (f ∷ fs)))) (takes-no-other c (f ∷ fs) env i e (omega arith) (λ d. absurd (omega arith))))
-    (λ i a b. ap (and_then (ways_of_row cs (drop i (f ∷ fs)))) (takes-no-other c (f ∷ fs) env i e (omega arith) (λ d. absurd (omega arith))))
+    (λ i a. ap (each_followed_by (ways_of_row cs (drop i (f ∷ fs)))) (takes-no-other c (f ∷ fs) env i e (omega arith) (λ d. absurd (omega arith))))
+    (λ i a b. ap (each_followed_by (ways_of_row cs (drop i (f ∷ fs)))) (takes-no-other c (f ∷ fs) env i e (omega arith) (λ d. absurd (omega arith))))
     ∙ (append-nil (step c cs (f ∷ fs) env 1)
-    ∙ (ap (λ v. and_then (ways_of_row cs fs) (option_to_list (option_map (λ grown. record { cuts = 1 ∷ []; env = grown }) (option_and_then (λ w. after_demand c.demand w env) v)))) (first-of-one c.segment f fs e)
+    ∙ (ap (λ v. each_followed_by (ways_of_row cs fs) (option_to_list (option_map (λ grown. record { cuts = 1 ∷ []; env = grown }) (option_and_then (λ w. after_demand c.demand w env) v)))) (first-of-one c.segment f fs e)
     ∙ that-one cs fs (after_demand c.demand (value_of_field f) env)))
 
 -- where none of a row takes a segment, it takes no more fields than it has constraints

@@ -1,13 +1,17 @@
 -- What a returned place and a returned answer say.
-use Rattle.std.proofs.Common.{◌≡◌, ◌&&◌, Bool, true, false, ℕ, List, [], ◌∷◌, Option, None, Some, Result, Ok, Err, OnOk, IfSome, is_some, refl, rules, subst}
+use Rattle.std.proofs.Common.{◌≡◌, ◌∙◌, ◌++◌, ◌≤◌, ◌&&◌, Bool, true, false, ℕ, List, [], ◌∷◌, Option, None, Some, Result, Ok, Err, OnOk, IfSome, is_some, ap, length, refl, rules, subst, sym}
+use Rattle.std.proofs.lemmas.List.Elements.{All-push}
 use Rattle.std.specs.Option.{option_and_then}
-use Rattle.cb_constraints.proofs.MayHold.{holds-may}
+use Rattle.cb_constraints.proofs.Cited.{holds-may}
 use Rattle.cb_constraints.specs.Constraints.{Constraint}
 use Rattle.cb_constraints.specs.Holding.{Meets, after_demand, may_hold}
 use Rattle.cb_exprs.specs.Bindings.{Bindings}
 use Rattle.cb_facts.specs.Values.{value_of_field}
 use Rattle.cb_facts.specs.declared.single.Single.{Single}
-use Rattle.cb_fit.specs.Steps.{after_ones, may_take}
+use Rattle.cb_facts.specs.declared.value.Value.{Value}
+use Rattle.cb_fit.specs.FieldLists.{IsFirst}
+use Rattle.cb_fit.specs.Internal.{AreWithin, after_ones, may_take}
+use Rattle.cb_fit.specs.declared.beginning.Beginning.{Beginning}
 
 pub some-place : (o : Option ℕ) (at n : ℕ) → o ≡ Some at → IfSome o (λ a. a ≡ n) → at ≡ n
 some-place o at n e h = subst (λ p. IfSome p (λ a. a ≡ n)) e h
@@ -40,3 +44,23 @@ nothing-taken (c ∷ cs) (f ∷ fs) env e = by (after_demand c.demand (value_of_
         → option_and_then (after_ones cs fs) o ≡ None
     by None holds more = refl
     by (Some g) holds more = more g (others (may_hold c.demand (value_of_field f)) (may_take cs fs) (holds g refl) e)
+
+both-true : (a b : Bool) → a && b ≡ true → (a ≡ true) × (b ≡ true)
+both-true true b e = (refl, e)
+both-true false b e = let never : false ≡ true = e in cc
+
+-- what may take fields does so one by one
+may-both : (c : Constraint) (cs : List Constraint) (v : Value) (others fields : List Single) → IsFirst v others fields → may_take (c ∷ cs) fields ≡ true → (may_hold c.demand v ≡ true) × (may_take cs others ≡ true)
+may-both c cs v others fields first e =
+    let both = both-true (may_hold c.demand (value_of_field first.0)) (may_take cs others) (sym (ap (may_take (c ∷ cs)) first.1) ∙ e) in
+    (ap (may_hold c.demand) first.2 ∙ both.0, both.1)
+
+pub may_first : (c : Constraint) (cs : List Constraint) (v : Value) (others fields : List Single) → IsFirst v others fields → may_take (c ∷ cs) fields ≡ true → may_hold c.demand v ≡ true
+may_first c cs v others fields first e = (may-both c cs v others fields first e).0
+
+pub may_others : (c : Constraint) (cs : List Constraint) (v : Value) (others fields : List Single) → IsFirst v others fields → may_take (c ∷ cs) fields ≡ true → may_take cs others ≡ true
+may_others c cs v others fields first e = (may-both c cs v others fields first e).1
+
+-- one more that is within
+pub within_more : (fields : List Single) (old new : List Beginning) (b : Beginning) → new ≡ old ++ b ∷ [] → AreWithin fields old → b.at ≤ length fields → AreWithin fields new
+within_more fields old new b e w h = subst (AreWithin fields) (sym e) (All-push (λ b. b.at ≤ length fields) old b w h)

@@ -3,7 +3,7 @@ use Rattle.std.proofs.Common.{◌≡◌, ◌∙◌, ◌&&◌, ◌||◌, Bool, tr
 use Rattle.std.specs.List.{list_all, list_any}
 use Rattle.std.specs.Option.{option_and_then}
 use Rattle.cb_constraints.specs.Constraints.{Test, constant, variable, predicate, return_value, Check, Demand, nothing, each, either, Constraint}
-use Rattle.cb_constraints.specs.Holding.{after_check, after_checks, after_demand, after_test, check_holds, one_holds, opposite_if, provided, taken, test_holds}
+use Rattle.cb_constraints.specs.Holding.{after_check, after_checks, after_demand, after_test, check_holds, one_holds, opposite_if, provided, after_variable, test_holds}
 use Rattle.cb_constraints.specs.PatternValues.{Parts, PatternValue, SlotValue}
 use Rattle.cb_constraints.specs.PatternValues as pattern
 use Rattle.cb_exprs.specs.Bindings.{Bindings, no_bindings}
@@ -14,7 +14,7 @@ use Rattle.cb_facts.specs.declared.single.Single.{Single}
 use Rattle.cb_facts.specs.declared.value.Value.{Value}
 use Rattle.cb_fit.proofs.Segments.{then-some}
 use Rattle.cb_fit.specs.Related.{Fits, HoldInTurn, PartsFit, RowFits, SlotsFit}
-use Rattle.cb_fit.specs.Shapes.{HasShape, constants_in, is_constant, loose, loose_constraint, loose_demand, loose_parts, loose_row, loose_slot}
+use Rattle.cb_fit.specs.Shapes.{HasShape, constants_in, loose, loose_constraint, loose_demand, loose_parts, loose_row, loose_slot}
 use Rattle.cb_fit.specs.Ways.{after_segment, segment_value}
 
 pub provided-if : (t : Bool) (env grown : Bindings) → provided t env ≡ Some grown → (t ≡ true) × (env ≡ grown)
@@ -75,7 +75,7 @@ demand-kept nothing v env grown any e = refl
 demand-kept (each cs) v env grown any e = checks-kept cs v env grown any e
 demand-kept (either None alternatives) v env grown any e = ap (λ t. provided t any) (one-still-holds alternatives v env any (provided-if (one_holds alternatives v env) env grown e).0)
 demand-kept (either (Some x) alternatives) v env grown any e =
-    let w = then-some (λ mid. provided (one_holds alternatives v mid) mid) (taken x v env) grown e in
+    let w = then-some (λ mid. provided (one_holds alternatives v mid) mid) (after_variable x v env) grown e in
     ap (λ t. provided t any) (one-still-holds alternatives v w.0 any (provided-if (one_holds alternatives v w.0) w.0 grown w.2).0)
 
 segment-kept : (c : Constraint) (s : List Single) (env grown any : Bindings) → after_segment c s env ≡ Some grown → after_segment (loose_constraint c) s any ≡ Some any

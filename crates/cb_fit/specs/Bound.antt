@@ -29,17 +29,17 @@ binders_in_parts (fields row) = binders_in row
 binders_in_parts (slots rows) = flat_map (λ s. binders_in s.row) rows
 
 -- variables with the values that they were given, and what variables have with them
-pub record Given : Type 0 where
+pub record GivenSoFar : Type 0 where
   pub bound : List (List ℕ × Value)
   pub env : Bindings
 
 -- one more, if it has no value yet and has one after
-abbrev pub given_one : List ℕ → Option Value → Option Value → Given → Given
+abbrev pub given_one : List ℕ → Option Value → Option Value → GivenSoFar → GivenSoFar
 given_one x None (Some v) g = record { bound = g.bound ++ (x, v) ∷ []; env = with_variable x v g.env }
 given_one x before after g = g
 
 -- those of the variables that have no value yet and have one after, each once
-abbrev pub given_all : List (List ℕ) → Bindings → Given → Given
+abbrev pub given_all : List (List ℕ) → Bindings → GivenSoFar → GivenSoFar
 given_all [] after g = g
 given_all (x ∷ xs) after g = given_all xs after (given_one x (value_at x g.env.variables) (value_at x after.variables) g)
 

@@ -6,9 +6,9 @@ use Rattle.cb_facts.specs.declared.value.Value.{Value}
 use Rattle.cb_fit.specs.declared.fields.Fields.{Fields}
 use Rattle.cb_fit.specs.declared.fields.Fields.TheVariants as program
 
-abbrev pub fields_of : Fields → List Single
-fields_of (program.All fields) = fields.now
-fields_of (program.Slot v) = fields_in v.now
+abbrev pub row_fields : Fields → List Single
+row_fields (program.All fields) = fields.now
+row_fields (program.Slot v) = fields_in v.now
 
 -- the value is that of the first of these fields, and these are the others
 abbrev pub IsFirst : Value → List Single → List Single → Type 0

@@ -1,17 +1,12 @@
 -- What a pattern asks by its constants and lengths alone.
-use Rattle.std.specs.Prelude.{ℕ, Bool, true, false, List, None, filter, map}
-use Rattle.cb_constraints.specs.Constraints.{Test, constant, variable, predicate, return_value, Check, Demand, nothing, each, either, Constraint}
+use Rattle.std.specs.Prelude.{ℕ, List, None, filter, map}
+use Rattle.cb_constraints.specs.Constraints.{Check, Demand, nothing, each, either, Constraint}
+use Rattle.cb_constraints.specs.Holding.{is_constant}
 use Rattle.cb_constraints.specs.PatternValues.{Parts, fields, slots, PatternValue, SlotValue}
 use Rattle.cb_exprs.specs.Bindings.{no_bindings}
 use Rattle.cb_exprs.specs.Bindings.{Bindings}
 use Rattle.cb_facts.specs.Facts.{FactValue}
 use Rattle.cb_fit.specs.Related.{Fits}
-
-abbrev pub is_constant : Test → Bool
-is_constant (constant v) = true
-is_constant (variable x) = false
-is_constant (predicate e) = false
-is_constant (return_value e) = false
 
 -- the checks for constants; a variable or an expression, with `~` or without, counts as true
 abbrev pub constants_in : List Check → List Check

@@ -25,18 +25,18 @@ abbrev pub after_cuts : List ℕ → Taken → Taken
 after_cuts before t = record { cuts = before ++ t.cuts; env = t.env }
 
 -- first each of these, and then all that may follow it
-abbrev pub and_then : (Bindings → List Taken) → List Taken → List Taken
-and_then next firsts = flat_map (λ t. map (after_cuts t.cuts) (next t.env)) firsts
+abbrev pub each_followed_by : (Bindings → List Taken) → List Taken → List Taken
+each_followed_by next firsts = flat_map (λ t. map (after_cuts t.cuts) (next t.env)) firsts
 
-abbrev pub one_value : List Single → Option Value
-one_value [] = None
-one_value (f ∷ []) = Some (value_of_field f)
-one_value (f ∷ g ∷ fs) = None
+abbrev pub value_of_one : List Single → Option Value
+value_of_one [] = None
+value_of_one (f ∷ []) = Some (value_of_field f)
+value_of_one (f ∷ g ∷ fs) = None
 
 -- the value in the place of a constraint: the multifield of a segment, or the one field, if it is one
 abbrev pub segment_value : Bool → List Single → Option Value
 segment_value true fields = Some (value.Multi fields)
-segment_value false fields = one_value fields
+segment_value false fields = value_of_one fields
 
 -- what variables have after a constraint took these fields, if it holds of them
 abbrev pub after_segment : Constraint → List Single → Bindings → Option Bindings
@@ -57,7 +57,7 @@ abbrev pub ways_of_row : List Constraint → List Single → Bindings → List T
 ways_of_row [] [] env = record { cuts = []; env = env } ∷ []
 ways_of_row [] (f ∷ fs) env = []
 ways_of_row (c ∷ cs) fields env =
-    flat_map (λ n. and_then (ways_of_row cs (drop n fields)) (with_length c fields env n)) (numbers 0 (length fields + 1))
+    flat_map (λ n. each_followed_by (ways_of_row cs (drop n fields)) (with_length c fields env n)) (numbers 0 (length fields + 1))
 
 abbrev pub first_value : List (List ℕ × Value) → Option Value
 first_value [] = None
@@ -74,7 +74,7 @@ ways_of_slot s slots env = option_map_or (λ v. ways_of_row s.row (fields_in v) 
 -- the rows of slots one after another
 abbrev pub ways_of_slots : List SlotValue → List (List ℕ × Value) → Bindings → List Taken
 ways_of_slots [] slots env = record { cuts = []; env = env } ∷ []
-ways_of_slots (s ∷ ss) slots env = and_then (ways_of_slots ss slots) (ways_of_slot s slots env)
+ways_of_slots (s ∷ ss) slots env = each_followed_by (ways_of_slots ss slots) (ways_of_slot s slots env)
 
 -- all that a pattern asks of the content of a fact
 abbrev pub ways_of_parts : Parts → FactContent → Bindings → List Taken

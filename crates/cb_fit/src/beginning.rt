@@ -1,15 +1,23 @@
-//! The beginning of a way.
+//! The beginnings of ways.
 ghost use Rattle.std.specs.Prelude.{◌≡◌, ◌++◌, [], ◌∷◌, IfOk, OnOk, replicate};
 
 use cb_exprs::Env;
 use cb_forms::NoMemory;
+use smallvec::SmallVec;
 use std::alloc::Global;
+use std::default::MadeWith;
+
+/// The lengths of segments. The first eight take no memory.
+pub(crate) type Cuts = SmallVec<u64, 8>;
+
+/// Beginnings of ways. Two of them take no memory.
+pub(crate) type Beginnings = SmallVec<Beginning, 2>;
 
 /// The beginning of a way, in the row that is looked at.
 #[derive(Drop)]
 pub(crate) struct Beginning {
     /// The lengths of the segments that were taken, in all rows so far.
-    pub(crate) cuts: Vec<u64>,
+    pub(crate) cuts: Cuts,
     /// How many fields of the row were taken.
     pub(crate) at: usize,
     /// What variables have.
@@ -22,25 +30,40 @@ impl Beginning {
         ensures { IfOk result (λ b. (b.cuts.items ≡ []) × (b.env ≡ env.now)) }
     {
         Ok(Beginning {
-            cuts: Vec::new(alloc),
+            cuts: Cuts::new(alloc),
             at: 0,
             env: env.clone()?,
         })
     }
 }
 
+impl MadeWith<Global> for Beginning {
+    fn made_with(alloc: Global) -> Beginning {
+        Beginning {
+            cuts: Cuts::new(alloc),
+            at: 0,
+            env: Env::new(alloc),
+        }
+    }
+}
+
 /// The lengths of segments, of one more, and of so many of one field each.
-pub(crate) fn with_lengths(cuts: &Vec<u64>, length: u64, ones: usize) -> Result<Vec<u64>, NoMemory>
+pub(crate) fn with_lengths(
+    alloc: Global,
+    cuts: &Cuts,
+    length: u64,
+    ones: usize,
+) -> Result<Cuts, NoMemory>
     ensures { IfOk result (λ all. all.items ≡ cuts.now.items ++ (length ∷ replicate ones 1)) }
 {
-    let mut all = cuts.clone()?;
+    let mut all = Cuts::from_slice(alloc, cuts.as_slice())?;
     all.push(length)?;
     add_ones(&mut all, ones)?;
     Ok(all)
 }
 
 /// Adds the length of each of so many fields: 1.
-pub(crate) fn add_ones(cuts: &mut Vec<u64>, count: usize) -> Result<(), NoMemory>
+pub(crate) fn add_ones(cuts: &mut Cuts, count: usize) -> Result<(), NoMemory>
     ensures { OnOk result (cuts.new.items ≡ cuts.old.items ++ replicate count 1) }
 {
     cuts.reserve(count)?;

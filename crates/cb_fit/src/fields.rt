@@ -3,7 +3,7 @@ ghost use Rattle.std.specs.Prelude.{◌≡◌, false, ◌∷◌, ◌+◌, ◌≤
 ghost use Rattle.cb_constraints.specs.Holding.{tested_value};
 ghost use Rattle.cb_facts.specs.Values.{fields_in, is_multifield, value_of_field};
 ghost use Rattle.cb_facts.specs.declared.single.Single.{Single};
-ghost use Rattle.cb_fit.specs.FieldLists.{IsFirst, fields_of};
+ghost use Rattle.cb_fit.specs.FieldLists.{IsFirst, row_fields};
 
 use cb_constraints::Tested;
 use cb_facts::{Multifield, Value, splice};
@@ -23,7 +23,7 @@ pub(crate) enum Fields<'a> {
 impl<'a> Fields<'a> {
     /// How many there are.
     pub(crate) fn len(self) -> usize
-        ensures { result ≡ length (fields_of self.entry) }
+        ensures { result ≡ length (row_fields self.entry) }
     {
         match self {
             Fields::All(fields) => fields.as_slice().len(),
@@ -33,8 +33,8 @@ impl<'a> Fields<'a> {
 
     /// The field at a place, or `None` after the last.
     pub(crate) fn get(self, at: usize) -> Option<Tested<'a>>
-        ensures { MatchOption result (drop at (fields_of self.entry) ≡ [])
-            (λ tested. IsFirst (tested_value tested) (drop (at + 1) (fields_of self.entry)) (drop at (fields_of self.entry))) }
+        ensures { MatchOption result (drop at (row_fields self.entry) ≡ [])
+            (λ tested. IsFirst (tested_value tested) (drop (at + 1) (row_fields self.entry)) (drop at (row_fields self.entry))) }
     {
         match self {
             Fields::All(fields) => Some(Tested::Field(fields.as_slice().get(at)?)),
@@ -45,8 +45,8 @@ impl<'a> Fields<'a> {
     /// The multifield of the fields from `from` up to and without `to`, which it shares.
     pub(crate) fn segment(self, alloc: Global, from: usize, to: usize) -> Result<Value, NoMemory>
         requires order { from ≤ to }
-        requires within { to ≤ length (fields_of self) }
-        ensures { IfOk result (λ v. v ≡ Value.Multi (slice_range (fields_of self.entry) from to)) }
+        requires within { to ≤ length (row_fields self) }
+        ensures { IfOk result (λ v. v ≡ Value.Multi (slice_range (row_fields self.entry) from to)) }
     {
         match self {
             Fields::All(fields) => Ok(Value::Multi(fields.part(from, to)?)),

@@ -1,13 +1,13 @@
 //! All ways in which a pattern fits a fact.
 ghost use Rattle.std.specs.Prelude.{◌≡◌, IfOk, OnOk, map};
 ghost use Rattle.cb_constraints.specs.Meters.{one_more};
-ghost use Rattle.cb_constraints.specs.PartValues.{parts_of, slot_of};
+ghost use Rattle.cb_constraints.specs.PartValues.{asked_parts, asked_slot};
 ghost use Rattle.cb_facts.specs.Facts.{content_of};
-ghost use Rattle.cb_fit.specs.Steps.{taken_of};
+ghost use Rattle.cb_fit.specs.Internal.{taken_of};
 ghost use Rattle.cb_fit.specs.WayValues.{way_of};
 ghost use Rattle.cb_fit.specs.Ways.{way_with, ways, ways_of_parts, ways_of_row, ways_of_slots};
 
-use crate::beginning::Beginning;
+use crate::beginning::{Beginning, Beginnings};
 use crate::fields::Fields;
 use crate::given::newly_bound;
 use crate::look::Look;
@@ -50,9 +50,9 @@ fn take_parts(
     parts: &Parts,
     content: &Content,
     env: &Env,
-) -> Result<Vec<Beginning>, NoMemory>
+) -> Result<Beginnings, NoMemory>
     ensures { IfOk result (λ all. map taken_of all.items
-        ≡ ways_of_parts (parts_of parts.now) (content_of content.now) env.now) }
+        ≡ ways_of_parts (asked_parts parts.now) (content_of content.now) env.now) }
 {
     match (parts, content) {
         (Parts::Fields(row), Content::Fields(fields)) => {
@@ -61,7 +61,7 @@ fn take_parts(
         (Parts::Slots(rows), Content::Slots(slots)) => {
             begin_slots(alloc, constants, rows, slots, env)
         }
-        _ => Ok(Vec::new(alloc)),
+        _ => Ok(Beginnings::new(alloc)),
     }
 }
 
@@ -73,11 +73,11 @@ fn take_fields(
     row: &Row,
     fields: &Multifield,
     env: &Env,
-) -> Result<Vec<Beginning>, NoMemory>
+) -> Result<Beginnings, NoMemory>
     ensures { IfOk result (λ all. map taken_of all.items
         ≡ ways_of_row row.now fields.now env.now) }
 {
-    let mut all = Vec::new(alloc);
+    let mut all = Beginnings::new(alloc);
     let look = Look {
         alloc,
         constants,
@@ -95,11 +95,11 @@ fn begin_slots(
     rows: &[SlotRow],
     slots: &[(Name, Value)],
     env: &Env,
-) -> Result<Vec<Beginning>, NoMemory>
+) -> Result<Beginnings, NoMemory>
     ensures { IfOk result (λ all. map taken_of all.items
-        ≡ ways_of_slots (map slot_of rows.now) slots.now env.now) }
+        ≡ ways_of_slots (map asked_slot rows.now) slots.now env.now) }
 {
-    let mut all = Vec::new(alloc);
+    let mut all = Beginnings::new(alloc);
     all.push(Beginning::new(alloc, env)?)?;
     let all = take_slots(alloc, constants, rows, slots, all)?;
     Ok(all)
@@ -110,16 +110,16 @@ fn to_ways(
     alloc: Global,
     parts: &Parts,
     before: &Env,
-    all: Vec<Beginning>,
+    all: Beginnings,
 ) -> Result<Vec<Way>, NoMemory>
     ensures { IfOk result (λ ways. map way_of ways.items
-        ≡ map (way_with (parts_of parts.now) before.now) (map taken_of all.items)) }
+        ≡ map (way_with (asked_parts parts.now) before.now) (map taken_of all.items)) }
 {
     let mut ways = Vec::new(alloc);
     for one in all {
         let bound = newly_bound(alloc, parts, before, &one.env)?;
         ways.push(Way {
-            cuts: one.cuts,
+            cuts: one.cuts.into_vec()?,
             bound,
         })?;
     }

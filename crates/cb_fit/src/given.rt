@@ -1,7 +1,7 @@
 //! The variables to which a way gives values.
 ghost use Rattle.std.specs.Prelude.{◌≡◌, ◌∷◌, [], IfOk, OnOk, flat_map, map};
 ghost use Rattle.cb_constraints.specs.Constraints.{check_of, constraint_of, demand_of};
-ghost use Rattle.cb_constraints.specs.PartValues.{parts_of, slot_of};
+ghost use Rattle.cb_constraints.specs.PartValues.{asked_parts, asked_slot};
 ghost use Rattle.cb_fit.specs.Bound.{binders, binders_in, binders_in_parts, binders_of, given_all, newly_bound};
 ghost use Rattle.cb_fit.specs.GivenValues.{given_of};
 
@@ -26,7 +26,7 @@ pub(crate) fn newly_bound(
     after: &Env,
 ) -> Result<Vec<(Name, Value)>, NoMemory>
     ensures { IfOk result (λ bound. bound.items
-        ≡ newly_bound (parts_of parts.now) before.now after.now) }
+        ≡ newly_bound (asked_parts parts.now) before.now after.now) }
 {
     let mut given = Given {
         bound: Vec::new(alloc),
@@ -43,7 +43,7 @@ pub(crate) fn newly_bound(
 #[tactic(auto, using(crate::proofs::Givings::given_more))]
 fn give_slots(slots: &[SlotRow], after: &Env, given: &mut Given) -> Result<(), NoMemory>
     ensures { OnOk result (given_of given.new
-        ≡ given_all (flat_map (λ s. binders_in s.row) (map slot_of slots.now)) after.now
+        ≡ given_all (flat_map (λ s. binders_in s.row) (map asked_slot slots.now)) after.now
         (given_of given.old)) }
 {
     for slot in slots {

@@ -3,12 +3,15 @@ ghost use Rattle.std.specs.Prelude.{◌≡◌, ℕ, List, AllPairs, Contains};
 ghost use Rattle.std.specs.Cmp.Lexicographic.{slice_cmp};
 ghost use Rattle.std.specs.Ordering.{nat_cmp};
 ghost use Rattle.std.specs.declared.cmp.Ordering.TheVariants.{Less};
+ghost use Rattle.cb_constraints.specs.Constraints.{Demand};
+ghost use Rattle.cb_constraints.specs.Holding.{after_demand, may_hold, provided};
 ghost use Rattle.cb_constraints.specs.PatternValues.{PatternValue};
 ghost use Rattle.cb_exprs.specs.Bindings.{Bindings, with_variables};
 ghost use Rattle.cb_facts.specs.Facts.{FactValue};
+ghost use Rattle.cb_facts.specs.declared.value.Value.{Value};
 ghost use Rattle.cb_fit.specs.Bound.{newly_bound};
 ghost use Rattle.cb_fit.specs.Related.{Fits};
-ghost use Rattle.cb_fit.specs.Shapes.{HasShape, loose};
+ghost use Rattle.cb_fit.specs.Shapes.{HasShape, loose, loose_demand};
 ghost use Rattle.cb_fit.specs.Ways.{WayValue, taken_way, ways};
 
 /// The list of the ways has each way in which the pattern fits the fact, and no other.
@@ -41,7 +44,7 @@ pub fn a_way_has_all_that_it_gives()
         → with_variables (newly_bound p.parts before after) before ≡ after }
 {}
 
-/// A fact that a pattern fits has its shape, with segments of the same lengths.
+/// A fact that a pattern fits has the pattern's shape, with segments of the same lengths.
 pub fn a_fact_that_fits_has_the_shape()
     ensures shape { (p : PatternValue) (f : FactValue) (cuts : List ℕ) (before after : Bindings)
         → Fits p f cuts before after → HasShape p f }
@@ -54,4 +57,11 @@ pub fn a_fact_that_fits_has_the_shape()
 pub fn the_shape_gives_no_values()
     ensures { (p : PatternValue) (f : FactValue) (cuts : List ℕ) (before after : Bindings)
         → Fits (loose p) f cuts before after → before ≡ after }
+{}
+
+/// What a constraint asks by its constants holds of a value just where the constraint without its variables and expressions
+/// does, whatever values variables have; and the constraint without them gives no variable a value.
+pub fn constants_hold_where_the_shape_does()
+    ensures { (d : Demand) (v : Value) (env : Bindings)
+        → after_demand (loose_demand d) v env ≡ provided (may_hold d v) env }
 {}

@@ -2,13 +2,13 @@
 ghost use Rattle.std.specs.Prelude.{◌≡◌, ◌++◌, ◌+◌, ◌-◌, ◌≤◌, true, IfOk, IfSome, OnOk, drop, is_some, length, map, slice_range};
 ghost use Rattle.cb_constraints.specs.Constraints.{constraint_of};
 ghost use Rattle.cb_constraints.specs.Holding.{Meets};
-ghost use Rattle.cb_fit.specs.FieldLists.{fields_of};
-ghost use Rattle.cb_fit.specs.Steps.{AreWithin, after_ones, begun_of, may_take, with_group};
+ghost use Rattle.cb_fit.specs.FieldLists.{row_fields};
+ghost use Rattle.cb_fit.specs.Internal.{AreWithin, after_ones, begun_of, may_take, with_group};
 ghost use Rattle.cb_fit.specs.Ways.{after_segment};
 
-use crate::beginning::{Beginning, with_lengths};
+use crate::beginning::{Beginning, Beginnings, with_lengths};
 use crate::fields::Fields;
-use cb_constraints::{Constraint, Demand, Tested, may_hold, meets};
+use cb_constraints::{Constraint, Demand, Tested, may_hold, meets, meets_beyond_constants};
 use cb_exprs::Env;
 use cb_forms::NoMemory;
 use cb_functions::Constants;
@@ -26,9 +26,9 @@ impl Look<'_> {
     /// Whether constraints for one field may take one each, from a place on: what they ask by constants alone. It takes no
     /// memory, so it is asked before any variable of these constraints takes a value.
     pub(crate) fn may_take(self, constraints: &[Constraint], from: usize) -> bool
-        requires { from ≤ length (fields_of self.fields) }
+        requires { from ≤ length (row_fields self.fields) }
         ensures { result ≡ may_take (map constraint_of constraints.now)
-            (drop from (fields_of self.entry.fields)) }
+            (drop from (row_fields self.entry.fields)) }
     {
         let mut at = from;
         for constraint in constraints {
@@ -43,19 +43,23 @@ impl Look<'_> {
         true
     }
 
-    /// Constraints for one field take one each, from a place on, if they hold. Returns the place after them.
+    /// Constraints for one field, which may take one each (`may_take`), do so from a place on, if they hold. Returns the place
+    /// after them.
+    #[tactic(auto, using(crate::proofs::Takes::may_first, crate::proofs::Takes::may_others))]
     pub(crate) fn take_ones(
         self,
         constraints: &[Constraint],
         from: usize,
         env: &mut Env,
     ) -> Result<Option<usize>, NoMemory>
-        requires within { from ≤ length (fields_of self.fields) }
+        requires within { from ≤ length (row_fields self.fields) }
+        requires may { may_take (map constraint_of constraints.now)
+            (drop from (row_fields self.fields)) ≡ true }
         ensures place { IfOk result (λ end. IfSome end (λ at. at ≡ from + length constraints.now)) }
         ensures within { IfOk result (λ end. IfSome end (λ at.
-            at ≤ length (fields_of self.entry.fields))) }
+            at ≤ length (row_fields self.entry.fields))) }
         ensures holds { IfOk result (λ end. Meets (is_some end) env.new (after_ones
-            (map constraint_of constraints.now) (drop from (fields_of self.entry.fields)) env.old)) }
+            (map constraint_of constraints.now) (drop from (row_fields self.entry.fields)) env.old)) }
     {
         let mut at = from;
         for constraint in constraints {
@@ -65,7 +69,13 @@ impl Look<'_> {
             if at >= self.fields.len() {
                 return Ok(None);
             }
-            if !meets(self.alloc, self.constants, &constraint.demand, tested, env)? {
+            if !meets_beyond_constants(
+                self.alloc,
+                self.constants,
+                &constraint.demand,
+                tested,
+                env,
+            )? {
                 return Ok(None);
             }
             at += 1;
@@ -83,9 +93,9 @@ impl Look<'_> {
     ) -> Result<bool, NoMemory>
         requires segment { (constraint_of constraint.now).segment ≡ true }
         requires order { from ≤ to }
-        requires within { to ≤ length (fields_of self.fields) }
+        requires within { to ≤ length (row_fields self.fields) }
         ensures { IfOk result (λ holds. Meets holds env.new (after_segment
-            (constraint_of constraint.now) (slice_range (fields_of self.entry.fields) from to)
+            (constraint_of constraint.now) (slice_range (row_fields self.entry.fields) from to)
             env.old)) }
     {
         if let Demand::Nothing = &constraint.demand {
@@ -109,17 +119,17 @@ impl Look<'_> {
         ones: &[Constraint],
         begun: &Beginning,
         to: usize,
-        kept: &mut Vec<Beginning>,
+        kept: &mut Beginnings,
     ) -> Result<(), NoMemory>
         requires segment { (constraint_of constraint.now).segment ≡ true }
         requires order { begun.now.at ≤ to }
-        requires within { to ≤ length (fields_of self.fields) }
-        ensures within { OnOk result (AreWithin (fields_of self.entry.fields) kept.old.items
-            → AreWithin (fields_of self.entry.fields) kept.new.items) }
-        ensures kept { OnOk result (map (begun_of (fields_of self.entry.fields)) kept.new.items
-            ≡ map (begun_of (fields_of self.entry.fields)) kept.old.items
+        requires within { to ≤ length (row_fields self.fields) }
+        ensures within { OnOk result (AreWithin (row_fields self.entry.fields) kept.old.items
+            → AreWithin (row_fields self.entry.fields) kept.new.items) }
+        ensures kept { OnOk result (map (begun_of (row_fields self.entry.fields)) kept.new.items
+            ≡ map (begun_of (row_fields self.entry.fields)) kept.old.items
             ++ with_group (constraint_of constraint.now) (map constraint_of ones.now)
-            (begun_of (fields_of self.entry.fields) begun.now) (to - begun.now.at)) }
+            (begun_of (row_fields self.entry.fields) begun.now) (to - begun.now.at)) }
     {
         if !self.may_take(ones, to) {
             return Ok(());
@@ -131,7 +141,7 @@ impl Look<'_> {
         let Some(at) = self.take_ones(ones, to, &mut env)? else {
             return Ok(());
         };
-        let cuts = with_lengths(&begun.cuts, (to - begun.at) as u64, ones.len())?;
+        let cuts = with_lengths(self.alloc, &begun.cuts, (to - begun.at) as u64, ones.len())?;
         kept.push(Beginning { cuts, at, env })?;
         Ok(())
     }

@@ -2,11 +2,11 @@
 ghost use Rattle.std.specs.Prelude.{◌≡◌, ◌++◌, ◌∷◌, ◌-◌, ◌≤◌, IfOk, OnOk, [], flat_map, length, map, true};
 ghost use Rattle.cb_constraints.specs.Constraints.{constraint_of};
 ghost use Rattle.cb_constraints.specs.Rows.{before_segments, fields_wanted, segments_wanted};
-ghost use Rattle.cb_fit.specs.FieldLists.{fields_of};
-ghost use Rattle.cb_fit.specs.Steps.{AreWithin, begun_of, endings, endings_of_all, lengths_to_try, taken_of, takes_length, with_group};
+ghost use Rattle.cb_fit.specs.FieldLists.{row_fields};
+ghost use Rattle.cb_fit.specs.Internal.{AreWithin, begun_of, endings, endings_of_all, lengths_to_try, taken_of, takes_length, with_group};
 ghost use Rattle.cb_fit.specs.Ways.{after_cuts, ways_of_row};
 
-use crate::beginning::{Beginning, add_ones};
+use crate::beginning::{Beginning, Beginnings, add_ones};
 use crate::look::Look;
 use cb_constraints::{Constraint, Row, count_leading};
 use cb_forms::NoMemory;
@@ -17,11 +17,11 @@ impl Look<'_> {
         self,
         row: &Row,
         begun: Beginning,
-        kept: &mut Vec<Beginning>,
+        kept: &mut Beginnings,
     ) -> Result<(), NoMemory>
         ensures { OnOk result (map taken_of kept.new.items ≡ map taken_of kept.old.items
             ++ map (after_cuts begun.cuts.items)
-            (ways_of_row row.now (fields_of self.entry.fields) begun.env)) }
+            (ways_of_row row.now (row_fields self.entry.fields) begun.env)) }
     {
         if !takes_length(row, self.fields.len()) {
             return Ok(());
@@ -45,28 +45,28 @@ impl Look<'_> {
         constraints: &[Constraint],
         wanted: usize,
         begun: Beginning,
-        kept: &mut Vec<Beginning>,
+        kept: &mut Beginnings,
     ) -> Result<(), NoMemory>
         requires segment { before_segments (map constraint_of constraints.now) ≡ 0 }
         requires wanted { wanted ≡ fields_wanted (map constraint_of constraints.now) }
-        requires within { begun.at ≤ length (fields_of self.fields) }
+        requires within { begun.at ≤ length (row_fields self.fields) }
         ensures { OnOk result (map taken_of kept.new.items ≡ map taken_of kept.old.items
             ++ endings_of_all (map constraint_of constraints.now)
-            (begun_of (fields_of self.entry.fields) begun ∷ [])) }
+            (begun_of (row_fields self.entry.fields) begun ∷ [])) }
     {
         if constraints.is_empty() {
             return self.keep_ended(begun, kept);
         }
-        let mut all = Vec::new(self.alloc);
+        let mut all = Beginnings::new(self.alloc);
         all.push(begun)?;
         let all = self.take_groups(constraints, wanted, all)?;
         self.keep_all_ended(all, kept)
     }
 
     /// Keeps those of these beginnings after which no field is left.
-    fn keep_all_ended(self, all: Vec<Beginning>, kept: &mut Vec<Beginning>) -> Result<(), NoMemory>
+    fn keep_all_ended(self, all: Beginnings, kept: &mut Beginnings) -> Result<(), NoMemory>
         ensures { OnOk result (map taken_of kept.new.items ≡ map taken_of kept.old.items
-            ++ endings_of_all [] (map (begun_of (fields_of self.entry.fields)) all.items)) }
+            ++ endings_of_all [] (map (begun_of (row_fields self.entry.fields)) all.items)) }
     {
         for begun in all {
             self.keep_ended(begun, kept)?;
@@ -76,9 +76,9 @@ impl Look<'_> {
 
     /// Keeps a beginning after which no field is left.
     #[tactic(auto, using(crate::proofs::Groups::not_ended))]
-    fn keep_ended(self, begun: Beginning, kept: &mut Vec<Beginning>) -> Result<(), NoMemory>
+    fn keep_ended(self, begun: Beginning, kept: &mut Beginnings) -> Result<(), NoMemory>
         ensures { OnOk result (map taken_of kept.new.items ≡ map taken_of kept.old.items
-            ++ endings_of_all [] (begun_of (fields_of self.entry.fields) begun ∷ [])) }
+            ++ endings_of_all [] (begun_of (row_fields self.entry.fields) begun ∷ [])) }
     {
         if begun.at >= self.fields.len() {
             kept.push(begun)?;
@@ -91,15 +91,15 @@ impl Look<'_> {
         self,
         constraints: &[Constraint],
         wanted: usize,
-        begun: Vec<Beginning>,
-    ) -> Result<Vec<Beginning>, NoMemory>
+        begun: Beginnings,
+    ) -> Result<Beginnings, NoMemory>
         requires segment { before_segments (map constraint_of constraints.now) ≡ 0 }
         requires wanted { wanted ≡ fields_wanted (map constraint_of constraints.now) }
-        requires within { AreWithin (fields_of self.fields) begun.items }
+        requires within { AreWithin (row_fields self.fields) begun.items }
         ensures { IfOk result (λ kept. endings_of_all []
-            (map (begun_of (fields_of self.entry.fields)) kept.items)
+            (map (begun_of (row_fields self.entry.fields)) kept.items)
             ≡ endings_of_all (map constraint_of constraints.now)
-            (map (begun_of (fields_of self.entry.fields)) begun.items)) }
+            (map (begun_of (row_fields self.entry.fields)) begun.items)) }
     {
         let mut begun = begun;
         let mut rest = constraints;
@@ -122,21 +122,21 @@ impl Look<'_> {
         after: &[Constraint],
         wanted: usize,
         begun: &[Beginning],
-    ) -> Result<Vec<Beginning>, NoMemory>
+    ) -> Result<Beginnings, NoMemory>
         requires segment { (constraint_of constraint.now).segment ≡ true }
         requires ones { segments_wanted (map constraint_of ones.now) ≡ 0 }
         requires after { before_segments (map constraint_of after.now) ≡ 0 }
         requires wanted { wanted ≡ fields_wanted
             (map constraint_of ones.now ++ map constraint_of after.now) }
-        requires within { AreWithin (fields_of self.fields) begun.now }
-        ensures within { IfOk result (λ kept. AreWithin (fields_of self.entry.fields) kept.items) }
+        requires within { AreWithin (row_fields self.fields) begun.now }
+        ensures within { IfOk result (λ kept. AreWithin (row_fields self.entry.fields) kept.items) }
         ensures kept { IfOk result (λ kept. endings_of_all (map constraint_of after.now)
-            (map (begun_of (fields_of self.entry.fields)) kept.items)
+            (map (begun_of (row_fields self.entry.fields)) kept.items)
             ≡ endings_of_all (constraint_of constraint.now
             ∷ (map constraint_of ones.now ++ map constraint_of after.now))
-            (map (begun_of (fields_of self.entry.fields)) begun.now)) }
+            (map (begun_of (row_fields self.entry.fields)) begun.now)) }
     {
-        let mut kept = Vec::new(self.alloc);
+        let mut kept = Beginnings::new(self.alloc);
         for one in begun {
             self.add_group_of(constraint, ones, after, wanted, one, &mut kept)?;
         }
@@ -151,22 +151,22 @@ impl Look<'_> {
         after: &[Constraint],
         wanted: usize,
         begun: &Beginning,
-        kept: &mut Vec<Beginning>,
+        kept: &mut Beginnings,
     ) -> Result<(), NoMemory>
         requires segment { (constraint_of constraint.now).segment ≡ true }
         requires ones { segments_wanted (map constraint_of ones.now) ≡ 0 }
         requires wanted { wanted ≡ fields_wanted
             (map constraint_of ones.now ++ map constraint_of after.now) }
-        requires begun { begun.now.at ≤ length (fields_of self.fields) }
-        ensures within { OnOk result (AreWithin (fields_of self.entry.fields) kept.old.items
-            → AreWithin (fields_of self.entry.fields) kept.new.items) }
+        requires begun { begun.now.at ≤ length (row_fields self.fields) }
+        ensures within { OnOk result (AreWithin (row_fields self.entry.fields) kept.old.items
+            → AreWithin (row_fields self.entry.fields) kept.new.items) }
         ensures kept { OnOk result (endings_of_all (map constraint_of after.now)
-            (map (begun_of (fields_of self.entry.fields)) kept.new.items)
+            (map (begun_of (row_fields self.entry.fields)) kept.new.items)
             ≡ endings_of_all (map constraint_of after.now)
-            (map (begun_of (fields_of self.entry.fields)) kept.old.items)
+            (map (begun_of (row_fields self.entry.fields)) kept.old.items)
             ++ endings (constraint_of constraint.now
             ∷ (map constraint_of ones.now ++ map constraint_of after.now))
-            (begun_of (fields_of self.entry.fields) begun.now)) }
+            (begun_of (row_fields self.entry.fields) begun.now)) }
     {
         let len = self.fields.len();
         if len - begun.at < wanted {
@@ -185,17 +185,17 @@ impl Look<'_> {
         begun: &Beginning,
         last: usize,
         ends_there: bool,
-        kept: &mut Vec<Beginning>,
+        kept: &mut Beginnings,
     ) -> Result<(), NoMemory>
         requires segment { (constraint_of constraint.now).segment ≡ true }
         requires order { begun.now.at ≤ last }
-        requires within { last ≤ length (fields_of self.fields) }
-        ensures within { OnOk result (AreWithin (fields_of self.entry.fields) kept.old.items
-            → AreWithin (fields_of self.entry.fields) kept.new.items) }
-        ensures kept { OnOk result (map (begun_of (fields_of self.entry.fields)) kept.new.items
-            ≡ map (begun_of (fields_of self.entry.fields)) kept.old.items
+        requires within { last ≤ length (row_fields self.fields) }
+        ensures within { OnOk result (AreWithin (row_fields self.entry.fields) kept.old.items
+            → AreWithin (row_fields self.entry.fields) kept.new.items) }
+        ensures kept { OnOk result (map (begun_of (row_fields self.entry.fields)) kept.new.items
+            ≡ map (begun_of (row_fields self.entry.fields)) kept.old.items
             ++ flat_map (with_group (constraint_of constraint.now) (map constraint_of ones.now)
-            (begun_of (fields_of self.entry.fields) begun.now))
+            (begun_of (row_fields self.entry.fields) begun.now))
             (lengths_to_try ends_there (last - begun.now.at))) }
     {
         if ends_there {

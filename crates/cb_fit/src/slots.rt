@@ -1,11 +1,11 @@
 //! All ways of the slots that a pattern writes.
 ghost use Rattle.std.specs.Prelude.{◌≡◌, ◌++◌, IfOk, OnOk, flat_map, map, option_copied};
-ghost use Rattle.cb_constraints.specs.PartValues.{slot_of};
-ghost use Rattle.cb_fit.specs.Steps.{taken_of};
-ghost use Rattle.cb_fit.specs.Ways.{after_cuts, and_then, slot_at, ways_of_row, ways_of_slot, ways_of_slots};
-ghost use Rattle.cb_fit.specs.FieldLists.{fields_of};
+ghost use Rattle.cb_constraints.specs.PartValues.{asked_slot};
+ghost use Rattle.cb_fit.specs.Internal.{taken_of};
+ghost use Rattle.cb_fit.specs.Ways.{after_cuts, each_followed_by, slot_at, ways_of_row, ways_of_slot, ways_of_slots};
+ghost use Rattle.cb_fit.specs.FieldLists.{row_fields};
 
-use crate::beginning::Beginning;
+use crate::beginning::Beginnings;
 use crate::fields::Fields;
 use crate::look::Look;
 use cb_constraints::{Row, SlotRow};
@@ -20,10 +20,10 @@ pub(crate) fn take_slots(
     constants: &Constants,
     rows: &[SlotRow],
     slots: &[(Name, Value)],
-    begun: Vec<Beginning>,
-) -> Result<Vec<Beginning>, NoMemory>
+    begun: Beginnings,
+) -> Result<Beginnings, NoMemory>
     ensures { IfOk result (λ kept. map taken_of kept.items
-        ≡ and_then (ways_of_slots (map slot_of rows.now) slots.now) (map taken_of begun.items)) }
+        ≡ each_followed_by (ways_of_slots (map asked_slot rows.now) slots.now) (map taken_of begun.items)) }
 {
     let mut begun = begun;
     for row in rows {
@@ -38,13 +38,13 @@ fn take_slot(
     constants: &Constants,
     row: &SlotRow,
     slots: &[(Name, Value)],
-    begun: Vec<Beginning>,
-) -> Result<Vec<Beginning>, NoMemory>
+    begun: Beginnings,
+) -> Result<Beginnings, NoMemory>
     ensures { IfOk result (λ kept. map taken_of kept.items
-        ≡ and_then (ways_of_slot (slot_of row.now) slots.now) (map taken_of begun.items)) }
+        ≡ each_followed_by (ways_of_slot (asked_slot row.now) slots.now) (map taken_of begun.items)) }
 {
     let Some(value) = slot_value(slots, row.place) else {
-        return Ok(Vec::new(alloc));
+        return Ok(Beginnings::new(alloc));
     };
     let fields = Fields::Slot(value);
     let look = Look {
@@ -56,11 +56,11 @@ fn take_slot(
 }
 
 /// All beginnings after these with a row.
-fn take_value(look: Look<'_>, row: &Row, begun: Vec<Beginning>) -> Result<Vec<Beginning>, NoMemory>
+fn take_value(look: Look<'_>, row: &Row, begun: Beginnings) -> Result<Beginnings, NoMemory>
     ensures { IfOk result (λ kept. map taken_of kept.items
-        ≡ and_then (ways_of_row row.now (fields_of look.entry.fields)) (map taken_of begun.items)) }
+        ≡ each_followed_by (ways_of_row row.now (row_fields look.entry.fields)) (map taken_of begun.items)) }
 {
-    let mut kept = Vec::new(look.alloc);
+    let mut kept = Beginnings::new(look.alloc);
     for one in begun {
         look.take_row(row, one, &mut kept)?;
     }

@@ -2,10 +2,11 @@
 use Rattle.std.proofs.Common.{◌≡◌, ◌&&◌, ◌≤◌, ℕ, Bool, true, false, not, List, [], ◌∷◌, ◌++◌, length, nat_lt, refl, sym, ap, ◌∙◌, inl, inr, arith, if◌then◌else◌}
 use Rattle.std.proofs.lemmas.Bool.{true≢false, false≢true, cases_Bool, ltb-false, or_parts}
 use Rattle.std.specs.List.{list_any}
-use Rattle.cb_forms.specs.Cuts.{cut_readings, is_too_long, opened_readings, open_bytes, part_with, readings_before}
-use Rattle.cb_forms.specs.Cutter.{IsInStep}
+use Rattle.cb_forms.specs.Cuts.{is_too_long}
+use Rattle.cb_forms.specs.Internal.Cuts.{cut_readings, opened_readings, open_bytes, part_with, readings_before}
+use Rattle.cb_forms.specs.Internal.{IsInStep}
 use Rattle.cb_forms.specs.Items.{part_takes, parts, items, but_last, is_open, ended_readings, whole, rest, is_longer, over}
-use Rattle.cb_forms.specs.OpenParts.{IsKept, Reaches}
+use Rattle.cb_forms.specs.Internal.OpenParts.{IsKept, Reaches}
 use Rattle.cb_forms.specs.Trees.{Reading}
 use Rattle.cb_forms.specs.declared.cut.Cut.{Cut}
 use Rattle.cb_forms.specs.declared.open_part.OpenPart.{OpenPart}

@@ -3,7 +3,7 @@ use Rattle.std.proofs.Common.{◌≡◌, ◌||◌, ◌≤◌, ℕ, Bool, true, f
 use Rattle.std.proofs.lemmas.Bool.{false≢true, cases_Bool, or_parts, or_cases, and_parts, ltb-true}
 use Rattle.std.proofs.lemmas.List.{append-nil, append_assoc}
 use Rattle.std.specs.List.{flat_map, list_any}
-use Rattle.cb_forms.specs.Cuts.{opened_readings}
+use Rattle.cb_forms.specs.Internal.Cuts.{opened_readings}
 use Rattle.cb_forms.specs.Items.{part_takes, parts, readings_of, items, but_last, last_part, ended_readings, whole, is_gap, is_longer, over, fitting_parts, fitting}
 use Rattle.cb_forms.specs.Trees.{Reading}
 use Rattle.cb_forms.proofs.CuttingLaws.{onto, pushed}

@@ -1,25 +1,27 @@
-pub mod CutterLaws
-pub mod CuttingLaws
-pub mod DepthLaws
+pub mod Cited
+mod CutterLaws
+mod CuttingLaws
+mod DepthLaws
 mod Examples
-pub mod FittingLaws
-pub mod FormLaws
-pub mod Lasts
-pub mod ListLaws
-pub mod Modes
-pub mod ListStackLaws
+mod FirstFaultLaws
+mod FittingLaws
+mod FormLaws
+mod Lasts
+mod ListLaws
+mod Modes
+mod ListStackLaws
 mod NumberLemmas
-pub mod OpenPartLaws
-pub mod PartLaws
-pub mod PieceLaws
-pub mod ScanStateLaws
-pub mod ReaderLaws
-pub mod ReadingLaws
+mod OpenPartLaws
+mod PartLaws
+mod PieceLaws
+mod ScanStateLaws
+mod ReaderLaws
+mod ReadingLaws
 mod RunLaws
-pub mod SpellingLaws
-pub mod Splits
-pub mod TextLaws
+mod SpellingLaws
+mod Splits
+mod TextLaws
 mod Vectors
 mod WordLemmas
-pub mod WritingLaws
+mod WritingLaws
 mod WithinLaws

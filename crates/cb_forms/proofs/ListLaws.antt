@@ -6,7 +6,7 @@ use Rattle.std.proofs.lemmas.List.Sums.{sum_by-cons}
 use Rattle.cb_forms.specs.Bytes.{is_blank, begins_with}
 use Rattle.cb_forms.specs.Items.{openings, closings, is_open_list}
 use Rattle.cb_forms.specs.Lists.{first_fault, put_first, levels_of, first_tree, fault_or, list_reading}
-use Rattle.cb_forms.specs.ListStacks.{closed_up}
+use Rattle.cb_forms.specs.Internal.ListStacks.{closed_up}
 use Rattle.cb_forms.specs.Pieces.{pieces, string_token, lexeme_of, lexemes}
 use Rattle.cb_forms.specs.Trees.{Tree, atom}
 use Rattle.cb_forms.specs.Words.{token_of}

@@ -2,7 +2,7 @@
 use Rattle.std.proofs.Common.{Vec, Global, ◌≡◌, ◌<◌, List, [], ◌∷◌, ◌++◌, map, refl, sym, ap, ◌∙◌, append_assoc, length, arith}
 use Rattle.std.proofs.lemmas.List.{append-nil, map_push, length_push}
 use Rattle.cb_forms.specs.Lists.{put_first, listed, first_tree}
-use Rattle.cb_forms.specs.ListStacks.{closed_up}
+use Rattle.cb_forms.specs.Internal.ListStacks.{closed_up}
 use Rattle.cb_forms.specs.Trees.{Tree, branch, trees_of, tree_step, tree_of, trees_in}
 use Rattle.cb_forms.specs.declared.form.Form.{Form}
 use Rattle.cb_forms.specs.declared.form.Form.TheFolds.{fold-roll-Form}

@@ -3,7 +3,7 @@ use Rattle.std.proofs.Common.{◌≡◌, ◌==◌, ℕ, true, false, not, List, 
 use Rattle.std.proofs.lemmas.Bool.{false≢true}
 use Rattle.cb_forms.specs.Bytes.{is_line_end, is_single, is_delimiter}
 use Rattle.cb_forms.specs.Pieces.{piece_takes}
-use Rattle.cb_forms.specs.ScanStates.{quoted_mode, escaped_mode, mode_of, mode_takes, continued_mode, mode_is_open}
+use Rattle.cb_forms.specs.Internal.ScanStates.{quoted_mode, escaped_mode, mode_of, mode_takes, continued_mode, mode_is_open}
 use Rattle.cb_forms.specs.Strings.{is_unclosed, is_unclosed_escaped}
 use Rattle.cb_forms.specs.declared.lex_mode.LexMode.TheVariants.{Ended, Comment, Word}
 

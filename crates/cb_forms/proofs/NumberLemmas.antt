@@ -33,5 +33,5 @@ All-digits [] h = All-nil (λ b. IsTrue (is_digit b))
 All-digits (d ∷ ds) h = All-digit d ds (is_digit d) refl h (All-digits ds)
 
 -- an integer has digits alone after its sign
-pub All-integer : (w : List ℕ) → IsTrue (spec.is_integer w) → All (λ b. IsTrue (is_digit b)) (spec.without_sign w)
+pub All-integer : (w : List ℕ) → IsTrue (spec.spells_integer w) → All (λ b. IsTrue (is_digit b)) (spec.without_sign w)
 All-integer w h = All-digits (spec.without_sign w) (search rules)

@@ -2,11 +2,12 @@
 use Rattle.std.proofs.Common.{◌≡◌, ◌==◌, ◌||◌, ◌&&◌, ◌<◌, ◌≤◌, ℕ, ◌+◌, ◌-◌, Bool, true, false, not, List, [], ◌∷◌, ◌++◌, Err, length, nat_lt, refl, sym, ap, ◌∙◌, subst, inl, inr, arith, if◌then◌else◌}
 use Rattle.std.proofs.lemmas.Bool.{true≢false, false≢true, ltb-false, lt-ltb, le-ltb, eqb-true, cases_eq, cases_Bool, ne_eqb, or_parts}
 use Rattle.cb_forms.specs.Bytes.{is_blank, is_single, is_connective, begins_with}
-use Rattle.cb_forms.specs.Cuts.{cut_readings, is_too_long, opened_readings, open_bytes}
+use Rattle.cb_forms.specs.Cuts.{is_too_long}
+use Rattle.cb_forms.specs.Internal.Cuts.{cut_readings, opened_readings, open_bytes}
 use Rattle.cb_forms.specs.Items.{openings, closings, is_open_list, part_takes, is_gap, readings_of, is_open, ended_readings}
-use Rattle.cb_forms.specs.OpenParts.{IsKept, Reaches}
+use Rattle.cb_forms.specs.Internal.OpenParts.{IsKept, Reaches}
 use Rattle.cb_forms.specs.Pieces.{pieces}
-use Rattle.cb_forms.specs.ScanStates.{mode_takes, fresh_mode, next_mode, mode_is_open, next_depth, fresh_depth, mode_in, depth_in, IsStateIn}
+use Rattle.cb_forms.specs.Internal.ScanStates.{mode_takes, fresh_mode, next_mode, mode_is_open, next_depth, fresh_depth, mode_in, depth_in, IsStateIn}
 use Rattle.cb_forms.specs.Strings.{is_unclosed}
 use Rattle.cb_forms.specs.Trees.{Reading}
 use Rattle.cb_forms.specs.declared.cut.Cut.{Cut}

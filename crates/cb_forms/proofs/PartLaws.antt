@@ -4,7 +4,7 @@ use Rattle.std.proofs.lemmas.Bool.{false≢true, ltb-true, lt-ltb, cases_eq, ne_
 use Rattle.std.proofs.lemmas.List.{append-nil, length_push}
 use Rattle.std.specs.List.{flat_map, list_any}
 use Rattle.cb_forms.specs.Bytes.{is_single, is_delimiter}
-use Rattle.cb_forms.specs.Cuts.{opened_readings, part_with}
+use Rattle.cb_forms.specs.Internal.Cuts.{opened_readings, part_with}
 use Rattle.cb_forms.specs.Items.{is_open_list, part_takes, parts, is_gap, readings_of, items, but_last, last_part, is_open, ended_readings, whole, is_longer, over}
 use Rattle.cb_forms.specs.Pieces.{piece_takes}
 use Rattle.cb_forms.specs.Strings.{is_unclosed}

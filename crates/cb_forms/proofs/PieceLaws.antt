@@ -5,7 +5,7 @@ use Rattle.std.proofs.lemmas.List.{append-nil, drop_more, take_more, take-append
 use Rattle.cb_forms.specs.Bytes.{is_blank}
 use Rattle.cb_forms.specs.Cutting.{cut_from}
 use Rattle.cb_forms.specs.Pieces.{piece_takes, pieces, lexeme_of}
-use Rattle.cb_forms.specs.ScanStates.{StaysIn, mode_of, mode_takes, fresh_mode, continued_mode, next_mode}
+use Rattle.cb_forms.specs.Internal.ScanStates.{StaysIn, mode_of, mode_takes, fresh_mode, continued_mode, next_mode}
 use Rattle.cb_forms.specs.Strings.{is_unclosed, is_unclosed_escaped}
 use Rattle.cb_forms.specs.declared.lexeme.Lexeme.TheVariants.{Gap}
 use Rattle.cb_forms.specs.declared.lex_mode.LexMode.{LexMode}

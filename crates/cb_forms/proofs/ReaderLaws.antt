@@ -4,7 +4,7 @@ use Rattle.std.proofs.lemmas.List.{append-nil, take_more}
 use Rattle.std.specs.List.{flat_map}
 use Rattle.cb_forms.specs.Cutting.{cut_from}
 use Rattle.cb_forms.specs.Items.{part_takes, parts, readings_of, items}
-use Rattle.cb_forms.specs.ScanStates.{mode_takes, fresh_mode, next_mode, next_depth, fresh_depth, IsStateIn}
+use Rattle.cb_forms.specs.Internal.ScanStates.{mode_takes, fresh_mode, next_mode, next_depth, fresh_depth, IsStateIn}
 use Rattle.cb_forms.specs.Trees.{Reading}
 use Rattle.cb_forms.specs.declared.lex_mode.LexMode.{LexMode}
 use Rattle.cb_forms.proofs.OpenPartLaws.{depth-next}

@@ -3,7 +3,7 @@ use Rattle.std.proofs.Common.{◌≡◌, ◌&&◌, ◌≤◌, ℕ, true, false, 
 use Rattle.std.proofs.lemmas.Bool.{ltb-false, cases_Bool, or_parts}
 use Rattle.std.proofs.lemmas.List.{append-nil}
 use Rattle.std.specs.List.{flat_map}
-use Rattle.cb_forms.specs.Cuts.{opened_readings}
+use Rattle.cb_forms.specs.Internal.Cuts.{opened_readings}
 use Rattle.cb_forms.specs.Cutting.{AreCut, joined}
 use Rattle.cb_forms.specs.Items.{part_takes, parts, readings_of, items, ArePartsOf, Reads, but_last, last_part, is_open, ended_readings, whole, rest, is_longer, over}
 use Rattle.cb_forms.specs.Laws.{BeginsWith, OpensAfter, without_gaps}

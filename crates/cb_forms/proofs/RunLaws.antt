@@ -3,11 +3,11 @@ use Rattle.std.proofs.Common.{◌≡◌, ◌||◌, ◌<◌, ◌≤◌, ℕ, ◌+
 use Rattle.std.proofs.lemmas.Bool.{false≢true, true≢false, cases_Bool, cases_eq, ne_eqb, le-ltb, or_parts}
 use Rattle.std.proofs.lemmas.List.{append-nil, length_push, length-append, nil_from_length}
 use Rattle.cb_forms.specs.Bytes.{is_line_end}
-use Rattle.cb_forms.specs.Cuts.{opened_readings, open_bytes, part_with, readings_before}
-use Rattle.cb_forms.specs.Cutter.{IsInStep}
+use Rattle.cb_forms.specs.Internal.Cuts.{opened_readings, open_bytes, part_with, readings_before}
+use Rattle.cb_forms.specs.Internal.{IsInStep}
 use Rattle.cb_forms.specs.Items.{part_takes, is_gap, readings_of, is_open, ended_readings, whole, is_longer, over}
-use Rattle.cb_forms.specs.OpenParts.{IsKept, Reaches, part_after, CompletesNone, HasPassed, TakesOrLeaves}
-use Rattle.cb_forms.specs.ScanStates.{mode_takes, fresh_mode, continued_mode, next_mode, mode_is_open, next_depth, fresh_depth, StaysIn, IsOpenStep, StaysOpen, IsStateIn}
+use Rattle.cb_forms.specs.Internal.OpenParts.{IsKept, Reaches, part_after, CompletesNone, HasPassed, TakesOrLeaves}
+use Rattle.cb_forms.specs.Internal.ScanStates.{mode_takes, fresh_mode, continued_mode, next_mode, mode_is_open, next_depth, fresh_depth, StaysIn, IsOpenStep, StaysOpen, IsStateIn}
 use Rattle.cb_forms.specs.Trees.{Reading}
 use Rattle.cb_forms.specs.declared.cut.Cut.TheVariants as cut
 use Rattle.cb_forms.specs.declared.lex_mode.LexMode.{LexMode}

@@ -5,7 +5,7 @@ use Rattle.std.specs.List.{count_by}
 use Rattle.cb_forms.specs.Bytes.{is_single, begins_with}
 use Rattle.cb_forms.specs.Items.{openings, closings, is_open_list, part_takes, last_part, is_open}
 use Rattle.cb_forms.specs.Pieces.{piece_takes, pieces}
-use Rattle.cb_forms.specs.ScanStates.{quoted_mode, mode_of, mode_takes, fresh_mode, continued_mode, next_mode, mode_is_open, next_depth, fresh_depth, mode_in, depth_in, IsStateIn}
+use Rattle.cb_forms.specs.Internal.ScanStates.{quoted_mode, mode_of, mode_takes, fresh_mode, continued_mode, next_mode, mode_is_open, next_depth, fresh_depth, mode_in, depth_in, IsStateIn}
 use Rattle.cb_forms.specs.Strings.{is_unclosed}
 use Rattle.cb_forms.specs.declared.lex_mode.LexMode.{LexMode}
 use Rattle.cb_forms.specs.declared.lex_mode.LexMode.TheVariants.{Ended, Word}

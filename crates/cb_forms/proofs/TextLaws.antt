@@ -8,7 +8,7 @@ use Rattle.cb_forms.specs.Items.{is_open_list, part_takes, parts, piece_readings
 use Rattle.cb_forms.specs.Laws.{without_gaps}
 use Rattle.cb_forms.specs.Lists.{list_reading, written}
 use Rattle.cb_forms.specs.Pieces.{piece_takes, pieces, lexeme_of, lexemes}
-use Rattle.cb_forms.specs.ScanStates.{mode_takes, fresh_mode, next_mode, next_depth, fresh_depth, mode_in, IsStateIn}
+use Rattle.cb_forms.specs.Internal.ScanStates.{mode_takes, fresh_mode, next_mode, next_depth, fresh_depth, mode_in, IsStateIn}
 use Rattle.cb_forms.specs.Trees.{Tree, atom, Reading}
 use Rattle.cb_forms.specs.declared.fault.Fault.TheVariants.{FormNotClosed, UnmatchedParenthesis}
 use Rattle.cb_forms.specs.declared.lexeme.Lexeme.{Lexeme}

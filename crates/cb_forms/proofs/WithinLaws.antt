@@ -2,10 +2,10 @@
 use Rattle.std.proofs.Common.{◌≡◌, ◌==◌, ◌||◌, ◌<◌, ◌≤◌, ℕ, ◌+◌, ◌-◌, Bool, true, false, List, [], ◌∷◌, ◌++◌, length, nat_lt, refl, sym, ap, ◌∙◌, subst, arith, if◌then◌else◌}
 use Rattle.std.proofs.lemmas.Bool.{or_right}
 use Rattle.std.proofs.lemmas.List.{length_push}
-use Rattle.cb_forms.specs.Cuts.{opened_readings, open_bytes, part_with, readings_before}
+use Rattle.cb_forms.specs.Internal.Cuts.{opened_readings, open_bytes, part_with, readings_before}
 use Rattle.cb_forms.specs.Items.{part_takes, is_gap, readings_of, is_open, ended_readings}
-use Rattle.cb_forms.specs.OpenParts.{IsKept, Reaches}
-use Rattle.cb_forms.specs.ScanStates.{mode_takes, fresh_mode, continued_mode, next_mode, mode_is_open, next_depth, fresh_depth, IsStateIn}
+use Rattle.cb_forms.specs.Internal.OpenParts.{IsKept, Reaches}
+use Rattle.cb_forms.specs.Internal.ScanStates.{mode_takes, fresh_mode, continued_mode, next_mode, mode_is_open, next_depth, fresh_depth, IsStateIn}
 use Rattle.cb_forms.specs.Trees.{Reading}
 use Rattle.cb_forms.specs.declared.cut.Cut.TheVariants as cut
 use Rattle.cb_forms.specs.declared.lex_mode.LexMode.{LexMode}

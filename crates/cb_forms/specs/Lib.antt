@@ -3,15 +3,13 @@ pub mod Cuts
 pub mod Cutter
 pub mod Cutting
 pub mod Faults
+pub mod FirstFaults
+pub mod Internal
 pub mod Items
-pub mod KeptBytes
 pub mod Laws
 pub mod Lists
 pub mod Members
-pub mod ListStacks
-pub mod OpenParts
 pub mod Pieces
-pub mod ScanStates
 pub mod Strings
 pub mod Trees
 pub mod Words

@@ -29,8 +29,8 @@ abbrev pub is_digits : List ℕ → Bool
 is_digits t = begins_with_digit t && is_empty (after_digits t)
 
 -- an optional sign, then digits
-abbrev pub is_integer : List ℕ → Bool
-is_integer w = is_digits (without_sign w)
+abbrev pub spells_integer : List ℕ → Bool
+spells_integer w = is_digits (without_sign w)
 
 -- the number that digits stand for
 abbrev pub digits_value : List ℕ → ℕ
@@ -64,7 +64,7 @@ is_float w = is_unsigned_float (without_sign w)
 
 -- a number or a symbol
 abbrev pub plain_token : List ℕ → Result Token Fault
-plain_token w = if is_integer w then integer_token w else (if is_float w then Err FloatNotSupported else Ok (Symbol w))
+plain_token w = if spells_integer w then integer_token w else (if is_float w then Err FloatNotSupported else Ok (Symbol w))
 
 -- a name between two stars, of one byte at least
 abbrev pub is_starred : List ℕ → Bool

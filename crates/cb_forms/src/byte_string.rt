@@ -22,7 +22,7 @@ pub struct ByteString {
 
 impl Model for ByteString {
     ghost use Rattle.std.specs.Prelude.{List, ℕ};
-    ghost use Rattle.cb_forms.specs.KeptBytes.{bytes_in, IsWithin};
+    ghost use Rattle.cb_forms.specs.Internal.KeptBytes.{bytes_in, IsWithin};
 
     ghost Value = { List ℕ };
 

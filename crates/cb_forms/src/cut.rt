@@ -1,6 +1,7 @@
 //! What a byte of a script completes.
 ghost use Rattle.std.specs.Prelude.{◌≡◌, ◌++◌, false};
-ghost use Rattle.cb_forms.specs.Cuts.{item_readings, cut_readings, is_too_long};
+ghost use Rattle.cb_forms.specs.Cuts.{item_readings, is_too_long};
+ghost use Rattle.cb_forms.specs.Internal.Cuts.{cut_readings};
 
 use crate::form::Item;
 

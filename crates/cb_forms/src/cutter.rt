@@ -33,7 +33,8 @@ pub struct Cutter {
 impl Model for Cutter {
     ghost use Rattle.std.specs.Prelude.{◌≡◌, false};
     ghost use Rattle.std.specs.Coded.{codes};
-    ghost use Rattle.cb_forms.specs.Cutter.{Progress, readings_in, IsInStep};
+    ghost use Rattle.cb_forms.specs.Cutter.{Progress, readings_in};
+    ghost use Rattle.cb_forms.specs.Internal.{IsInStep};
     ghost use Rattle.cb_forms.specs.contracts.form.Item as item;
 
     ghost Value = { Progress };

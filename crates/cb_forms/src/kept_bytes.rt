@@ -1,6 +1,6 @@
 //! Where bytes that are kept stand.
 ghost use Rattle.std.specs.Prelude.{◌≡◌, ◌≤◌, IfOk, length};
-ghost use Rattle.cb_forms.specs.KeptBytes.{bytes_in, IsWithin};
+ghost use Rattle.cb_forms.specs.Internal.KeptBytes.{bytes_in, IsWithin};
 
 use cb_io::NoMemory;
 use std::alloc::Global;

@@ -1,7 +1,7 @@
 //! What a piece of a script is waiting for.
 ghost use Rattle.std.specs.Prelude.{◌≡◌, ◌≤◌, true, false, length, take};
 ghost use Rattle.cb_forms.specs.Bytes.{is_line_end};
-ghost use Rattle.cb_forms.specs.ScanStates.{StaysIn, mode_takes, fresh_mode, continued_mode, next_mode, mode_is_open};
+ghost use Rattle.cb_forms.specs.Internal.ScanStates.{StaysIn, mode_takes, fresh_mode, continued_mode, next_mode, mode_is_open};
 
 use crate::byte_kinds::{is_delimiter, is_line_end, is_single};
 

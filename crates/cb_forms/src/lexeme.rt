@@ -4,7 +4,7 @@ use crate::token::Token;
 
 /// What a piece of a script is, a piece being a blank, a comment, a parenthesis, a connective, a string or a word.
 #[derive(Drop)]
-pub(crate) enum Lexeme {
+pub enum Lexeme {
     /// A blank or a comment.
     Gap,
     /// `(`

@@ -33,5 +33,6 @@ pub use cut::Cut;
 pub use cutter::Cutter;
 pub use fault::Fault;
 pub use form::{Form, Item, split_head};
+pub use lexeme::Lexeme;
 pub use reader::read_items;
 pub use token::Token;

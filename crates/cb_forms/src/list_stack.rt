@@ -1,7 +1,7 @@
 //! The lists that are open while a list is read.
 ghost use Rattle.std.specs.Prelude.{◌≡◌, ◌+◌, List, [], ◌∷◌, ◌++◌, length, OnOk, OnErr, IfOk, IfSome, Ok, None, MatchOption, ◌<◌};
 ghost use Rattle.cb_forms.specs.Lists.{put_first, listed, first_tree};
-ghost use Rattle.cb_forms.specs.ListStacks.{frames_of, closed_up};
+ghost use Rattle.cb_forms.specs.Internal.ListStacks.{frames_of, closed_up};
 ghost use Rattle.cb_forms.specs.Trees.{Tree, tree_of};
 
 use crate::form::Form;

@@ -9,7 +9,7 @@ use crate::token::Token;
 
 /// Whether a word is an optional sign and then digits.
 pub(crate) fn is_integer(word: &[u8]) -> bool
-    ensures { result ≡ spec.is_integer word.now }
+    ensures { result ≡ spec.spells_integer word.now }
 {
     is_digits(without_sign(word))
 }
@@ -31,7 +31,7 @@ pub(crate) fn is_float(word: &[u8]) -> bool
 
 /// The number that a word spells, or `None` where it does not fit 64 bits with a sign.
 pub(crate) fn integer(word: &[u8]) -> Option<i64>
-    requires { IsTrue (spec.is_integer word.now) }
+    requires { IsTrue (spec.spells_integer word.now) }
     ensures { MatchOption result
         (spec.integer_token word.now ≡ Err Fault.IntegerOutOfRange)
         (λ n. spec.integer_token word.now ≡ Ok (Token.Int n)) }

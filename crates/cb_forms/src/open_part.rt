@@ -1,9 +1,10 @@
 //! The part that a script so far ends with.
 ghost use Rattle.std.specs.Prelude.{◌≡◌, ◌||◌, ◌≤◌, ◌<◌, ℕ, nat_lt, List, [], ◌∷◌, ◌++◌, true, false, length, take, IfOk, IfSome, OnOk, if◌then◌else◌};
-ghost use Rattle.cb_forms.specs.Cuts.{item_readings, opened_readings, open_bytes, part_with, readings_before};
+ghost use Rattle.cb_forms.specs.Cuts.{item_readings};
+ghost use Rattle.cb_forms.specs.Internal.Cuts.{opened_readings, open_bytes, part_with, readings_before};
 ghost use Rattle.cb_forms.specs.Items.{is_gap, part_takes, readings_of, ended_readings};
-ghost use Rattle.cb_forms.specs.OpenParts.{HasPassed, IsKept, Reaches, TakesOrLeaves, TakesRun};
-ghost use Rattle.cb_forms.specs.ScanStates.{continued_mode, fresh_mode, mode_is_open, mode_takes, IsStateIn};
+ghost use Rattle.cb_forms.specs.Internal.OpenParts.{HasPassed, IsKept, Reaches, TakesOrLeaves, TakesRun};
+ghost use Rattle.cb_forms.specs.Internal.ScanStates.{continued_mode, fresh_mode, mode_is_open, mode_takes, IsStateIn};
 
 use crate::byte_kinds::is_blank;
 use crate::cut::Cut;

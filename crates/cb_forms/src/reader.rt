@@ -2,7 +2,7 @@
 ghost use Rattle.std.specs.Prelude.{◌≡◌, ◌<◌, ◌∷◌, ◌++◌, length, map, IfOk, OnOk};
 ghost use Rattle.cb_forms.specs.Cuts.{item_readings};
 ghost use Rattle.cb_forms.specs.Items.{parts, readings_of, items};
-ghost use Rattle.cb_forms.specs.ScanStates.{IsStateIn};
+ghost use Rattle.cb_forms.specs.Internal.ScanStates.{IsStateIn};
 ghost use Rattle.cb_forms.specs.Trees.{reading_of};
 
 use crate::fault::Fault;

@@ -1,7 +1,7 @@
 //! The state of the scan after a byte of a script.
 ghost use Rattle.std.specs.Prelude.{◌≡◌, ◌<◌, ◌≤◌, ◌+◌, ◌||◌, ◌&&◌, true, nat_lt, is_ok, length, take};
-ghost use Rattle.cb_forms.specs.ScanStates.{IsOpenStep, StaysOpen, mode_takes, fresh_mode, next_mode, mode_is_open};
-ghost use Rattle.cb_forms.specs.ScanStates.{next_depth, fresh_depth};
+ghost use Rattle.cb_forms.specs.Internal.ScanStates.{IsOpenStep, StaysOpen, mode_takes, fresh_mode, next_mode, mode_is_open};
+ghost use Rattle.cb_forms.specs.Internal.ScanStates.{next_depth, fresh_depth};
 
 use crate::byte_kinds::{is_blank, is_line_end};
 use crate::lex_mode::LexMode;

@@ -3,7 +3,7 @@ use Rattle.std.proofs.Common.{◌≡◌, ◌==◌, ℤ, ◌*ℤ◌, ◌+ℤ◌, 
 use Rattle.std.proofs.lemmas.Int.{quot-rem}
 use Rattle.cb_forms.specs.declared.fault.Fault.{Fault}
 use Rattle.cb_forms.specs.declared.fault.Fault.TheVariants.{DivisionByZero, IntegerOverflow}
-use Rattle.cb_functions.specs.Arithmetic.{fits, fitting, quotient, remainder}
+use Rattle.cb_functions.specs.Arithmetic.{fits_64_bits, or_overflow, quotient, remainder}
 
 -- what fits is itself
 abbrev Number : Type 0
@@ -13,11 +13,11 @@ fitted : (z q : ℤ) (b : Bool) → (let it : Number = if b then Ok z else Err I
 fitted z q true h = (cc)
 fitted z q false h = absurd (cc)
 
-by_zero : (n d q r : ℤ) (zero : Bool) → (let it : Number = if zero then Err DivisionByZero else fitting (int_div n d) in it) ≡ Ok q
+by_zero : (n d q r : ℤ) (zero : Bool) → (let it : Number = if zero then Err DivisionByZero else or_overflow (int_div n d) in it) ≡ Ok q
     → (let it : Number = if zero then Err DivisionByZero else Ok (int_rem n d) in it) ≡ Ok r → q *ℤ d +ℤ r ≡ n
 by_zero n d q r true h k = absurd (cc)
 by_zero n d q r false h k =
-    let q_is : q ≡ int_div n d = fitted (int_div n d) q (fits (int_div n d)) h in
+    let q_is : q ≡ int_div n d = fitted (int_div n d) q (fits_64_bits (int_div n d)) h in
     let r_is : r ≡ int_rem n d = (cc) in
     ap₂ (λ (a b : ℤ). a *ℤ d +ℤ b) q_is r_is ∙ quot-rem n d
 

@@ -1,7 +1,7 @@
 -- The law of values that are neither all equal nor different from the first.
 use Rattle.std.proofs.Common.{◌≡◌, ◌&&◌, Bool, true, false, not, [], ◌∷◌, Ok, refl, ap}
 use Rattle.cb_facts.specs.declared.value.Value.{Value}
-use Rattle.cb_facts.proofs.Equality.{value-Decides}
+use Rattle.cb_facts.proofs.Cited.{value-Decides}
 use Rattle.cb_functions.specs.Applied.{applied}
 use Rattle.cb_functions.specs.Comparison.{same}
 use Rattle.cb_functions.specs.Constants.{true_symbol, false_symbol, truth}

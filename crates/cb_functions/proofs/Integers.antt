@@ -6,10 +6,10 @@ use Rattle.cb_facts.specs.Results.{with_first}
 use Rattle.cb_facts.specs.declared.value.Value.{Value}
 use Rattle.cb_facts.specs.declared.value.Value.TheVariants as value
 use Rattle.cb_functions.specs.Arguments.{integers_of}
-use Rattle.cb_functions.specs.Numbers.{number_of}
+use Rattle.cb_functions.specs.Internal.{as_number}
 use Rattle.cb_functions.specs.TypeTests.{is_integer}
 
-pub all_integers : (vs : List Value) → list_all is_integer vs ≡ true → integers_of vs ≡ Ok (map number_of vs)
+pub all_integers : (vs : List Value) → list_all is_integer vs ≡ true → integers_of vs ≡ Ok (map as_number vs)
 all_integers [] h = refl
 all_integers (value.Int n ∷ vs) h = ap (with_first (Ok n)) (all_integers vs h)
 all_integers (value.Symbol b ∷ vs) h = absurd (cc)

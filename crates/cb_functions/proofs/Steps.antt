@@ -7,7 +7,7 @@ use Rattle.cb_facts.specs.declared.refused.Refused.{Refused}
 use Rattle.cb_facts.specs.declared.refused.Refused.TheVariants as refused
 use Rattle.cb_facts.specs.declared.value.Value.{Value}
 use Rattle.cb_functions.specs.Arithmetic.{Operator, with_others}
-use Rattle.cb_functions.specs.Numbers.{number_of}
+use Rattle.cb_functions.specs.Internal.{as_number}
 
 -- where a step is refused, so is all that goes on from there
 broken_off : (operator : Operator) (n m : ℤ) (ms : List ℤ) (all : Result ℤ Fault) (why : Refused) → with_others operator n (m ∷ ms) ≡ all
@@ -16,8 +16,8 @@ broken_off operator n m ms all (refused.Fault f) is h = sym is ∙ ap (λ it. an
 broken_off operator n m ms all refused.NoMemory is h = tt
 
 pub step_off : (operator : Operator) (n : ℤ) (vs : List Value) (i : ℕ) (v : Value) (all : Result ℤ Fault) (why : Refused) → i < length vs → v ≡ get_or vs i v
-    → with_others operator n (map number_of (drop i vs)) ≡ all → Tells why (λ f. operator n (number_of v) ≡ Err f) → Tells why (λ f. all ≡ Err f)
+    → with_others operator n (map as_number (drop i vs)) ≡ all → Tells why (λ f. operator n (as_number v) ≡ Err f) → Tells why (λ f. all ≡ Err f)
 step_off operator n vs i v all why below at is h =
-    let one : with_others operator n (map number_of (drop i vs)) ≡ with_others operator n (number_of v ∷ map number_of (drop (i + 1) vs)) =
-    at_drop_more (λ ws. with_others operator n (map number_of ws)) vs i v below ∙ ap (λ w. with_others operator n (number_of w ∷ map number_of (drop (i + 1) vs))) (sym at) in
-    broken_off operator n (number_of v) (map number_of (drop (i + 1) vs)) all why (sym one ∙ is) h
+    let one : with_others operator n (map as_number (drop i vs)) ≡ with_others operator n (as_number v ∷ map as_number (drop (i + 1) vs)) =
+    at_drop_more (λ ws. with_others operator n (map as_number ws)) vs i v below ∙ ap (λ w. with_others operator n (as_number w ∷ map as_number (drop (i + 1) vs))) (sym at) in
+    broken_off operator n (as_number v) (map as_number (drop (i + 1) vs)) all why (sym one ∙ is) h

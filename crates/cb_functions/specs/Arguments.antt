@@ -8,15 +8,15 @@ use Rattle.cb_facts.specs.declared.value.Value.{Value}
 use Rattle.cb_facts.specs.declared.value.Value.TheVariants as value
 
 -- the only value
-abbrev pub only_of : List Value → Result Value Fault
-only_of [] = Err WrongType
-only_of (v ∷ []) = Ok v
-only_of (v ∷ w ∷ vs) = Err WrongType
+abbrev pub only_value : List Value → Result Value Fault
+only_value [] = Err WrongType
+only_value (v ∷ []) = Ok v
+only_value (v ∷ w ∷ vs) = Err WrongType
 
 -- the two values
 abbrev pub both_of : List Value → Result (Value × Value) Fault
 both_of [] = Err WrongType
-both_of (v ∷ vs) = ok_then (λ w. (v, w)) (only_of vs)
+both_of (v ∷ vs) = ok_then (λ w. (v, w)) (only_value vs)
 
 -- the number, where an integer is wanted
 abbrev pub integer_of : Value → Result ℤ Fault

@@ -6,32 +6,32 @@ use Rattle.cb_forms.specs.declared.fault.Fault.TheVariants.{DivisionByZero, Inte
 use Rattle.cb_facts.specs.Results.{and_then, ok_then}
 use Rattle.cb_facts.specs.declared.value.Value.{Value}
 use Rattle.cb_facts.specs.declared.value.Value.TheVariants as value
-use Rattle.cb_functions.specs.Arguments.{integer_of, integers_of, only_of}
+use Rattle.cb_functions.specs.Arguments.{integer_of, integers_of, only_value}
 
 -- a number fits 64 bits with a sign; `negsuc n` is -(n + 1)
-abbrev pub fits : ℤ → Bool
-fits (pos n) = nat_lt n (2 ^ 63)
-fits (negsuc n) = nat_lt n (2 ^ 63)
+abbrev pub fits_64_bits : ℤ → Bool
+fits_64_bits (pos n) = nat_lt n (2 ^ 63)
+fits_64_bits (negsuc n) = nat_lt n (2 ^ 63)
 
-abbrev pub fitting : ℤ → Result ℤ Fault
-fitting n = if fits n then Ok n else Err IntegerOverflow
+abbrev pub or_overflow : ℤ → Result ℤ Fault
+or_overflow n = if fits_64_bits n then Ok n else Err IntegerOverflow
 
 -- what is made of two numbers
 abbrev pub Operator : Type 0
 Operator = ℤ → ℤ → Result ℤ Fault
 
 abbrev pub sum : Operator
-sum n m = fitting (n +ℤ m)
+sum n m = or_overflow (n +ℤ m)
 
 abbrev pub difference : Operator
-difference n m = fitting (n -ℤ m)
+difference n m = or_overflow (n -ℤ m)
 
 abbrev pub product : Operator
-product n m = fitting (n *ℤ m)
+product n m = or_overflow (n *ℤ m)
 
 -- truncated toward zero
 abbrev pub quotient : Operator
-quotient n d = if unsigned_abs d == 0 then Err DivisionByZero else fitting (int_div n d)
+quotient n d = if unsigned_abs d == 0 then Err DivisionByZero else or_overflow (int_div n d)
 
 -- with the sign of the dividend
 abbrev pub remainder : Operator
@@ -59,4 +59,4 @@ calculated operator vs = ok_then value.Int (and_then (integers_of vs) (left_to_r
 
 -- the only value, an integer, without its sign
 abbrev pub magnitude : List Value → Result Value Fault
-magnitude vs = ok_then value.Int (and_then (and_then (only_of vs) integer_of) (λ n. fitting (pos (unsigned_abs n))))
+magnitude vs = ok_then value.Int (and_then (and_then (only_value vs) integer_of) (λ n. or_overflow (pos (unsigned_abs n))))

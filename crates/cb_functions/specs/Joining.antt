@@ -16,11 +16,11 @@ is_joinable (value.Int n) = true
 is_joinable v = false
 
 -- the texts that values are printed with, one after another
-abbrev pub joined : List Value → Result (List ℕ) Fault
-joined vs = if list_all is_joinable vs then Ok (flat_map plain_bytes vs) else Err WrongType
+abbrev pub texts_joined : List Value → Result (List ℕ) Fault
+texts_joined vs = if list_all is_joinable vs then Ok (flat_map plain_bytes vs) else Err WrongType
 
 abbrev pub joined_string : List Value → Result Value Fault
-joined_string vs = ok_then value.Str (joined vs)
+joined_string vs = ok_then value.Str (texts_joined vs)
 
 abbrev pub joined_symbol : List Value → Result Value Fault
-joined_symbol vs = ok_then value.Symbol (joined vs)
+joined_symbol vs = ok_then value.Symbol (texts_joined vs)

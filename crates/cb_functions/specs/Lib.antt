@@ -3,9 +3,8 @@ pub mod Arguments
 pub mod Arithmetic
 pub mod Comparison
 pub mod Constants
+pub mod Internal
 pub mod Joining
 pub mod Logic
 pub mod Multifields
-pub mod Numbers
-pub mod Operations
 pub mod TypeTests

@@ -7,7 +7,7 @@ use Rattle.cb_facts.specs.Values.{spliced, value_of_field}
 use Rattle.cb_facts.specs.declared.single.Single.{Single}
 use Rattle.cb_facts.specs.declared.value.Value.{Value}
 use Rattle.cb_facts.specs.declared.value.Value.TheVariants as value
-use Rattle.cb_functions.specs.Arguments.{both_of, fields_of, integer_of, only_of, single_of}
+use Rattle.cb_functions.specs.Arguments.{both_of, fields_of, integer_of, only_value, single_of}
 use Rattle.cb_functions.specs.Comparison.{same}
 use Rattle.cb_functions.specs.Constants.{false_symbol, nil_symbol}
 
@@ -45,7 +45,7 @@ member vs = and_then (both_of vs) (λ p. and_then (single_of p.0) (λ v. ok_then
 
 -- what is made of the fields of the only value, a multifield
 abbrev pub of_fields : (List Single → Value) → List Value → Result Value Fault
-of_fields make vs = ok_then make (and_then (only_of vs) fields_of)
+of_fields make vs = ok_then make (and_then (only_value vs) fields_of)
 
 abbrev pub number_of_fields : List Single → Value
 number_of_fields fields = value.Int (pos (length fields))

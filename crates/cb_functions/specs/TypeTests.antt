@@ -4,7 +4,7 @@ use Rattle.cb_forms.specs.declared.fault.Fault.{Fault}
 use Rattle.cb_facts.specs.Results.{and_then, ok_then}
 use Rattle.cb_facts.specs.declared.value.Value.{Value}
 use Rattle.cb_facts.specs.declared.value.Value.TheVariants as value
-use Rattle.cb_functions.specs.Arguments.{integer_of, only_of}
+use Rattle.cb_functions.specs.Arguments.{integer_of, only_value}
 use Rattle.cb_functions.specs.Constants.{truth}
 
 abbrev pub is_integer : Value → Bool
@@ -27,8 +27,8 @@ is_even n = unsigned_abs n % 2 == 0
 
 -- whether a test holds of the only value
 abbrev pub tested : (Value → Bool) → List Value → Result Value Fault
-tested test vs = ok_then (λ v. truth (test v)) (only_of vs)
+tested test vs = ok_then (λ v. truth (test v)) (only_value vs)
 
 -- whether a test holds of the only value, an integer
 abbrev pub integer_tested : (ℤ → Bool) → List Value → Result Value Fault
-integer_tested test vs = ok_then (λ n. truth (test n)) (and_then (only_of vs) integer_of)
+integer_tested test vs = ok_then (λ n. truth (test n)) (and_then (only_value vs) integer_of)

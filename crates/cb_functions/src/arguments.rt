@@ -1,13 +1,13 @@
 //! The values that a function is given, by their number and their types.
 ghost use Rattle.cb_facts.specs.Results.{Returns, Settles};
-ghost use Rattle.cb_functions.specs.Arguments.{both_of, fields_of, integer_of, only_of};
+ghost use Rattle.cb_functions.specs.Arguments.{both_of, fields_of, integer_of, only_value};
 
 use cb_facts::{Multifield, Refused, Value};
 use cb_forms::Fault;
 
 /// The only value.
 pub(crate) fn only(values: &[Value]) -> Result<&Value, Refused>
-    ensures { Settles (λ v. v.now) result (only_of values.now) }
+    ensures { Settles (λ v. v.now) result (only_value values.now) }
 {
     let Some((value, others)) = values.split_first() else {
         return Err(Refused::Fault(Fault::WrongType));

@@ -1,9 +1,9 @@
 //! Arithmetic.
 ghost use Rattle.std.specs.Prelude.{◌≡◌, pos, map, ok_or, unsigned_abs};
 ghost use Rattle.cb_facts.specs.Results.{Returns};
-ghost use Rattle.cb_functions.specs.Arithmetic.{calculated, fitting, left_to_right, magnitude, quotient, remainder, with_others};
-ghost use Rattle.cb_functions.specs.Numbers.{number_of};
-ghost use Rattle.cb_functions.specs.Operations.{operator_of};
+ghost use Rattle.cb_functions.specs.Arithmetic.{calculated, or_overflow, left_to_right, magnitude, quotient, remainder, with_others};
+ghost use Rattle.cb_functions.specs.Internal.{as_number};
+ghost use Rattle.cb_functions.specs.Internal.Operations.{operator_of};
 
 use crate::arguments::{integer, only};
 use crate::numbers::{are_integers, number};
@@ -41,7 +41,7 @@ pub(crate) fn calculate(operation: Operation, values: &[Value]) -> Result<Value,
 }
 
 fn go_from_left_to_right(operation: Operation, values: &[Value]) -> Result<i64, Refused>
-    ensures { Returns result (left_to_right (operator_of operation) (map number_of values.now)) }
+    ensures { Returns result (left_to_right (operator_of operation) (map as_number values.now)) }
 {
     let Some((first, others)) = values.split_first() else {
         return Err(Refused::Fault(Fault::WrongType));
@@ -51,7 +51,7 @@ fn go_from_left_to_right(operation: Operation, values: &[Value]) -> Result<i64, 
 
 fn go_on(operation: Operation, first: i64, others: &[Value]) -> Result<i64, Refused>
     ensures { Returns result
-        (with_others (operator_of operation) first (map number_of others.now)) }
+        (with_others (operator_of operation) first (map as_number others.now)) }
 {
     let mut total = first;
     for value in others {
@@ -60,7 +60,7 @@ fn go_on(operation: Operation, first: i64, others: &[Value]) -> Result<i64, Refu
     Ok(total)
 }
 
-#[tactic(auto, unfolding(crate::specs::Operations::operator_of))]
+#[tactic(auto, unfolding(crate::specs::Internal::Operations::operator_of))]
 fn combine(operation: Operation, total: i64, number: i64) -> Result<i64, Refused>
     ensures { Returns result (operator_of operation total number) }
 {
@@ -102,7 +102,7 @@ pub(crate) fn absolute(values: &[Value]) -> Result<Value, Refused>
 }
 
 fn without_sign(number: i64) -> Result<i64, Refused>
-    ensures { Returns result (fitting (pos (unsigned_abs number))) }
+    ensures { Returns result (or_overflow (pos (unsigned_abs number))) }
 {
     fit(number.checked_abs())
 }

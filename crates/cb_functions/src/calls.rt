@@ -34,7 +34,7 @@ pub fn apply(
     compute(alloc, constants, function, values)
 }
 
-#[tactic(auto, unfolding(crate::specs::Operations::operator_of))]
+#[tactic(auto, unfolding(crate::specs::Internal::Operations::operator_of))]
 fn compute(
     alloc: Global,
     constants: &Constants,

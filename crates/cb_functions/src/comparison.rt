@@ -3,8 +3,8 @@ ghost use Rattle.std.specs.Prelude.{◌≡◌, ◌&&◌, map, not};
 ghost use Rattle.std.specs.List.{list_all};
 ghost use Rattle.cb_facts.specs.Results.{Returns};
 ghost use Rattle.cb_functions.specs.Comparison.{all_same, compared, first_differs, in_order, in_order_after, of_integers, same};
-ghost use Rattle.cb_functions.specs.Numbers.{number_of};
-ghost use Rattle.cb_functions.specs.Operations.{order_of};
+ghost use Rattle.cb_functions.specs.Internal.{as_number};
+ghost use Rattle.cb_functions.specs.Internal.Operations.{order_of};
 
 use crate::constants::Constants;
 use crate::numbers::{are_integers, number};
@@ -91,7 +91,7 @@ fn none_equal(first: &Value, others: &[Value]) -> bool
 }
 
 fn are_in_order(order: Order, values: &[Value]) -> bool
-    ensures { result ≡ in_order (order_of order) (map number_of values.now) }
+    ensures { result ≡ in_order (order_of order) (map as_number values.now) }
 {
     match values.split_first() {
         None => true,
@@ -100,7 +100,7 @@ fn are_in_order(order: Order, values: &[Value]) -> bool
 }
 
 fn go_on_in_order(order: Order, first: i64, others: &[Value]) -> bool
-    ensures { result ≡ in_order_after (order_of order) first (map number_of others.now) }
+    ensures { result ≡ in_order_after (order_of order) first (map as_number others.now) }
 {
     let mut previous = first;
     for value in others {

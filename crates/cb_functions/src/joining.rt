@@ -3,7 +3,7 @@ ghost use Rattle.std.specs.Prelude.{◌≡◌, ◌++◌, IfOk, OnOk};
 ghost use Rattle.std.specs.List.{flat_map, list_all};
 ghost use Rattle.cb_facts.specs.Results.{Returns, Settles};
 ghost use Rattle.cb_facts.specs.Texts.{plain_bytes};
-ghost use Rattle.cb_functions.specs.Joining.{is_joinable, joined, joined_string, joined_symbol};
+ghost use Rattle.cb_functions.specs.Joining.{is_joinable, texts_joined, joined_string, joined_symbol};
 
 use cb_facts::{Name, Refused, Value, plain_text};
 use cb_forms::{Fault, NoMemory};
@@ -26,7 +26,7 @@ pub(crate) fn join_to_symbol(alloc: Global, values: &[Value]) -> Result<Value, R
 }
 
 fn join(alloc: Global, values: &[Value]) -> Result<Name, Refused>
-    ensures { Returns result (joined values.now) }
+    ensures { Returns result (texts_joined values.now) }
 {
     if !are_joinable(values) {
         return Err(Refused::Fault(Fault::WrongType));

@@ -2,7 +2,7 @@
 ghost use Rattle.std.specs.Prelude.{◌≡◌, Ok, Err, MatchBool, map};
 ghost use Rattle.std.specs.List.{list_all};
 ghost use Rattle.cb_functions.specs.Arguments.{integers_of};
-ghost use Rattle.cb_functions.specs.Numbers.{number_of};
+ghost use Rattle.cb_functions.specs.Internal.{as_number};
 ghost use Rattle.cb_functions.specs.TypeTests.{is_integer};
 
 use crate::type_tests::is_integer;
@@ -12,7 +12,7 @@ use cb_forms::Fault;
 /// Whether all values are integers.
 #[tactic(auto, using(crate::proofs::Integers::all_integers, crate::proofs::Integers::not_all_integers))]
 pub(crate) fn are_integers(values: &[Value]) -> bool
-    ensures { MatchBool result (integers_of values.now ≡ Ok (map number_of values.now))
+    ensures { MatchBool result (integers_of values.now ≡ Ok (map as_number values.now))
         (integers_of values.now ≡ Err Fault.WrongType) }
 {
     pass_all(values)
@@ -26,7 +26,7 @@ fn pass_all(values: &[Value]) -> bool
 
 /// The number of an integer; no other value is asked for its number.
 pub(crate) fn number(value: &Value) -> i64
-    ensures { result ≡ number_of value.now }
+    ensures { result ≡ as_number value.now }
 {
     match value {
         Value::Int(number) => *number,

@@ -1,7 +1,7 @@
 //! Tests of a value's type.
 ghost use Rattle.std.specs.Prelude.{◌≡◌, not};
 ghost use Rattle.cb_facts.specs.Results.{Returns};
-ghost use Rattle.cb_functions.specs.Operations.{test_of};
+ghost use Rattle.cb_functions.specs.Internal.Operations.{test_of};
 ghost use Rattle.cb_functions.specs.TypeTests.{integer_tested, is_even, is_integer, is_symbol, is_string, tested};
 
 use crate::arguments::{integer, only};

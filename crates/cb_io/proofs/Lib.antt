@@ -1,3 +1,5 @@
-pub mod Passing
-pub mod Putting
+pub mod Cited
+mod Examples
+mod Passing
+mod Putting
 mod Walks

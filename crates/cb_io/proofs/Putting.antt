@@ -1,11 +1,11 @@
 -- Calls that put bytes, one after another.
 use Rattle.std.proofs.Common.{◌≡◌, ◌<◌, ℕ, false, List, [], ◌++◌, refl, sym, ap, ◌∙◌, subst, append_assoc}
 use Rattle.std.proofs.lemmas.List.{append-nil}
-use Rattle.cb_io.specs.Histories.{Writes}
+use Rattle.cb_io.specs.Histories.{PastWrites}
 use Rattle.cb_io.specs.Output.{OutState, PassedSome, Extent, all_put, out_of_memory, write_failed, PutAll, Puts}
 use Rattle.cb_io.proofs.Passing.{passed_none, passed_two, passed_some_two, passed_some_more}
 
-module _ {K : Type 0} (writes : K → Writes) where
+module _ {K : Type 0} (writes : K → PastWrites) where
   all_then : (o o1 o2 : OutState K) (w v : List ℕ) → PutAll writes o o1 w → PutAll writes o1 o2 v → PutAll writes o o2 (w ++ v)
   all_then o o1 o2 w v first now = record {
     passed = passed_two _ _ _ _ _ _ _ _ first.passed now.passed;
@@ -95,7 +95,7 @@ module _ {K : Type 0} (writes : K → Writes) where
   puts_fine_part o o1 w h = h.all.fine
 
 -- what one call of `Out` does
-module _ {K : Type 0} (writes : K → Writes) (o o1 : OutState K) (bytes : List ℕ) where
+module _ {K : Type 0} (writes : K → PastWrites) (o o1 : OutState K) (bytes : List ℕ) where
   -- the bytes wait
   pub puts_kept : o1.sink ≡ o.sink → o1.pending ≡ o.pending ++ bytes → o1.fault ≡ false → Puts writes o o1 all_put bytes
   unfolding Puts

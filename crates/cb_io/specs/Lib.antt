@@ -1,6 +1,7 @@
 pub mod Countdown
+pub mod Histories
+pub mod Internal
 pub mod MemSink
 pub mod MemSource
-pub mod Histories
 pub mod Moved
 pub mod Output

@@ -18,9 +18,9 @@ pub struct ReadHistory {
 
 impl Model for ReadHistory {
     ghost use Rattle.std.specs.Prelude.{length};
-    ghost use Rattle.cb_io.specs.Histories.{Reads};
+    ghost use Rattle.cb_io.specs.Histories.{PastReads};
 
-    ghost Value = { Reads };
+    ghost Value = { PastReads };
 
     ghost view = { λ h. record {
       bytes = h.bytes.items;
@@ -70,9 +70,9 @@ pub struct WriteHistory {
 
 impl Model for WriteHistory {
     ghost use Rattle.std.specs.Prelude.{length};
-    ghost use Rattle.cb_io.specs.Histories.{Writes};
+    ghost use Rattle.cb_io.specs.Histories.{PastWrites};
 
-    ghost Value = { Writes };
+    ghost Value = { PastWrites };
 
     ghost view = { λ h. record { bytes = h.bytes.items; failures = length h.failures.items } };
 }

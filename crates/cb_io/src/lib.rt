@@ -7,6 +7,7 @@
 mod countdown;
 mod histories;
 mod history;
+pub mod laws;
 mod mem_sink;
 mod mem_source;
 mod no_memory;

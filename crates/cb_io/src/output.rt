@@ -22,7 +22,8 @@ pub struct Out<K: Sink> {
 
 impl<K: Sink> Model for Out<K> {
     ghost use Rattle.std.specs.Prelude.{◌≤◌, take};
-    ghost use Rattle.cb_io.specs.Output.{OutState, out_state_code};
+    ghost use Rattle.cb_io.specs.Output.{OutState};
+    ghost use Rattle.cb_io.specs.Internal.{out_state_code};
 
     ghost Value = { OutState K };
 

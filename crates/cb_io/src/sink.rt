@@ -1,6 +1,6 @@
 //! Where bytes go.
 ghost use Rattle.std.specs.Prelude.{◌≡◌, ◌≤◌, length, take, IfOk, OnErr};
-ghost use Rattle.cb_io.specs.Histories.{Writes, after_write, after_write_fault};
+ghost use Rattle.cb_io.specs.Histories.{PastWrites, after_write, after_write_fault};
 
 use thiserror::Error;
 
@@ -12,7 +12,7 @@ pub struct WriteFault;
 /// Something that takes bytes in order, as standard output or a buffer in memory.
 pub trait Sink {
     // the bytes that its writes took, and how many of them failed; to take nothing of a slice that isn't empty is a failure
-    ghost writes: { Self → Writes };
+    ghost writes: { Self → PastWrites };
 
     /// Takes a beginning of the slice, and answers how many bytes that is: often fewer than all.
     ///

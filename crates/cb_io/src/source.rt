@@ -1,6 +1,6 @@
 //! Where bytes come from.
 ghost use Rattle.std.specs.Prelude.{◌≡◌, ◌≤◌, ◌<◌, List, ℕ, Option, length, take, IfOk, OnErr};
-ghost use Rattle.cb_io.specs.Histories.{Reads, after_read, after_read_fault};
+ghost use Rattle.cb_io.specs.Histories.{PastReads, after_read, after_read_fault};
 ghost use Rattle.cb_io.specs.Moved.{Gave, IsAtEnd};
 
 use thiserror::Error;
@@ -16,7 +16,7 @@ pub trait Source {
     ghost left: { Self → Option (List ℕ) };
 
     // the bytes that its reads gave, how many of them reported the end, and how many failed
-    ghost reads: { Self → Reads };
+    ghost reads: { Self → PastReads };
 
     /// Reads the next bytes into the buffer's front, and answers how many: at most the buffer's length,
     /// and often fewer. What stands in the buffer after them is left open.

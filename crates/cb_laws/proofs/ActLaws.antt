@@ -2,7 +2,7 @@
 use Rattle.std.proofs.Common.{◌≡◌, ◌∙◌, ℕ, Bool, true, false, List, [], ◌∷◌, Option, Some, None, Result, Ok, Err, refl, sym, ap, subst, if◌then◌else◌}
 use Rattle.std.specs.List.{list_all}
 use Rattle.cb_actions.specs.Acts.{give_or_fault, stop, ◌>>=◌}
-use Rattle.cb_actions.specs.Effects.{added, addressed, asserted, parts_of, retracted, taken}
+use Rattle.cb_actions.specs.Effects.{fact_added, addressed, asserted, parts_of, retracted, taken}
 use Rattle.cb_actions.specs.Worlds.{World}
 use Rattle.cb_actions.specs.declared.act.Ended.TheVariants as ended
 use Rattle.cb_exprs.specs.Shapes.{Shape}
@@ -36,7 +36,7 @@ answered : (shape : Shape) (vs : List Value) (s : World) (fact : FactValue) (ans
     → (asserted shape vs s).answer ≡ Ok answer → Answered (asserted_one s.memory fact) s (asserted shape vs s).state answer
 answered shape vs s fact answer made h = by (built s.templates shape.relation (parts_of shape.slots vs)) made h
   where
-    by : (r : Result FactValue Fault) → r ≡ Ok fact → ((give_or_fault r >>= added) s).answer ≡ Ok answer → Answered (asserted_one s.memory fact) s ((give_or_fault r >>= added) s).state answer
+    by : (r : Result FactValue Fault) → r ≡ Ok fact → ((give_or_fault r >>= fact_added) s).answer ≡ Ok answer → Answered (asserted_one s.memory fact) s ((give_or_fault r >>= fact_added) s).state answer
     by (Err f) e is = absurd (cc)
     by (Ok g) e is =
         let same : g ≡ fact = cc in
@@ -54,7 +54,14 @@ pub one_asserted : (shape : Shape) (vs : List Value) (s : World) (fact : FactVal
 one_asserted shape vs s fact answer made h = let it = answered shape vs s fact answer made h in (it.ix, it.index_is, sym it.memory_is)
 
 pub fault_stays : (shape : Shape) (vs : List Value) (s : World) (f : Fault) → built s.templates shape.relation (parts_of shape.slots vs) ≡ Err f → (asserted shape vs s).state ≡ s
-fault_stays shape vs s f h = ap (λ r. ((give_or_fault r >>= added) s).state) h
+fault_stays shape vs s f h = ap (λ r. ((give_or_fault r >>= fact_added) s).state) h
+
+pub fault_ends : (shape : Shape) (vs : List Value) (s : World) (f : Fault) → built s.templates shape.relation (parts_of shape.slots vs) ≡ Err f → (asserted shape vs s).answer ≡ Err (ended.Fault f)
+fault_ends shape vs s f h = ap (λ r. ((give_or_fault r >>= fact_added) s).answer) h
+
+-- a value that can't be retracted ends it before any other is
+pub wrong_first : (vs : List Value) (s : World) → list_all is_retractable vs ≡ false → (retracted vs s).answer ≡ Err (ended.Fault WrongType)
+wrong_first vs s h = ap (λ t. (if t then taken (retracted_all s.memory vs) s else stop (ended.Fault WrongType) s).answer) h
 
 -- a retraction, by whether each value is one that can be retracted, and by what it leaves
 module _ (vs : List Value) (s : World) where

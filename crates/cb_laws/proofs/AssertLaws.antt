@@ -4,14 +4,14 @@ use Rattle.std.proofs.lemmas.Bool.{cases_eq}
 use Rattle.std.proofs.lemmas.Cmp.{nat_cmp_total}
 use Rattle.std.specs.BTreeMap.{is_at}
 use Rattle.std.specs.Ordering.{nat_cmp}
-use Rattle.cb_facts.proofs.FactListLaws.{is_at-Decides}
+use Rattle.cb_facts.proofs.Cited.{is_at-Decides}
 use Rattle.cb_facts.specs.FactLists.{IsAbsent, fact_at, with_fact}
 use Rattle.cb_facts.specs.Facts.{FactValue}
 use Rattle.cb_laws.proofs.EntryLaws.{put_here, put_elsewhere, rising_put}
 use Rattle.cb_laws.proofs.Members.{first_or_other}
 use Rattle.cb_laws.proofs.MemoryBasics.{base_of, found_there, not_found}
 use Rattle.cb_laws.specs.Memories.{AreAsserted, IsSound, IsThere}
-use Rattle.cb_working_memory.proofs.IndexLaws.{contains_here, contains_there, index_of-absent, index_of-there}
+use Rattle.cb_working_memory.proofs.Cited.{contains_here, contains_there, index_of-absent, index_of-there}
 use Rattle.cb_working_memory.specs.WorkingMemory.{Memory, asserted_beside, asserted_one, greatest_index, grown, index_of}
 
 -- A fact was asserted and has this index: it is there, the others are as before, and there are no more.

@@ -14,10 +14,21 @@ use Rattle.cb_forms.specs.declared.fault.Fault.TheVariants.{MalformedForm, NotIn
 use Rattle.cb_forms.specs.declared.token.Token.{Token}
 use Rattle.cb_forms.specs.declared.token.Token.TheVariants as token
 use Rattle.cb_laws.specs.Reached.{HasItsDefault}
-use Rattle.cb_laws.specs.Written.{AreSlots, Attributes, type_in}
-use Rattle.cb_templates.specs.SlotForms.{attribute_by, attributes_after, default_constant, default_constants, default_of, derived, finished, is_variable, multi_default, no_attributes, no_constant, one_default, slot_by, slot_defined, slot_with, types_of, with_default, with_types}
+use Rattle.cb_laws.proofs.SlotFormLaws.{AreSlots}
+use Rattle.cb_templates.specs.Internal.SlotReads.{attribute_by, attributes_after, default_constant, default_constants, default_of, finished, multi_default, no_attributes, one_default, slot_by, slot_defined, slot_with, types_of, with_default, with_types}
+use Rattle.cb_templates.specs.SlotForms.{derived, is_variable, no_constant}
 use Rattle.cb_templates.specs.Slots.{SlotShape, Types, allows_all, are_only}
 use Rattle.cb_templates.specs.declared.slot_type.SlotType.TheVariants as type
+
+-- the type of a value, and of what an option holds: so types get a name here that their crate gives no name outside
+abbrev type_of : {A : Type 0} → A → Type 0
+type_of {A} a = A
+
+abbrev type_in : {A : Type 0} → Option A → Type 0
+type_in {A} o = A
+
+abbrev Attributes : Type 0
+Attributes = type_of no_attributes
 
 abbrev SlotDefault : Type 0
 SlotDefault = type_in no_attributes.default

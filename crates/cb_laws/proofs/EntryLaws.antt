@@ -7,7 +7,7 @@ use Rattle.std.specs.Cmp.{IsTotalOrder}
 use Rattle.std.specs.List.Sorted.{IsStrictlySortedBy}
 use Rattle.std.specs.Map.{keys_of, lookup, remove_entry}
 use Rattle.std.specs.Ordering.{match_ordering, ordering_reverse}
-use Rattle.cb_facts.proofs.FactListLaws.{false-from_not}
+use Rattle.std.proofs.lemmas.Bool.{false_from_ne_true}
 
 -- what a look-up finds after an entry was put in
 module _ {K : Type 0} (cmp : K → K → Ordering) (test : K → K → Bool) (level : (i j : K) → Decides (is_eq (cmp i j)) (i ≡ j)) (same : (i j : K) → Decides (test i j) (i ≡ j)) where
@@ -15,7 +15,7 @@ module _ {K : Type 0} (cmp : K → K → Ordering) (test : K → K → Bool) (le
   itself k = (same k k).1 refl
 
   apart : (q i : K) → q ≢ i → test q i ≡ false
-  apart q i n = false-from_not (test q i) (λ e. n ((same q i).0 e))
+  apart q i n = false_from_ne_true (test q i) (λ e. n ((same q i).0 e))
 
   not_level : (k i : K) → cmp k i ≡ Greater → k ≢ i
   not_level k i e h =

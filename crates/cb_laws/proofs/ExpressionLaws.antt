@@ -4,7 +4,7 @@ use Rattle.std.specs.List.{list_all}
 use Rattle.cb_actions.specs.Actions.{carried, carried_all, carried_values, round, rounds}
 use Rattle.cb_actions.specs.Acts.{Act, become, give, give_or_fault, stop, ◌>>=◌}
 use Rattle.cb_actions.specs.Definitions.{all_asserted, all_evaluated, globals_after, globals_defined, one_evaluated}
-use Rattle.cb_actions.specs.Effects.{added, addressed, asserted, bound, called, chosen, ends, found, global_bound, parts_of, retracted, taken, tested, turn, turn_of, valued, wanted}
+use Rattle.cb_actions.specs.Effects.{fact_added, addressed, asserted, bound, called, chosen, ends, found, global_bound, parts_of, retracted, taken, truth_of, turn, turn_of, valued, wanted}
 use Rattle.cb_actions.specs.Worlds.{World}
 use Rattle.cb_actions.specs.declared.act.Ended.TheVariants as ended
 use Rattle.cb_eval.specs.Evaluation.{value_of}
@@ -55,7 +55,7 @@ read_keeps (Err f) s h = h
 valued_keeps : (act : Act World (Option Value)) → Keeps WellKept act → Keeps WellKept (valued act)
 valued_keeps act f = keeps_then WellKept act wanted f wanted_keeps
 
-tested_keeps : (act : Act World (Option Value)) → Keeps WellKept act → Keeps WellKept (tested act)
+tested_keeps : (act : Act World (Option Value)) → Keeps WellKept act → Keeps WellKept (truth_of act)
 tested_keeps act f = keeps_then WellKept (valued act) (λ v. give (is_true v)) (valued_keeps act f) (λ v s h. h)
 
 called_keeps : (f : Function) (vs : List Value) → Keeps WellKept (called f vs)
@@ -80,7 +80,7 @@ addressed_keeps (m, None) s h = h
 asserted_keeps : (shape : Shape) (vs : List Value) → Keeps WellKept (asserted shape vs)
 asserted_keeps shape vs s h = by (built s.templates shape.relation (parts_of shape.slots vs)) refl
   where
-    by : (r : Result FactValue Fault) → built s.templates shape.relation (parts_of shape.slots vs) ≡ r → WellKept ((give_or_fault r >>= added) s).state
+    by : (r : Result FactValue Fault) → built s.templates shape.relation (parts_of shape.slots vs) ≡ r → WellKept ((give_or_fault r >>= fact_added) s).state
     by (Err f) e = h
     by (Ok fact) e = addressed_keeps (asserted_one s.memory fact) s (asserted_kept s.memory s.templates shape.relation (parts_of shape.slots vs) fact h e)
 
@@ -106,9 +106,9 @@ mutual
   expression_keeps (bind x t) s h = keeps_then WellKept (valued (carried t)) (bound x) (valued_keeps (carried t) (expression_keeps t)) (λ v u k. k) s h
   expression_keeps (bind_global x t) s h = keeps_then WellKept (valued (carried t)) (global_bound x) (valued_keeps (carried t) (expression_keeps t)) (λ v u k. k) s h
   expression_keeps (choose t u w) s h =
-      keeps_then WellKept (tested (carried t)) (λ b. chosen b (carried u) (carried w)) (tested_keeps (carried t) (expression_keeps t))
+      keeps_then WellKept (truth_of (carried t)) (λ b. chosen b (carried u) (carried w)) (tested_keeps (carried t) (expression_keeps t))
       (λ b. chosen_keeps b (carried u) (carried w) (expression_keeps u) (expression_keeps w)) s h
-  expression_keeps (repeat t u) s h = rounds_keep (suc s.turns) (tested (carried t)) (carried u) (tested_keeps (carried t) (expression_keeps t)) (expression_keeps u) s h
+  expression_keeps (repeat t u) s h = rounds_keep (suc s.turns) (truth_of (carried t)) (carried u) (tested_keeps (carried t) (expression_keeps t)) (expression_keeps u) s h
   expression_keeps (actions ts) s h = all_keep (Some false_symbol) ts s h
   expression_keeps (printout on ts) s h = keeps_then WellKept (carried_values None [] ts) _ (values_keep None [] ts) (λ vs u k. k) s h
   expression_keeps (print ts) s h = keeps_then WellKept (carried_values None [] ts) _ (values_keep None [] ts) (λ vs u k. k) s h

@@ -7,7 +7,7 @@ use Rattle.std.specs.Cmp.Lexicographic.{nat_list_eq_equiv}
 use Rattle.std.specs.List.{AllByRecursion, IsDistinct, list_all}
 use Rattle.std.specs.Option.{ok_or}
 use Rattle.std.specs.Str.{bytes_eq}
-use Rattle.cb_facts.proofs.Equality.{both-true}
+use Rattle.std.proofs.lemmas.Bool.{and_from}
 use Rattle.cb_facts.specs.Facts.{FactValue, template_fact}
 use Rattle.cb_facts.specs.Results.{ok_then, with_first}
 use Rattle.cb_facts.specs.Values.{is_multifield, spliced}
@@ -17,16 +17,16 @@ use Rattle.cb_forms.specs.declared.fault.Fault.{Fault}
 use Rattle.cb_forms.specs.declared.fault.Fault.TheVariants.{FactDoesNotFit, OneValueWanted}
 use Rattle.cb_laws.proofs.SlotLaws.{found_given, given_found}
 use Rattle.cb_laws.specs.SlotValues.{CanTake, FitsSlots, IsGiven, IsLeftOut}
-use Rattle.cb_templates.specs.Building.{Given, are_distinct, built, built_by, filled, fits, given_for, given_names, is_one, one_value, slot_values, takes, value_or_default}
+use Rattle.cb_templates.specs.Building.{Given, are_distinct, built, built_by, filled, fits, given_for, given_names, is_one, one_value, slot_values, can_take, value_or_default}
 use Rattle.cb_templates.specs.Slots.{SlotShape, slot_named}
 use Rattle.cb_templates.specs.Templates.{Templates, slots_of}
-use Rattle.cb_working_memory.proofs.IndexLaws.{contains_here, contains_there}
+use Rattle.cb_working_memory.proofs.Cited.{contains_here, contains_there}
 
 all_known : (slots : List SlotShape) (given : Given) → ((name : List ℕ) (vs : List Value) → IsGiven given name vs → is_some (slot_named slots name) ≡ true)
     → list_all (λ g. is_some (slot_named slots g.0)) given ≡ true
 all_known slots [] known = refl
 all_known slots ((name, vs) ∷ given) known =
-    both-true (is_some (slot_named slots name)) (list_all (λ g. is_some (slot_named slots g.0)) given) (known name vs (contains_here (name, vs) given))
+    and_from (is_some (slot_named slots name)) (list_all (λ g. is_some (slot_named slots g.0)) given) (known name vs (contains_here (name, vs) given))
     (all_known slots given (λ other us is. known other us (contains_there (name, vs) (other, us) given is)))
 
 -- a name that differs from all that are given is not given
@@ -38,12 +38,12 @@ not_given (g ∷ given) name differ =
 all_once : (given : Given) → IsDistinct bytes_eq (given_names given) → are_distinct given ≡ true
 all_once [] once = refl
 all_once (g ∷ given) once =
-    both-true (not (is_some (given_for given g.0))) (are_distinct given)
+    and_from (not (is_some (given_for given g.0))) (are_distinct given)
     (ap (λ o. not (is_some o)) (not_given given g.0 (IsDistinct-head bytes_eq g.0 (given_names given) once))) (all_once given (IsDistinct-tail bytes_eq g.0 (given_names given) once))
 
 -- a slot that can take what it is given has a value
 pub record HasOne (s : SlotShape) (o : Option (List Value)) : Type 0 where
-  pub takes_it : takes s o ≡ true
+  pub takes_it : can_take s o ≡ true
   pub v : Value
   pub is : value_or_default s o ≡ Ok v
 
@@ -84,7 +84,7 @@ has_one given s once can = by (given_for given s.name) refl
 
 -- all slots of a template
 pub record AllHave (slots : List SlotShape) (given : Given) : Type 0 where
-  pub take : list_all (λ s. takes s (given_for given s.name)) slots ≡ true
+  pub take : list_all (λ s. can_take s (given_for given s.name)) slots ≡ true
   pub pairs : List (List ℕ × Value)
   pub are : filled slots given ≡ Ok pairs
 
@@ -94,7 +94,7 @@ all_have (s ∷ slots) given once can =
     let one = has_one given s once (All-head (CanTake given) s slots can) in
     let more = all_have slots given once (All-tail (CanTake given) s slots can) in
     record {
-      take = both-true (takes s (given_for given s.name)) (list_all (λ x. takes x (given_for given x.name)) slots) one.takes_it more.take;
+      take = and_from (can_take s (given_for given s.name)) (list_all (λ x. can_take x (given_for given x.name)) slots) one.takes_it more.take;
       pairs = (s.name, one.v) ∷ more.pairs;
       are = ap (λ r. with_first (ok_then (λ v. (s.name, v)) r) (filled slots given)) one.is ∙ ap (λ rest. with_first (Ok (s.name, one.v)) rest) more.are;
     }
@@ -105,8 +105,8 @@ fits_built templates relation slots given has fit =
     let once = all_once given fit.once in
     let them = all_have slots given once fit.each in
     let known : Bool = list_all (λ g. is_some (slot_named slots g.0)) given in
-    let taken : Bool = list_all (λ s. takes s (given_for given s.name)) slots in
-    let fitting : fits slots given ≡ true = both-true known (are_distinct given && taken) (all_known slots given fit.known) (both-true (are_distinct given) taken once them.take) in (
+    let taken : Bool = list_all (λ s. can_take s (given_for given s.name)) slots in
+    let fitting : fits slots given ≡ true = and_from known (are_distinct given && taken) (all_known slots given fit.known) (and_from (are_distinct given) taken once them.take) in (
       template_fact relation them.pairs,
       ap (λ o. built_by relation o (slot_values given)) has
           ∙ ap (λ t. if t then ok_then (template_fact relation) (filled slots given) else Err FactDoesNotFit) fitting

@@ -7,7 +7,7 @@ use Rattle.cb_actions.specs.declared.act.Ended.{Ended}
 abbrev pub Keeps : {S A : Type 0} → (S → Type 0) → Act S A → Type 0
 Keeps {S} P act = (s : S) → P s → P (act s).state
 
-follow_keeps : {S A B : Type 0} (P : S → Type 0) (s : S) (w : List ℕ) (r : Result A Ended) (next : A → Act S B) → P s → ((a : A) → Keeps P (next a)) → P (follow s w r next).state
+pub follow_keeps : {S A B : Type 0} (P : S → Type 0) (s : S) (w : List ℕ) (r : Result A Ended) (next : A → Act S B) → P s → ((a : A) → Keeps P (next a)) → P (follow s w r next).state
 follow_keeps P s w (Ok a) next h more = more a s h
 follow_keeps P s w (Err e) next h more = h
 

@@ -6,7 +6,10 @@ mod RetractLaws
 mod SlotLaws
 mod DefinedLaws
 mod SlotFormLaws
-mod AttributeFormLaws
+mod FaultListLaws
+mod WrittenLaws
+mod OrderLaws
+mod ShapeLaws
 mod ReachedLaws
 mod Keeping
 mod ExpressionLaws

@@ -6,11 +6,11 @@ use Rattle.std.proofs.lemmas.Map.Views.{lookup-from_Contains}
 use Rattle.std.specs.List.Sorted.{IsStrictlySortedBy}
 use Rattle.std.specs.Map.{keys_of}
 use Rattle.std.specs.Ordering.{eq_by_cmp, nat_cmp}
-use Rattle.cb_facts.proofs.FactEquality.{fact-Decides}
+use Rattle.cb_facts.proofs.Cited.{fact-Decides}
 use Rattle.cb_facts.specs.FactLists.{IndexedFacts, fact_at, IsFactBase}
 use Rattle.cb_facts.specs.Facts.{FactValue, fact_eq}
 use Rattle.cb_laws.specs.Memories.{IsSound}
-use Rattle.cb_working_memory.proofs.IndexLaws.{contains_here, contains_there, index_of-there}
+use Rattle.cb_working_memory.proofs.Cited.{contains_here, contains_there, index_of-there}
 use Rattle.cb_working_memory.specs.WorkingMemory.{Memory, index_of}
 
 pub base_of : (m : Memory) → IsSound m → IsFactBase m.facts

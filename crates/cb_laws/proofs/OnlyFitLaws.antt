@@ -15,7 +15,7 @@ use Rattle.cb_forms.specs.declared.fault.Fault.{Fault}
 use Rattle.cb_laws.proofs.Members.{first_or_other, none_among}
 use Rattle.cb_laws.proofs.SlotLaws.{default_is, given_found, is_built, left_out, one_of}
 use Rattle.cb_laws.specs.SlotValues.{CanTake, FitsSlots, IsGiven, IsLeftOut}
-use Rattle.cb_templates.specs.Building.{Given, are_distinct, built, filled, given_for, given_names, one_value, slot_values, takes, value_or_default}
+use Rattle.cb_templates.specs.Building.{Given, are_distinct, built, filled, given_for, given_names, one_value, slot_values, can_take, value_or_default}
 use Rattle.cb_templates.specs.Slots.{GivenValues, SlotShape, slot_named}
 use Rattle.cb_templates.specs.Templates.{Templates, slots_of}
 
@@ -55,8 +55,8 @@ taken_by : (vs : List Value) (v : Value) (m t : Bool) → m ≡ t → (if t then
 taken_by vs v m true e h = inl e
 taken_by vs v m false e h = let one = one_of vs v h in inr (v, one.alone, one.is_single)
 
-can_take : (given : Given) (s : SlotShape) (v : Value) → are_distinct given ≡ true → value_or_default s (given_for given s.name) ≡ Ok v → CanTake given s
-can_take given s v once h = record {
+slot_can_take : (given : Given) (s : SlotShape) (v : Value) → are_distinct given ≡ true → value_or_default s (given_for given s.name) ≡ Ok v → CanTake given s
+slot_can_take given s v once h = record {
   values = λ vs is. taken_by vs v s.is_multi s.is_multi refl (sym (ap (value_or_default s) (given_found given s.name vs once is)) ∙ h);
   left_out = λ none. ap is_some (default_is s.default v (sym (ap (value_or_default s) (left_out given s.name none)) ∙ h));
 }
@@ -69,14 +69,14 @@ all_can (s ∷ slots) given pairs once h = by (value_or_default s (given_for giv
         → ((others : List (List ℕ × Value)) → rest ≡ Ok others → All (CanTake given) slots) → All (CanTake given) (s ∷ slots)
     by (Err f) e rest is more = absurd (cc)
     by (Ok v) e (Err f) is more = absurd (cc)
-    by (Ok v) e (Ok others) is more = All-cons (CanTake given) s slots (can_take given s v once e) (more others refl)
+    by (Ok v) e (Ok others) is more = All-cons (CanTake given) s slots (slot_can_take given s v once e) (more others refl)
 
 pub built_fits : (templates : Templates) (relation : List ℕ) (slots : List SlotShape) (given : Given) (fact : FactValue) → slots_of templates relation ≡ Some slots
     → built templates relation (slot_values given) ≡ Ok fact → FitsSlots slots given
 built_fits templates relation slots given fact has h =
     let made = is_built templates relation slots given fact has h in
     let known : Bool = list_all (λ g. is_some (slot_named slots g.0)) given in
-    let taken : Bool = list_all (λ s. takes s (given_for given s.name)) slots in
+    let taken : Bool = list_all (λ s. can_take s (given_for given s.name)) slots in
     let once : are_distinct given ≡ true = first_so (are_distinct given) taken (second_so known (are_distinct given && taken) made.fitting) in
     record {
       known = λ name vs is. each_known slots given name vs (first_so known (are_distinct given && taken) made.fitting) is;

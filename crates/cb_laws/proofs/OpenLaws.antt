@@ -1,6 +1,6 @@
 -- What is not carried out of a script is its open item.
 use Rattle.std.proofs.Common.{◌≡◌, ◌∙◌, ◌<◌, ◌≤◌, ◌||◌, ◌++◌, ℕ, Bool, true, false, List, Option, Some, None, length, refl, sym, ap, subst, arith, append-nil, if◌then◌else◌}
-use Rattle.cb_forms.proofs.FittingLaws.{fitting-items, fitting-kept, over-kept_all}
+use Rattle.cb_forms.proofs.Cited.{fitting-items, fitting-kept, over-kept_all}
 use Rattle.cb_forms.specs.Items.{fitting, is_longer, is_open, last_part, over, parts, rest, whole}
 use Rattle.cb_forms.specs.Trees.{Reading}
 use Rattle.cb_laws.proofs.OpenTexts.{before_open, fitting_before, is_longer_open, not_longer, over_before, rest_none, rest_open, whole_before, whole_ended}

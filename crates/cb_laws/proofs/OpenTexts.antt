@@ -2,9 +2,7 @@
 use Rattle.std.proofs.Common.{◌≡◌, ◌∙◌, ◌<◌, ◌≤◌, ◌&&◌, ◌||◌, ◌++◌, ℕ, Bool, true, false, not, List, [], ◌∷◌, length, nat_lt, refl, sym, ap, subst, arith, rules, append-nil, append_assoc, if◌then◌else◌}
 use Rattle.std.proofs.lemmas.List.{append_cancel_right}
 use Rattle.std.specs.List.{flat_map, list_any}
-use Rattle.cb_forms.proofs.CuttingLaws.{are_cut-cut, are_cut-front, cut-joined, joined-cut}
-use Rattle.cb_forms.proofs.Lasts.{list_any-split}
-use Rattle.cb_forms.proofs.OpenPartLaws.{open-no_gap}
+use Rattle.cb_forms.proofs.Cited.{are_cut-cut, are_cut-front, cut-joined, joined-cut, list_any-split, open-no_gap}
 use Rattle.cb_forms.specs.Cutting.{AreCut, joined}
 use Rattle.cb_forms.specs.Items.{but_last, ended_readings, fitting, fitting_parts, is_gap, is_longer, is_open, items, last_part, over, part_takes, parts, readings_of, rest, whole}
 

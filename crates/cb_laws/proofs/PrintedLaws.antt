@@ -11,17 +11,17 @@ use Rattle.std.specs.List.{flat_map, fold, list_all}
 use Rattle.std.specs.Prelude.{if◌then◌else◌, length, nat_le, nat_lt, neg_ℤ}
 use Rattle.cb_facts.specs.Texts.{between_quotes, escaped_byte, quoted_bytes}
 use Rattle.cb_facts.specs.declared.value.Value.TheVariants as value
-use Rattle.cb_forms.proofs.ReadingLaws.{reads-one}
+use Rattle.cb_forms.proofs.Cited.{reads-one}
 use Rattle.cb_forms.specs.Bytes.{is_blank, is_connective, is_delimiter, is_digit, is_single, ampersand, bar, closing, dollar, minus, opening, plus, question_mark, quote, semicolon, tilde}
 use Rattle.cb_forms.specs.Cutting.{AreCut, TakesAll, joined}
 use Rattle.cb_forms.specs.Items.{ArePartsOf, Reads, atom_reading, items, part_takes, piece_readings, readings_of}
 use Rattle.cb_forms.specs.Pieces.{lexeme_of, piece_takes, string_token}
 use Rattle.cb_forms.specs.Strings.{escaped_content_of, is_unclosed, is_unclosed_escaped, string_content}
 use Rattle.cb_forms.specs.Trees.{Reading, atom}
-use Rattle.cb_forms.specs.Words.{after_digits, begins_with_digit, digits_value, integer_token, is_digits, is_empty, is_integer, plain_token, token_of, without_sign}
+use Rattle.cb_forms.specs.Words.{after_digits, begins_with_digit, digits_value, integer_token, is_digits, is_empty, spells_integer, plain_token, token_of, without_sign}
 use Rattle.cb_forms.specs.declared.fault.Fault.TheVariants.{FormNotClosed, IntegerOutOfRange}
 use Rattle.cb_forms.specs.declared.token.Token.TheVariants as token
-use Rattle.cb_functions.specs.Arithmetic.{fits}
+use Rattle.cb_functions.specs.Arithmetic.{fits_64_bits}
 use Rattle.cb_laws.specs.Words.{is_word}
 
 abbrev in_case : {X : Type 0} → Bool → X → X → X
@@ -241,7 +241,7 @@ number-read n (c ∷ cs) h long e small =
     word-read (c ∷ cs) (both-are (not (is_single c || (c == quote || c == semicolon))) (list_all (λ x. not (is_delimiter x)) cs) (DigitByte.begins b) (inside-word cs h.1))
     ∙ ap (λ r. atom_reading r ∷ [])
     (plain-word c cs (DigitByte.no_question b) (DigitByte.no_dollar b)
-    ∙ (yes (is_integer (c ∷ cs)) (integer_token (c ∷ cs)) _ (ap is_digits (no-sign c cs h) ∙ digits-are c cs h)
+    ∙ (yes (spells_integer (c ∷ cs)) (integer_token (c ∷ cs)) _ (ap is_digits (no-sign c cs h) ∙ digits-are c cs h)
     ∙ (no (c == minus) _ (in_case (nat_lt (digits_value (without_sign (c ∷ cs))) (2 ^ 63)) (Ok (token.Int (pos (digits_value (without_sign (c ∷ cs)))))) (Err IntegerOutOfRange)) (DigitByte.no_minus b)
     ∙ (ap (λ k. in_case (nat_lt k (2 ^ 63)) (Ok (token.Int (pos k))) (Err IntegerOutOfRange)) (ap digits_value (no-sign c cs h) ∙ e)
     ∙ yes (nat_lt n (2 ^ 63)) (Ok (token.Int (pos n))) (Err IntegerOutOfRange) small))))
@@ -252,11 +252,11 @@ negative-read n (c ∷ cs) h long e small =
     word-read (45 ∷ c ∷ cs) (inside-word (c ∷ cs) h)
     ∙ ap (λ r. atom_reading r ∷ [])
     (plain-word 45 (c ∷ cs) refl refl
-    ∙ (yes (is_integer (45 ∷ c ∷ cs)) (integer_token (45 ∷ c ∷ cs)) _ (digits-are c cs h)
+    ∙ (yes (spells_integer (45 ∷ c ∷ cs)) (integer_token (45 ∷ c ∷ cs)) _ (digits-are c cs h)
     ∙ (ap (λ k. in_case (nat_le k (2 ^ 63)) (Ok (token.Int (neg_ℤ (pos k)))) (Err IntegerOutOfRange)) e
     ∙ yes (nat_le (suc n) (2 ^ 63)) (Ok (token.Int (negsuc n))) (Err IntegerOutOfRange) small)))
 
-pub integer-read : (n : ℤ) → fits n ≡ true → items (quoted_bytes (value.Int n)) ≡ Ok (atom (token.Int n)) ∷ []
+pub integer-read : (n : ℤ) → fits_64_bits n ≡ true → items (quoted_bytes (value.Int n)) ≡ Ok (atom (token.Int n)) ∷ []
 integer-read (pos n) e =
     let lt = ltb-true n (2 ^ 63) e in
     let d = decimal_is_IsNumeral n (omega arith) in

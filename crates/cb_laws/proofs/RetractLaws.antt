@@ -10,7 +10,7 @@ use Rattle.std.specs.List.Sorted.{IsStrictlySortedBy}
 use Rattle.std.specs.Map.{keys_of}
 use Rattle.std.specs.Ordering.{eq_by_cmp, nat_cmp}
 use Rattle.std.specs.Str.{bytes_eq}
-use Rattle.cb_facts.proofs.FactListLaws.{is_at-Decides}
+use Rattle.cb_facts.proofs.Cited.{is_at-Decides}
 use Rattle.cb_facts.specs.FactLists.{fact_at}
 use Rattle.cb_facts.specs.Facts.{FactValue}
 use Rattle.cb_facts.specs.declared.value.Value.{Value}
@@ -18,7 +18,7 @@ use Rattle.cb_facts.specs.declared.value.Value.TheVariants as value
 use Rattle.cb_laws.proofs.EntryLaws.{rising_taken}
 use Rattle.cb_laws.proofs.MemoryBasics.{fewer}
 use Rattle.cb_laws.specs.Memories.{IsSound}
-use Rattle.cb_laws.specs.Naming.{IsMissing, LeavesUnnamed, LeavesUpToMissing, is_named, names}
+use Rattle.cb_laws.specs.Naming.{IsMissing, LeavesUnnamed, LeavesUpToMissing, is_named, names_fact}
 use Rattle.cb_working_memory.specs.WorkingMemory.{Memory, after_retracted, is_retractable, retracted_all, retracted_one, without}
 
 -- what one index more or less has to do with the others
@@ -50,7 +50,7 @@ none_left m sound =
 
 -- what one argument leaves
 record Leaves (m : Memory) (v : Value) (n : Memory) : Type 0 where
-  left : is_retractable v ≡ true → (ix : ℕ) → fact_at n.facts ix ≡ (if names ix v then None else fact_at m.facts ix)
+  left : is_retractable v ≡ true → (ix : ℕ) → fact_at n.facts ix ≡ (if names_fact ix v then None else fact_at m.facts ix)
   last : n.last ≡ m.last
   kept : (ix : ℕ) (fact : FactValue) → fact_at n.facts ix ≡ Some fact → fact_at m.facts ix ≡ Some fact
   sound : IsSound n
@@ -102,7 +102,7 @@ both false false o = refl
 
 one_then : (m n p : Memory) (v : Value) (vs : List Value) → is_retractable v ≡ true → Leaves m v n → LeavesUnnamed n vs p → LeavesUnnamed m (v ∷ vs) p
 one_then m n p v vs may first more = record {
-  left = λ ix. more.left ix ∙ ap (λ o. if is_named vs ix then None else o) (first.left may ix) ∙ both (names ix v) (is_named vs ix) (fact_at m.facts ix);
+  left = λ ix. more.left ix ∙ ap (λ o. if is_named vs ix then None else o) (first.left may ix) ∙ both (names_fact ix v) (is_named vs ix) (fact_at m.facts ix);
   last = more.last ∙ first.last;
 }
 

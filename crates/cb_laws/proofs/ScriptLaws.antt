@@ -1,90 +1,155 @@
 -- Whatever a script does, facts and templates stay well kept.
-use Rattle.std.proofs.Common.{◌≡◌, ◌∙◌, ◌||◌, ℕ, Bool, true, false, List, [], ◌∷◌, Option, Some, None, Result, Ok, Err, refl, sym, ap, subst, if◌then◌else◌}
+use Rattle.std.proofs.Common.{◌≡◌, ◌∙◌, ◌++◌, ℕ, Bool, true, false, not, List, [], ◌∷◌, Option, Some, None, Result, Ok, Err, refl, ap, if◌then◌else◌}
 use Rattle.std.specs.List.{list_any}
-use Rattle.std.specs.Option.{option_map_or}
 use Rattle.std.specs.Str.{bytes_eq}
-use Rattle.cb_actions.specs.Acts.{Act, become, give_or_fault, ◌>>=◌}
-use Rattle.cb_actions.specs.Definitions.{all_asserted, all_evaluated, globals_defined, template_defined}
-use Rattle.cb_actions.specs.Worlds.{World}
+use Rattle.cb_actions.specs.Acts.{give_or_fault, ◌>>=◌}
+use Rattle.cb_actions.specs.Definitions.{all_asserted, all_evaluated, globals_defined}
 use Rattle.cb_actions.specs.declared.act.Ended.{Ended}
 use Rattle.cb_actions.specs.declared.act.Ended.TheVariants as ended
 use Rattle.cb_exprs.specs.FactTerms.{FactTerm}
 use Rattle.cb_exprs.specs.GlobalTerms.{GlobalTerm}
+use Rattle.cb_exprs.specs.Terms.{Term}
+use Rattle.cb_facts.specs.Results.{ok_then}
 use Rattle.cb_forms.specs.Items.{fitting, over, whole}
-use Rattle.cb_forms.specs.Members.{head_and_rest}
-use Rattle.cb_forms.specs.Trees.{Reading, Trees}
+use Rattle.cb_forms.specs.Members.{call_of, head_and_rest}
+use Rattle.cb_forms.specs.Trees.{Reading, Tree, Trees, no_trees, tree}
 use Rattle.cb_forms.specs.declared.fault.Fault.{Fault}
-use Rattle.cb_forms.specs.declared.fault.Fault.TheVariants.{MalformedForm}
+use Rattle.cb_forms.specs.declared.fault.Fault.TheVariants.{MalformedForm, TemplateInUse}
 use Rattle.cb_laws.proofs.DefaultLaws.{slots_suit}
-use Rattle.cb_laws.proofs.DefinedLaws.{is_defined, not_in_use}
+use Rattle.cb_laws.proofs.DefinedLaws.{other_template, put_template}
 use Rattle.cb_laws.proofs.ExpressionLaws.{WellKept, anew_keeps, expression_keeps, facts_keep, globals_keep}
-use Rattle.cb_laws.proofs.Keeping.{Keeps, keeps_then}
+use Rattle.cb_laws.proofs.Keeping.{Keeps, follow_keeps, keeps_then}
 use Rattle.cb_laws.proofs.ReachedLaws.{defined_kept, empty_kept, not_first}
 use Rattle.cb_laws.proofs.SlotFormLaws.{each_slot}
 use Rattle.cb_laws.specs.Reached.{AreWellKept, IsTemplate}
+use Rattle.cb_expr_forms.specs.Scopes.{plain_scope}
+use Rattle.cb_requests.specs.Reads.{expr_in, facts_in, globals_in, top_scope}
 use Rattle.cb_requests.specs.Requests as asked
-use Rattle.cb_requests.specs.Requests.{Request, request_of}
-use Rattle.cb_session.specs.Actions.{acted, initials_kept, is_in_use, is_name_in_use, on_world, performed, performed_and_shown, reset_to, shown, started_over}
+use Rattle.cb_requests.specs.Requests.{Request, called_request, deffacts_request, headed_request, named_request}
+use Rattle.cb_requests.specs.Uses.{is_in_use}
+use Rattle.cb_session.specs.Actions.{acted, initials_kept, on_world, performed, performed_and_shown, requested, reset_to, shown, started_over}
 use Rattle.cb_session.specs.States.{State}
 use Rattle.cb_session.specs.Transcripts.{Run, after, after_all, after_status, begun, complete, concluded, executed, so_far, too_long, too_long_status}
 use Rattle.cb_session.specs.declared.limits.Limits.{Limits}
 use Rattle.cb_session.specs.declared.status.Status.{Status}
+use Rattle.cb_templates.proofs.Cited.{slots_said_so}
+use Rattle.cb_templates.specs.FaultLists.{unless, unless_faulty}
+use Rattle.cb_templates.specs.Reserved.{is_reserved}
 use Rattle.cb_templates.specs.Slots.{SlotShape}
-use Rattle.cb_templates.specs.Templates.{Templates, defined, slots_after, slots_of, without_comment}
-use Rattle.cb_working_memory.specs.Deffacts.{facts_in, is_named_in_deffacts}
+use Rattle.cb_templates.specs.TemplateFaults.{named_template_faults, slots_form_faults}
+use Rattle.cb_templates.specs.TemplateShapes.{slots_said, template_said}
+use Rattle.cb_templates.specs.Internal.SlotReads.{slots_after}
+use Rattle.cb_templates.specs.Templates.{slots_of, with_template, without_comment}
+use Rattle.cb_words.specs.Words.{head_of}
+use Rattle.cb_words.specs.declared.head.Command.{Command as Word}
+use Rattle.cb_words.specs.declared.head.Command.TheVariants as word
+use Rattle.cb_words.specs.declared.head.Construct.TheVariants as construct
+use Rattle.cb_words.specs.declared.head.Head.{Head}
+use Rattle.cb_words.specs.declared.head.Head.TheVariants as head
+use Rattle.cb_working_memory.specs.Deffacts.{kept_facts, is_named_in_deffacts}
 
 -- the facts and the templates of a state are well kept
 abbrev Kept : State → Type 0
 Kept s = AreWellKept s.world.memory s.world.templates
 
--- slots that were read make a template
-right_template : (forms : Trees) (slots : List SlotShape) → slots_after [] forms ≡ Ok slots → IsTemplate slots
-right_template forms slots h =
-    let each = (each_slot forms slots).0 h in
-    record { differ = each.1; defaults = slots_suit forms slots each.0 }
+-- slots that are read make a template
+right_template : (forms : Trees) → slots_form_faults [] forms ≡ [] → IsTemplate (slots_said forms)
+right_template forms h =
+    let read : slots_after [] forms ≡ Ok (slots_said forms) = slots_said_so forms ∙ ap (λ fs. unless_faulty fs (slots_said forms)) h in
+    let each = (each_slot forms (slots_said forms)).0 read in
+    record { differ = each.1; defaults = slots_suit forms (slots_said forms) each.0 }
 
 no_templates : (relation : List ℕ) (slots : List SlotShape) → slots_of [] relation ≡ Some slots → IsTemplate slots
 no_templates relation slots h = absurd (cc)
 
--- A template is defined only for a relation that no fact has.
-template_keeps : (s : State) (ts : Trees) → Kept s → WellKept (template_defined (is_name_in_use s ts) ts s.world).state
-template_keeps s ts h = by (defined s.world.templates (is_name_in_use s ts) ts) refl
-  where
-    none : (name : List ℕ) (written : Trees) → head_and_rest ts ≡ Some (name, written) → is_name_in_use s ts ≡ false → list_any (λ entry. bytes_eq entry.1.relation name) s.world.memory.facts ≡ false
-    none name written head free =
-        let is : is_in_use s name ≡ false = sym (ap (λ o. option_map_or (λ split. is_in_use s split.0) o false) head) ∙ free in
-        not_first (list_any (λ entry. bytes_eq entry.1.relation name) s.world.memory.facts) (is_named_in_deffacts name s.deffacts) is
+-- a request as it is read in a state: a template has right slots, and its relation is not in use
+abbrev IsSound : State → Request → Type 0
+IsSound s (asked.define_template template) = IsTemplate template.1 × (is_in_use s.world.memory s.deffacts template.0 ≡ false)
+IsSound s request = Unit {0}
 
-    by : (r : Result Templates Fault) → defined s.world.templates (is_name_in_use s ts) ts ≡ r
-        → WellKept ((give_or_fault r >>= (λ templates. become (record s.world { templates = templates }))) s.world).state
-    by (Err f) e = h
-    by (Ok new) e =
-        let it = is_defined s.world.templates new (is_name_in_use s ts) ts e in
-        defined_kept s.world.memory s.world.templates new it.name it.slots h (right_template (without_comment it.written) it.slots it.read) it.here it.others (none it.name it.written it.head (not_in_use s.world.templates new (is_name_in_use s ts) ts e))
+abbrev IfSound : State → Result Request Fault → Type 0
+IfSound s (Ok request) = IsSound s request
+IfSound s (Err f) = Unit {0}
+
+module _ (s : State) where
+  acts_sound : (r : Result Term Fault) → IfSound s (ok_then asked.act r)
+  acts_sound (Ok t) = tt
+  acts_sound (Err f) = tt
+
+  facts_sound : (name : List ℕ) (r : Result (List FactTerm) Fault) → IfSound s (ok_then (asked.define_deffacts name) r)
+  facts_sound name (Ok facts) = tt
+  facts_sound name (Err f) = tt
+
+  deffacts_sound : (o : Option (List ℕ × Trees)) → IfSound s (deffacts_request s.world.templates s.world.env o)
+  deffacts_sound None = tt
+  deffacts_sound (Some (name, ts)) = facts_sound name (facts_in (plain_scope s.world.templates s.world.env []) (without_comment ts))
+
+  globals_sound : (r : Result (List GlobalTerm) Fault) → IfSound s (ok_then asked.define_globals r)
+  globals_sound (Ok globals) = tt
+  globals_sound (Err f) = tt
+
+  template_sound : (o : Option (List ℕ × Trees)) → IfSound s (ok_then asked.define_template (unless_faulty (named_template_faults (is_in_use s.world.memory s.deffacts) o) (template_said o)))
+  template_sound None = tt
+  template_sound (Some (name, ts)) = by (is_reserved name) (is_in_use s.world.memory s.deffacts name) refl (slots_form_faults [] (without_comment ts)) refl
+    where
+      by : (reserved used : Bool) → is_in_use s.world.memory s.deffacts name ≡ used → (fs : List Fault) → slots_form_faults [] (without_comment ts) ≡ fs
+          → IfSound s (ok_then asked.define_template (unless_faulty (unless (not reserved) MalformedForm ++ (unless (not used) TemplateInUse ++ fs)) (name, slots_said (without_comment ts))))
+      by true used free fs is = tt
+      by false true free fs is = tt
+      by false false free [] is = (right_template (without_comment ts) is, free)
+      by false false free (f ∷ fs) is = tt
+
+  bare_sound : (w : Word) → IsSound s (named_request w)
+  bare_sound word.Facts = tt
+  bare_sound word.Reset = tt
+  bare_sound word.Clear = tt
+
+  headed_sound : (t : Tree) (h : Option Head) (ts : Trees) → IfSound s (headed_request s.world.templates s.world.env (is_in_use s.world.memory s.deffacts) t h ts)
+  headed_sound t None ts = acts_sound (expr_in (top_scope s.world.templates s.world.env t) t)
+  headed_sound t (Some (head.Construct construct.Deftemplate)) ts = template_sound (head_and_rest ts)
+  headed_sound t (Some (head.Construct construct.Deffacts)) ts = deffacts_sound (head_and_rest ts)
+  headed_sound t (Some (head.Construct construct.Defglobal)) ts = globals_sound (globals_in s.world.templates s.world.env [] ts)
+  headed_sound t (Some (head.Command name)) no_trees = bare_sound name
+  headed_sound t (Some (head.Command name)) (tree u us) = tt
+  headed_sound t (Some (head.Action action)) ts = acts_sound (expr_in (top_scope s.world.templates s.world.env t) t)
+  headed_sound t (Some (head.Function function)) ts = acts_sound (expr_in (top_scope s.world.templates s.world.env t) t)
+  headed_sound t (Some head.Refused) ts = acts_sound (expr_in (top_scope s.world.templates s.world.env t) t)
+
+  called_sound : (t : Tree) (o : Option (List ℕ × Trees)) → IfSound s (called_request s.world.templates s.world.env (is_in_use s.world.memory s.deffacts) t o)
+  called_sound t None = acts_sound (expr_in (top_scope s.world.templates s.world.env t) t)
+  called_sound t (Some (name, ts)) = headed_sound t (head_of name) ts
+
+  sound : (r : Reading) → IfSound s (requested s r)
+  sound (Ok t) = called_sound t (call_of t)
+  sound (Err f) = tt
 
 reset_keeps : (gs : List GlobalTerm) (facts : List FactTerm) → Keeps WellKept (reset_to gs facts)
 reset_keeps gs facts =
     keeps_then WellKept (all_evaluated gs) (λ _. started_over >>= (λ _. all_asserted facts)) (anew_keeps gs)
     (λ _. keeps_then WellKept started_over (λ _. all_asserted facts) (λ w h. empty_kept w.templates h.templates_are) (λ _. facts_keep facts))
 
-performed_keeps : (request : Request) → Keeps Kept (performed request)
-performed_keeps (asked.act t) s h = expression_keeps t s.world h
-performed_keeps (asked.define_template ts) s h = template_keeps s ts h
-performed_keeps (asked.define_deffacts name facts) s h = h
-performed_keeps (asked.define_globals gs) s h = keeps_then Kept (on_world (globals_defined gs)) (λ _. initials_kept gs) (λ u k. globals_keep gs u.world k) (λ _ u k. k) s h
-performed_keeps asked.list_facts s h = h
-performed_keeps asked.reset s h = reset_keeps s.globals (facts_in s.deffacts) s.world h
-performed_keeps asked.clear s h = empty_kept [] no_templates
+-- A template is defined only for a relation that no fact has.
+template_keeps : (s : State) (template : List ℕ × List SlotShape) → IsSound s (asked.define_template template) → Kept s → Kept (performed (asked.define_template template) s).state
+template_keeps s (name, slots) (right, free) h =
+    defined_kept s.world.memory s.world.templates (with_template s.world.templates (name, slots)) name slots h right (put_template s.world.templates name slots) (λ other n. other_template s.world.templates name other slots n)
+    (not_first (list_any (λ entry. bytes_eq entry.1.relation name) s.world.memory.facts) (is_named_in_deffacts name s.deffacts) free)
 
-request_keeps : (r : Result Request Fault) → Keeps Kept (give_or_fault r)
-request_keeps (Ok request) s h = h
-request_keeps (Err f) s h = h
+performed_keeps : (s : State) (request : Request) → IsSound s request → Kept s → Kept (performed request s).state
+performed_keeps s (asked.act t) sound h = expression_keeps t s.world h
+performed_keeps s (asked.define_template template) sound h = template_keeps s template sound h
+performed_keeps s (asked.define_deffacts name facts) sound h = h
+performed_keeps s (asked.define_globals gs) sound h = keeps_then Kept (on_world (globals_defined gs)) (λ _. initials_kept gs) (λ u k. globals_keep gs u.world k) (λ _ u k. k) s h
+performed_keeps s asked.list_facts sound h = h
+performed_keeps s asked.reset sound h = reset_keeps s.globals (kept_facts s.deffacts) s.world h
+performed_keeps s asked.clear sound h = empty_kept [] no_templates
 
 acted_keeps : (r : Reading) → Keeps Kept (acted r)
 unfolding acted
-acted_keeps r s h =
-    let request = request_of s.world.templates s.world.env r in
-    keeps_then Kept (give_or_fault request) performed_and_shown (request_keeps request) (λ it. keeps_then Kept (performed it) shown (performed_keeps it) (λ v u k. k)) s h
+acted_keeps r s h = by (requested s r) (sound s r)
+  where
+    by : (request : Result Request Fault) → IfSound s request → Kept ((give_or_fault request >>= performed_and_shown) s).state
+    by (Ok request) is = follow_keeps Kept (performed request s).state (performed request s).written (performed request s).answer shown (performed_keeps s request is h) (λ v u k. k)
+    by (Err f) is = h
 
 concluded_keeps : (s : State) (w : List ℕ) (r : Result (Unit {0}) Ended) → Kept s → Kept (concluded s w r).state
 concluded_keeps s w (Ok v) h = h

@@ -10,11 +10,16 @@ use Rattle.cb_forms.specs.Trees.{Tree, Trees, atom, branch, no_trees, tree, tree
 use Rattle.cb_forms.specs.declared.fault.Fault.{Fault}
 use Rattle.cb_forms.specs.declared.fault.Fault.TheVariants.{MalformedForm}
 use Rattle.cb_forms.specs.declared.token.Token.TheVariants as token
-use Rattle.cb_laws.specs.Written.{AreSlots}
-use Rattle.cb_templates.proofs.SlotLaws.{slots_differ}
-use Rattle.cb_templates.specs.SlotForms.{attributes_after, finished, no_attributes, slot_by, slot_defined}
+use Rattle.cb_templates.proofs.Cited.{slots_differ}
+use Rattle.cb_templates.specs.Internal.SlotReads.{attributes_after, finished, no_attributes, slot_by, slot_defined, slots_after}
 use Rattle.cb_templates.specs.Slots.{SlotShape, names, slot_named}
-use Rattle.cb_templates.specs.Templates.{slots_after}
+
+-- each form by itself is this slot, with no other slot before it
+abbrev pub AreSlots : Trees → List SlotShape → Type 0
+AreSlots no_trees [] = Unit {0}
+AreSlots no_trees (s ∷ slots) = ⊥
+AreSlots (tree t ts) [] = ⊥
+AreSlots (tree t ts) (s ∷ slots) = (slot_by [] (call_of t) ≡ Ok s) × AreSlots ts slots
 
 -- no slot before has the name
 abbrev IsNew : List SlotShape → List ℕ → Type 0
@@ -138,17 +143,3 @@ accepted (tree t ts) before (s ∷ more) each apart =
 
 pub each_slot : (forms : Trees) (slots : List SlotShape) → (slots_after [] forms ≡ Ok slots) ↔ (AreSlots forms slots × IsDistinct bytes_eq (names slots))
 each_slot forms slots = (λ h. let them = reads forms [] slots h in (subst (AreSlots forms) them.is them.each, slots_differ forms slots h), λ h. accepted forms [] slots h.0 h.1)
-
--- what stands after a fault
-pub faulty_slots : (start before : List SlotShape) (us vs : List Tree) (t : Tree) (f : Fault) → slots_after start (trees_of us) ≡ Ok before → slot_by before (call_of t) ≡ Err f
-    → slots_after start (trees_of (us ++ t ∷ vs)) ≡ Err f
-faulty_slots start before [] vs t f h e =
-    let same : start ≡ before = cc in
-    ap (λ r. and_then r (λ x. slots_after (start ++ x ∷ []) (trees_of vs))) (ap (λ them. slot_by them (call_of t)) same ∙ e)
-faulty_slots start before (u ∷ us) vs t f h e = by (slot_by start (call_of u)) h (λ x k. faulty_slots (start ++ x ∷ []) before us vs t f k e)
-  where
-    by : (r : Result SlotShape Fault) → and_then r (λ x. slots_after (start ++ x ∷ []) (trees_of us)) ≡ Ok before
-        → ((x : SlotShape) → slots_after (start ++ x ∷ []) (trees_of us) ≡ Ok before → slots_after (start ++ x ∷ []) (trees_of (us ++ t ∷ vs)) ≡ Err f)
-        → and_then r (λ x. slots_after (start ++ x ∷ []) (trees_of (us ++ t ∷ vs))) ≡ Err f
-    by (Err g) is more = absurd (cc)
-    by (Ok x) is more = more x is

@@ -15,10 +15,10 @@ use Rattle.cb_forms.specs.declared.fault.Fault.{Fault}
 use Rattle.cb_forms.specs.declared.fault.Fault.TheVariants.{FactDoesNotFit, OneValueWanted}
 use Rattle.cb_laws.proofs.Members.{first_or_other, none_among}
 use Rattle.cb_laws.specs.SlotValues.{IsGiven, IsLeftOut, slot_value}
-use Rattle.cb_templates.specs.Building.{Given, are_distinct, built, built_by, filled, fits, given_for, is_one, one_value, slot_values, slots_built, takes, value_or_default}
+use Rattle.cb_templates.specs.Building.{Given, are_distinct, built, built_by, filled, fits, given_for, is_one, one_value, slot_values, slots_built, can_take, value_or_default}
 use Rattle.cb_templates.specs.Slots.{GivenValues, SlotShape, slot_named}
 use Rattle.cb_templates.specs.Templates.{Templates, slots_of}
-use Rattle.cb_working_memory.proofs.IndexLaws.{contains_here, contains_there}
+use Rattle.cb_working_memory.proofs.Cited.{contains_here, contains_there}
 
 -- what is given is found, where no slot is given twice
 pub given_found : (given : Given) (name : List ℕ) (vs : List Value) → are_distinct given ≡ true → IsGiven given name vs → given_for given name ≡ Some vs
@@ -128,7 +128,7 @@ has_value templates relation slots given fact name slot has at h =
     let made = is_built templates relation slots given fact has h in
     let here = filled_at slots given name slot made.pairs made.filling at in
     let there : Bool = list_all (λ g. is_some (slot_named slots g.0)) given in
-    let taken : Bool = list_all (λ s. takes s (given_for given s.name)) slots in
+    let taken : Bool = list_all (λ s. can_take s (given_for given s.name)) slots in
     record {
       v = here.v;
       from = here.from;

@@ -9,16 +9,16 @@ use Rattle.cb_facts.specs.declared.value.Value.TheVariants as value
 use Rattle.cb_working_memory.specs.WorkingMemory.{Memory, retracted_all}
 
 -- an argument names the fact with this index: it is its address or its index, or `*`
-abbrev pub names : ℕ → Value → Bool
-names ix (value.Fact i) = i == ix
-names ix (value.Int (pos i)) = i == ix
-names ix (value.Int (negsuc n)) = false
-names ix (value.Symbol name) = bytes_eq name (codes "*")
-names ix v = false
+abbrev pub names_fact : ℕ → Value → Bool
+names_fact ix (value.Fact i) = i == ix
+names_fact ix (value.Int (pos i)) = i == ix
+names_fact ix (value.Int (negsuc n)) = false
+names_fact ix (value.Symbol name) = bytes_eq name (codes "*")
+names_fact ix v = false
 
 -- one of the arguments names it
 abbrev pub is_named : List Value → ℕ → Bool
-is_named vs ix = list_any (names ix) vs
+is_named vs ix = list_any (names_fact ix) vs
 
 -- the argument is an index that no fact has
 abbrev pub IsMissing : Memory → Value → Type 0
@@ -32,7 +32,7 @@ pub record LeavesUnnamed (m : Memory) (vs : List Value) (n : Memory) : Type 0 wh
   pub left : (ix : ℕ) → fact_at n.facts ix ≡ (if is_named vs ix then None else fact_at m.facts ix)
   pub last : n.last ≡ m.last
 
--- Up to the first index that no fact has, the facts that arguments name are gone; what stands after it names none.
+-- Up to the first index that no fact has, the facts that arguments name are gone; what stands after it retracts nothing.
 pub record LeavesUpToMissing (m : Memory) (vs : List Value) (n : Memory) : Type 0 where
   pub before : List Value
   pub wrong : Value

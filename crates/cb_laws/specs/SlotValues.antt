@@ -1,5 +1,5 @@
 -- What the slots of a fact have, and what a template that is defined changes.
-use Rattle.std.specs.Prelude.{◌≡◌, ◌≢◌, ◌⊎◌, ℕ, true, false, List, [], ◌∷◌, Option, Some, None, Ok, is_some}
+use Rattle.std.specs.Prelude.{◌≡◌, ◌≢◌, ◌⊎◌, ℕ, true, false, List, [], ◌∷◌, Option, Some, None, is_some}
 use Rattle.std.specs.List.{All, Contains, IsDistinct}
 use Rattle.std.specs.Map.{lookup}
 use Rattle.std.specs.Str.{bytes_eq}
@@ -11,7 +11,9 @@ use Rattle.cb_forms.specs.Members.{head_and_rest}
 use Rattle.cb_forms.specs.Trees.{Trees}
 use Rattle.cb_templates.specs.Building.{Given, given_names}
 use Rattle.cb_templates.specs.Slots.{SlotShape, slot_named}
-use Rattle.cb_templates.specs.Templates.{Templates, slots_after, slots_of, without_comment}
+use Rattle.cb_templates.specs.TemplateFaults.{slots_form_faults}
+use Rattle.cb_templates.specs.TemplateShapes.{slots_said}
+use Rattle.cb_templates.specs.Templates.{Templates, slots_of, without_comment}
 
 abbrev pub value_among : FactContent → List ℕ → Option Value
 value_among (content.fields xs) name = None
@@ -46,8 +48,7 @@ pub record FitsSlots (slots : List SlotShape) (given : Given) : Type 0 where
 pub record Defines (old : Templates) (forms : Trees) (new : Templates) : Type 0 where
   pub name : List ℕ
   pub written : Trees
-  pub slots : List SlotShape
   pub head : head_and_rest forms ≡ Some (name, written)
-  pub read : slots_after [] (without_comment written) ≡ Ok slots
-  pub here : slots_of new name ≡ Some slots
+  pub faultless : slots_form_faults [] (without_comment written) ≡ []
+  pub here : slots_of new name ≡ Some (slots_said (without_comment written))
   pub others : (other : List ℕ) → other ≢ name → slots_of new other ≡ slots_of old other

@@ -1,36 +1,37 @@
--- Slots and their attributes as they are written, each by itself.
-use Rattle.std.specs.Prelude.{◌≡◌, Bool, List, [], ◌∷◌, Option, Ok, filter_map, option_to_list}
-use Rattle.cb_forms.specs.Members.{call_of}
-use Rattle.cb_forms.specs.Trees.{Trees, no_trees, tree}
-use Rattle.cb_templates.specs.SlotForms.{attribute_by, no_attributes, slot_by}
+-- Forms as they are written in a template, each by itself.
+use Rattle.std.specs.Prelude.{◌≡◌, ℕ, List, [], ◌∷◌, Option, Some, None, option_map}
+use Rattle.std.specs.List.{cons_option}
+use Rattle.cb_forms.specs.Members.{call_of, head_and_rest}
+use Rattle.cb_forms.specs.Trees.{Tree, Trees, no_trees, tree}
+use Rattle.cb_forms.specs.declared.fault.Fault.{Fault}
 use Rattle.cb_templates.specs.Slots.{SlotShape}
+use Rattle.cb_templates.specs.TemplateShapes.{slot_headed}
 
--- the type of a value, and of what an option holds: so types get a name here that their crate gives no name outside
-abbrev pub type_of : {A : Type 0} → A → Type 0
-type_of {A} a = A
+-- each form by itself has no fault
+abbrev pub AreFine : (Tree → List Fault) → Trees → Type 0
+AreFine faults no_trees = Unit {0}
+AreFine faults (tree t ts) = (faults t ≡ []) × AreFine faults ts
 
-abbrev pub type_in : {A : Type 0} → Option A → Type 0
-type_in {A} o = A
+-- the names that forms have, in order
+abbrev pub names_written : (Tree → Option (List ℕ)) → Trees → List (List ℕ)
+names_written name no_trees = []
+names_written name (tree t ts) = cons_option (name t) (names_written name ts)
 
--- what the attributes of a slot say
-abbrev pub Attributes : Type 0
-Attributes = type_of no_attributes
+-- the name of an attribute: what its list begins with
+abbrev pub attribute_name : Tree → Option (List ℕ)
+attribute_name t = option_map (λ call. call.0) (call_of t)
 
--- each form by itself is this slot, with no other slot before it
-abbrev pub AreSlots : Trees → List SlotShape → Type 0
-AreSlots no_trees [] = Unit {0}
-AreSlots no_trees (s ∷ slots) = ⊥
-AreSlots (tree t ts) [] = ⊥
-AreSlots (tree t ts) (s ∷ slots) = (slot_by [] (call_of t) ≡ Ok s) × AreSlots ts slots
+abbrev pub name_after_head : Option (List ℕ × Trees) → Option (List ℕ)
+name_after_head None = None
+name_after_head (Some (head, ts)) = option_map (λ split. split.0) (head_and_rest ts)
 
--- each form by itself is this attribute, with no other attribute before it
-abbrev pub AreAttributes : Bool → Trees → List Attributes → Type 0
-AreAttributes is_multi no_trees [] = Unit {0}
-AreAttributes is_multi no_trees (a ∷ others) = ⊥
-AreAttributes is_multi (tree t ts) [] = ⊥
-AreAttributes is_multi (tree t ts) (a ∷ others) = (attribute_by is_multi no_attributes (call_of t) ≡ Ok a) × AreAttributes is_multi ts others
+-- the name of a slot: the symbol after the one that its list begins with
+abbrev pub written_slot_name : Tree → Option (List ℕ)
+written_slot_name t = name_after_head (call_of t)
 
--- Together the attributes say this: at most one of them says the types, at most one the default, and no more is said.
-pub record AreTogether (each : List Attributes) (all : Attributes) : Type 0 where
-  pub types : filter_map (λ a. a.types) each ≡ option_to_list all.types
-  pub default : filter_map (λ a. a.default) each ≡ option_to_list all.default
+-- each form by itself is this slot
+abbrev pub AreShapes : Trees → List SlotShape → Type 0
+AreShapes no_trees [] = Unit {0}
+AreShapes no_trees (s ∷ slots) = ⊥
+AreShapes (tree t ts) [] = ⊥
+AreShapes (tree t ts) (s ∷ slots) = (slot_headed (call_of t) ≡ Some s) × AreShapes ts slots

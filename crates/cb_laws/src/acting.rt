@@ -1,5 +1,6 @@
 //! What `assert` and `retract` do to the facts once their arguments have values.
-ghost use Rattle.std.specs.Prelude.{◌≡◌, ◌∷◌, ℕ, List, [], Option, Some, Ok, Err};
+ghost use Rattle.std.specs.List.{list_all};
+ghost use Rattle.std.specs.Prelude.{◌≡◌, ◌∷◌, ℕ, List, [], Option, Some, Ok, Err, false};
 ghost use Rattle.cb_actions.specs.Effects.{asserted, parts_of, retracted};
 ghost use Rattle.cb_actions.specs.Worlds.{World};
 ghost use Rattle.cb_actions.specs.declared.act.Ended.TheVariants as ended;
@@ -13,9 +14,10 @@ ghost use Rattle.cb_forms.specs.declared.fault.Fault.TheVariants.{NoSuchFact, Wr
 ghost use Rattle.cb_laws.specs.Memories.{AreAsserted, IsSound};
 ghost use Rattle.cb_laws.specs.Naming.{LeavesUnnamed, LeavesUpToMissing};
 ghost use Rattle.cb_templates.specs.Building.{built};
+ghost use Rattle.cb_working_memory.specs.WorkingMemory.{is_retractable};
 
 /// An `assert` that ends without a fault or a limit has asserted its one fact, and its answer is the address under which that fact is
-/// there. One whose fact is at fault changes nothing.
+/// there. If its fact has a fault, that ends it, and nothing changes.
 pub fn an_assertion_answers_its_address()
     ensures asserted { (shape : Shape) (vs : List Value) (s : World) (fact : FactValue)
         (answer : Option Value)
@@ -32,10 +34,14 @@ pub fn an_assertion_answers_its_address()
     ensures fault { (shape : Shape) (vs : List Value) (s : World) (fault : Fault)
         → built s.templates shape.relation (parts_of shape.slots vs) ≡ Err fault
         → (asserted shape vs s).state ≡ s }
+    ensures fault_ends { (shape : Shape) (vs : List Value) (s : World) (fault : Fault)
+        → built s.templates shape.relation (parts_of shape.slots vs) ≡ Err fault
+        → (asserted shape vs s).answer ≡ Err (ended.Fault fault) }
 {}
 
 /// A `retract` without a fault leaves exactly the facts that no argument names. With the fault that there is no such fact (CB20) it
-/// leaves those that no argument before that one names. A value of another type (CB17) comes before any retraction.
+/// leaves those that no argument before that one names. Where a value is of
+/// another type, it ends with CB17, and nothing is retracted.
 pub fn a_retraction_takes_what_is_named()
     ensures fine { (vs : List Value) (s : World) (answer : Option Value) → IsSound s.memory
         → (retracted vs s).answer ≡ Ok answer
@@ -46,4 +52,6 @@ pub fn a_retraction_takes_what_is_named()
     ensures wrong_type { (vs : List Value) (s : World)
         → (retracted vs s).answer ≡ Err (ended.Fault WrongType)
         → (retracted vs s).state ≡ s }
+    ensures first { (vs : List Value) (s : World) → list_all is_retractable vs ≡ false
+        → (retracted vs s).answer ≡ Err (ended.Fault WrongType) }
 {}

@@ -1,4 +1,4 @@
-//! Laws over facts and templates: each is the contract of a function that does nothing.
+//! Laws about facts, templates and scripts: each is the contract of a function that does nothing.
 //!
 //! `docs/ARCHITECTURE.md` says where the layer stands.
 #![tactic(auto)]

@@ -1,39 +1,91 @@
 //! Templates as they are written: what is accepted, and which fault comes first.
-ghost use Rattle.std.specs.Prelude.{◌≡◌, ◌↔◌, ◌++◌, ◌∷◌, Bool, List, [], Ok, Err};
+ghost use Rattle.std.specs.Prelude.{◌≡◌, ◌↔◌, ◌++◌, ◌∷◌, ℕ, Bool, List, [], Some, None, codes, false};
 ghost use Rattle.std.specs.List.{IsDistinct};
 ghost use Rattle.std.specs.Str.{bytes_eq};
 ghost use Rattle.cb_forms.specs.Members.{call_of};
 ghost use Rattle.cb_forms.specs.Trees.{Tree, Trees, trees_of};
 ghost use Rattle.cb_forms.specs.declared.fault.Fault.{Fault};
-ghost use Rattle.cb_laws.specs.Written.{AreAttributes, AreSlots, AreTogether, Attributes};
-ghost use Rattle.cb_templates.specs.SlotForms.{attribute_by, attributes_after, no_attributes, slot_by};
-ghost use Rattle.cb_templates.specs.Slots.{SlotShape, names};
-ghost use Rattle.cb_templates.specs.Templates.{slots_after};
+ghost use Rattle.cb_laws.specs.Written.{AreFine, AreShapes, attribute_name, names_written, written_slot_name};
+ghost use Rattle.cb_templates.specs.FaultLists.{first_of};
+ghost use Rattle.cb_templates.specs.Slots.{names};
+ghost use Rattle.cb_templates.specs.TemplateFaults.{attribute_faults, attributes_faults, is_among, slot_form_faults, slots_form_faults};
+ghost use Rattle.cb_templates.specs.TemplateShapes.{default_in, default_said, slot_said, slots_said, types_in, types_said};
 
-/// Forms are the slots of a template exactly where each of them by itself is a slot and no two have one name.
-pub fn slots_are_read_each_by_itself()
-    ensures { (forms : Trees) (slots : List SlotShape)
-        → (slots_after [] forms ≡ Ok slots)
-        ↔ (AreSlots forms slots × IsDistinct bytes_eq (names slots)) }
+/// Forms are the slots of a template without a fault exactly where each of them by itself is a slot without a fault and no two
+/// have the same name.
+pub fn slots_are_accepted_each_by_itself()
+    ensures { (forms : Trees)
+        → (slots_form_faults [] forms ≡ [])
+        ↔ (AreFine (λ t. slot_form_faults [] (call_of t)) forms
+        × IsDistinct bytes_eq (names_written written_slot_name forms)) }
 {}
 
-/// Forms are the attributes of a slot exactly where each of them by itself is an attribute, at most one says the types, and at
-/// most one the default.
-pub fn attributes_are_read_each_by_itself()
-    ensures { (is_multi : Bool) (forms : Trees) (all : Attributes)
-        → (attributes_after is_multi no_attributes forms ≡ Ok all)
-        ↔ ((each : List Attributes) × AreAttributes is_multi forms each × AreTogether each all) }
+/// Forms are the attributes of a slot without a fault exactly where each of them by itself is an attribute without a fault and no
+/// two have the same name.
+pub fn attributes_are_accepted_each_by_itself()
+    ensures { (is_multi : Bool) (forms : Trees)
+        → (attributes_faults is_multi [] forms ≡ [])
+        ↔ (AreFine (λ t. attribute_faults is_multi [] (call_of t)) forms
+        × IsDistinct bytes_eq (names_written attribute_name forms)) }
 {}
 
-/// Where the slots up to some place have no fault and the one there has, that is the fault of all, whatever stands after it. So it
-/// is with attributes.
+/// The attributes of a slot may stand in any order: if none is at fault, swapping two neighbours changes nothing. Which fault is
+/// reported may depend on the order. Whether the default is of the slot's types is another question.
+pub fn attributes_have_no_order()
+    ensures fine { (is_multi : Bool) (before after : List Tree) (t u : Tree)
+        → attributes_faults is_multi [] (trees_of (before ++ t ∷ u ∷ after)) ≡ []
+        → attributes_faults is_multi [] (trees_of (before ++ u ∷ t ∷ after)) ≡ [] }
+    ensures same { (is_multi : Bool) (name : List ℕ) (before after : List Tree) (t u : Tree)
+        → attributes_faults is_multi [] (trees_of (before ++ t ∷ u ∷ after)) ≡ []
+        → slot_said is_multi (name, trees_of (before ++ t ∷ u ∷ after))
+        ≡ slot_said is_multi (name, trees_of (before ++ u ∷ t ∷ after)) }
+{}
+
+/// Slots without a fault make a template of just these slots: each is what its own form says, and they have the names that are
+/// written, in order.
+pub fn slots_are_those_that_are_written()
+    ensures each { (forms : Trees) → slots_form_faults [] forms ≡ []
+        → AreShapes forms (slots_said forms) }
+    ensures names { (forms : Trees) → slots_form_faults [] forms ≡ []
+        → names (slots_said forms) ≡ names_written written_slot_name forms }
+{}
+
+/// Where no attribute of a slot is at fault, its types are what its `type` says, wherever that stands, and any without one. So it is
+/// with its default.
+pub fn attributes_say_what_is_written()
+    ensures types { (is_multi : Bool) (before after : List Tree) (t : Tree) (ts : Trees)
+        → attributes_faults is_multi [] (trees_of (before ++ t ∷ after)) ≡ []
+        → call_of t ≡ Some (codes "type", ts)
+        → types_in (trees_of (before ++ t ∷ after)) ≡ types_said ts }
+    ensures any_type { (forms : Trees)
+        → is_among (names_written attribute_name forms) (codes "type") ≡ false
+        → types_in forms ≡ None }
+    ensures default { (is_multi : Bool) (before after : List Tree) (t : Tree) (ts : Trees)
+        → attributes_faults is_multi [] (trees_of (before ++ t ∷ after)) ≡ []
+        → call_of t ≡ Some (codes "default", ts)
+        → default_in is_multi (trees_of (before ++ t ∷ after)) ≡ default_said is_multi ts }
+    ensures no_default { (is_multi : Bool) (forms : Trees)
+        → is_among (names_written attribute_name forms) (codes "default") ≡ false
+        → default_in is_multi forms ≡ None }
+{}
+
+/// The first fault of some slots is the first of all, whatever stands after them; and after slots without a fault it is that of
+/// the next one, by itself and by the names before it. So it is with attributes.
 pub fn what_stands_after_a_fault_does_not_matter()
-    ensures slots { (before after : List Tree) (t : Tree) (slots : List SlotShape) (fault : Fault)
-        → slots_after [] (trees_of before) ≡ Ok slots → slot_by slots (call_of t) ≡ Err fault
-        → slots_after [] (trees_of (before ++ t ∷ after)) ≡ Err fault }
-    ensures attributes { (is_multi : Bool) (before after : List Tree) (t : Tree)
-        (so_far : Attributes) (fault : Fault)
-        → attributes_after is_multi no_attributes (trees_of before) ≡ Ok so_far
-        → attribute_by is_multi so_far (call_of t) ≡ Err fault
-        → attributes_after is_multi no_attributes (trees_of (before ++ t ∷ after)) ≡ Err fault }
+    ensures slots { (before after : List Tree) (fault : Fault)
+        → first_of (slots_form_faults [] (trees_of before)) ≡ Some fault
+        → first_of (slots_form_faults [] (trees_of (before ++ after))) ≡ Some fault }
+    ensures next_slot { (before after : List Tree) (t : Tree) (fault : Fault)
+        → slots_form_faults [] (trees_of before) ≡ []
+        → first_of (slot_form_faults (names_written written_slot_name (trees_of before))
+        (call_of t)) ≡ Some fault
+        → first_of (slots_form_faults [] (trees_of (before ++ t ∷ after))) ≡ Some fault }
+    ensures next_attribute { (is_multi : Bool) (before after : List Tree) (t : Tree) (fault : Fault)
+        → attributes_faults is_multi [] (trees_of before) ≡ []
+        → first_of (attribute_faults is_multi (names_written attribute_name (trees_of before))
+        (call_of t)) ≡ Some fault
+        → first_of (attributes_faults is_multi [] (trees_of (before ++ t ∷ after))) ≡ Some fault }
+    ensures attributes { (is_multi : Bool) (before after : List Tree) (fault : Fault)
+        → first_of (attributes_faults is_multi [] (trees_of before)) ≡ Some fault
+        → first_of (attributes_faults is_multi [] (trees_of (before ++ after))) ≡ Some fault }
 {}

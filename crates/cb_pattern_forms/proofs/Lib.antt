@@ -1,4 +1,4 @@
 mod Examples
 pub mod MemberLaws
-pub mod RunLaws
+pub mod RowLaws
 pub mod SlotLaws

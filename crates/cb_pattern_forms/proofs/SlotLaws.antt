@@ -9,7 +9,7 @@ use Rattle.cb_forms.specs.Members.{members}
 use Rattle.cb_forms.specs.Trees.{Tree, atom, branch, no_trees, tree, tree_of}
 use Rattle.cb_forms.specs.declared.form.Form.{Form}
 use Rattle.cb_forms.specs.declared.token.Token.TheVariants as token
-use Rattle.cb_pattern_forms.specs.PatternFaults.{slot_faults, slots_faults}
+use Rattle.cb_pattern_forms.specs.PatternFaults.{pattern_slot_faults, pattern_slots_faults}
 use Rattle.cb_pattern_forms.specs.Patterns.{slot_in, slots_in}
 use Rattle.cb_templates.specs.Places.{place_in}
 use Rattle.cb_templates.specs.Slots.{SlotShape, names, slot_named}
@@ -43,15 +43,15 @@ same_name templates slots (branch (tree (atom token.Not) ts)) = refl
 
 -- the faults after one slot more
 pub next_faults : (s : Scope) (slots : List SlotShape) (given given' : List (List ℕ)) (forms : List Form) (i : ℕ) (form : Form) (slot : SlotValue)
-    → i < length forms → get_or forms i form ≡ form → slots_faults s slots given (members (drop i forms)) ≡ slots_faults s slots [] (members forms)
-    → slot_faults s slots given (tree_of form) ≡ [] → slot ≡ slot_in s.templates slots (tree_of form) → given' ≡ given ++ slot.name ∷ []
-    → slots_faults s slots given' (members (drop (i + 1) forms)) ≡ slots_faults s slots [] (members forms)
+    → i < length forms → get_or forms i form ≡ form → pattern_slots_faults s slots given (members (drop i forms)) ≡ pattern_slots_faults s slots [] (members forms)
+    → pattern_slot_faults s slots given (tree_of form) ≡ [] → slot ≡ slot_in s.templates slots (tree_of form) → given' ≡ given ++ slot.name ∷ []
+    → pattern_slots_faults s slots given' (members (drop (i + 1) forms)) ≡ pattern_slots_faults s slots [] (members forms)
 next_faults s slots given given' forms i form slot within is inv none is_slot is_given =
     let t = tree_of form in
     let rest = members (drop (i + 1) forms) in
-    ap (λ g. slots_faults s slots g rest) (is_given ∙ ap (λ n. given ++ n ∷ []) (ap (λ (v : SlotValue). v.name) is_slot ∙ same_name s.templates slots t))
-    ∙ sym (ap (λ fs. fs ++ slots_faults s slots (given ++ slot_name t ∷ []) rest) none)
-    ∙ sym (at_drop_more (λ fs. slots_faults s slots given (members fs)) forms i form within ∙ ap (λ it. slots_faults s slots given (members (it ∷ drop (i + 1) forms))) is)
+    ap (λ g. pattern_slots_faults s slots g rest) (is_given ∙ ap (λ n. given ++ n ∷ []) (ap (λ (v : SlotValue). v.name) is_slot ∙ same_name s.templates slots t))
+    ∙ sym (ap (λ fs. fs ++ pattern_slots_faults s slots (given ++ slot_name t ∷ []) rest) none)
+    ∙ sym (at_drop_more (λ fs. pattern_slots_faults s slots given (members fs)) forms i form within ∙ ap (λ it. pattern_slots_faults s slots given (members (it ∷ drop (i + 1) forms))) is)
     ∙ inv
 
 -- the slots after one slot more

@@ -1,6 +1,6 @@
+pub mod Internal
 pub mod Members
 pub mod PatternFaults
 pub mod Patterns
 pub mod RowFaults
 pub mod Rows
-pub mod Splits

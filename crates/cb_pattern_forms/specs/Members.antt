@@ -7,19 +7,19 @@ use Rattle.cb_forms.specs.declared.token.Token.TheVariants as token
 
 -- what a check is written as: one atom, `:` and a list, `=` and a list, a list after neither, or nothing, where a check is
 -- missing after `~`
-pub data Written : Type 0 where
-  single : Token → Written
-  predicate : Tree → Written
-  return_value : Tree → Written
-  stray : Written
-  missing : Written
+pub data WrittenCheck : Type 0 where
+  single : Token → WrittenCheck
+  predicate : Tree → WrittenCheck
+  return_value : Tree → WrittenCheck
+  stray : WrittenCheck
+  missing : WrittenCheck
 
 -- a member: `?` or, if it is several, `$?`; `&`; `|`; or a check, with `~` if it is negated
 pub data Member : Type 0 where
   wildcard : Bool → Member
   both : Member
   one_of : Member
-  check : Bool → Written → Member
+  check : Bool → WrittenCheck → Member
 
 -- `~` before these members: the check that comes first is negated, and elsewhere one is missing
 abbrev pub negated : List Member → List Member

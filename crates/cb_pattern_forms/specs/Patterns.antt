@@ -1,7 +1,7 @@
 -- Which pattern forms are. Where they have a fault it is any.
 use Rattle.std.specs.Prelude.{ℕ, zero, List, [], ◌∷◌, Option, Some, None}
 use Rattle.std.specs.Option.{unwrap_or}
-use Rattle.cb_constraints.specs.PartValues.{parts_of}
+use Rattle.cb_constraints.specs.PartValues.{asked_parts}
 use Rattle.cb_constraints.specs.PatternValues.{Parts, fields, slots, PatternValue, SlotValue}
 use Rattle.cb_constraints.specs.declared.parts.Parts as program
 use Rattle.cb_forms.specs.Members.{call_of}
@@ -36,4 +36,4 @@ pattern_of templates relation ts = record { relation = relation; parts = parts_i
 
 -- the pattern that a relation and the parts of the program are
 abbrev pub pattern_value : List ℕ × program.Parts → PatternValue
-pattern_value p = record { relation = p.0; parts = parts_of p.1 }
+pattern_value p = record { relation = p.0; parts = asked_parts p.1 }

@@ -1,13 +1,13 @@
 -- What is wrong with a row of constraints, in the order in which it is looked for.
 use Rattle.std.specs.Prelude.{◌&&◌, ◌++◌, Bool, true, false, List, [], ◌∷◌}
 use Rattle.cb_expr_forms.specs.ExprFaults.{faults_of}
-use Rattle.cb_expr_forms.specs.FaultLists.{unless}
+use Rattle.cb_templates.specs.FaultLists.{unless}
 use Rattle.cb_expr_forms.specs.Scopes.{Scope}
 use Rattle.cb_forms.specs.declared.fault.Fault.{Fault}
 use Rattle.cb_forms.specs.declared.fault.Fault.TheVariants.{MalformedForm, FactDoesNotFit, NotOnLeftSide}
 use Rattle.cb_forms.specs.declared.token.Token.{Token}
 use Rattle.cb_forms.specs.declared.token.Token.TheVariants as token
-use Rattle.cb_pattern_forms.specs.Members.{Written, single, predicate, return_value, stray, missing, Member, wildcard, both, one_of, check}
+use Rattle.cb_pattern_forms.specs.Members.{WrittenCheck, single, predicate, return_value, stray, missing, Member, wildcard, both, one_of, check}
 
 -- A constant and a variable may stand alone, a global may not. A wildcard and a connective are no checks.
 abbrev pub single_faults : Token → List Fault
@@ -20,7 +20,7 @@ single_faults (token.Global name) = NotOnLeftSide ∷ []
 single_faults t = MalformedForm ∷ []
 
 -- what is wrong with a check
-abbrev pub written_faults : Scope → Written → List Fault
+abbrev pub written_faults : Scope → WrittenCheck → List Fault
 written_faults s (single t) = single_faults t
 written_faults s (predicate t) = faults_of s t
 written_faults s (return_value t) = faults_of s t

@@ -5,7 +5,7 @@ use Rattle.cb_expr_forms.specs.ExprForms.{expr_of}
 use Rattle.cb_facts.specs.declared.value.Value.TheVariants as value
 use Rattle.cb_forms.specs.declared.token.Token.{Token}
 use Rattle.cb_forms.specs.declared.token.Token.TheVariants as token
-use Rattle.cb_pattern_forms.specs.Members.{Written, Member, wildcard, both, one_of, check}
+use Rattle.cb_pattern_forms.specs.Members.{WrittenCheck, Member, wildcard, both, one_of, check}
 use Rattle.cb_pattern_forms.specs.Members as written
 use Rattle.cb_templates.specs.Templates.{Templates}
 
@@ -22,38 +22,38 @@ single_test (token.Var name) = variable name
 single_test (token.MultiVar name) = variable name
 single_test t = no_test
 
-abbrev pub test_in : Templates → Written → Test
+abbrev pub test_in : Templates → WrittenCheck → Test
 test_in templates (written.single t) = single_test t
 test_in templates (written.predicate t) = predicate (expr_of templates t)
 test_in templates (written.return_value t) = return_value (expr_of templates t)
 test_in templates w = no_test
 
-abbrev pub check_in : Templates → Bool → Written → Check
+abbrev pub check_in : Templates → Bool → WrittenCheck → Check
 check_in templates negated w = record { negated = negated; test = test_in templates w }
 
 -- the check is `$?x`, by which its constraint takes a segment
-abbrev pub is_several : Written → Bool
+abbrev pub is_several : WrittenCheck → Bool
 is_several (written.single (token.MultiVar name)) = true
 is_several w = false
 
 -- a constraint: a wildcard, or alternatives joined by `|`, each of checks joined by `&`; and whether it takes a segment
-pub data Run : Type 0 where
-  wild : Bool → Run
-  joined : Bool → List (List Check) → Run
+pub data WrittenConstraint : Type 0 where
+  wild : Bool → WrittenConstraint
+  joined : Bool → List (List Check) → WrittenConstraint
 
 -- alternatives, and checks of one more, in front of the first constraint: the checks come to those of its first alternative
-abbrev pub put_before : Bool → List (List Check) → List Check → List Run → List Run
-put_before several alternatives checks (joined more (cs ∷ others) ∷ runs) = joined (several || more) (alternatives ++ (checks ++ cs) ∷ others) ∷ runs
-put_before several alternatives checks runs = runs
+abbrev pub put_before : Bool → List (List Check) → List Check → List WrittenConstraint → List WrittenConstraint
+put_before several alternatives checks (joined more (cs ∷ others) ∷ rest) = joined (several || more) (alternatives ++ (checks ++ cs) ∷ others) ∷ rest
+put_before several alternatives checks rest = rest
 
 -- the constraints that members are
-abbrev pub runs_in : Templates → List Member → List Run
-runs_in templates [] = []
-runs_in templates (wildcard several ∷ ms) = wild several ∷ runs_in templates ms
-runs_in templates (check negated w ∷ both ∷ ms) = put_before (is_several w) [] (check_in templates negated w ∷ []) (runs_in templates ms)
-runs_in templates (check negated w ∷ one_of ∷ ms) = put_before (is_several w) ((check_in templates negated w ∷ []) ∷ []) [] (runs_in templates ms)
-runs_in templates (check negated w ∷ ms) = joined (is_several w) ((check_in templates negated w ∷ []) ∷ []) ∷ runs_in templates ms
-runs_in templates (m ∷ ms) = runs_in templates ms
+abbrev pub written_constraints : Templates → List Member → List WrittenConstraint
+written_constraints templates [] = []
+written_constraints templates (wildcard several ∷ ms) = wild several ∷ written_constraints templates ms
+written_constraints templates (check negated w ∷ both ∷ ms) = put_before (is_several w) [] (check_in templates negated w ∷ []) (written_constraints templates ms)
+written_constraints templates (check negated w ∷ one_of ∷ ms) = put_before (is_several w) ((check_in templates negated w ∷ []) ∷ []) [] (written_constraints templates ms)
+written_constraints templates (check negated w ∷ ms) = joined (is_several w) ((check_in templates negated w ∷ []) ∷ []) ∷ written_constraints templates ms
+written_constraints templates (m ∷ ms) = written_constraints templates ms
 
 -- the variable that a check is, in either form and without `~`
 abbrev pub variable_in : Bool → Test → Option (List ℕ)
@@ -75,10 +75,10 @@ demand_in (cs ∷ []) = each cs
 demand_in (cs ∷ ds ∷ more) = either (set_apart cs) (beside cs ∷ ds ∷ more)
 demand_in [] = nothing
 
-abbrev pub constraint_in : Run → Constraint
+abbrev pub constraint_in : WrittenConstraint → Constraint
 constraint_in (wild several) = record { segment = several; demand = nothing }
 constraint_in (joined several alternatives) = record { segment = several; demand = demand_in alternatives }
 
 -- the constraints of a row
 abbrev pub row_in : Templates → List Member → List Constraint
-row_in templates ms = map constraint_in (runs_in templates ms)
+row_in templates ms = map constraint_in (written_constraints templates ms)

@@ -1,10 +1,10 @@
 //! The checks of a constraint.
 ghost use Rattle.std.specs.Prelude.{◌≡◌};
-ghost use Rattle.cb_constraints.specs.Constraints.{check_of, test_of};
-ghost use Rattle.cb_expr_forms.specs.FaultLists.{Reads};
+ghost use Rattle.cb_constraints.specs.Constraints.{check_of, asked_test};
+ghost use Rattle.cb_templates.specs.FaultLists.{ReadsAs};
 ghost use Rattle.cb_pattern_forms.specs.RowFaults.{single_faults, written_faults};
 ghost use Rattle.cb_pattern_forms.specs.Rows.{check_in, single_test, test_in};
-ghost use Rattle.cb_pattern_forms.specs.Splits.{written_of};
+ghost use Rattle.cb_pattern_forms.specs.Internal.{written_of};
 
 use crate::member::Written;
 use cb_constraints::{Check, Test};
@@ -19,7 +19,7 @@ pub(crate) fn read_check(
     is_negated: bool,
     written: Written<'_>,
 ) -> Result<Check, Refused>
-    ensures { Reads check_of result (written_faults scope.now (written_of written.entry))
+    ensures { ReadsAs check_of result (written_faults scope.now (written_of written.entry))
         (check_in scope.now.templates is_negated (written_of written.entry)) }
 {
     let test = read_test(names, scope, written)?;
@@ -27,7 +27,7 @@ pub(crate) fn read_check(
 }
 
 fn read_test(names: &mut Names, scope: &Scope<'_>, written: Written<'_>) -> Result<Test, Refused>
-    ensures { Reads test_of result (written_faults scope.now (written_of written.entry))
+    ensures { ReadsAs asked_test result (written_faults scope.now (written_of written.entry))
         (test_in scope.now.templates (written_of written.entry)) }
 {
     match written {
@@ -41,7 +41,7 @@ fn read_test(names: &mut Names, scope: &Scope<'_>, written: Written<'_>) -> Resu
 
 /// The test that an atom is.
 fn read_single(names: &mut Names, token: &Token) -> Result<Test, Refused>
-    ensures { Reads test_of result (single_faults token.now) (single_test token.now) }
+    ensures { ReadsAs asked_test result (single_faults token.now) (single_test token.now) }
 {
     match token {
         Token::Var(name) | Token::MultiVar(name) => {

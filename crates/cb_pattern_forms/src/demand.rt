@@ -2,7 +2,7 @@
 ghost use Rattle.std.specs.Prelude.{◌≡◌, ◌++◌, ◌∷◌, [], None, Some, IfOk, MatchOption, map};
 ghost use Rattle.cb_constraints.specs.Constraints.{check_of, demand_of};
 ghost use Rattle.cb_pattern_forms.specs.Rows.{beside, demand_in, set_apart};
-ghost use Rattle.cb_pattern_forms.specs.Splits.{alternatives_of, checks_of};
+ghost use Rattle.cb_pattern_forms.specs.Internal.{alternatives_of, checks_of};
 
 use cb_constraints::{Check, Demand, Test};
 use cb_facts::Name;

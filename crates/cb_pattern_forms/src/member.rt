@@ -4,7 +4,7 @@ ghost use Rattle.cb_forms.specs.Members.{members};
 ghost use Rattle.cb_forms.specs.Trees.{atom, tree, tree_of};
 ghost use Rattle.cb_pattern_forms.specs.Members.{check, members_in, negated};
 ghost use Rattle.cb_pattern_forms.specs.Rows.{is_several};
-ghost use Rattle.cb_pattern_forms.specs.Splits.{IsMark, member_of, written_of};
+ghost use Rattle.cb_pattern_forms.specs.Internal.{IsMark, member_of, written_of};
 
 use cb_forms::{Form, Token};
 
@@ -69,19 +69,9 @@ fn split_check<'a>(first: &'a Form, following: &'a [Form]) -> Option<(Written<'a
         ≡ check false (written_of split.0) ∷ members_in (members split.1.now)) }
     ensures shorter { IfSome result (λ split. length split.1.now ≤ length following.now) }
 {
-    match first {
-        Form::List(_) => Some((Written::Stray, following)),
-        Form::Atom(token) => split_token(token, following),
-    }
-}
-
-/// The same where the first form is an atom.
-fn split_token<'a>(token: &'a Token, following: &'a [Form]) -> Option<(Written<'a>, &'a [Form])>
-    ensures check { MatchOption result (IsMark (atom token.now))
-        (λ split. members_in (tree (atom token.now) (members following.now))
-        ≡ check false (written_of split.0) ∷ members_in (members split.1.now)) }
-    ensures shorter { IfSome result (λ split. length split.1.now ≤ length following.now) }
-{
+    let Form::Atom(token) = first else {
+        return Some((Written::Stray, following));
+    };
     match token {
         Token::Symbol(name) => Some(split_symbol(token, name.as_slice(), following)),
         Token::Any | Token::MultiAny | Token::And | Token::Or | Token::Not => None,

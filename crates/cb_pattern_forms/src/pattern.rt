@@ -1,11 +1,11 @@
 //! Patterns as they are written.
 ghost use Rattle.std.specs.Prelude.{◌≡◌, [], map};
 ghost use Rattle.cb_constraints.specs.Constraints.{constraint_of};
-ghost use Rattle.cb_constraints.specs.PartValues.{slot_of};
-ghost use Rattle.cb_expr_forms.specs.FaultLists.{Reads};
+ghost use Rattle.cb_constraints.specs.PartValues.{asked_slot};
+ghost use Rattle.cb_templates.specs.FaultLists.{ReadsAs};
 ghost use Rattle.cb_forms.specs.Members.{members};
 ghost use Rattle.cb_forms.specs.Trees.{tree_of};
-ghost use Rattle.cb_pattern_forms.specs.PatternFaults.{filling_faults, pattern_faults, slot_faults, slots_faults, take_one};
+ghost use Rattle.cb_pattern_forms.specs.PatternFaults.{slot_row_faults, pattern_faults, pattern_slot_faults, pattern_slots_faults, take_one};
 ghost use Rattle.cb_pattern_forms.specs.Members.{members_in};
 ghost use Rattle.cb_pattern_forms.specs.Rows.{row_in};
 ghost use Rattle.cb_pattern_forms.specs.Patterns.{pattern_of, pattern_value, slot_in, slots_in};
@@ -28,7 +28,7 @@ pub fn read_pattern(
     relation: &[u8],
     forms: &[Form],
 ) -> Result<(Name, Parts), Refused>
-    ensures { Reads pattern_value result
+    ensures { ReadsAs pattern_value result
         (pattern_faults scope.now relation.now (members forms.now))
         (pattern_of scope.now.templates relation.now (members forms.now)) }
 {
@@ -52,8 +52,8 @@ fn read_slots(
     template: &Template,
     forms: &[Form],
 ) -> Result<Vec<SlotRow>, Refused>
-    ensures { Reads (λ slots. map slot_of slots.items) result
-        (slots_faults scope.now template.now [] (members forms.now))
+    ensures { ReadsAs (λ slots. map asked_slot slots.items) result
+        (pattern_slots_faults scope.now template.now [] (members forms.now))
         (slots_in scope.now.templates template.now (members forms.now)) }
 {
     let mut given = NameList::new(names.alloc());
@@ -74,8 +74,8 @@ fn read_slot(
     given: &NameList,
     form: &Form,
 ) -> Result<SlotRow, Refused>
-    ensures { Reads slot_of result
-        (slot_faults scope.now template.now given.now (tree_of form.now))
+    ensures { ReadsAs asked_slot result
+        (pattern_slot_faults scope.now template.now given.now (tree_of form.now))
         (slot_in scope.now.templates template.now (tree_of form.now)) }
 {
     let Some((name, forms)) = form.call() else {
@@ -102,8 +102,8 @@ fn read_filling(
     is_multi: bool,
     forms: &[Form],
 ) -> Result<Row, Refused>
-    ensures { Reads (λ row. row) result
-        (filling_faults scope.now is_multi (members forms.now))
+    ensures { ReadsAs (λ row. row) result
+        (slot_row_faults scope.now is_multi (members forms.now))
         (row_in scope.now.templates (members_in (members forms.now))) }
 {
     let constraints = read_row(names, scope, forms)?;

@@ -1,14 +1,14 @@
 //! Rows of constraints as they are written.
 ghost use Rattle.std.specs.Prelude.{◌≡◌, ◌<◌, ◌∷◌, [], Some, false, IfOk, IfSome, MatchOption, MatchResult, OnOk, length, map};
 ghost use Rattle.cb_constraints.specs.Constraints.{constraint_of, nothing};
-ghost use Rattle.cb_expr_forms.specs.FaultLists.{Reads, first_of};
+ghost use Rattle.cb_templates.specs.FaultLists.{ReadsAs, first_of};
 ghost use Rattle.cb_facts.specs.Results.{Tells};
 ghost use Rattle.cb_forms.specs.Members.{members};
 ghost use Rattle.cb_pattern_forms.specs.Members.{check, members_in};
 ghost use Rattle.cb_pattern_forms.specs.PatternFaults.{constraints_faults};
 ghost use Rattle.cb_pattern_forms.specs.RowFaults.{begins_with_check};
 ghost use Rattle.cb_pattern_forms.specs.Rows.{row_in};
-ghost use Rattle.cb_pattern_forms.specs.Splits.{BeginsWith, EndsConstraint, IsConnected, alternatives_of, checks_faults, checks_of, connective_of, written_of};
+ghost use Rattle.cb_pattern_forms.specs.Internal.{StartsWithConstraint, EndsConstraint, IsConnected, alternatives_of, checks_faults, checks_of, connective_of, written_of};
 
 use crate::check::read_check;
 use crate::demand::demand;
@@ -26,7 +26,7 @@ pub(crate) fn read_row(
     scope: &Scope<'_>,
     forms: &[Form],
 ) -> Result<Vec<Constraint>, Refused>
-    ensures { Reads (λ cs. map constraint_of cs.items) result
+    ensures { ReadsAs (λ cs. map constraint_of cs.items) result
         (constraints_faults scope.now (members forms.now))
         (row_in scope.now.templates (members_in (members forms.now))) }
 {
@@ -47,7 +47,7 @@ fn read_next<'a>(
 ) -> Result<Option<(Constraint, &'a [Form])>, Refused>
     ensures next { MatchResult result
         (λ next. MatchOption next (members_in (members forms.now) ≡ [])
-        (λ split. BeginsWith scope.now
+        (λ split. StartsWithConstraint scope.now
         (first_of (constraints_faults scope.now (members forms.now)))
         (members_in (members forms.now)) (constraint_of split.0) (members_in (members split.1.now))))
         (λ r. Tells r (λ f. first_of (constraints_faults scope.now (members forms.now)) ≡ Some f)) }
@@ -80,7 +80,7 @@ fn read_constraint<'a>(
     forms: &'a [Form],
 ) -> Result<(Constraint, &'a [Form]), Refused>
     ensures constraint { MatchResult result
-        (λ split. BeginsWith scope.now
+        (λ split. StartsWithConstraint scope.now
         (first_of (checks_faults scope.now (members_in (members forms.now))))
         (members_in (members forms.now)) (constraint_of split.0) (members_in (members split.1.now)))
         (λ r. Tells r (λ f. first_of (checks_faults scope.now (members_in (members forms.now)))

@@ -1,14 +1,14 @@
 -- Items and what they ask for, worked out by hand from the rules.
 use Prim.Native.String.{String}
-use Rattle.std.proofs.Common.{◌≡◌, ℕ, pos, List, [], ◌∷◌, Result, Ok, Err, None, codes, refl}
+use Rattle.std.proofs.Common.{◌≡◌, ℕ, true, false, pos, List, [], ◌∷◌, Result, Ok, Err, Some, None, codes, refl}
 use Rattle.cb_exprs.specs.Bindings.{Bindings}
 use Rattle.cb_exprs.specs.Terms.{Term, constant, variable, global, call, bind, terms}
 use Rattle.cb_facts.specs.declared.value.Value.TheVariants as value
 use Rattle.cb_forms.specs.Trees.{Tree, atom, branch, trees_of}
 use Rattle.cb_forms.specs.declared.fault.Fault.{Fault}
-use Rattle.cb_forms.specs.declared.fault.Fault.TheVariants.{UnknownFunction, WrongArguments, MalformedForm, FactDoesNotFit, UnboundVariable, UnknownGlobal, NotInProfile, UnmatchedParenthesis}
+use Rattle.cb_forms.specs.declared.fault.Fault.TheVariants.{UnknownFunction, WrongArguments, MalformedForm, FactDoesNotFit, UnboundVariable, UnknownGlobal, NotInProfile, TemplateInUse, UnmatchedParenthesis}
 use Rattle.cb_forms.specs.declared.token.Token.TheVariants as token
-use Rattle.cb_requests.specs.Requests.{Request, act, define_deffacts, define_globals, reset, request_of}
+use Rattle.cb_requests.specs.Requests.{Request, act, define_deffacts, define_globals, define_template, reset, request_of}
 use Rattle.cb_templates.specs.Reserved.{is_reserved}
 use Rattle.cb_words.specs.Words.{head_of}
 use Rattle.cb_words.specs.declared.function.Function.TheVariants as function
@@ -45,7 +45,7 @@ bindings = record {
 
 -- what a form asks for there, where there is no template
 abbrev asked : Tree → Result Request Fault
-asked t = request_of [] bindings (Ok t)
+asked t = request_of [] bindings (λ _. false) (Ok t)
 
 -- (defglobal ?*a* = (bogus) ?*b*): an expression is read before the shape of the next global
 expression_before_next_shape : asked (form "defglobal" (glob "a" ∷ word "=" ∷ form "bogus" [] ∷ glob "b" ∷ [])) ≡ Err UnknownFunction
@@ -153,5 +153,28 @@ wildcard : asked (atom token.Any) ≡ Err MalformedForm
 wildcard = refl
 
 -- a bad item has its own fault
-bad_item : request_of [] bindings (Err UnmatchedParenthesis) ≡ Err UnmatchedParenthesis
+bad_item : request_of [] bindings (λ _. false) (Err UnmatchedParenthesis) ≡ Err UnmatchedParenthesis
 bad_item = refl
+
+-- what a form asks for where every relation is in use
+abbrev asked_in_use : Tree → Result Request Fault
+asked_in_use t = request_of [] bindings (λ _. true) (Ok t)
+
+-- (deftemplate and x), (deftemplate p x): of a relation in use the name comes first, and the slots come last
+reserved_first : asked_in_use (form "deftemplate" (word "and" ∷ word "x" ∷ [])) ≡ Err MalformedForm
+unfolding head_of is_reserved
+reserved_first = refl
+
+used_before_slots : asked_in_use (form "deftemplate" (word "p" ∷ word "x" ∷ [])) ≡ Err TemplateInUse
+unfolding head_of is_reserved
+used_before_slots = refl
+
+-- (deftemplate p x), (deftemplate p "a comment" (slot a))
+no_slot : asked (form "deftemplate" (word "p" ∷ word "x" ∷ [])) ≡ Err MalformedForm
+unfolding head_of is_reserved
+no_slot = refl
+
+template_read : asked (form "deftemplate" (word "p" ∷ text "a comment" ∷ form "slot" (word "a" ∷ []) ∷ []))
+    ≡ Ok (define_template (codes "p", record { name = codes "a"; is_multi = false; types = None; default = Some (value.Symbol (codes "nil")) } ∷ []))
+unfolding head_of is_reserved
+template_read = refl

@@ -8,8 +8,9 @@ use Rattle.cb_exprs.specs.Terms.{Term}
 use Rattle.cb_facts.specs.Results.{ok_then, with_first}
 use Rattle.cb_forms.specs.Trees.{Trees, no_trees, tree}
 use Rattle.cb_forms.specs.declared.fault.Fault.{Fault}
-use Rattle.cb_requests.specs.Laws.{names_in}
-use Rattle.cb_requests.specs.Reads.{expr_in, global_then, globals_in, name_given, plain_scope}
+use Rattle.cb_expr_forms.specs.Scopes.{plain_scope}
+use Rattle.cb_requests.specs.Laws.{global_names}
+use Rattle.cb_requests.specs.Reads.{expr_in, global_then, globals_in, name_given}
 use Rattle.cb_templates.specs.Templates.{Templates}
 
 abbrev Globals : Type 0
@@ -29,30 +30,30 @@ one_more g gs (Err f) = refl
 
 after_one : (name : List ℕ) (e : Term) (given : List (List ℕ)) (r s : Globals) (others : List (List ℕ) → Globals) (gs : List GlobalTerm)
     → with_first (Ok (name, e)) r ≡ Ok gs
-    → ((hs : List GlobalTerm) → r ≡ Ok hs → s ≡ these_and hs (others ((given ++ name ∷ []) ++ names_in hs)))
-    → with_first (Ok (name, e)) s ≡ these_and gs (others (given ++ names_in gs))
+    → ((hs : List GlobalTerm) → r ≡ Ok hs → s ≡ these_and hs (others ((given ++ name ∷ []) ++ global_names hs)))
+    → with_first (Ok (name, e)) s ≡ these_and gs (others (given ++ global_names gs))
 after_one name e given (Err f) s others gs h next = absurd (cc)
 after_one name e given (Ok hs) s others gs h next =
     let g : GlobalTerm = (name, e) in
     let is : (g ∷ hs) ≡ gs = cc in
-    subst (λ (all : List GlobalTerm). with_first (Ok g) s ≡ these_and all (others (given ++ names_in all))) is
-    (ap (λ (r : Globals). with_first (Ok g) r) (next hs refl ∙ ap (λ known. these_and hs (others known)) (append_assoc given (name ∷ []) (names_in hs)))
-    ∙ one_more g hs (others (given ++ name ∷ names_in hs)))
+    subst (λ (all : List GlobalTerm). with_first (Ok g) s ≡ these_and all (others (given ++ global_names all))) is
+    (ap (λ (r : Globals). with_first (Ok g) r) (next hs refl ∙ ap (λ known. these_and hs (others known)) (append_assoc given (name ∷ []) (global_names hs)))
+    ∙ one_more g hs (others (given ++ name ∷ global_names hs)))
 
 after_global : (o : Option (List ℕ)) (r : Result Term Fault) (given : List (List ℕ)) (alone followed : List ℕ → Globals) (others : List (List ℕ) → Globals) (gs : List GlobalTerm)
     → global_then o r alone ≡ Ok gs
-    → ((name : List ℕ) (hs : List GlobalTerm) → alone name ≡ Ok hs → followed name ≡ these_and hs (others ((given ++ name ∷ []) ++ names_in hs)))
-    → global_then o r followed ≡ these_and gs (others (given ++ names_in gs))
+    → ((name : List ℕ) (hs : List GlobalTerm) → alone name ≡ Ok hs → followed name ≡ these_and hs (others ((given ++ name ∷ []) ++ global_names hs)))
+    → global_then o r followed ≡ these_and gs (others (given ++ global_names gs))
 after_global None r given alone followed others gs h next = absurd (cc)
 after_global (Some name) (Err f) given alone followed others gs h next = absurd (cc)
 after_global (Some name) (Ok e) given alone followed others gs h next = after_one name e given (alone name) (followed name) others gs h (next name)
 
 pub globals_followed : (templates : Templates) (env : Bindings) (given : List (List ℕ)) (ts us : Trees) (gs : List GlobalTerm)
     → globals_in templates env given ts ≡ Ok gs
-    → globals_in templates env given (followed_by ts us) ≡ ok_then (λ more. gs ++ more) (globals_in templates env (given ++ names_in gs) us)
+    → globals_in templates env given (followed_by ts us) ≡ ok_then (λ more. gs ++ more) (globals_in templates env (given ++ global_names gs) us)
 globals_followed templates env given no_trees us gs h =
     let is : [] ≡ gs = cc in
-    subst (λ (all : List GlobalTerm). globals_in templates env given us ≡ these_and all (globals_in templates env (given ++ names_in all) us)) is
+    subst (λ (all : List GlobalTerm). globals_in templates env given us ≡ these_and all (globals_in templates env (given ++ global_names all) us)) is
     (sym (these_and_none (globals_in templates env given us)) ∙ ap (λ known. these_and [] (globals_in templates env known us)) (sym (append-nil given)))
 globals_followed templates env given (tree first no_trees) us gs h = absurd (cc)
 globals_followed templates env given (tree first (tree word no_trees)) us gs h = absurd (cc)

@@ -3,8 +3,9 @@ use Rattle.std.proofs.Common.{◌≡◌, ◌∙◌, ◌++◌, ℕ, List, [], ◌
 use Rattle.cb_forms.specs.Members.{members}
 use Rattle.cb_forms.specs.Trees.{Tree, tree, tree_of}
 use Rattle.cb_forms.specs.declared.form.Form.{Form}
-use Rattle.cb_requests.specs.Reads.{expr_in, global_then, globals_in, name_given, plain_scope}
-use Rattle.cb_requests.specs.Splits.{IsGlobal}
+use Rattle.cb_expr_forms.specs.Scopes.{plain_scope}
+use Rattle.cb_requests.specs.Reads.{expr_in, global_then, globals_in, name_given}
+use Rattle.cb_requests.specs.Internal.{IsGlobal}
 
 pub is_global : (first : Tree) (forms rest others : List Form) (word form : Form) (name : List ℕ)
     → forms ≡ word ∷ rest → rest ≡ form ∷ others → name_given first (tree_of word) ≡ Some name → IsGlobal first (members forms) name (tree_of form) (members others)

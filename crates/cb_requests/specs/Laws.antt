@@ -3,5 +3,5 @@ use Rattle.std.specs.Prelude.{ℕ, List, map}
 use Rattle.cb_exprs.specs.GlobalTerms.{GlobalTerm}
 
 -- the names of globals, in order
-abbrev pub names_in : List GlobalTerm → List (List ℕ)
-names_in globals = map (λ g. g.0) globals
+abbrev pub global_names : List GlobalTerm → List (List ℕ)
+global_names globals = map (λ g. g.0) globals

@@ -1,4 +1,5 @@
+pub mod Internal
 pub mod Laws
 pub mod Reads
 pub mod Requests
-pub mod Splits
+pub mod Uses

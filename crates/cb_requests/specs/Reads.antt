@@ -1,10 +1,10 @@
 -- Expressions, facts and global variables where they stand in a script, or their first faults.
 use Rattle.std.specs.Prelude.{ℕ, List, [], ◌∷◌, ◌++◌, Option, Some, None, Result, Ok, Err, codes, if◌then◌else◌}
 use Rattle.cb_expr_forms.specs.Bound.{bound_in}
-use Rattle.cb_expr_forms.specs.ExprFaults.{faults_of, fact_faults, is_symbol}
+use Rattle.cb_expr_forms.specs.ExprFaults.{faults_of, fact_faults, is_this_symbol}
 use Rattle.cb_expr_forms.specs.ExprForms.{expr_of, fact_of}
-use Rattle.cb_expr_forms.specs.FaultLists.{unless_faulty}
-use Rattle.cb_expr_forms.specs.Scopes.{Scope, names_of}
+use Rattle.cb_templates.specs.FaultLists.{unless_faulty}
+use Rattle.cb_expr_forms.specs.Scopes.{Scope, names_of, plain_scope}
 use Rattle.cb_expr_forms.specs.declared.scope.Side.TheVariants as side
 use Rattle.cb_exprs.specs.Bindings.{Bindings}
 use Rattle.cb_exprs.specs.FactTerms.{FactTerm}
@@ -17,13 +17,9 @@ use Rattle.cb_forms.specs.declared.fault.Fault.TheVariants.{MalformedForm}
 use Rattle.cb_forms.specs.declared.token.Token.TheVariants as token
 use Rattle.cb_templates.specs.Templates.{Templates}
 
--- a form at the top level: a variable is known that has a value or that a `bind` anywhere in the form names
+-- at the top level the known variables are those that have a value and those that a `bind` anywhere in the form names
 abbrev pub top_scope : Templates → Bindings → Tree → Scope
 top_scope templates env t = record { side = side.Top; variables = names_of env.variables ++ bound_in t; globals = names_of env.globals; templates = templates }
-
--- in a construct: no variable is known, and besides the globals that have a value these, which the construct has given
-abbrev pub plain_scope : Templates → Bindings → List (List ℕ) → Scope
-plain_scope templates env given = record { side = side.Plain; variables = []; globals = names_of env.globals ++ given; templates = templates }
 
 -- the expression that a form is, or its first fault
 abbrev pub expr_in : Scope → Tree → Result Term Fault
@@ -40,7 +36,7 @@ facts_in s (tree t ts) = with_first (fact_in s t) (facts_in s ts)
 
 -- the name of a global that is given: `?*name*`, and then `=`
 abbrev pub name_given : Tree → Tree → Option (List ℕ)
-name_given (atom (token.Global name)) word = if is_symbol (codes "=") word then Some name else None
+name_given (atom (token.Global name)) word = if is_this_symbol (codes "=") word then Some name else None
 name_given first word = None
 
 -- a global by its name, if its shape is right, with its expression, and the globals after it

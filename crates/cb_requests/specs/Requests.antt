@@ -1,17 +1,22 @@
 -- What an item of a script asks for, or its first fault.
-use Rattle.std.specs.Prelude.{ℕ, List, [], Option, Some, None, Result, Ok, Err}
+use Rattle.std.specs.Prelude.{ℕ, Bool, List, [], Option, Some, None, Result, Ok, Err}
 use Rattle.cb_exprs.specs.Bindings.{Bindings}
 use Rattle.cb_exprs.specs.FactTerms.{FactTerm}
 use Rattle.cb_exprs.specs.GlobalTerms.{GlobalTerm}
 use Rattle.cb_exprs.specs.Terms.{Term, term_of}
 use Rattle.cb_facts.specs.Results.{ok_then}
-use Rattle.cb_forms.specs.Members.{call_of, head_and_rest, members}
+use Rattle.cb_forms.specs.Members.{call_of, head_and_rest}
 use Rattle.cb_forms.specs.Trees.{Tree, Trees, no_trees, tree, Reading}
 use Rattle.cb_forms.specs.declared.fault.Fault.{Fault}
 use Rattle.cb_forms.specs.declared.fault.Fault.TheVariants.{WrongArguments, MalformedForm}
-use Rattle.cb_requests.specs.Reads.{top_scope, plain_scope, expr_in, facts_in, globals_in}
+use Rattle.cb_expr_forms.specs.Scopes.{plain_scope}
+use Rattle.cb_requests.specs.Reads.{top_scope, expr_in, facts_in, globals_in}
 use Rattle.cb_requests.specs.declared.command.Command.{Command}
 use Rattle.cb_requests.specs.declared.command.Command.TheVariants as program
+use Rattle.cb_templates.specs.FaultLists.{unless_faulty}
+use Rattle.cb_templates.specs.Slots.{SlotShape}
+use Rattle.cb_templates.specs.TemplateFaults.{template_faults}
+use Rattle.cb_templates.specs.TemplateShapes.{template_shape}
 use Rattle.cb_templates.specs.Templates.{Templates, without_comment}
 use Rattle.cb_words.specs.Words.{head_of}
 use Rattle.cb_words.specs.declared.head.Command.{Command as Word}
@@ -25,8 +30,8 @@ use Rattle.cb_words.specs.declared.head.Head.TheVariants as head
 pub data Request : Type 0 where
   -- to carry out an expression, and to show its value
   act : Term → Request
-  -- to define the template that is written after `deftemplate`
-  define_template : Trees → Request
+  -- to define a template: its relation's name, and its slots
+  define_template : List ℕ × List SlotShape → Request
   -- to keep facts under a name for `reset`
   define_deffacts : List ℕ → List FactTerm → Request
   -- to define globals, one after another
@@ -38,7 +43,7 @@ pub data Request : Type 0 where
 -- what a `Command` of the program asks for
 abbrev pub request_by : Command → Request
 request_by (program.Act expr) = act (term_of expr)
-request_by (program.DefineTemplate forms) = define_template (members forms.now)
+request_by (program.DefineTemplate name template) = define_template (name, template)
 request_by (program.DefineDeffacts name facts) = define_deffacts name facts.items
 request_by (program.DefineGlobals globals) = define_globals globals.items
 request_by program.ListFacts = list_facts
@@ -54,15 +59,19 @@ abbrev pub deffacts_request : Templates → Bindings → Option (List ℕ × Tre
 deffacts_request templates env None = Err MalformedForm
 deffacts_request templates env (Some (name, ts)) = ok_then (define_deffacts name) (facts_in (plain_scope templates env []) (without_comment ts))
 
--- `(defglobal ?*name* = expression ..)`, by what follows its head: any number
+-- `(defglobal ?*name* = expression ..)`, by what follows its head: any number of globals, or none
 abbrev pub globals_request : Templates → Bindings → Trees → Result Request Fault
 globals_request templates env ts = ok_then define_globals (globals_in templates env [] ts)
 
+-- `(deftemplate name "comment" slot ..)`, by what follows its head
+abbrev pub template_request : (List ℕ → Bool) → Trees → Result Request Fault
+template_request in_use ts = ok_then define_template (unless_faulty (template_faults in_use ts) (template_shape ts))
+
 -- a construct, by what follows its head
-abbrev pub construct_request : Templates → Bindings → Construct → Trees → Result Request Fault
-construct_request templates env construct.Deftemplate ts = Ok (define_template ts)
-construct_request templates env construct.Deffacts ts = deffacts_request templates env (head_and_rest ts)
-construct_request templates env construct.Defglobal ts = globals_request templates env ts
+abbrev pub construct_request : Templates → Bindings → (List ℕ → Bool) → Construct → Trees → Result Request Fault
+construct_request templates env in_use construct.Deftemplate ts = template_request in_use ts
+construct_request templates env in_use construct.Deffacts ts = deffacts_request templates env (head_and_rest ts)
+construct_request templates env in_use construct.Defglobal ts = globals_request templates env ts
 
 abbrev pub named_request : Word → Request
 named_request word.Facts = list_facts
@@ -74,22 +83,22 @@ abbrev pub command_request : Word → Trees → Result Request Fault
 command_request name no_trees = Ok (named_request name)
 command_request name (tree t ts) = Err WrongArguments
 
--- a list, by what the symbol that it begins with names and by what follows that
-abbrev pub headed_request : Templates → Bindings → Tree → Option Head → Trees → Result Request Fault
-headed_request templates env t (Some (head.Construct name)) ts = construct_request templates env name ts
-headed_request templates env t (Some (head.Command name)) ts = command_request name ts
-headed_request templates env t h ts = act_request templates env t
+-- a list that begins with a symbol, by what that symbol names and what follows it
+abbrev pub headed_request : Templates → Bindings → (List ℕ → Bool) → Tree → Option Head → Trees → Result Request Fault
+headed_request templates env in_use t (Some (head.Construct name)) ts = construct_request templates env in_use name ts
+headed_request templates env in_use t (Some (head.Command name)) ts = command_request name ts
+headed_request templates env in_use t h ts = act_request templates env t
 
--- a form, by the symbol that it begins with, where it is such a list
-abbrev pub called_request : Templates → Bindings → Tree → Option (List ℕ × Trees) → Result Request Fault
-called_request templates env t None = act_request templates env t
-called_request templates env t (Some (name, ts)) = headed_request templates env t (head_of name) ts
+-- a form, by the symbol that it begins with if it is a list with one
+abbrev pub called_request : Templates → Bindings → (List ℕ → Bool) → Tree → Option (List ℕ × Trees) → Result Request Fault
+called_request templates env in_use t None = act_request templates env t
+called_request templates env in_use t (Some (name, ts)) = headed_request templates env in_use t (head_of name) ts
 
 -- a construct, a command or an expression
-abbrev pub form_request : Templates → Bindings → Tree → Result Request Fault
-form_request templates env t = called_request templates env t (call_of t)
+abbrev pub form_request : Templates → Bindings → (List ℕ → Bool) → Tree → Result Request Fault
+form_request templates env in_use t = called_request templates env in_use t (call_of t)
 
--- an item, where these relations have a template and these variables and globals a value
-abbrev pub request_of : Templates → Bindings → Reading → Result Request Fault
-request_of templates env (Ok t) = form_request templates env t
-request_of templates env (Err f) = Err f
+-- an item, where these relations have a template, these variables and globals a value, and these relations are in use
+abbrev pub request_of : Templates → Bindings → (List ℕ → Bool) → Reading → Result Request Fault
+request_of templates env in_use (Ok t) = form_request templates env in_use t
+request_of templates env in_use (Err f) = Err f

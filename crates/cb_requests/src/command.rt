@@ -2,24 +2,26 @@
 ghost use Rattle.cb_facts.specs.Results.{Settles};
 ghost use Rattle.cb_forms.specs.Members.{head_and_rest, members};
 ghost use Rattle.cb_forms.specs.Trees.{reading_of, tree_of};
-ghost use Rattle.cb_requests.specs.Requests.{act_request, command_request, construct_request, deffacts_request, form_request, globals_request, request_by, request_of};
+ghost use Rattle.cb_requests.specs.Requests.{act_request, command_request, construct_request, deffacts_request, form_request, globals_request, request_by, request_of, template_request};
+ghost use Rattle.cb_requests.specs.Uses.{is_in_use};
 
 use crate::fact_list::read_kept_facts;
 use crate::global_list::read_globals;
+use crate::known::Known;
 use crate::top_expr::read_top;
-use cb_exprs::{Env, Expr, FactExpr, GlobalExpr};
+use cb_exprs::{Expr, FactExpr, GlobalExpr};
 use cb_facts::{Name, Names, Refused};
 use cb_forms::{Fault, Form, Item, split_head};
-use cb_templates::{Relations, without_comment};
+use cb_templates::{Template, read_template, without_comment};
 use cb_words::{Command as Word, Construct, Head, read_head};
 
 /// What an item asks for.
 #[derive(Drop)]
-pub enum Command<'a> {
+pub enum Command {
     /// To carry out an expression, and to show its value.
     Act(Expr),
-    /// To define the template that these forms are, which follow `deftemplate`.
-    DefineTemplate(&'a [Form]),
+    /// To define a template for a relation.
+    DefineTemplate(Name, Template),
     /// To keep facts under a name for `reset`.
     DefineDeffacts(Name, Vec<FactExpr>),
     /// To define globals, one after another.
@@ -32,56 +34,41 @@ pub enum Command<'a> {
     Clear,
 }
 
-/// The command that an item is, where these relations have a template and these variables and globals a value, or its
-/// first fault (`docs/LANGUAGE.md`, "Faults").
-pub fn read_command<'a>(
-    names: &mut Names,
-    relations: &Relations,
-    env: &Env,
-    item: &'a Item,
-) -> Result<Command<'a>, Refused>
-    ensures { Settles request_by result (request_of relations.now env.now (reading_of item.now)) }
+/// The command that an item is, by what there is, or its first fault (`docs/LANGUAGE.md`, "Faults").
+pub fn read_command(names: &mut Names, known: &Known<'_>, item: &Item) -> Result<Command, Refused>
+    ensures { Settles request_by result (request_of known.now.relations.now known.now.env.now
+        (is_in_use known.now.memory.now known.now.deffacts.now) (reading_of item.now)) }
 {
     match item {
-        Item::Form(form) => read_form(names, relations, env, form),
+        Item::Form(form) => read_form(names, known, form),
         Item::Bad(fault) => Err(Refused::Fault(*fault)),
     }
 }
 
-fn read_form<'a>(
-    names: &mut Names,
-    relations: &Relations,
-    env: &Env,
-    form: &'a Form,
-) -> Result<Command<'a>, Refused>
-    ensures { Settles request_by result (form_request relations.now env.now (tree_of form.now)) }
+fn read_form(names: &mut Names, known: &Known<'_>, form: &Form) -> Result<Command, Refused>
+    ensures { Settles request_by result (form_request known.now.relations.now known.now.env.now
+        (is_in_use known.now.memory.now known.now.deffacts.now) (tree_of form.now)) }
 {
     let Some((name, args)) = form.call() else {
-        return read_act(names, relations, env, form);
+        return read_act(names, known, form);
     };
     match read_head(name) {
-        Some(Head::Construct(construct)) => {
-            read_construct(names, relations, env, construct, args)
-        }
+        Some(Head::Construct(construct)) => read_construct(names, known, construct, args),
         Some(Head::Command(word)) => read_bare(word, args),
-        _ => read_act(names, relations, env, form),
+        _ => read_act(names, known, form),
     }
 }
 
 /// An expression.
-fn read_act<'a>(
-    names: &mut Names,
-    relations: &Relations,
-    env: &Env,
-    form: &Form,
-) -> Result<Command<'a>, Refused>
-    ensures { Settles request_by result (act_request relations.now env.now (tree_of form.now)) }
+fn read_act(names: &mut Names, known: &Known<'_>, form: &Form) -> Result<Command, Refused>
+    ensures { Settles request_by result
+        (act_request known.now.relations.now known.now.env.now (tree_of form.now)) }
 {
-    Ok(Command::Act(read_top(names, relations, env, form)?))
+    Ok(Command::Act(read_top(names, known.relations, known.env, form)?))
 }
 
 /// A command, which takes no arguments.
-fn read_bare<'a>(word: Word, args: &'a [Form]) -> Result<Command<'a>, Refused>
+fn read_bare(word: Word, args: &[Form]) -> Result<Command, Refused>
     ensures { Settles request_by result (command_request word (members args.now)) }
 {
     if let Some(_) = args.split_first() {
@@ -94,47 +81,50 @@ fn read_bare<'a>(word: Word, args: &'a [Form]) -> Result<Command<'a>, Refused>
     }
 }
 
-fn read_construct<'a>(
+fn read_construct(
     names: &mut Names,
-    relations: &Relations,
-    env: &Env,
+    known: &Known<'_>,
     construct: Construct,
-    args: &'a [Form],
-) -> Result<Command<'a>, Refused>
+    args: &[Form],
+) -> Result<Command, Refused>
     ensures { Settles request_by result
-        (construct_request relations.now env.now construct (members args.now)) }
+        (construct_request known.now.relations.now known.now.env.now
+        (is_in_use known.now.memory.now known.now.deffacts.now) construct (members args.now)) }
 {
     match construct {
-        Construct::Deftemplate => Ok(Command::DefineTemplate(args)),
-        Construct::Deffacts => read_deffacts(names, relations, env, args),
-        Construct::Defglobal => read_defglobal(names, relations, env, args),
+        Construct::Deftemplate => read_deftemplate(names, known, args),
+        Construct::Deffacts => read_deffacts(names, known, args),
+        Construct::Defglobal => read_defglobal(names, known, args),
     }
 }
 
-fn read_deffacts<'a>(
-    names: &mut Names,
-    relations: &Relations,
-    env: &Env,
-    args: &'a [Form],
-) -> Result<Command<'a>, Refused>
+fn read_deftemplate(names: &mut Names, known: &Known<'_>, args: &[Form]) -> Result<Command, Refused>
+    ensures { Settles request_by result (template_request
+        (is_in_use known.now.memory.now known.now.deffacts.now) (members args.now)) }
+{
+    let Some((relation, _)) = split_head(args) else {
+        return Err(Refused::Fault(Fault::MalformedForm));
+    };
+    let in_use = known.is_in_use(&names.name(relation)?);
+    let (relation, template) = read_template(names, args, in_use)?;
+    Ok(Command::DefineTemplate(relation, template))
+}
+
+fn read_deffacts(names: &mut Names, known: &Known<'_>, args: &[Form]) -> Result<Command, Refused>
     ensures { Settles request_by result
-        (deffacts_request relations.now env.now (head_and_rest (members args.now))) }
+        (deffacts_request known.now.relations.now known.now.env.now
+        (head_and_rest (members args.now))) }
 {
     let Some((name, forms)) = split_head(args) else {
         return Err(Refused::Fault(Fault::MalformedForm));
     };
-    let facts = read_kept_facts(names, relations, env, without_comment(forms))?;
+    let facts = read_kept_facts(names, known.relations, known.env, without_comment(forms))?;
     Ok(Command::DefineDeffacts(names.name(name)?, facts))
 }
 
-fn read_defglobal<'a>(
-    names: &mut Names,
-    relations: &Relations,
-    env: &Env,
-    args: &'a [Form],
-) -> Result<Command<'a>, Refused>
+fn read_defglobal(names: &mut Names, known: &Known<'_>, args: &[Form]) -> Result<Command, Refused>
     ensures { Settles request_by result
-        (globals_request relations.now env.now (members args.now)) }
+        (globals_request known.now.relations.now known.now.env.now (members args.now)) }
 {
-    Ok(Command::DefineGlobals(read_globals(names, relations, env, args)?))
+    Ok(Command::DefineGlobals(read_globals(names, known.relations, known.env, args)?))
 }

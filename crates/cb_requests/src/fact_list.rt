@@ -3,7 +3,8 @@ ghost use Rattle.std.specs.Prelude.{[]};
 ghost use Rattle.cb_facts.specs.Results.{Returns, Settles};
 ghost use Rattle.cb_forms.specs.Members.{members};
 ghost use Rattle.cb_forms.specs.Trees.{tree_of};
-ghost use Rattle.cb_requests.specs.Reads.{fact_in, facts_in, plain_scope};
+ghost use Rattle.cb_expr_forms.specs.Scopes.{plain_scope};
+ghost use Rattle.cb_requests.specs.Reads.{fact_in, facts_in};
 
 use cb_expr_forms::{NameList, Scope, Side, read_fact};
 use cb_exprs::{Env, FactExpr};
@@ -33,7 +34,7 @@ pub(crate) fn read_kept_facts(
 }
 
 /// The same in any scope.
-#[tactic(auto, using(cb_facts::proofs::Firsts::after_none, cb_facts::proofs::Firsts::after_all, cb_facts::proofs::Firsts::after_one))]
+#[tactic(auto, using(cb_facts::proofs::Cited::after_none, cb_facts::proofs::Cited::after_all, cb_facts::proofs::Cited::after_one))]
 fn read_facts(
     names: &mut Names,
     scope: &Scope<'_>,

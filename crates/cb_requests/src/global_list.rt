@@ -1,12 +1,13 @@
 //! The globals of a `defglobal`.
 ghost use Rattle.std.specs.Prelude.{◌≡◌, ◌<◌, [], None, Some, IfSome, MatchOption, codes, length};
-ghost use Rattle.cb_expr_forms.specs.ExprFaults.{is_symbol};
+ghost use Rattle.cb_expr_forms.specs.ExprFaults.{is_this_symbol};
 ghost use Rattle.cb_exprs.specs.Terms.{term_of};
 ghost use Rattle.cb_facts.specs.Results.{Settles};
 ghost use Rattle.cb_forms.specs.Members.{members};
 ghost use Rattle.cb_forms.specs.Trees.{tree_of};
-ghost use Rattle.cb_requests.specs.Reads.{expr_in, globals_in, name_given, plain_scope};
-ghost use Rattle.cb_requests.specs.Splits.{IsGlobal, IsNoGlobal};
+ghost use Rattle.cb_expr_forms.specs.Scopes.{plain_scope};
+ghost use Rattle.cb_requests.specs.Reads.{expr_in, globals_in, name_given};
+ghost use Rattle.cb_requests.specs.Internal.{IsGlobal, IsNoGlobal};
 
 use cb_expr_forms::{NameList, Scope, Side, read_expr};
 use cb_exprs::{Env, Expr, GlobalExpr};
@@ -15,7 +16,7 @@ use cb_forms::{Fault, Form, Token};
 use cb_templates::Relations;
 
 /// The globals that forms give, each with the expression of its initial value, or the first fault.
-#[tactic(auto, using(cb_facts::proofs::Firsts::after_none, cb_facts::proofs::Firsts::after_all, cb_facts::proofs::Firsts::after_one))]
+#[tactic(auto, using(cb_facts::proofs::Cited::after_none, cb_facts::proofs::Cited::after_all, cb_facts::proofs::Cited::after_one))]
 pub(crate) fn read_globals(
     names: &mut Names,
     relations: &Relations,
@@ -68,7 +69,7 @@ fn name_given<'a>(first: &'a Form, word: &Form) -> Option<&'a [u8]>
 }
 
 fn is_equals(form: &Form) -> bool
-    ensures { result ≡ is_symbol (codes "=") (tree_of form.now) }
+    ensures { result ≡ is_this_symbol (codes "=") (tree_of form.now) }
 {
     match form.symbol() {
         Some(name) => name == b"=".as_slice(),

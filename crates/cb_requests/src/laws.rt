@@ -5,7 +5,7 @@ ghost use Rattle.cb_exprs.specs.Bindings.{Bindings};
 ghost use Rattle.cb_exprs.specs.GlobalTerms.{GlobalTerm};
 ghost use Rattle.cb_facts.specs.Results.{ok_then};
 ghost use Rattle.cb_forms.specs.Trees.{Trees};
-ghost use Rattle.cb_requests.specs.Laws.{names_in};
+ghost use Rattle.cb_requests.specs.Laws.{global_names};
 ghost use Rattle.cb_requests.specs.Reads.{globals_in};
 ghost use Rattle.cb_templates.specs.Templates.{Templates};
 
@@ -16,5 +16,5 @@ pub fn globals_are_read_one_after_another()
         (globals : List GlobalTerm)
         → globals_in templates env given ts ≡ Ok globals
         → globals_in templates env given (followed_by ts us)
-        ≡ ok_then (λ more. globals ++ more) (globals_in templates env (given ++ names_in globals) us) }
+        ≡ ok_then (λ more. globals ++ more) (globals_in templates env (given ++ global_names globals) us) }
 {}

@@ -6,7 +6,9 @@
 mod command;
 mod fact_list;
 mod global_list;
+mod known;
 pub mod laws;
 mod top_expr;
 
 pub use command::{Command, read_command};
+pub use known::Known;

@@ -1,6 +1,6 @@
 -- The place of the first `=>`.
 use Rattle.std.proofs.Common.{◌≡◌, ◌<◌, ◌∙◌, ℕ, suc, zero, Bool, true, false, List, [], ◌∷◌, Option, Some, None, arith, codes, drop, length, option_map, take, refl, ap, if◌then◌else◌}
-use Rattle.cb_expr_forms.specs.ExprFaults.{is_symbol}
+use Rattle.cb_expr_forms.specs.ExprFaults.{is_this_symbol}
 use Rattle.cb_forms.specs.Members.{members}
 use Rattle.cb_forms.specs.Trees.{Tree, tree, tree_of, Trees, no_trees}
 use Rattle.cb_forms.specs.declared.form.Form.{Form}
@@ -30,7 +30,7 @@ nowhere_by false t ts h next = ap (one_before t) (next (none_from (arrow_place t
 
 pub divided_nowhere : (ts : Trees) → arrow_place ts ≡ None → divided ts ≡ None
 divided_nowhere no_trees h = refl
-divided_nowhere (tree t ts) h = nowhere_by (is_symbol (codes "=>") t) t ts h (λ e. divided_nowhere ts e)
+divided_nowhere (tree t ts) h = nowhere_by (is_this_symbol (codes "=>") t) t ts h (λ e. divided_nowhere ts e)
 
 one_less : (o : Option ℕ) (n : ℕ) → option_map suc o ≡ Some (suc n) → o ≡ Some n
 one_less None n h = absurd (cc)
@@ -40,7 +40,7 @@ not_first : (o : Option ℕ) → option_map suc o ≡ Some zero → ⊥
 not_first None h = absurd (cc)
 not_first (Some m) h = absurd (let same : suc m ≡ zero = cc in omega arith)
 
-there_by : (b : Bool) (f : Form) (fs : List Form) (n : ℕ) → is_symbol (codes "=>") (tree_of f) ≡ b → (if b then Some 0 else option_map suc (arrow_place (members fs))) ≡ Some n
+there_by : (b : Bool) (f : Form) (fs : List Form) (n : ℕ) → is_this_symbol (codes "=>") (tree_of f) ≡ b → (if b then Some 0 else option_map suc (arrow_place (members fs))) ≡ Some n
     → ((m : ℕ) → arrow_place (members fs) ≡ Some m → DividedAt fs m) → DividedAt (f ∷ fs) n
 there_by true f fs zero e h next = record { within = omega arith; parts = ap (λ t. if t then all_after (members fs) else one_before (tree_of f) (divided (members fs))) e }
 there_by true f fs (suc n) e h next = absurd (let same : zero ≡ suc n = cc in omega arith)
@@ -58,4 +58,4 @@ there_by false f fs (suc n) e h next =
 pub divided_there : (fs : List Form) (n : ℕ) → arrow_place (members fs) ≡ Some n → DividedAt fs n
 divided_there [] n h = absurd (cc)
 divided_there (f ∷ fs) n h =
-    there_by (is_symbol (codes "=>") (tree_of f)) f fs n refl h (λ m e. divided_there fs m e)
+    there_by (is_this_symbol (codes "=>") (tree_of f)) f fs n refl h (λ m e. divided_there fs m e)

@@ -3,7 +3,7 @@ use Prim.Native.String.{String}
 use Rattle.std.proofs.Common.{◌≡◌, ◌++◌, ℤ, pos, Bool, List, [], ◌∷◌, Option, Some, None, Result, Ok, map, codes, true, false, refl}
 use Rattle.cb_constraints.specs.Constraints.{Constraint, variable, each}
 use Rattle.cb_constraints.specs.PatternValues.{PatternValue, fields}
-use Rattle.cb_expr_forms.specs.FaultLists.{first_of, unless_faulty}
+use Rattle.cb_templates.specs.FaultLists.{first_of, unless_faulty}
 use Rattle.cb_exprs.specs.Bindings.{Bindings}
 use Rattle.cb_exprs.specs.Terms.{Term, println, retract, terms}
 use Rattle.cb_exprs.specs.Terms as expr
@@ -12,7 +12,7 @@ use Rattle.cb_forms.specs.Trees.{Tree, atom, branch, trees_of}
 use Rattle.cb_forms.specs.declared.fault.Fault.{Fault}
 use Rattle.cb_forms.specs.declared.fault.Fault.TheVariants.{WrongArguments, MalformedForm, FactDoesNotFit, UnboundVariable, UnknownGlobal, NotOnLeftSide, NotInProfile, BadSalience}
 use Rattle.cb_forms.specs.declared.token.Token.TheVariants as token
-use Rattle.cb_functions.specs.Operations.{operator_of}
+use Rattle.cb_functions.specs.Internal.Operations.{operator_of}
 use Rattle.cb_rule_forms.specs.RuleValues.{pattern, RuleValue}
 use Rattle.cb_rule_forms.specs.Rules.{rule_faults, rule_of}
 use Rattle.cb_templates.specs.Reserved.{is_reserved}

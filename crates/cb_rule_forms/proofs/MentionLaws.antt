@@ -1,14 +1,16 @@
 -- Mentions, one part after another.
 use Rattle.std.proofs.Common.{◌≡◌, ◌<◌, ◌+◌, ◌∙◌, ◌++◌, ◌&&◌, ℕ, Bool, true, false, List, [], ◌∷◌, Option, Some, None, Result, Err, drop, get_or, length, map, refl, subst, sym, ap, append_assoc}
 use Rattle.std.proofs.lemmas.List.{at_drop_more}
+use Rattle.std.proofs.lemmas.List.Folds.{flat_map-map}
 use Rattle.std.specs.List.{flat_map, list_all}
-use Rattle.cb_expr_forms.specs.FaultLists.{Reads, first_of, unless}
-use Rattle.cb_expr_forms.proofs.Heads.{first_append}
+use Rattle.cb_templates.specs.FaultLists.{first_of, unless}
+use Rattle.cb_expr_forms.proofs.Cited.{first_append}
 use Rattle.cb_facts.specs.declared.refused.Refused.{Refused}
 use Rattle.cb_facts.specs.declared.refused.Refused.TheVariants as refused
 use Rattle.cb_expr_forms.specs.Scopes.{is_known}
 use Rattle.cb_forms.specs.declared.fault.Fault.{Fault}
 use Rattle.cb_forms.specs.declared.fault.Fault.TheVariants.{UnboundVariable}
+use Rattle.cb_rule_forms.specs.Internal.{Knows}
 use Rattle.cb_rule_forms.specs.Mentions.{Mention, after_mention, apart_mentions, known_after, mention_fault, mention_faults, needed, with_name}
 
 -- the mentions that are left, with the variables known so far, are what the others were at first
@@ -62,40 +64,40 @@ pub either_wrong : (old new : List (List ℕ)) (o : Option (List ℕ)) (names : 
 either_wrong old new None names is all = ap (λ k. first_of (mention_faults k (map needed names))) (sym is) ∙ needed_some new names all
 either_wrong old new (Some x) names is all = ap (λ k. first_of (mention_faults k (map needed names))) (sym is) ∙ needed_some new names all
 
+-- parts, each seen as another
+pub knows_seen : {X Y : Type 0} (f : Y → List Mention) (see : X → Y) (old : List (List ℕ)) (xs ys : List X) (new : List (List ℕ)) (r : Result (Unit {0}) Refused)
+    → ys ≡ xs → Knows old (flat_map (λ x. f (see x)) ys) new r → Knows old (flat_map f (map see xs)) new r
+knows_seen f see old xs ys new r same h = subst (λ ms. Knows old ms new r) (ap (flat_map (λ x. f (see x))) same ∙ sym (flat_map-map f see xs)) h
+
 -- the next of several parts
-module _ {X Y : Type 0} (f : Y → List Mention) (see : X → Y) (first : List (List ℕ)) (xs : List X) where
+module _ {X : Type 0} (f : X → List Mention) (first : List (List ℕ)) (xs : List X) where
   abbrev left_from : ℕ → List Mention
-  left_from i = flat_map f (map see (drop i xs))
+  left_from i = flat_map f (drop i xs)
 
-  next_split : (i : ℕ) (x : X) → i < length xs → get_or xs i x ≡ x → left_from i ≡ f (see x) ++ left_from (i + 1)
-  next_split i x within is =
-      at_drop_more (λ ys. flat_map f (map see ys)) xs i x within ∙ ap (λ it. f (see it) ++ left_from (i + 1)) is
+  next_split : (i : ℕ) (x : X) → i < length xs → get_or xs i x ≡ x → left_from i ≡ f x ++ left_from (i + 1)
+  next_split i x within is = at_drop_more (flat_map f) xs i x within ∙ ap (λ it. f it ++ left_from (i + 1)) is
 
-  pub next_known : (known new : List (List ℕ)) (i : ℕ) (x : X) → i < length xs → get_or xs i x ≡ x → Same known (left_from i) first (flat_map f (map see xs))
-      → (mention_faults known (f (see x)) ≡ []) × (new ≡ known_after known (f (see x))) → Same new (left_from (i + 1)) first (flat_map f (map see xs))
+  pub next_known : (known new : List (List ℕ)) (i : ℕ) (x : X) → i < length xs → get_or xs i x ≡ x → Same known (left_from i) first (flat_map f xs)
+      → (mention_faults known (f x) ≡ []) × (new ≡ known_after known (f x)) → Same new (left_from (i + 1)) first (flat_map f xs)
   next_known known new i x within is so went =
       let parts = next_split i x within is in
-      let here = f (see x) in
       let rest = left_from (i + 1) in (
         ap (λ k. mention_faults k rest) went.1
-            ∙ (ap (λ fs. fs ++ mention_faults (known_after known here) rest) (sym went.0)
-            ∙ (sym (faults_append known here rest) ∙ (ap (mention_faults known) (sym parts) ∙ so.0))),
-        ap (λ k. known_after k rest) went.1 ∙ (sym (known_append known here rest) ∙ (ap (known_after known) (sym parts) ∙ so.1)),
+            ∙ (ap (λ fs. fs ++ mention_faults (known_after known (f x)) rest) (sym went.0)
+            ∙ (sym (faults_append known (f x) rest) ∙ (ap (mention_faults known) (sym parts) ∙ so.0))),
+        ap (λ k. known_after k rest) went.1 ∙ (sym (known_append known (f x) rest) ∙ (ap (known_after known) (sym parts) ∙ so.1)),
       )
 
-  first_there : (known : List (List ℕ)) (i : ℕ) (x : X) (e : Fault) → i < length xs → get_or xs i x ≡ x → Same known (left_from i) first (flat_map f (map see xs))
-      → first_of (mention_faults known (f (see x))) ≡ Some e → first_of (mention_faults first (flat_map f (map see xs))) ≡ Some e
+  first_there : (known : List (List ℕ)) (i : ℕ) (x : X) (e : Fault) → i < length xs → get_or xs i x ≡ x → Same known (left_from i) first (flat_map f xs)
+      → first_of (mention_faults known (f x)) ≡ Some e → first_of (mention_faults first (flat_map f xs)) ≡ Some e
   first_there known i x e within is so h =
-      let here = f (see x) in
       let rest = left_from (i + 1) in
-      ap first_of (sym so.0 ∙ (ap (mention_faults known) (next_split i x within is) ∙ faults_append known here rest))
-      ∙ first_append (mention_faults known here) (mention_faults (known_after known here) rest) e h
+      ap first_of (sym so.0 ∙ (ap (mention_faults known) (next_split i x within is) ∙ faults_append known (f x) rest))
+      ∙ first_append (mention_faults known (f x)) (mention_faults (known_after known (f x)) rest) e h
 
   -- its fault is the fault of all
-  pub next_fault : {V W : Type 0} (view : Unit {0} → V) (v : V) (other : Unit {0} → W) (w : W) (known : List (List ℕ)) (i : ℕ) (x : X) (r : Refused) (res : Result (Unit {0}) Refused)
-      → i < length xs → get_or xs i x ≡ x → Same known (left_from i) first (flat_map f (map see xs)) → res ≡ Err r
-      → Reads view (Err r) (mention_faults known (f (see x))) v → Reads other res (mention_faults first (flat_map f (map see xs))) w
-  next_fault view v other w known i x (refused.Fault e) res within is so same h =
-      subst (λ it. Reads other it (mention_faults first (flat_map f (map see xs))) w) (sym same) (first_there known i x e within is so h)
-  next_fault view v other w known i x refused.NoMemory res within is so same h =
-      subst (λ it. Reads other it (mention_faults first (flat_map f (map see xs))) w) (sym same) tt
+  pub next_fault : (new known : List (List ℕ)) (i : ℕ) (x : X) (r : Refused) (res : Result (Unit {0}) Refused) → i < length xs → get_or xs i x ≡ x
+      → Same known (left_from i) first (flat_map f xs) → res ≡ Err r → Knows known (f x) new (Err r) → Knows first (flat_map f xs) new res
+  next_fault new known i x (refused.Fault e) res within is so same h =
+      subst (Knows first (flat_map f xs) new) (sym same) (first_there known i x e within is so h)
+  next_fault new known i x refused.NoMemory res within is so same h = subst (Knows first (flat_map f xs) new) (sym same) tt

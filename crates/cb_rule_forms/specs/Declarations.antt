@@ -5,9 +5,8 @@ use Rattle.std.specs.Str.{bytes_eq}
 use Rattle.cb_eval.specs.Evaluation.{value_of}
 use Rattle.cb_expr_forms.specs.ExprFaults.{faults_of}
 use Rattle.cb_expr_forms.specs.ExprForms.{expr_of}
-use Rattle.cb_expr_forms.specs.FaultLists.{unless}
-use Rattle.cb_expr_forms.specs.Scopes.{Scope, names_of}
-use Rattle.cb_expr_forms.specs.declared.scope.Side.TheVariants as side
+use Rattle.cb_templates.specs.FaultLists.{unless}
+use Rattle.cb_expr_forms.specs.Scopes.{plain_scope}
 use Rattle.cb_exprs.specs.Bindings.{Bindings}
 use Rattle.cb_facts.specs.declared.value.Value.{Value}
 use Rattle.cb_facts.specs.declared.value.Value.TheVariants as value
@@ -17,10 +16,6 @@ use Rattle.cb_forms.specs.declared.fault.Fault.{Fault}
 use Rattle.cb_forms.specs.declared.fault.Fault.TheVariants.{MalformedForm, NotInProfile, BadSalience}
 use Rattle.cb_rule_forms.specs.Sections.{members_after}
 use Rattle.cb_templates.specs.Templates.{Templates}
-
--- the expression of a salience names no variable, and may use the globals
-abbrev pub plain_scope : Templates → Bindings → Scope
-plain_scope templates env = record { side = side.Plain; variables = []; globals = names_of env.globals; templates = templates }
 
 -- a list begins with a word other than `salience`
 abbrev pub is_other : Option (List ℕ × Trees) → Bool
@@ -49,10 +44,10 @@ salience_in r = None
 abbrev pub salience_by : Templates → Bindings → Tree → Option ℤ
 salience_by templates env t = salience_in (value_of (expr_of templates t) env)
 
--- what is wrong with the salience, if a declaration has one
+-- what is wrong with the salience, if a declaration has one: its expression names no variable, and may use the globals
 abbrev pub salience_faults : Templates → Bindings → Option Tree → List Fault
 salience_faults templates env None = MalformedForm ∷ []
-salience_faults templates env (Some t) = faults_of (plain_scope templates env) t ++ unless (is_some (salience_by templates env t)) BadSalience
+salience_faults templates env (Some t) = faults_of (plain_scope templates env []) t ++ unless (is_some (salience_by templates env t)) BadSalience
 
 -- what is wrong with the members of a declaration
 abbrev pub declaration_faults : Templates → Bindings → Trees → List Fault

@@ -1,7 +1,7 @@
 pub mod Declarations
-pub mod ElementForms
 pub mod Elements
+pub mod Internal
 pub mod Mentions
-pub mod Rules
 pub mod RuleValues
+pub mod Rules
 pub mod Sections

@@ -3,7 +3,7 @@ use Rattle.std.specs.Prelude.{◌++◌, ℕ, Bool, false, not, List, [], ◌∷�
 use Rattle.std.specs.List.{flat_map}
 use Rattle.cb_constraints.specs.Constraints.{Test, constant, variable, predicate, return_value, Check, Demand, nothing, each, either, Constraint}
 use Rattle.cb_constraints.specs.PatternValues.{Parts, fields, slots}
-use Rattle.cb_expr_forms.specs.FaultLists.{unless}
+use Rattle.cb_templates.specs.FaultLists.{unless}
 use Rattle.cb_expr_forms.specs.Scopes.{is_known}
 use Rattle.cb_expr_forms.specs.Variables.{variables_of}
 use Rattle.cb_forms.specs.declared.fault.Fault.{Fault}

@@ -2,7 +2,7 @@
 use Rattle.std.specs.Prelude.{ℕ, suc, List, Option, Some, None, codes, is_some, option_map, if◌then◌else◌}
 use Rattle.std.specs.Option.{option_and_then}
 use Rattle.std.specs.Str.{bytes_eq}
-use Rattle.cb_expr_forms.specs.ExprFaults.{is_symbol}
+use Rattle.cb_expr_forms.specs.ExprFaults.{is_this_symbol}
 use Rattle.cb_forms.specs.Members.{call_of, head_and_rest, members}
 use Rattle.cb_forms.specs.Trees.{Trees, no_trees, tree}
 use Rattle.cb_rule_forms.specs.declared.sections.Sections as program
@@ -18,12 +18,12 @@ pub record Sections : Type 0 where
 -- what stands before the first `=>`, and after it
 abbrev pub divided : Trees → Option (Trees × Trees)
 divided no_trees = None
-divided (tree t ts) = if is_symbol (codes "=>") t then Some (no_trees, ts) else option_map (λ p. (tree t p.0, p.1)) (divided ts)
+divided (tree t ts) = if is_this_symbol (codes "=>") t then Some (no_trees, ts) else option_map (λ p. (tree t p.0, p.1)) (divided ts)
 
 -- the place of the first `=>`
 abbrev pub arrow_place : Trees → Option ℕ
 arrow_place no_trees = None
-arrow_place (tree t ts) = if is_symbol (codes "=>") t then Some 0 else option_map suc (arrow_place ts)
+arrow_place (tree t ts) = if is_this_symbol (codes "=>") t then Some 0 else option_map suc (arrow_place ts)
 
 -- the members of a list that begins with this word
 abbrev pub members_after : List ℕ → Option (List ℕ × Trees) → Option Trees

@@ -3,12 +3,12 @@ ghost use Rattle.std.specs.Prelude.{◌≡◌, ◌++◌, OnOk, map};
 ghost use Rattle.cb_expr_forms.specs.Bound.{bound_in_all};
 ghost use Rattle.cb_expr_forms.specs.ExprFaults.{all_faults};
 ghost use Rattle.cb_expr_forms.specs.ExprForms.{exprs_of};
-ghost use Rattle.cb_expr_forms.specs.FaultLists.{Reads};
+ghost use Rattle.cb_templates.specs.FaultLists.{ReadsAs};
 ghost use Rattle.cb_exprs.specs.Terms.{term_of};
 ghost use Rattle.cb_forms.specs.Members.{members};
 ghost use Rattle.cb_rule_forms.specs.Rules.{action_scope};
 
-use cb_expr_forms::{NameList, Scope, Side, bound_in_all, read_expr};
+use cb_expr_forms::{NameList, Scope, Side, bound_in_all, read_exprs};
 use cb_exprs::{Env, Expr};
 use cb_facts::{Names, Refused};
 use cb_forms::{Form, NoMemory};
@@ -22,7 +22,7 @@ pub(crate) fn read_actions(
     known: NameList,
     forms: &[Form],
 ) -> Result<Vec<Expr>, Refused>
-    ensures { Reads (λ es. map term_of es.items) result
+    ensures { ReadsAs (λ es. map term_of es.items) result
         (all_faults (action_scope relations.now env.now known (members forms.now))
         (members forms.now))
         (exprs_of relations.now (members forms.now)) }
@@ -37,7 +37,7 @@ pub(crate) fn read_actions(
         given: &none,
         relations,
     };
-    read_all(names, &scope, forms)
+    read_exprs(names, &scope, forms)
 }
 
 /// Adds the variables that a `bind` of the forms names.
@@ -49,17 +49,4 @@ fn add_bound(names: &mut Names, known: &mut NameList, forms: &[Form]) -> Result<
         known.push(name)?;
     }
     Ok(())
-}
-
-/// The expressions that forms are, or the first fault.
-fn read_all(names: &mut Names, scope: &Scope<'_>, forms: &[Form]) -> Result<Vec<Expr>, Refused>
-    ensures { Reads (λ es. map term_of es.items) result
-        (all_faults scope.now (members forms.now))
-        (exprs_of scope.now.templates (members forms.now)) }
-{
-    let mut exprs = Vec::new(names.alloc());
-    for form in forms {
-        exprs.push(read_expr(names, scope, form)?)?;
-    }
-    Ok(exprs)
 }

@@ -1,7 +1,7 @@
 //! The salience that a rule declares.
 ghost use Rattle.std.specs.Prelude.{◌≡◌, None, Ok, Some, MatchOption, is_some, pos};
 ghost use Rattle.std.specs.Option.{option_and_then, unwrap_or};
-ghost use Rattle.cb_expr_forms.specs.FaultLists.{Reads, unless};
+ghost use Rattle.cb_templates.specs.FaultLists.{ReadsAs, unless};
 ghost use Rattle.cb_forms.specs.Members.{call_of, members};
 ghost use Rattle.cb_forms.specs.declared.fault.Fault.TheVariants.{BadSalience};
 ghost use Rattle.cb_forms.specs.Trees.{tree_of};
@@ -29,7 +29,7 @@ pub(crate) fn read_declaration(
     env: &Env,
     forms: &[Form],
 ) -> Result<i64, Refused>
-    ensures { Reads (λ n. n) result (declaration_faults relations.now env.now (members forms.now))
+    ensures { ReadsAs (λ n. n) result (declaration_faults relations.now env.now (members forms.now))
         (unwrap_or (option_and_then (salience_by relations.now env.now)
         (salience_form (members forms.now))) (pos 0)) }
 {
@@ -92,7 +92,7 @@ fn read_salience(
     env: &Env,
     form: &Form,
 ) -> Result<i64, Refused>
-    ensures { Reads (λ n. n) result
+    ensures { ReadsAs (λ n. n) result
         (salience_faults relations.now env.now (Some (tree_of form.now)))
         (unwrap_or (salience_by relations.now env.now (tree_of form.now)) (pos 0)) }
 {
@@ -114,7 +114,7 @@ fn read_salience(
 
 /// The salience that a value is, or the fault where it is none.
 fn check_salience(value: Value) -> Result<i64, Refused>
-    ensures { Reads (λ n. n) result (unless (is_some (salience_in (Ok value))) BadSalience)
+    ensures { ReadsAs (λ n. n) result (unless (is_some (salience_in (Ok value))) BadSalience)
         (unwrap_or (salience_in (Ok value)) (pos 0)) }
 {
     match value {

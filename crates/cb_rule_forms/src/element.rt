@@ -1,11 +1,11 @@
 //! The condition elements of a rule as they are written.
 ghost use Rattle.std.specs.Prelude.{◌≡◌, ◌<◌, ◌∷◌, [], None, Some, IfSome, MatchOption, length, map};
-ghost use Rattle.cb_expr_forms.specs.FaultLists.{Reads};
+ghost use Rattle.cb_templates.specs.FaultLists.{ReadsAs};
 ghost use Rattle.cb_forms.specs.Members.{call_of, members};
 ghost use Rattle.cb_forms.specs.Trees.{tree_of};
 ghost use Rattle.cb_pattern_forms.specs.Patterns.{pattern_of, pattern_value};
-ghost use Rattle.cb_rule_forms.specs.Elements.{address_of, addressed, alone, called_faults, element_faults, element_of, elements_faults, elements_of, word_fault, written_in};
-ghost use Rattle.cb_rule_forms.specs.ElementForms.{form_value, written_seen};
+ghost use Rattle.cb_rule_forms.specs.Elements.{address_of, addressed, alone, called_pattern_faults, element_faults, element_of, elements_faults, elements_of, word_fault, written_in};
+ghost use Rattle.cb_rule_forms.specs.Internal.{form_value, written_seen};
 
 use cb_constraints::Parts as PatternParts;
 use cb_expr_forms::{Scope, is_symbol};
@@ -40,7 +40,7 @@ pub(crate) fn read_elements(
     scope: &Scope<'_>,
     forms: &[Form],
 ) -> Result<Vec<ElementForm>, Refused>
-    ensures { Reads (λ es. map form_value es.items) result
+    ensures { ReadsAs (λ es. map form_value es.items) result
         (elements_faults scope.now (written_in (members forms.now)))
         (elements_of scope.now.templates (written_in (members forms.now))) }
 {
@@ -89,7 +89,7 @@ fn address_of<'a>(form: &'a Form, word: &Form) -> Option<&'a [u8]>
 
 /// An element, or its first fault.
 fn read_next(names: &mut Names, scope: &Scope<'_>, next: Next<'_>) -> Result<ElementForm, Refused>
-    ensures { Reads form_value result (element_faults scope.now (written_seen next.entry))
+    ensures { ReadsAs form_value result (element_faults scope.now (written_seen next.entry))
         (element_of scope.now.templates (written_seen next.entry)) }
 {
     match next {
@@ -100,7 +100,7 @@ fn read_next(names: &mut Names, scope: &Scope<'_>, next: Next<'_>) -> Result<Ele
 }
 
 fn read_alone(names: &mut Names, scope: &Scope<'_>, form: &Form) -> Result<ElementForm, Refused>
-    ensures { Reads form_value result (element_faults scope.now (alone (tree_of form.now)))
+    ensures { ReadsAs form_value result (element_faults scope.now (alone (tree_of form.now)))
         (element_of scope.now.templates (alone (tree_of form.now))) }
 {
     let Some((word, forms)) = form.call() else {
@@ -120,7 +120,7 @@ fn read_addressed(
     name: &[u8],
     form: &Form,
 ) -> Result<ElementForm, Refused>
-    ensures { Reads form_value result
+    ensures { ReadsAs form_value result
         (element_faults scope.now (addressed name.now (Some (tree_of form.now))))
         (element_of scope.now.templates (addressed name.now (Some (tree_of form.now)))) }
 {
@@ -153,8 +153,8 @@ fn read_called(
     word: &[u8],
     forms: &[Form],
 ) -> Result<(Name, PatternParts), Refused>
-    ensures { Reads pattern_value result
-        (called_faults scope.now kept word.now (members forms.now))
+    ensures { ReadsAs pattern_value result
+        (called_pattern_faults scope.now kept word.now (members forms.now))
         (pattern_of scope.now.templates word.now (members forms.now)) }
 {
     if is_reserved(word) {

@@ -1,46 +1,58 @@
 //! The variables of a left side: which have a value where.
-ghost use Rattle.std.specs.Prelude.{◌≡◌, ◌∷◌, [], MatchOption, OnOk, map, option_map};
+ghost use Rattle.std.specs.Prelude.{◌≡◌, ◌∷◌, [], List, MatchOption, OnOk, map, option_map};
 ghost use Rattle.std.specs.List.{flat_map, list_all};
-ghost use Rattle.cb_constraints.specs.Constraints.{check_of, constraint_of, demand_of, either, test_of};
-ghost use Rattle.cb_constraints.specs.PartValues.{parts_of, slot_of};
-ghost use Rattle.cb_expr_forms.specs.FaultLists.{Reads};
+ghost use Rattle.cb_constraints.specs.Constraints.{check_of, demand_of, either, asked_test};
+ghost use Rattle.cb_constraints.specs.PartValues.{asked_parts};
 ghost use Rattle.cb_expr_forms.specs.Scopes.{is_known};
-ghost use Rattle.cb_rule_forms.specs.ElementForms.{form_value};
-ghost use Rattle.cb_rule_forms.specs.Mentions.{address_mentions, apart_mentions, branch_mentions, check_mentions, checks_variables, demand_mentions, element_mentions, known_after, mention_faults, needed, parts_mentions, place, row_mentions, test_variables, with_name};
+ghost use Rattle.cb_rule_forms.specs.Internal.{Knows, form_value};
+ghost use Rattle.cb_rule_forms.specs.Mentions.{Mention, address_mentions, apart_mentions, branch_mentions, check_mentions, checks_variables, demand_mentions, element_mentions, known_after, needed, parts_mentions, place, row_mentions, test_variables, with_name};
 
 use crate::element::ElementForm;
-use cb_constraints::{Check, Constraint, Demand, Parts, SlotRow, Test};
+use cb_constraints::{Check, Constraint, Demand, Parts, Row, SlotRow, Test};
 use cb_expr_forms::{NameList, knows_all};
 use cb_facts::{Name, Refused};
 use cb_forms::{Fault, NoMemory};
 
+/// A part of a left side, which mentions variables.
+trait Mentions {
+    // what it mentions, in the order in which it is written
+    ghost mentions: { Self → List Mention };
+
+    /// Adds the variables that it binds to those that have a value, or gives the first fault of a variable.
+    fn know(&self, known: &mut NameList) -> Result<(), Refused>
+        ensures { Knows known.old (mentions self.now) known.new result };
+}
+
 /// Adds the variables that a branch binds to those that have a value, or gives the first fault of a variable.
 pub(crate) fn know_branch(known: &mut NameList, elements: &[ElementForm]) -> Result<(), Refused>
-    ensures { Reads (λ _. known.new) result
-        (mention_faults known.old (branch_mentions (map form_value elements.now)))
-        (known_after known.old (branch_mentions (map form_value elements.now))) }
+    ensures { Knows known.old (branch_mentions (map form_value elements.now)) known.new result }
 {
-    for element in elements {
-        know_element(known, element)?;
+    know_all(known, elements)
+}
+
+/// The same of parts, one after another.
+fn know_all<T: Mentions>(known: &mut NameList, parts: &[T]) -> Result<(), Refused>
+    ensures { Knows known.old (flat_map T.mentions parts.now) known.new result }
+{
+    for part in parts {
+        part.know(known)?;
     }
     Ok(())
 }
 
-/// The same of an element.
-fn know_element(known: &mut NameList, element: &ElementForm) -> Result<(), Refused>
-    ensures { Reads (λ _. known.new) result
-        (mention_faults known.old (element_mentions (form_value element.now)))
-        (known_after known.old (element_mentions (form_value element.now))) }
-{
-    know_address(known, element.address.as_ref())?;
-    know_parts(known, &element.parts)
+impl Mentions for ElementForm {
+    ghost mentions = { λ element. element_mentions (form_value element) };
+
+    fn know(&self, known: &mut NameList) -> Result<(), Refused> {
+        know_address(known, self.address.as_ref())?;
+        know_parts(known, &self.parts)
+    }
 }
 
 /// The same of the variable that takes an address.
 fn know_address(known: &mut NameList, address: Option<&Name>) -> Result<(), Refused>
-    ensures { Reads (λ _. known.new) result
-        (mention_faults known.old (address_mentions (option_map (λ x. x.now) address.entry)))
-        (known_after known.old (address_mentions (option_map (λ x. x.now) address.entry))) }
+    ensures { Knows known.old (address_mentions (option_map (λ x. x.now) address.entry))
+        known.new result }
 {
     let Some(name) = address else {
         return Ok(());
@@ -54,89 +66,55 @@ fn know_address(known: &mut NameList, address: Option<&Name>) -> Result<(), Refu
 
 /// The same of what a pattern asks.
 fn know_parts(known: &mut NameList, parts: &Parts) -> Result<(), Refused>
-    ensures { Reads (λ _. known.new) result
-        (mention_faults known.old (parts_mentions (parts_of parts.now)))
-        (known_after known.old (parts_mentions (parts_of parts.now))) }
+    ensures { Knows known.old (parts_mentions (asked_parts parts.now)) known.new result }
 {
     match parts {
-        Parts::Fields(row) => know_row(known, row.constraints()),
-        Parts::Slots(slots) => know_slots(known, slots.as_slice()),
+        Parts::Fields(row) => know_row(known, row),
+        Parts::Slots(slots) => know_all(known, slots.as_slice()),
     }
-}
-
-/// The same of what a pattern asks of slots.
-fn know_slots(known: &mut NameList, slots: &[SlotRow]) -> Result<(), Refused>
-    ensures { Reads (λ _. known.new) result
-        (mention_faults known.old (flat_map (λ s. row_mentions s.row) (map slot_of slots.now)))
-        (known_after known.old (flat_map (λ s. row_mentions s.row) (map slot_of slots.now))) }
-{
-    for slot in slots {
-        know_slot(known, slot)?;
-    }
-    Ok(())
-}
-
-/// The same of one of them.
-fn know_slot(known: &mut NameList, slot: &SlotRow) -> Result<(), Refused>
-    ensures { Reads (λ _. known.new) result
-        (mention_faults known.old (row_mentions (slot_of slot.now).row))
-        (known_after known.old (row_mentions (slot_of slot.now).row)) }
-{
-    know_row(known, slot.row.constraints())
 }
 
 /// The same of a row of constraints.
-fn know_row(known: &mut NameList, constraints: &[Constraint]) -> Result<(), Refused>
-    ensures { Reads (λ _. known.new) result
-        (mention_faults known.old (row_mentions (map constraint_of constraints.now)))
-        (known_after known.old (row_mentions (map constraint_of constraints.now))) }
+fn know_row(known: &mut NameList, row: &Row) -> Result<(), Refused>
+    ensures { Knows known.old (row_mentions row.now) known.new result }
 {
-    for constraint in constraints {
-        know_demand(known, &constraint.demand)?;
-    }
-    Ok(())
+    know_all(known, row.constraints())
 }
 
-/// The same of a constraint.
-fn know_demand(known: &mut NameList, demand: &Demand) -> Result<(), Refused>
-    ensures { Reads (λ _. known.new) result
-        (mention_faults known.old (demand_mentions (demand_of demand.now)))
-        (known_after known.old (demand_mentions (demand_of demand.now))) }
-{
-    match demand {
-        Demand::Nothing => Ok(()),
-        Demand::Each(checks) => know_each(known, checks.as_slice()),
-        Demand::Either(apart, alternatives) => {
-            know_either(known, apart.as_ref(), alternatives.as_slice())
+impl Mentions for SlotRow {
+    ghost mentions = { λ slot. row_mentions slot.row };
+
+    fn know(&self, known: &mut NameList) -> Result<(), Refused> {
+        know_row(known, &self.row)
+    }
+}
+
+impl Mentions for Constraint {
+    ghost mentions = { λ constraint. demand_mentions (demand_of constraint.demand) };
+
+    fn know(&self, known: &mut NameList) -> Result<(), Refused> {
+        match &self.demand {
+            Demand::Nothing => Ok(()),
+            Demand::Each(checks) => know_all(known, checks.as_slice()),
+            Demand::Either(apart, alternatives) => {
+                know_either(known, apart.as_ref(), alternatives.as_slice())
+            }
         }
     }
 }
 
-/// The same of checks joined by `&`.
-fn know_each(known: &mut NameList, checks: &[Check]) -> Result<(), Refused>
-    ensures { Reads (λ _. known.new) result
-        (mention_faults known.old (flat_map check_mentions (map check_of checks.now)))
-        (known_after known.old (flat_map check_mentions (map check_of checks.now))) }
-{
-    for check in checks {
-        know_check(known, check)?;
-    }
-    Ok(())
-}
+impl Mentions for Check {
+    ghost mentions = { λ check. check_mentions (check_of check) };
 
-/// The same of one of them: a variable without `~` may take the value in its place.
-fn know_check(known: &mut NameList, check: &Check) -> Result<(), Refused>
-    ensures { Reads (λ _. known.new) result
-        (mention_faults known.old (check_mentions (check_of check.now)))
-        (known_after known.old (check_mentions (check_of check.now))) }
-{
-    match plain_variable(check) {
-        Some(name) => Ok(add_name(known, name)?),
-        None => {
-            if !knows_test(known, &check.test) {
-                return Err(Refused::Fault(Fault::UnboundVariable));
+    fn know(&self, known: &mut NameList) -> Result<(), Refused> {
+        match plain_variable(self) {
+            Some(name) => Ok(add_name(known, name)?),
+            None => {
+                if !knows_test(known, &self.test) {
+                    return Err(Refused::Fault(Fault::UnboundVariable));
+                }
+                Ok(())
             }
-            Ok(())
         }
     }
 }
@@ -144,7 +122,7 @@ fn know_check(known: &mut NameList, check: &Check) -> Result<(), Refused>
 /// The variable that a check is, without `~`.
 fn plain_variable(check: &Check) -> Option<&Name>
     ensures { MatchOption result
-        (check_mentions (check_of check.now) ≡ map needed (test_variables (test_of check.now.test)))
+        (check_mentions (check_of check.now) ≡ map needed (test_variables (asked_test check.now.test)))
         (λ x. check_mentions (check_of check.now) ≡ place x.now ∷ []) }
 {
     if check.is_negated {
@@ -162,13 +140,10 @@ fn know_either(
     apart: Option<&Name>,
     alternatives: &[Vec<Check>],
 ) -> Result<(), Refused>
-    ensures { Reads (λ _. known.new) result
-        (mention_faults known.old (demand_mentions
-        (either (option_map (λ x. x.now) apart.entry)
-        (map (λ cs. map check_of cs.items) alternatives.now))))
-        (known_after known.old (demand_mentions
-        (either (option_map (λ x. x.now) apart.entry)
-        (map (λ cs. map check_of cs.items) alternatives.now)))) }
+    ensures { Knows known.old
+        (demand_mentions (either (option_map (λ x. x.now) apart.entry)
+        (map (λ cs. map check_of cs.items) alternatives.now)))
+        known.new result }
 {
     know_apart(known, apart)?;
     if !knows_alternatives(known, alternatives) {
@@ -215,7 +190,7 @@ fn knows_checks(known: &NameList, checks: &[Check]) -> bool
 
 /// Whether the variables of a test have values.
 fn knows_test(known: &NameList, test: &Test) -> bool
-    ensures { result ≡ list_all (is_known known.now) (test_variables (test_of test.now)) }
+    ensures { result ≡ list_all (is_known known.now) (test_variables (asked_test test.now)) }
 {
     match test {
         Test::Constant(_) => true,

@@ -1,9 +1,9 @@
 //! Rules.
 ghost use Rattle.std.specs.Prelude.{◌≡◌, IfOk, Some, map, option_map};
-ghost use Rattle.cb_expr_forms.specs.FaultLists.{Reads};
+ghost use Rattle.cb_templates.specs.FaultLists.{ReadsAs};
 ghost use Rattle.cb_forms.specs.Members.{members};
 ghost use Rattle.cb_rule_forms.specs.Declarations.{declared_faults, salience_of};
-ghost use Rattle.cb_rule_forms.specs.ElementForms.{form_value};
+ghost use Rattle.cb_rule_forms.specs.Internal.{form_value};
 ghost use Rattle.cb_rule_forms.specs.Elements.{elements_faults, elements_of, written_in};
 ghost use Rattle.cb_rule_forms.specs.RuleValues.{element_value, rule_value};
 ghost use Rattle.cb_rule_forms.specs.Rules.{left_scope, rule_faults, rule_of, sections_faults, sections_rule};
@@ -59,7 +59,7 @@ impl<T> Rule<T> {
         env: &Env,
         forms: &[Form],
     ) -> Result<Rule<T>, Refused>
-        ensures { Reads rule_value result (rule_faults relations.now env.now (members forms.now))
+        ensures { ReadsAs rule_value result (rule_faults relations.now env.now (members forms.now))
             (rule_of relations.now env.now (members forms.now)) }
     {
         match split_sections(forms) {
@@ -77,7 +77,7 @@ fn read_sections<T>(
     env: &Env,
     sections: Sections<'_>,
 ) -> Result<Rule<T>, Refused>
-    ensures { Reads rule_value result
+    ensures { ReadsAs rule_value result
         (sections_faults relations.now env.now (Some (sections_seen sections.entry)))
         (sections_rule relations.now env.now (Some (sections_seen sections.entry))) }
 {
@@ -105,7 +105,7 @@ fn read_salience(
     env: &Env,
     declared: Option<&[Form]>,
 ) -> Result<i64, Refused>
-    ensures { Reads (λ n. n) result
+    ensures { ReadsAs (λ n. n) result
         (declared_faults relations.now env.now (option_map (λ fs. members fs.now) declared.entry))
         (salience_of relations.now env.now (option_map (λ fs. members fs.now) declared.entry)) }
 {
@@ -122,7 +122,7 @@ fn read_left_side(
     env: &Env,
     forms: &[Form],
 ) -> Result<Vec<ElementForm>, Refused>
-    ensures { Reads (λ es. map form_value es.items) result
+    ensures { ReadsAs (λ es. map form_value es.items) result
         (elements_faults (left_scope relations.now env.now) (written_in (members forms.now)))
         (elements_of relations.now (written_in (members forms.now))) }
 {

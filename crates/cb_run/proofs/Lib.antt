@@ -1,2 +1,2 @@
+mod Examples
 pub mod Options
-mod WordExamples

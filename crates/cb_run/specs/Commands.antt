@@ -1,10 +1,9 @@
 -- The program's words, as `clap` reads them.
-use Rattle.std.specs.Prelude.{◌≡◌, ℕ, List, codes, Some, option_map, unwrap_or}
+use Rattle.std.specs.Prelude.{ℕ, List, codes, Some, option_map, unwrap_or}
 use Rattle.std.specs.Str.Parse.{digits_value, without_leading_plus}
-use Rattle.clap.specs.Words.{App, IsUnsignedIn, Rule, Text, matches_of, new_app, new_rule, one_of, one_text, with_rule}
+use Rattle.clap.specs.Words.{App, Rule, Text, matches_of, new_app, new_rule, one_of, with_rule}
 use Rattle.clap.specs.declared.builder.ArgAction.TheVariants.{Set}
 use Rattle.clap.specs.declared.builder.value_parser.ValueParser.TheVariants as vp
-use Rattle.clap.specs.declared.parser.matches.Found.{Found}
 
 -- an option with a number from `min` to `max`
 abbrev pub number_rule : Text → ℕ → ℕ → Rule
@@ -23,11 +22,3 @@ number_in text = digits_value 10 (without_leading_plus text)
 -- the number that this option has among the words, or the default where it isn't given
 abbrev pub limit_of : Text → ℕ → List Text → ℕ
 limit_of id default words = unwrap_or (option_map number_in (one_of id (matches_of limits_app words))) default
-
--- where the option has a text, that is a number from `min` to `max`
-abbrev pub IsNumberOption : Found → Text → ℕ → ℕ → Type 0
-IsNumberOption found id min max = (text : Text) → one_text found id ≡ Some text → IsUnsignedIn min max text
-
--- the number that the option has, or the default
-abbrev pub option_or : Found → Text → ℕ → ℕ
-option_or found id default = unwrap_or (option_map number_in (one_text found id)) default

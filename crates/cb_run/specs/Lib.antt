@@ -1,3 +1,4 @@
 pub mod Commands
+pub mod Internal
 pub mod RanBy
 pub mod Statuses

@@ -1,7 +1,7 @@
 -- What is promised of a run with the limits that the program's words give.
 use Rattle.std.specs.Prelude.{◌≡◌, ℕ, List, Option, codes}
 use Rattle.clap.specs.Words.{Text}
-use Rattle.cb_io.specs.Histories.{Reads, Writes}
+use Rattle.cb_io.specs.Histories.{PastReads, PastWrites}
 use Rattle.cb_run.specs.Commands.{limit_of}
 use Rattle.cb_script.specs.Ran.{Ran}
 use Rattle.cb_script.specs.declared.outcome.Outcome.{Outcome}
@@ -14,7 +14,7 @@ pub record AreLimitsOf (words : List Text) (limits : Limits) : Type 0 where
   pub max_turns : limits.max_turns ≡ limit_of (codes "max-turns") 10000000 words
 
 -- a run with these limits
-pub record RanBy (words : List Text) (result : Outcome) (left left' : Option (List ℕ)) (reads reads' : Reads) (writes writes' : Writes) : Type 0 where
+pub record RanBy (words : List Text) (result : Outcome) (left left' : Option (List ℕ)) (reads reads' : PastReads) (writes writes' : PastWrites) : Type 0 where
   pub limits : Limits
   pub are_limits : AreLimitsOf words limits
   pub ran : Ran limits result left left' reads reads' writes writes'

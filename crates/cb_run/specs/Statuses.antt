@@ -3,7 +3,7 @@ use Rattle.std.specs.Prelude.{◌≡◌, ◌≢◌, ◌⊎◌, ℕ, List, [], Op
 use Rattle.clap.specs.Words.{IsAmong, Text, fault_of}
 use Rattle.clap.specs.declared.error.kind.ErrorKind.{ErrorKind}
 use Rattle.clap.specs.declared.error.kind.ErrorKind.TheVariants as kind
-use Rattle.cb_io.specs.Histories.{Reads, Writes}
+use Rattle.cb_io.specs.Histories.{PastReads, PastWrites}
 use Rattle.cb_run.specs.Commands.{limits_app}
 use Rattle.cb_run.specs.RanBy.{RanBy}
 use Rattle.cb_script.specs.declared.outcome.Outcome.{Outcome}
@@ -16,21 +16,21 @@ pub record IsStatusFor (k : ErrorKind) (status : ℕ) : Type 0 where
   pub wrong : k ≢ kind.OutOfMemory → k ≢ kind.DisplayHelp → k ≢ kind.DisplayVersion → status ≡ 2
 
 -- The script was carried out by these words, which have no fault, and the status is that of the run.
-pub record EndedByRun (words : List Text) (status : ℕ) (left left' : Option (List ℕ)) (reads reads' : Reads) (writes writes' : Writes) : Type 0 where
+pub record EndedByRun (words : List Text) (status : ℕ) (left left' : Option (List ℕ)) (reads reads' : PastReads) (writes writes' : PastWrites) : Type 0 where
   pub faultless : fault_of limits_app words ≡ []
   pub outcome : Outcome
   pub ran : RanBy words outcome left left' reads reads' writes writes'
   pub status_is : status ≡ outcome.status
 
 -- Nothing was read of the script and nothing written: the words have a fault, whose status this is, or memory was refused.
-pub record EndedBefore (words : List Text) (status : ℕ) (left left' : Option (List ℕ)) (reads reads' : Reads) (writes writes' : Writes) : Type 0 where
+pub record EndedBefore (words : List Text) (status : ℕ) (left left' : Option (List ℕ)) (reads reads' : PastReads) (writes writes' : PastWrites) : Type 0 where
   pub left_is : left' ≡ left
   pub reads_are : reads' ≡ reads
   pub writes_are : writes' ≡ writes
   pub status_is : (status ≡ 3) ⊎ ((k : ErrorKind) × IsAmong k (fault_of limits_app words) × IsStatusFor k status)
 
 -- Nothing was read of the script and nothing written: the program's words could not be had. One isn't UTF-8, or memory was refused.
-pub record HadNoWords (status : ℕ) (left left' : Option (List ℕ)) (reads reads' : Reads) (writes writes' : Writes) : Type 0 where
+pub record HadNoWords (status : ℕ) (left left' : Option (List ℕ)) (reads reads' : PastReads) (writes writes' : PastWrites) : Type 0 where
   pub left_is : left' ≡ left
   pub reads_are : reads' ≡ reads
   pub writes_are : writes' ≡ writes

@@ -3,7 +3,7 @@ use Rattle.std.proofs.Common.{◌≡◌, ◌≢◌, ◌<◌, ◌≤◌, ◌+◌,
 use Rattle.std.proofs.lemmas.List.{append-nil, length-append}
 use Rattle.std.specs.Prelude.{IfSome}
 use Rattle.cb_forms.specs.Laws.{BeginsWith}
-use Rattle.cb_io.specs.Histories.{Reads, Writes}
+use Rattle.cb_io.specs.Histories.{PastReads, PastWrites}
 use Rattle.cb_io.specs.Moved.{Gave, IsAtEnd}
 use Rattle.cb_session.specs.Sessions.{SessionState, flow_of}
 use Rattle.cb_session.specs.Transcripts.{so_far, complete, transcript, status_of, status_at_end, added, added_at_end}
@@ -15,8 +15,7 @@ use Rattle.cb_session.specs.declared.status.Flow.TheVariants.{Ended}
 use Rattle.cb_session.specs.declared.status.Status.{Status}
 use Rattle.cb_actions.specs.declared.stop.Stop.{Stop}
 use Rattle.cb_actions.specs.declared.stop.Stop.TheVariants as stop
-use Rattle.cb_session.proofs.RunLaws.{so_far-ended, so_far-grows, so_far-early}
-use Rattle.cb_session.proofs.ScriptLaws.{added-grown, end-grown}
+use Rattle.cb_session.proofs.Cited.{so_far-ended, so_far-grows, so_far-early, added-grown, end-grown}
 use Rattle.cb_script.specs.Outcomes.{cause_of, ended_as, stopped_as, failed_as, HasEnded, HasStopped, HasFailed}
 use Rattle.cb_script.specs.Ran.{IsTranscript, Ran}
 use Rattle.cb_script.specs.declared.outcome.Cause.TheVariants.{Done, ReadFault, WriteFault}
@@ -116,7 +115,7 @@ with_none l (Some unread) p wrote end = λ some. absurd (some end)
 begins_then : (a b c : List ℕ) → BeginsWith a b → BeginsWith b c → BeginsWith a c
 begins_then a b c (m, e) (n, f) = (m ++ n, f ∙ (ap (λ it. it ++ n) e ∙ append_assoc a m n))
 
-module _ (l : Limits) (s : SessionState) (left a a' : Option (List ℕ)) (reads r r' : Reads) (writes w w' : Writes) (piece : List ℕ) (before : Following l s left a reads r writes w) where
+module _ (l : Limits) (s : SessionState) (left a a' : Option (List ℕ)) (reads r r' : PastReads) (writes w w' : PastWrites) (piece : List ℕ) (before : Following l s left a reads r writes w) where
   -- the script has ended with this piece
   pub ran_ended : (status : Status) (flow : Flow) → length piece ≤ 4096 → Gave a a' piece → GaveMore piece r r' → WroteAll (added s.limits s.fed piece) w w' → flow ≡ Ended status → flow ≡ flow_of (so_far s.limits (s.fed ++ piece)).status
       → Ran l (ended_as status) left a' reads r' writes w'
@@ -157,7 +156,7 @@ module _ (l : Limits) (s : SessionState) (left a a' : Option (List ℕ)) (reads 
       let begins : BeginsWith (here ++ some.written) (so_far l p).written =
       (some.unwritten, added-grown l s.fed piece ∙ (ap (λ it. here ++ it) some.is ∙ sym (append_assoc here some.written some.unwritten))) in
       let however : (rest : List ℕ) → BeginsWith (here ++ some.written) (transcript l (p ++ rest)) = λ rest.
-      let grows = so_far-grows l p rest in begins_then _ _ _ begins (grows.more, grows.is) in
+      let grows = so_far-grows l p rest in begins_then _ _ _ begins grows in
       record {
         read = p;
         wrote = here ++ some.written;
@@ -181,7 +180,7 @@ module _ (l : Limits) (s : SessionState) (left a a' : Option (List ℕ)) (reads 
         read_failed = λ h. absurd (stopped_not_read_fault e h);
       }
 
-module _ (l : Limits) (s : SessionState) (left a a' : Option (List ℕ)) (reads r r' : Reads) (writes w w' : Writes) (before : Following l s left a reads r writes w) (gave : Gave a a' []) (end : IsAtEnd a')
+module _ (l : Limits) (s : SessionState) (left a a' : Option (List ℕ)) (reads r r' : PastReads) (writes w w' : PastWrites) (before : Following l s left a reads r writes w) (gave : Gave a a' []) (end : IsAtEnd a')
     (bytes : r'.bytes ≡ r.bytes ++ []) (ends : r'.ends ≡ r.ends + 1) (failures : r'.failures ≡ r.failures) where
   gave_all : Gave left a' s.fed
   gave_all = subst (λ it. Gave left a' it) (append-nil s.fed) (gave_then left a a' s.fed [] before.gave gave)
@@ -251,7 +250,7 @@ module _ (l : Limits) (s : SessionState) (left a a' : Option (List ℕ)) (reads 
         read_failed = λ h. absurd (stopped_not_read_fault e h);
       }
 
-module _ (l : Limits) (s : SessionState) (left a : Option (List ℕ)) (reads r r' : Reads) (writes w : Writes) (before : Following l s left a reads r writes w) where
+module _ (l : Limits) (s : SessionState) (left a : Option (List ℕ)) (reads r r' : PastReads) (writes w : PastWrites) (before : Following l s left a reads r writes w) where
   ran_read_fault : r'.bytes ≡ r.bytes → (length s.fed < 2 ^ 64 - 1 → reads.failures < r'.failures) → Ran l (failed_as ReadFault) left a reads r' writes w
   ran_read_fault bytes failed = record {
     read = s.fed;
@@ -283,6 +282,6 @@ module _ (l : Limits) (s : SessionState) (left a : Option (List ℕ)) (reads r r
       ran_read_fault bytes (λ _. omega arith)
 
 -- one read too many
-pub ran_endless : (l : Limits) (s : SessionState) (left a : Option (List ℕ)) (reads r : Reads) (writes w : Writes) → Following l s left a reads r writes w → 18446744073709551615 ≤ length s.fed
+pub ran_endless : (l : Limits) (s : SessionState) (left a : Option (List ℕ)) (reads r : PastReads) (writes w : PastWrites) → Following l s left a reads r writes w → 18446744073709551615 ≤ length s.fed
     → Ran l (failed_as ReadFault) left a reads r writes w
 ran_endless l s left a reads r writes w here many = ran_read_fault l s left a reads r r writes w here refl (λ few. absurd (omega arith))

@@ -1,7 +1,7 @@
 -- A run that goes on.
 use Rattle.std.proofs.Common.{◌≡◌, ◌==◌, ◌≤◌, ◌<◌, ◌≢◌, ◌&&◌, true, nat_lt, ap₂, rules, if◌then◌else◌, take, ◌+◌, arith, ℕ, List, ◌++◌, length, Option, Some, None, refl, sym, ap, ◌∙◌, subst, append_assoc}
 use Rattle.std.proofs.lemmas.List.{append-nil, length-append, length-take}
-use Rattle.cb_io.specs.Histories.{Reads, Writes, after_read}
+use Rattle.cb_io.specs.Histories.{PastReads, PastWrites, after_read}
 use Rattle.cb_io.specs.Moved.{Gave}
 use Rattle.cb_session.specs.Sessions.{SessionState, fresh_session, session_after, flow_of}
 use Rattle.cb_session.specs.Transcripts.{so_far, added}
@@ -9,12 +9,11 @@ use Rattle.cb_session.specs.declared.limits.Limits.{Limits}
 use Rattle.cb_session.specs.declared.status.Flow.{Flow}
 use Rattle.cb_session.specs.declared.status.Flow.TheVariants.{GoOn, Ended}
 use Rattle.cb_session.specs.declared.status.Status.{Status}
-use Rattle.cb_session.proofs.RunLaws.{so_far-none}
-use Rattle.cb_session.proofs.ScriptLaws.{added-grown}
+use Rattle.cb_session.proofs.Cited.{so_far-none, added-grown}
 use Rattle.cb_script.proofs.Moves.{gave_then, gave_none, WroteAll}
 
 -- The session has been fed all that was read, its script goes on, and all that is written so far was written.
-pub record Following (limits : Limits) (s : SessionState) (left left' : Option (List ℕ)) (reads reads' : Reads) (writes writes' : Writes) : Type 0 where
+pub record Following (limits : Limits) (s : SessionState) (left left' : Option (List ℕ)) (reads reads' : PastReads) (writes writes' : PastWrites) : Type 0 where
   pub same_limits : s.limits ≡ limits
   pub no_status : s.status ≡ None
   pub no_stop : s.stop ≡ None
@@ -27,7 +26,7 @@ pub record Following (limits : Limits) (s : SessionState) (left left' : Option (
   pub write_failures : writes'.failures ≡ writes.failures
 
 -- a read gave these bytes, and no end
-pub record GaveMore (piece : List ℕ) (reads reads' : Reads) : Type 0 where
+pub record GaveMore (piece : List ℕ) (reads reads' : PastReads) : Type 0 where
   pub bytes : reads'.bytes ≡ reads.bytes ++ piece
   pub ends : reads'.ends ≡ reads.ends
   pub failures : reads'.failures ≡ reads.failures
@@ -42,7 +41,7 @@ flow_some None status h = cc
 flow_some (Some other) status h = cc
 
 -- nothing was read
-pub following_none : (l : Limits) (s : SessionState) (left : Option (List ℕ)) (reads : Reads) (writes : Writes) → s ≡ fresh_session l → Following l s left left reads reads writes writes
+pub following_none : (l : Limits) (s : SessionState) (left : Option (List ℕ)) (reads : PastReads) (writes : PastWrites) → s ≡ fresh_session l → Following l s left left reads reads writes writes
 following_none l s left reads writes fresh =
     let none = so_far-none l in
     subst (λ (it : SessionState). Following l it left left reads reads writes writes) (sym fresh) (record {
@@ -58,7 +57,7 @@ following_none l s left reads writes fresh =
       write_failures = refl;
     })
 
-module _ (l : Limits) (s : SessionState) (left a a' : Option (List ℕ)) (reads r r' : Reads) (writes w w' : Writes) (piece : List ℕ) (before : Following l s left a reads r writes w) where
+module _ (l : Limits) (s : SessionState) (left a a' : Option (List ℕ)) (reads r r' : PastReads) (writes w w' : PastWrites) (piece : List ℕ) (before : Following l s left a reads r writes w) where
   -- what was written, with what a piece adds
   pub wrote_more : WroteAll (added s.limits s.fed piece) w w' → w'.bytes ≡ writes.bytes ++ (so_far l (s.fed ++ piece)).written
   wrote_more more =
@@ -96,7 +95,7 @@ turns_on turn n l fed buf status t is before some within =
     rw all (omega (arith, length-append fed (take n buf), length-take n buf))
 
 -- a read that reported the end
-pub ended_more : (r r' : Reads) (room n : ℕ) (bytes : List ℕ) → r' ≡ after_read r room n bytes → n ≡ 0 → 0 < room → r'.ends ≡ r.ends + 1
+pub ended_more : (r r' : PastReads) (room n : ℕ) (bytes : List ℕ) → r' ≡ after_read r room n bytes → n ≡ 0 → 0 < room → r'.ends ≡ r.ends + 1
 ended_more r r' room n bytes is zero some =
     let yes : nat_lt 0 room ≡ true = search rules in
     let none : (n == 0) ≡ true = rw zero refl in

@@ -1,7 +1,7 @@
 -- Bytes that came and went in several steps.
 use Rattle.std.proofs.Common.{◌≡◌, ◌<◌, ℕ, List, [], ◌++◌, Option, Some, None, refl, sym, ap, ◌∙◌, subst}
 use Rattle.std.proofs.lemmas.List.{append_assoc, append-nil}
-use Rattle.cb_io.specs.Histories.{Writes}
+use Rattle.cb_io.specs.Histories.{PastWrites}
 use Rattle.cb_io.specs.Moved.{Gave, IsAtEnd}
 use Rattle.cb_io.specs.Output.{OutState, all_put, Puts}
 use Rattle.cb_actions.specs.Went.{extent_at}
@@ -27,12 +27,12 @@ read_all s p from' read end =
     read.1 ∙ (ap (λ it. p ++ it) nothing ∙ append-nil p)
 
 -- all of the bytes were written
-pub record WroteAll (bytes : List ℕ) (writes writes' : Writes) : Type 0 where
+pub record WroteAll (bytes : List ℕ) (writes writes' : PastWrites) : Type 0 where
   pub bytes_are : writes'.bytes ≡ writes.bytes ++ bytes
   pub failures : writes'.failures ≡ writes.failures
 
 -- a beginning of the bytes was written, before a stop
-pub record WroteBegun (bytes : List ℕ) (writes writes' : Writes) (s : Stop) : Type 0 where
+pub record WroteBegun (bytes : List ℕ) (writes writes' : PastWrites) (s : Stop) : Type 0 where
   pub written : List ℕ
   pub unwritten : List ℕ
   pub is : bytes ≡ written ++ unwritten
@@ -40,7 +40,7 @@ pub record WroteBegun (bytes : List ℕ) (writes writes' : Writes) (s : Stop) : 
   pub no_memory : s ≡ stop.NoMemory → writes'.failures ≡ writes.failures
   pub write_fault : s ≡ stop.WriteFault → writes.failures < writes'.failures
 
-module _ {K : Type 0} (writes : K → Writes) (o o1 : OutState K) (bytes : List ℕ) (none : o.pending ≡ []) where
+module _ {K : Type 0} (writes : K → PastWrites) (o o1 : OutState K) (bytes : List ℕ) (none : o.pending ≡ []) where
   pub wrote-all : o1.pending ≡ [] → Puts writes o o1 all_put bytes → WroteAll bytes (writes o.sink) (writes o1.sink)
   unfolding Puts
   wrote-all flushed h = record {

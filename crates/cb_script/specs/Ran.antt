@@ -1,7 +1,7 @@
 -- All that is promised of a run, in one record.
 use Rattle.std.specs.Prelude.{◌≡◌, ◌≢◌, ◌<◌, ◌-◌, ◌^◌, ◌++◌, ℕ, List, [], length, Option, IfSome}
 use Rattle.cb_forms.specs.Laws.{BeginsWith}
-use Rattle.cb_io.specs.Histories.{Reads, Writes}
+use Rattle.cb_io.specs.Histories.{PastReads, PastWrites}
 use Rattle.cb_io.specs.Moved.{Gave}
 use Rattle.cb_script.specs.Outcomes.{ended_as, HasEnded, HasStopped, HasFailed}
 use Rattle.cb_script.specs.Runs.{IsPrompt}
@@ -16,7 +16,7 @@ IsTranscript limits result script wrote = (wrote ≡ transcript limits script) �
 
 -- A run with this outcome. The source had `left` left when the run began and has `left'` now, if it tells; its reads had given
 -- `reads` and have given `reads'`; the writes of the sink had taken `writes` and have taken `writes'`.
-pub record Ran (limits : Limits) (result : Outcome) (left left' : Option (List ℕ)) (reads reads' : Reads) (writes writes' : Writes) : Type 0 where
+pub record Ran (limits : Limits) (result : Outcome) (left left' : Option (List ℕ)) (reads reads' : PastReads) (writes writes' : PastWrites) : Type 0 where
   -- what the run read and what it wrote
   pub read : List ℕ
   pub wrote : List ℕ

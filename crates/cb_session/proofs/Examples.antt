@@ -7,7 +7,7 @@ use Rattle.cb_forms.specs.Pieces.{pieces}
 use Rattle.cb_forms.specs.Trees.{Tree, atom, branch, trees_of}
 use Rattle.cb_forms.specs.Words.{token_of}
 use Rattle.cb_forms.specs.declared.token.Token.TheVariants as token
-use Rattle.cb_functions.specs.Operations.{operator_of}
+use Rattle.cb_functions.specs.Internal.Operations.{operator_of}
 use Rattle.cb_actions.specs.Worlds.{first_world}
 use Rattle.cb_session.specs.Actions.{acted}
 use Rattle.cb_session.specs.States.{State, first_state}

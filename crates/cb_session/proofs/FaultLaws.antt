@@ -7,15 +7,14 @@ use Rattle.cb_actions.specs.declared.act.Ended.TheVariants as ended
 use Rattle.cb_exprs.specs.Bindings.{Bindings}
 use Rattle.cb_exprs.specs.GlobalTerms.{GlobalTerm}
 use Rattle.cb_facts.specs.declared.value.Value.{Value}
-use Rattle.cb_forms.specs.Trees.{Reading, Trees}
+use Rattle.cb_forms.specs.Trees.{Reading}
 use Rattle.cb_forms.specs.declared.fault.Fault.{Fault}
 use Rattle.cb_requests.specs.Requests as asked
-use Rattle.cb_requests.specs.Requests.{Request, request_of}
-use Rattle.cb_session.specs.Actions.{acted, on_world, initials_kept, is_name_in_use, performed, performed_and_shown, shown}
+use Rattle.cb_requests.specs.Requests.{Request}
+use Rattle.cb_session.specs.Actions.{acted, on_world, initials_kept, performed, performed_and_shown, requested, shown}
 use Rattle.cb_session.specs.Laws.{EndsWithFault, KeepsDefinitions}
 use Rattle.cb_session.specs.States.{State}
 use Rattle.cb_session.specs.Transcripts.{Run, concluded, executed}
-use Rattle.cb_templates.specs.Templates.{Templates, defined}
 
 -- what an item does, by its request or the fault of it
 abbrev done : State → Result Request Fault → Effect State (Unit {0})
@@ -27,12 +26,6 @@ run_of m = concluded m.state m.written m.answer
 -- an effect that ends with a fault leaves this state
 abbrev FaultLeaves : {A : Type 0} → State → Effect State A → Type 0
 FaultLeaves s m = (f : Fault) → m.answer ≡ Err (ended.Fault f) → m.state ≡ s
-
--- a template, by what its definition gives
-template_leaves : (s : State) (told : Result Templates Fault)
-    → FaultLeaves s (on_world (λ v. (give_or_fault told >>= (λ templates. become (record v { templates = templates }))) v) s)
-template_leaves s (Ok templates) f h = absurd (cc)
-template_leaves s (Err e) f h = refl
 
 -- globals, by the bindings after them
 globals_leave : (s : State) (gs : List GlobalTerm) (told : Result Bindings Fault)
@@ -59,12 +52,12 @@ done_fault s request f h = shown_fault (performed request s).state (performed re
 marked : (m : Effect State (Unit {0})) (f : Fault) → m.answer ≡ Err (ended.Fault f) → (run_of m).state ≡ record m.state { is_faulted = true }
 marked m f h = ap (λ (r : Result (Unit {0}) Ended). (concluded m.state m.written r).state) h
 
-pub fault_refused : (s : State) (r : Reading) (f : Fault) → request_of s.world.templates s.world.env r ≡ Err f → (executed s r).state ≡ record s { is_faulted = true }
+pub fault_refused : (s : State) (r : Reading) (f : Fault) → requested s r ≡ Err f → (executed s r).state ≡ record s { is_faulted = true }
 unfolding executed acted
 fault_refused s r f is = ap (λ (it : Result Request Fault). (run_of (done s it)).state) is
 
 -- a request that leaves the state where it ends with a fault
-fault_leaves : (s : State) (r : Reading) (f : Fault) (request : Request) → FaultLeaves s (performed request s) → request_of s.world.templates s.world.env r ≡ Ok request → EndsWithFault s r f
+fault_leaves : (s : State) (r : Reading) (f : Fault) (request : Request) → FaultLeaves s (performed request s) → requested s r ≡ Ok request → EndsWithFault s r f
     → (executed s r).state ≡ record s { is_faulted = true }
 unfolding executed acted
 fault_leaves s r f request leaves is h =
@@ -72,12 +65,7 @@ fault_leaves s r f request leaves is h =
     ap (λ (it : Result Request Fault). (run_of (done s it)).state) is
     ∙ (marked (done s (Ok request)) f ends ∙ ap (λ (t : State). record t { is_faulted = true }) (done_state s request ∙ leaves f (done_fault s request f ends)))
 
-pub fault_of_template : (s : State) (r : Reading) (f : Fault) (ts : Trees) → request_of s.world.templates s.world.env r ≡ Ok (asked.define_template ts) → EndsWithFault s r f
-    → (executed s r).state ≡ record s { is_faulted = true }
-fault_of_template s r f ts is h =
-    fault_leaves s r f (asked.define_template ts) (template_leaves s (defined s.world.templates (is_name_in_use s ts) ts)) is h
-
-pub fault_of_globals : (s : State) (r : Reading) (f : Fault) (gs : List GlobalTerm) → request_of s.world.templates s.world.env r ≡ Ok (asked.define_globals gs) → EndsWithFault s r f
+pub fault_of_globals : (s : State) (r : Reading) (f : Fault) (gs : List GlobalTerm) → requested s r ≡ Ok (asked.define_globals gs) → EndsWithFault s r f
     → (executed s r).state ≡ record s { is_faulted = true }
 fault_of_globals s r f gs is h = fault_leaves s r f (asked.define_globals gs) (globals_leave s gs (globals_after s.world.env gs)) is h
 
@@ -87,7 +75,7 @@ same_kept s t is = record { deffacts = ap (λ it. it.deffacts) is; globals = ap 
 
 performed_keeps : (s : State) (request : Request) (f : Fault) → (performed request s).answer ≡ Err (ended.Fault f) → KeepsDefinitions s (performed request s).state
 performed_keeps s (asked.act t) f h = record { deffacts = refl; globals = refl }
-performed_keeps s (asked.define_template ts) f h = same_kept s _ (template_leaves s (defined s.world.templates (is_name_in_use s ts) ts) f h)
+performed_keeps s (asked.define_template template) f h = absurd (cc)
 performed_keeps s (asked.define_deffacts name facts) f h = absurd (cc)
 performed_keeps s (asked.define_globals gs) f h = same_kept s _ (globals_leave s gs (globals_after s.world.env gs) f h)
 performed_keeps s asked.list_facts f h = absurd (cc)
@@ -105,10 +93,10 @@ marked_keeps s t u is keeps = subst (KeepsDefinitions s) (sym is) (record { deff
 pub fault_keeping : (s : State) (r : Reading) (f : Fault) → EndsWithFault s r f → KeepsDefinitions s (executed s r).state
 unfolding executed acted
 fault_keeping s r f h =
-    let m = done s (request_of s.world.templates s.world.env r) in
-    marked_keeps s m.state (run_of m).state (marked m f h) (done_keeps s (request_of s.world.templates s.world.env r) f h)
+    let m = done s (requested s r) in
+    marked_keeps s m.state (run_of m).state (marked m f h) (done_keeps s (requested s r) f h)
 
 -- a request that writes and does nothing else
-pub facts_listed : (s : State) (r : Reading) → request_of s.world.templates s.world.env r ≡ Ok asked.list_facts → (executed s r).state ≡ s
+pub facts_listed : (s : State) (r : Reading) → requested s r ≡ Ok asked.list_facts → (executed s r).state ≡ s
 unfolding executed acted
 facts_listed s r is = ap (λ (it : Result Request Fault). (run_of (done s it)).state) is

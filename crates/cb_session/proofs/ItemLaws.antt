@@ -1,9 +1,11 @@
 -- Calls that carry out items.
 use Rattle.std.proofs.Common.{◌≡◌, ℕ, true, false, List, [], ◌++◌, Option, Some, None, Result, Ok, Err, OnOk, IfOk, refl, sym, ap, ◌∙◌, subst}
 use Rattle.std.proofs.lemmas.List.{append-nil}
-use Rattle.cb_actions.proofs.ActLaws.{Begins, stopped-more, went_then, went_as}
+use Rattle.cb_forms.specs.Laws.{BeginsWith}
+use Rattle.cb_actions.proofs.Cited.{stopped-more, went_then, went_as}
 use Rattle.cb_actions.specs.Acts.{follow, give_or_fault}
-use Rattle.cb_actions.specs.Went.{broken_by, extent_at, stop_extent, Went}
+use Rattle.cb_actions.specs.Went.{extent_at, stop_extent}
+use Rattle.cb_actions.specs.Internal.{broken_by, Went}
 use Rattle.cb_actions.specs.declared.act.Break.TheVariants as break
 use Rattle.cb_actions.specs.declared.act.Break.{Break}
 use Rattle.cb_actions.specs.declared.act.Ended.TheVariants as ended
@@ -22,17 +24,17 @@ use Rattle.cb_forms.specs.declared.cut.Cut.{Cut}
 use Rattle.cb_forms.specs.declared.fault.Fault.{Fault}
 use Rattle.cb_forms.specs.declared.form.Item.{Item}
 use Rattle.cb_forms.specs.declared.token.Token.TheVariants as token
-use Rattle.cb_io.proofs.Putting.{puts_none, puts_then, puts_nothing, puts_less, puts_failed, puts_as}
-use Rattle.cb_io.specs.Histories.{Writes}
+use Rattle.cb_io.proofs.Cited.{puts_none, puts_then, puts_nothing, puts_less, puts_failed, puts_as}
+use Rattle.cb_io.specs.Histories.{PastWrites}
 use Rattle.cb_io.specs.Output.{OutState, all_put, Puts}
-use Rattle.cb_requests.specs.Requests.{Request, request_of}
+use Rattle.cb_requests.specs.Requests.{Request}
 use Rattle.cb_session.proofs.RunLaws.{grows-status}
-use Rattle.cb_session.specs.Actions.{acted, performed, performed_and_shown, shown, shown_line}
-use Rattle.cb_session.specs.Executing.{Executes}
+use Rattle.cb_session.specs.Actions.{acted, performed, performed_and_shown, requested, shown, shown_line}
+use Rattle.cb_session.specs.Internal.Executing.{Executes}
 use Rattle.cb_session.specs.Lines.{fault_line, limit_line, too_long_line, value_line}
-use Rattle.cb_session.specs.Scripts.{from, cut_run}
+use Rattle.cb_session.specs.Internal.Scripts.{from, cut_run}
 use Rattle.cb_session.specs.States.{State}
-use Rattle.cb_session.specs.Transcripts.{Run, joined, after_status, concluded, executed, limit_status}
+use Rattle.cb_session.specs.Transcripts.{Run, runs_joined, after_status, concluded, executed, limit_status}
 use Rattle.cb_session.specs.declared.status.Status.{Status}
 
 -- what an item does, by how its act went
@@ -50,24 +52,24 @@ pub executed-limit : (s t : State) (r : Reading) (limit : Limit) → t ≡ (acte
 unfolding executed
 executed-limit s t r limit state_is is = ap (concluded (acted r s).state (acted r s).written) is ∙ ap (λ u. record { state = u; written = (acted r s).written ++ limit_line limit; status = Some limit_status }) (sym state_is)
 
-concluded_begins : (s : State) (w : List ℕ) (r : Result (Unit {0}) Ended) → Begins w (concluded s w r).written
-concluded_begins s w (Ok v) = record { more = []; is = sym (append-nil w) }
-concluded_begins s w (Err (ended.Fault f)) = record { more = fault_line f; is = refl }
-concluded_begins s w (Err (ended.Limit limit)) = record { more = limit_line limit; is = refl }
+concluded_begins : (s : State) (w : List ℕ) (r : Result (Unit {0}) Ended) → BeginsWith w (concluded s w r).written
+concluded_begins s w (Ok v) = ([], sym (append-nil w))
+concluded_begins s w (Err (ended.Fault f)) = (fault_line f, refl)
+concluded_begins s w (Err (ended.Limit limit)) = (limit_line limit, refl)
 
-pub executed_begins : (s : State) (r : Reading) → Begins (acted r s).written (executed s r).written
+pub executed_begins : (s : State) (r : Reading) → BeginsWith (acted r s).written (executed s r).written
 unfolding executed
 executed_begins s r = concluded_begins (acted r s).state (acted r s).written (acted r s).answer
 
-module _ {K : Type 0} (writes : K → Writes) (o o1 : OutState K) (s t : State) (r : Reading) where
+module _ {K : Type 0} (writes : K → PastWrites) (o o1 : OutState K) (s t : State) (r : Reading) where
   -- an item that stopped
   pub executes-stopped : (e : Stop) → Went {K = K} {S = State} {A = Unit {0}} writes o o1 t (Err (break.Stop e)) (acted r s) → Executes writes o o1 t (Err e) (executed s r)
   executes-stopped stop.NoMemory h =
       let begins = executed_begins s r in
-      record { puts = puts_as writes o o1 _ _ _ _ refl begins.is (puts_less writes o o1 (acted r s).written begins.more h.puts); state_is = tt; status_is = tt }
+      record { puts = puts_as writes o o1 _ _ _ _ refl begins.1 (puts_less writes o o1 (acted r s).written begins.0 h.puts); state_is = tt; status_is = tt }
   executes-stopped stop.WriteFault h =
       let begins = executed_begins s r in
-      record { puts = puts_as writes o o1 _ _ _ _ refl begins.is (puts_failed writes o o1 (acted r s).written begins.more h.puts); state_is = tt; status_is = tt }
+      record { puts = puts_as writes o o1 _ _ _ _ refl begins.1 (puts_failed writes o o1 (acted r s).written begins.0 h.puts); state_is = tt; status_is = tt }
 
   pub executes-done : (v : Unit {0}) → Went writes o o1 t (Ok v) (acted r s) → Executes writes o o1 t (Ok None) (executed s r)
   executes-done v h =
@@ -82,7 +84,7 @@ always : {T E : Type 0} (P : Type 0) (r : Result T E) → P → OnOk r P
 always P (Ok x) h = h
 always P (Err e) h = tt
 
-module _ {K : Type 0} (writes : K → Writes) (o o1 o2 : OutState K) (s t : State) (r : Reading) (result : Result (Option Status) Stop) where
+module _ {K : Type 0} (writes : K → PastWrites) (o o1 o2 : OutState K) (s t : State) (r : Reading) (result : Result (Option Status) Stop) where
   -- an item that ended with a fault, and the line of the fault
   pub executes-fault : (f : Fault) → Went {K = K} {S = State} {A = Unit {0}} writes o o1 t (Err (break.Ended (ended.Fault f))) (acted r s) → Puts writes o1 o2 (stop_extent result) (fault_line f) → IfOk result (λ status. status ≡ None)
       → Executes writes o o2 (record t { is_faulted = true }) result (executed s r)
@@ -111,21 +113,21 @@ unfolding executed acted
 executed-symbol s r name is = ap (executed s) is
 
 -- an item whose request is read
-pub acted-request : (s : State) (r : Reading) (request : Request) → request_of s.world.templates s.world.env r ≡ Ok request → acted r s ≡ performed_and_shown request s
+pub acted-request : (s : State) (r : Reading) (request : Request) → requested s r ≡ Ok request → acted r s ≡ performed_and_shown request s
 unfolding acted
 acted-request s r request is = ap (λ it. follow (give_or_fault it s).state (give_or_fault it s).written (give_or_fault it s).answer performed_and_shown) is
 
-acted-fault : (s : State) (r : Reading) (f : Fault) → request_of s.world.templates s.world.env r ≡ Err f → acted r s ≡ record { state = s; written = []; answer = Err (ended.Fault f) }
+acted-fault : (s : State) (r : Reading) (f : Fault) → requested s r ≡ Err f → acted r s ≡ record { state = s; written = []; answer = Err (ended.Fault f) }
 unfolding acted
 acted-fault s r f is = ap (λ it. follow (give_or_fault it s).state (give_or_fault it s).written (give_or_fault it s).answer performed_and_shown) is
 
-module _ {K : Type 0} (writes : K → Writes) (o : OutState K) (s : State) (r : Reading) where
+module _ {K : Type 0} (writes : K → PastWrites) (o : OutState K) (s : State) (r : Reading) where
   -- an item whose request is refused
-  pub went_refused : (refusal : Refused) → o.fault ≡ false → Tells refusal (λ f. request_of s.world.templates s.world.env r ≡ Err f) → Went {K = K} {S = State} {A = Unit {0}} writes o o s (Err (broken_by refusal)) (acted r s)
+  pub went_refused : (refusal : Refused) → o.fault ≡ false → Tells refusal (λ f. requested s r ≡ Err f) → Went {K = K} {S = State} {A = Unit {0}} writes o o s (Err (broken_by refusal)) (acted r s)
   went_refused (refused.Fault f) fine tells = went_as writes o o s _ _ _ _ refl (acted-fault s r f tells) (record { puts = puts_none writes o fine; answers = (refl, refl) })
   went_refused refused.NoMemory fine tells = record { puts = puts_nothing writes o (acted r s).written fine; answers = tt }
 
-module _ {K : Type 0} (writes : K → Writes) (o o1 o2 : OutState K) (s t : State) (request : Request) where
+module _ {K : Type 0} (writes : K → PastWrites) (o o1 o2 : OutState K) (s t : State) (request : Request) where
   -- a value that is shown after the request was done
   pub went_shown : (v : Option Value) → Went writes o o1 t (Ok v) (performed request s) → Puts writes o1 o2 all_put (shown_line v) → Went {K = K} {S = State} {A = Unit {0}} writes o o2 t (Ok tt) (performed_and_shown request s)
   went_shown v first line = went_then writes o o1 o2 t t v (Ok tt) (performed request s) shown first (record { puts = line; answers = (refl, refl) })
@@ -135,40 +137,40 @@ module _ {K : Type 0} (writes : K → Writes) (o o1 o2 : OutState K) (s t : Stat
 
 -- two items, the first of which doesn't end the script
 two-items : (s : State) (first second : Item) → (executed s (reading_of first)).status ≡ None
-    → cut_run s (cut.TwoItems first second) ≡ joined (executed s (reading_of first)) (executed (executed s (reading_of first)).state (reading_of second))
-two-items s first second h = ap (λ o. after_status o (joined (from s) (executed s (reading_of first))) (reading_of second)) h
+    → cut_run s (cut.TwoItems first second) ≡ runs_joined (executed s (reading_of first)) (executed (executed s (reading_of first)).state (reading_of second))
+two-items s first second h = ap (λ o. after_status o (runs_joined (from s) (executed s (reading_of first))) (reading_of second)) h
 
-module _ {K : Type 0} (writes : K → Writes) (o : OutState K) (s : State) (given : Cut) where
+module _ {K : Type 0} (writes : K → PastWrites) (o : OutState K) (s : State) (given : Cut) where
   pub executes-none : given ≡ cut.More → o.fault ≡ false → Executes writes o o s (Ok None) (cut_run s given)
   executes-none is fine =
       let P : Cut → Type 0 = λ it. Executes writes o o s (Ok None) (cut_run s it) in
       subst P (sym is) (record { puts = puts_none writes o fine; state_is = refl; status_is = refl })
 
-module _ {K : Type 0} (writes : K → Writes) (o o1 : OutState K) (s : State) (given : Cut) where
+module _ {K : Type 0} (writes : K → PastWrites) (o o1 : OutState K) (s : State) (given : Cut) where
   pub executes-long : (result : Result (Option Status) Stop) → given ≡ cut.TooLong → Puts writes o o1 (stop_extent result) too_long_line → IfOk result (λ status. status ≡ Some limit_status)
       → Executes writes o o1 s result (cut_run s given)
   executes-long result is line ends =
       let P : Cut → Type 0 = λ it. Executes writes o o1 s result (cut_run s it) in
       subst P (sym is) (record { puts = line; state_is = always _ result refl; status_is = ends })
 
-module _ {K : Type 0} (writes : K → Writes) (o o1 o2 : OutState K) (s t u : State) (given : Cut) where
+module _ {K : Type 0} (writes : K → PastWrites) (o o1 o2 : OutState K) (s t u : State) (given : Cut) where
   pub executes-two : (first second : Item) (result : Result (Option Status) Stop) → given ≡ cut.TwoItems first second → Executes writes o o1 t (Ok None) (executed s (reading_of first))
       → Executes writes o1 o2 u result (executed t (reading_of second)) → Executes writes o o2 u result (cut_run s given)
   executes-two first second result is one two =
       let here = executed s (reading_of first) in
       let two' : Executes writes o1 o2 u result (executed here.state (reading_of second)) = subst (λ (it : State). Executes writes o1 o2 u result (executed it (reading_of second))) one.state_is two in
-      let all : cut_run s given ≡ joined here (executed here.state (reading_of second)) = ap (cut_run s) is ∙ two-items s first second (sym one.status_is) in
+      let all : cut_run s given ≡ runs_joined here (executed here.state (reading_of second)) = ap (cut_run s) is ∙ two-items s first second (sym one.status_is) in
       subst (λ (it : Run). Executes writes o o2 u result it) (sym all) (record {
         puts = puts_then writes o o1 o2 (stop_extent result) here.written (executed here.state (reading_of second)).written one.puts two'.puts;
         state_is = two'.state_is;
         status_is = two'.status_is;
       })
 
-module _ {K : Type 0} (writes : K → Writes) (o o1 : OutState K) (s t : State) (given : Cut) where
+module _ {K : Type 0} (writes : K → PastWrites) (o o1 : OutState K) (s t : State) (given : Cut) where
   pub executes-first : (first second : Item) (e : Stop) → given ≡ cut.TwoItems first second → Executes writes o o1 t (Err e) (executed s (reading_of first)) → Executes writes o o1 t (Err e) (cut_run s given)
   executes-first first second e is one =
       let here = executed s (reading_of first) in
-      let grows = grows-status here.status (joined (from s) here) (reading_of second) in
+      let grows = grows-status here.status (runs_joined (from s) here) (reading_of second) in
       let P : Cut → Type 0 = λ it. Executes writes o o1 t (Err e) (cut_run s it) in
       subst P (sym is) (record {
         puts = puts_as writes o o1 _ _ _ _ refl grows.is (stopped-more writes o o1 e here.written grows.more one.puts);
@@ -177,7 +179,7 @@ module _ {K : Type 0} (writes : K → Writes) (o o1 : OutState K) (s t : State) 
       })
 
 -- a symbol that is shown
-pub executes-shown : {K : Type 0} (writes : K → Writes) (o o1 : OutState K) (s : State) (r : Reading) (name : List ℕ) (result : Result (Option Status) Stop) → r ≡ Ok (atom (token.Symbol name))
+pub executes-shown : {K : Type 0} (writes : K → PastWrites) (o o1 : OutState K) (s : State) (r : Reading) (name : List ℕ) (result : Result (Option Status) Stop) → r ≡ Ok (atom (token.Symbol name))
     → Puts writes o o1 (stop_extent result) (value_line (value.Symbol name)) → IfOk result (λ status. status ≡ None) → Executes writes o o1 s result (executed s r)
 executes-shown writes o o1 s r name result is line none =
     let shows = executed-symbol s r name is in

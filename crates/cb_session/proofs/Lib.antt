@@ -1,7 +1,9 @@
+pub mod Cited
+mod AskedLaws
 mod LineLaws
 mod FaultLaws
-pub mod RunLaws
-pub mod ScriptLaws
+mod RunLaws
+mod ScriptLaws
 mod ItemLaws
 mod StepLaws
 mod GlobalLaws

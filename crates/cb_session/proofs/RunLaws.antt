@@ -4,7 +4,7 @@ use Rattle.std.proofs.lemmas.Bool.{cases_Bool}
 use Rattle.std.proofs.lemmas.List.{append-nil, append_assoc}
 use Rattle.cb_forms.specs.Items.{items, parts, whole, over, fitting}
 use Rattle.cb_forms.specs.Trees.{Reading}
-use Rattle.cb_forms.proofs.FittingLaws.{fitting-items, fitting-kept, whole-fitting, over-kept_all, whole-more}
+use Rattle.cb_forms.proofs.Cited.{fitting-items, fitting-kept, whole-fitting, over-kept_all, whole-more}
 use Rattle.cb_session.specs.Actions.{acted}
 use Rattle.cb_session.specs.States.{State}
 use Rattle.cb_session.specs.declared.limits.Limits.{Limits}
@@ -75,7 +75,7 @@ complete-long l s h = ap (λ t. if t then too_long (after_all (begun l) (fitting
 -- what fits, after what has ended
 fitting-run : (l : Limits) (p r : List ℕ) → over l.max_form p ≡ false → (more : List Reading) × (after_all (begun l) (fitting l.max_form (p ++ r)) ≡ after_all (after_all (begun l) (whole p)) more)
 fitting-run l p r fits =
-    let begins = whole-fitting l.max_form p r fits in (begins.more, ap (after_all (begun l)) begins.is ∙ after_all-append (begun l) (whole p) begins.more)
+    let begins = whole-fitting l.max_form p r fits in (begins.0, ap (after_all (begun l)) begins.1 ∙ after_all-append (begun l) (whole p) begins.0)
 
 -- however the script goes on, what is written so far is a beginning of all
 pub so_far-grows : (l : Limits) (p r : List ℕ) → Grows (so_far l p).written (complete l (p ++ r)).written
@@ -113,7 +113,7 @@ so_far-ended l p r status ended = elim (cases_Bool (over l.max_form p)) [
       let rest : after_all (begun l) (fitting l.max_form (p ++ r)) ≡ here = more.1 ∙ after_all-ended here status more.0 over_here in
       let long_rest : too_long (after_all (begun l) (fitting l.max_form (p ++ r))) ≡ here = ap too_long rest ∙ too_long-ended here status over_here in
       let wholes = whole-more p r in
-      let whole_rest : after_all (begun l) (whole (p ++ r)) ≡ here = ap (after_all (begun l)) wholes.is ∙ (after_all-append (begun l) (whole p) wholes.more ∙ after_all-ended here status wholes.more over_here) in
+      let whole_rest : after_all (begun l) (whole (p ++ r)) ≡ here = ap (after_all (begun l)) wholes.1 ∙ (after_all-append (begun l) (whole p) wholes.0 ∙ after_all-ended here status wholes.0 over_here) in
       let P : Bool → Type 0 = λ t. ((if t then too_long (after_all (begun l) (fitting l.max_form (p ++ r))) else after_all (begun l) (whole (p ++ r))) ≡ here) × ((if t then too_long (after_all (begun l) (fitting l.max_form (p ++ r))) else after_all (begun l) (fitting l.max_form (p ++ r))) ≡ here) in
       let both : P (over l.max_form (p ++ r)) = elim (over l.max_form (p ++ r)) as P [ true ↦ (long_rest, long_rest) | false ↦ (whole_rest, rest) ] in
       (both.0 ∙ sym is, both.1 ∙ sym is)
@@ -131,9 +131,9 @@ so_far-grows_far l p r = elim (cases_Bool (over l.max_form p)) [
       let more = fitting-run l p r fits in
       let wholes = whole-more p r in
       let here = after_all (begun l) (whole p) in
-      let whole_is : after_all (begun l) (whole (p ++ r)) ≡ after_all here wholes.more = ap (after_all (begun l)) wholes.is ∙ after_all-append (begun l) (whole p) wholes.more in
+      let whole_is : after_all (begun l) (whole (p ++ r)) ≡ after_all here wholes.0 = ap (after_all (begun l)) wholes.1 ∙ after_all-append (begun l) (whole p) wholes.0 in
       let one : Grows here.written (too_long (after_all (begun l) (fitting l.max_form (p ++ r)))).written = grows-trans here.written (after_all (begun l) (fitting l.max_form (p ++ r))).written (too_long (after_all (begun l) (fitting l.max_form (p ++ r)))).written (subst (λ (it : Run). Grows here.written it.written) (sym more.1) (grows-all here more.0)) (grows-long (after_all (begun l) (fitting l.max_form (p ++ r)))) in
-      let two : Grows here.written (after_all (begun l) (whole (p ++ r))).written = subst (λ (it : Run). Grows here.written it.written) (sym whole_is) (grows-all here wholes.more) in
+      let two : Grows here.written (after_all (begun l) (whole (p ++ r))).written = subst (λ (it : Run). Grows here.written it.written) (sym whole_is) (grows-all here wholes.0) in
       let P : Bool → Type 0 = λ t. Grows here.written (if t then too_long (after_all (begun l) (fitting l.max_form (p ++ r))) else after_all (begun l) (whole (p ++ r))).written in
       let all : P (over l.max_form (p ++ r)) = elim (over l.max_form (p ++ r)) as P [ true ↦ one | false ↦ two ] in
       subst (λ (it : Run). Grows it.written (so_far l (p ++ r)).written) (sym (so_far-fits l p fits)) all

@@ -3,42 +3,43 @@ use Rattle.std.proofs.Common.{◌≡◌, ◌≤◌, ◌<◌, ◌+◌, arith, ℕ
 use Rattle.std.proofs.lemmas.Bool.{cases_Bool}
 use Rattle.std.proofs.lemmas.List.{append-nil, append_assoc, map-append, take_more}
 use Rattle.std.proofs.Math.Seq.{drop-append_seam}
-use Rattle.cb_forms.specs.Cuts.{item_readings, cut_items, cut_readings, is_too_long}
+use Rattle.cb_forms.specs.Cuts.{item_readings, cut_items, is_too_long}
+use Rattle.cb_forms.specs.Internal.Cuts.{cut_readings}
 use Rattle.cb_forms.specs.Cutter.{Progress, fresh_progress, readings_in}
 use Rattle.cb_forms.specs.Items.{items, parts, whole, over, fitting}
 use Rattle.cb_forms.specs.Trees.{Reading, reading_of}
 use Rattle.cb_forms.specs.declared.cut.Cut.{Cut}
 use Rattle.cb_forms.specs.declared.form.Item.{Item}
-use Rattle.cb_forms.proofs.FittingLaws.{fitting-whole}
+use Rattle.cb_forms.proofs.Cited.{fitting-whole}
 use Rattle.cb_session.specs.States.{State, first_state}
 use Rattle.cb_session.specs.Lines.{too_long_line}
-use Rattle.cb_session.specs.Scripts.{from, cut_run, IsUnderWay}
-use Rattle.cb_session.specs.Transcripts.{Run, begun, joined, executed, after_status, after, after_all, too_long_status, too_long, so_far, complete, transcript, added, added_at_end}
+use Rattle.cb_session.specs.Internal.Scripts.{from, cut_run, IsUnderWay}
+use Rattle.cb_session.specs.Transcripts.{Run, begun, runs_joined, executed, after_status, after, after_all, too_long_status, too_long, so_far, complete, transcript, added, added_at_end}
 use Rattle.cb_session.specs.declared.limits.Limits.{Limits}
 use Rattle.cb_session.specs.declared.status.Status.{Status}
 use Rattle.cb_session.proofs.RunLaws.{Grows, after_all-append, complete-fits, so_far-fits, so_far-long, so_far-ended, so_far-grows, so_far-grows_far}
 
-joined-status : (o : Option Status) (run next : Run) (x : Reading) → joined run (after_status o next x) ≡ after_status o (joined run next) x
+joined-status : (o : Option Status) (run next : Run) (x : Reading) → runs_joined run (after_status o next x) ≡ after_status o (runs_joined run next) x
 joined-status None run next x = ap (λ w. record { state = (executed next.state x).state; written = w; status = (executed next.state x).status }) (sym (append_assoc run.written next.written (executed next.state x).written))
 joined-status (Some status) run next x = refl
 
-joined-all : (run next : Run) (xs : List Reading) → joined run (after_all next xs) ≡ after_all (joined run next) xs
+joined-all : (run next : Run) (xs : List Reading) → runs_joined run (after_all next xs) ≡ after_all (runs_joined run next) xs
 joined-all run next [] = refl
 joined-all run next (x ∷ xs) = joined-all run (after next x) xs ∙ ap (λ it. after_all it xs) (joined-status next.status run next x)
 
-joined-long_status : (o : Option Status) (run next : Run) → joined run (too_long_status o next) ≡ too_long_status o (joined run next)
+joined-long_status : (o : Option Status) (run next : Run) → runs_joined run (too_long_status o next) ≡ too_long_status o (runs_joined run next)
 joined-long_status None run next = ap (λ w. record { state = next.state; written = w; status = (too_long_status None next).status }) (sym (append_assoc run.written next.written (too_long_line)))
 joined-long_status (Some status) run next = refl
 
 -- a run that has not ended is one that begins in its state, after it
-joined-from : (run : Run) → run.status ≡ None → joined run (from run.state) ≡ run
+joined-from : (run : Run) → run.status ≡ None → runs_joined run (from run.state) ≡ run
 joined-from run h = ap (λ w. record { state = run.state; written = w; status = None }) (append-nil run.written) ∙ ap (λ o. record { state = run.state; written = run.written; status = o }) (sym h)
 
 -- what is added, where the run is known
 added-grows : (before more whole : List ℕ) → whole ≡ before ++ more → drop (length before) whole ≡ more
 added-grows before more whole is = ap (drop (length before)) is ∙ drop-append_seam before more
 
-pub added-joined : (l : Limits) (p q : List ℕ) (part : Run) → so_far l (p ++ q) ≡ joined (so_far l p) part → added l p q ≡ part.written
+pub added-joined : (l : Limits) (p q : List ℕ) (part : Run) → so_far l (p ++ q) ≡ runs_joined (so_far l p) part → added l p q ≡ part.written
 unfolding added
 added-joined l p q part is = added-grows (so_far l p).written part.written (so_far l (p ++ q)).written (ap (λ it. it.written) is)
 
@@ -55,7 +56,7 @@ end-grown l p =
     let grows : Grows (so_far l p).written (complete l p).written = subst P (append-nil p) (so_far-grows l p []) in
     grows.is ∙ ap (λ it. (so_far l p).written ++ it) (sym (added-grows (so_far l p).written grows.more (complete l p).written grows.is))
 
-pub end-joined : (l : Limits) (p : List ℕ) (part : Run) → complete l p ≡ joined (so_far l p) part → added_at_end l p ≡ part.written
+pub end-joined : (l : Limits) (p : List ℕ) (part : Run) → complete l p ≡ runs_joined (so_far l p) part → added_at_end l p ≡ part.written
 unfolding added_at_end
 end-joined l p part is = added-grows (so_far l p).written part.written (transcript l p) (ap (λ it. it.written) is)
 
@@ -86,32 +87,32 @@ module _ (l : Limits) (fed : List ℕ) (cutter : Progress) (state : State) (way 
   pub way-status : (so_far l fed).status ≡ None
   way-status = ap (λ it. it.status) (so_far-fits l fed way.fits) ∙ way.goes
 
-  way-start : joined (after_all (begun l) (whole fed)) (from state) ≡ after_all (begun l) (whole fed)
-  way-start = ap (λ it. joined (after_all (begun l) (whole fed)) (from it)) way.state_is ∙ joined-from (after_all (begun l) (whole fed)) way.goes
+  way-start : runs_joined (after_all (begun l) (whole fed)) (from state) ≡ after_all (begun l) (whole fed)
+  way-start = ap (λ it. runs_joined (after_all (begun l) (whole fed)) (from it)) way.state_is ∙ joined-from (after_all (begun l) (whole fed)) way.goes
 
   -- one more byte, by what it completes
   pub so_far-push : (cutter' : Progress) (b : ℕ) (given : Cut) → cutter'.limit ≡ cutter.limit → cutter'.stepped ≡ cutter.stepped ++ b ∷ [] → cutter'.given ≡ cutter.given ++ cut_items given
       → (over cutter'.limit cutter'.stepped ≡ false → readings_in cutter'.given ≡ whole cutter'.stepped) → is_too_long given ≡ over cutter'.limit cutter'.stepped
-      → so_far l (fed ++ b ∷ []) ≡ joined (so_far l fed) (cut_run state given)
+      → so_far l (fed ++ b ∷ []) ≡ runs_joined (so_far l fed) (cut_run state given)
   so_far-push cutter' b given limit stepped items whole_is long_is =
       let n = l.max_form in
       let p = fed in
       let here = after_all (begun l) (whole p) in
       let bytes : cutter'.stepped ≡ p ++ b ∷ [] = stepped ∙ ap (λ it. it ++ b ∷ []) way.stepped in
-      let far : joined (so_far l p) (cut_run state given) ≡ joined here (cut_run state given) = ap (λ it. joined it (cut_run state given)) (so_far-fits l p way.fits) in
+      let far : runs_joined (so_far l p) (cut_run state given) ≡ runs_joined here (cut_run state given) = ap (λ it. runs_joined it (cut_run state given)) (so_far-fits l p way.fits) in
       let over_is : over cutter'.limit cutter'.stepped ≡ over n (p ++ b ∷ []) = ap (λ it. over it cutter'.stepped) (limit ∙ way.limit) ∙ ap (over n) bytes in
       elim (cases_Bool (is_too_long given)) [
         | inl e ↦
             let long : over n (p ++ b ∷ []) ≡ true = sym over_is ∙ (sym long_is ∙ e) in
             let run_is : cut_run state given ≡ too_long (from state) = ap (λ t. if t then too_long (from state) else after_all (from state) (cut_readings given)) e in
             so_far-long l (p ++ b ∷ []) long ∙ (ap (λ xs. too_long (after_all (begun l) xs)) (fitting-whole n p b way.some way.fits long)
-            ∙ (ap too_long (sym way-start) ∙ (sym (joined-long_status (from state).status here (from state)) ∙ (ap (joined here) (sym run_is) ∙ sym far))))
+            ∙ (ap too_long (sym way-start) ∙ (sym (joined-long_status (from state).status here (from state)) ∙ (ap (runs_joined here) (sym run_is) ∙ sym far))))
         | inr e ↦
             let fits : over n (p ++ b ∷ []) ≡ false = sym over_is ∙ (sym long_is ∙ e) in
             let run_is : cut_run state given ≡ after_all (from state) (cut_readings given) = ap (λ t. if t then too_long (from state) else after_all (from state) (cut_readings given)) e in
             let wholes : whole (p ++ b ∷ []) ≡ whole p ++ cut_readings given = ap whole (sym bytes) ∙ (sym (whole_is (sym long_is ∙ e)) ∙ (ap readings_in items ∙ (map-append reading_of cutter.given (cut_items given) ∙ ap (λ it. it ++ cut_readings given) way.given))) in
             so_far-fits l (p ++ b ∷ []) fits ∙ (ap (after_all (begun l)) wholes ∙ (after_all-append (begun l) (whole p) (cut_readings given)
-            ∙ (ap (λ it. after_all it (cut_readings given)) (sym way-start) ∙ (sym (joined-all here (from state) (cut_readings given)) ∙ (ap (joined here) (sym run_is) ∙ sym far)))))
+            ∙ (ap (λ it. after_all it (cut_readings given)) (sym way-start) ∙ (sym (joined-all here (from state) (cut_readings given)) ∙ (ap (runs_joined here) (sym run_is) ∙ sym far)))))
       ]
 
   -- a run of bytes that complete nothing
@@ -145,14 +146,14 @@ module _ (l : Limits) (fed : List ℕ) (cutter : Progress) (state : State) (way 
   pub run-nothing : (q : List ℕ) (cutter' : Progress) → IsUnderWay l (fed ++ q) cutter' state → cutter'.given ≡ cutter.given → added l fed q ≡ []
   run-nothing q cutter' way' given =
       let same : whole fed ≡ whole (fed ++ q) = sym way.given ∙ (ap readings_in (sym given) ∙ way'.given) in
-      added-joined l fed q (from state) (so_far-fits l (fed ++ q) way'.fits ∙ (ap (after_all (begun l)) (sym same) ∙ (sym way-start ∙ ap (λ it. joined it (from state)) (sym (so_far-fits l fed way.fits)))))
+      added-joined l fed q (from state) (so_far-fits l (fed ++ q) way'.fits ∙ (ap (after_all (begun l)) (sym same) ∙ (sym way-start ∙ ap (λ it. runs_joined it (from state)) (sym (so_far-fits l fed way.fits)))))
 
   -- the run of a whole script, by the item that is open at its end
   pub complete-end : (item : Option Item) → (over cutter.limit cutter.stepped ≡ false → readings_in cutter.given ++ item_readings item ≡ items cutter.stepped)
-      → complete l fed ≡ joined (so_far l fed) (after_all (from state) (item_readings item))
+      → complete l fed ≡ runs_joined (so_far l fed) (after_all (from state) (item_readings item))
   complete-end item ends =
       let here = after_all (begun l) (whole fed) in
-      let far : joined (so_far l fed) (after_all (from state) (item_readings item)) ≡ joined here (after_all (from state) (item_readings item)) = ap (λ it. joined it (after_all (from state) (item_readings item))) (so_far-fits l fed way.fits) in
+      let far : runs_joined (so_far l fed) (after_all (from state) (item_readings item)) ≡ runs_joined here (after_all (from state) (item_readings item)) = ap (λ it. runs_joined it (after_all (from state) (item_readings item))) (so_far-fits l fed way.fits) in
       let over_is : over cutter.limit cutter.stepped ≡ over l.max_form fed = ap (λ it. over it cutter.stepped) way.limit ∙ ap (over l.max_form) way.stepped in
       let all : items fed ≡ whole fed ++ item_readings item = ap items (sym way.stepped) ∙ (sym (ends (over_is ∙ way.fits)) ∙ ap (λ it. it ++ item_readings item) way.given) in
       complete-fits l fed way.fits ∙ (ap (after_all (begun l)) all ∙ (after_all-append (begun l) (whole fed) (item_readings item)

@@ -9,14 +9,14 @@ use Rattle.cb_forms.specs.Trees.{reading_of}
 use Rattle.cb_forms.specs.declared.cut.Cut.{Cut}
 use Rattle.cb_forms.specs.declared.cut.Cut.TheVariants as cut
 use Rattle.cb_forms.specs.declared.form.Item.{Item}
-use Rattle.cb_io.specs.Histories.{Writes}
+use Rattle.cb_io.specs.Histories.{PastWrites}
 use Rattle.cb_io.specs.Output.{OutState}
-use Rattle.cb_io.proofs.Putting.{puts_none, puts_nothing, puts_as}
+use Rattle.cb_io.proofs.Cited.{puts_none, puts_nothing, puts_as}
 use Rattle.cb_session.specs.States.{State}
-use Rattle.cb_session.specs.Scripts.{from, cut_run, IsUnderWay, Steps, Ends}
+use Rattle.cb_session.specs.Internal.Scripts.{from, cut_run, IsUnderWay, Steps, Ends}
 use Rattle.cb_session.specs.Sessions.{SessionState, session_after}
 use Rattle.cb_session.specs.Transcripts.{after_all, executed, so_far, added}
-use Rattle.cb_session.specs.Executing.{Executes}
+use Rattle.cb_session.specs.Internal.Executing.{Executes}
 use Rattle.cb_session.specs.declared.limits.Limits.{Limits}
 use Rattle.cb_session.specs.declared.status.Status.{Status}
 use Rattle.cb_actions.specs.declared.stop.Stop.{Stop}
@@ -35,7 +35,7 @@ on_ok : {T E : Type 0} (P Q : Type 0) (r : Result T E) → (P → Q) → OnOk r 
 on_ok P Q (Ok x) f h = f h
 on_ok P Q (Err e) f h = tt
 
-module _ {K : Type 0} (writes : K → Writes) (o o1 : OutState K) (l : Limits) (fed : List ℕ) (b : ℕ) (cutter cutter' : Progress) (state state' : State) (way : IsUnderWay l fed cutter state) where
+module _ {K : Type 0} (writes : K → PastWrites) (o o1 : OutState K) (l : Limits) (fed : List ℕ) (b : ℕ) (cutter cutter' : Progress) (state state' : State) (way : IsUnderWay l fed cutter state) where
   -- a byte and what the cutter gives with it
   pub steps-cut : (given : Cut) (result : Result (Option Status) Stop) → cutter'.limit ≡ cutter.limit → cutter'.stepped ≡ cutter.stepped ++ b ∷ [] → cutter'.given ≡ cutter.given ++ cut_items given
       → (over cutter'.limit cutter'.stepped ≡ false → readings_in cutter'.given ≡ whole cutter'.stepped) → is_too_long given ≡ over cutter'.limit cutter'.stepped → cutter'.failed ≡ false
@@ -52,7 +52,7 @@ module _ {K : Type 0} (writes : K → Writes) (o o1 : OutState K) (l : Limits) (
   pub steps-refused : o.fault ≡ false → Steps writes o o l fed b cutter' state' (Err stop.NoMemory)
   steps-refused fine = record { puts = puts_nothing writes o (added l fed (b ∷ [])) fine; status = tt; goes = tt }
 
-module _ {K : Type 0} (writes : K → Writes) (o o1 : OutState K) (l : Limits) (fed : List ℕ) (cutter : Progress) (state state' : State) (way : IsUnderWay l fed cutter state) where
+module _ {K : Type 0} (writes : K → PastWrites) (o o1 : OutState K) (l : Limits) (fed : List ℕ) (cutter : Progress) (state state' : State) (way : IsUnderWay l fed cutter state) where
   -- the end, and the item that is open there
   ends-run : (item : Option Item) (result : Result (Option Status) Stop) → (over cutter.limit cutter.stepped ≡ false → readings_in cutter.given ++ item_readings item ≡ items cutter.stepped)
       → Executes writes o o1 state' result (after_all (from state) (item_readings item)) → Ends writes o o1 l fed state' result

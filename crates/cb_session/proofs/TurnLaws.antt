@@ -1,7 +1,7 @@
 -- The turns that are left never rise from item to item.
 use Rattle.std.proofs.Common.{◌≡◌, ◌≤◌, ℕ, Bool, true, false, List, [], ◌∷◌, Option, Some, None, Result, Ok, Err, arith, if◌then◌else◌}
-use Rattle.cb_actions.proofs.Falling.{Falls, falls_then}
-use Rattle.cb_actions.proofs.TurnLaws.{turns_left, never_rises, template_falls, globals_fall, anew_falls, facts_fall}
+use Rattle.cb_actions.specs.Internal.{Falls, turns_left}
+use Rattle.cb_actions.proofs.Cited.{falls_then, never_rises, template_falls, globals_fall, anew_falls, facts_fall}
 use Rattle.cb_actions.specs.Acts.{Act, give_or_fault, ◌>>=◌}
 use Rattle.cb_actions.specs.Definitions.{all_asserted, all_evaluated, globals_defined}
 use Rattle.cb_actions.specs.Worlds.{World}
@@ -13,13 +13,13 @@ use Rattle.cb_forms.specs.Items.{fitting, over}
 use Rattle.cb_forms.specs.Trees.{Reading}
 use Rattle.cb_forms.specs.declared.fault.Fault.{Fault}
 use Rattle.cb_requests.specs.Requests as asked
-use Rattle.cb_requests.specs.Requests.{Request, request_of}
-use Rattle.cb_session.specs.Actions.{acted, initials_kept, is_name_in_use, on_world, performed, performed_and_shown, reset_to, shown, started_over}
+use Rattle.cb_requests.specs.Requests.{Request}
+use Rattle.cb_session.specs.Actions.{acted, initials_kept, on_world, performed, performed_and_shown, requested, reset_to, shown, started_over}
 use Rattle.cb_session.specs.States.{State}
 use Rattle.cb_session.specs.Transcripts.{Run, after, after_all, after_status, begun, complete, concluded, executed, too_long, too_long_status}
 use Rattle.cb_session.specs.declared.limits.Limits.{Limits}
 use Rattle.cb_session.specs.declared.status.Status.{Status}
-use Rattle.cb_working_memory.specs.Deffacts.{facts_in}
+use Rattle.cb_working_memory.specs.Deffacts.{kept_facts}
 
 -- the turns that are left
 abbrev left : State → ℕ
@@ -32,11 +32,11 @@ reset_falls gs facts =
 
 performed_falls : (request : Request) → Falls left (performed request)
 performed_falls (asked.act t) s = never_rises t s.world
-performed_falls (asked.define_template ts) s = template_falls (is_name_in_use s ts) ts s.world
+performed_falls (asked.define_template template) s = template_falls template s.world
 performed_falls (asked.define_deffacts name facts) s = omega arith
 performed_falls (asked.define_globals gs) s = falls_then left (on_world (globals_defined gs)) (λ _. initials_kept gs) (λ u. globals_fall gs u.world) (λ _ u. omega arith) s
 performed_falls asked.list_facts s = omega arith
-performed_falls asked.reset s = reset_falls s.globals (facts_in s.deffacts) s.world
+performed_falls asked.reset s = reset_falls s.globals (kept_facts s.deffacts) s.world
 performed_falls asked.clear s = omega arith
 
 read_falls : (r : Result Request Fault) → Falls left (give_or_fault r)
@@ -46,7 +46,7 @@ read_falls (Err f) s = omega arith
 acted_falls : (r : Reading) → Falls left (acted r)
 unfolding acted
 acted_falls r s =
-    let request = request_of s.world.templates s.world.env r in
+    let request = requested s r in
     falls_then left (give_or_fault request) performed_and_shown (read_falls request) (λ it. falls_then left (performed it) shown (performed_falls it) (λ v u. omega arith)) s
 
 concluded_falls : (s : State) (w : List ℕ) (r : Result (Unit {0}) Ended) → left (concluded s w r).state ≤ left s

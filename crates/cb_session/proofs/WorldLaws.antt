@@ -1,18 +1,18 @@
 -- Acts on the world, as acts on the whole state, and acts after acts that put nothing.
 use Rattle.std.proofs.Common.{◌≡◌, [], Result, Ok, Err, refl, sym, ap, subst}
 use Rattle.cb_actions.specs.Acts.{Act, Effect, follow}
-use Rattle.cb_actions.specs.Went.{Quietly, Went}
+use Rattle.cb_actions.specs.Internal.{Quietly, Went}
 use Rattle.cb_actions.specs.Worlds.{World}
 use Rattle.cb_actions.specs.declared.act.Break.TheVariants as break
 use Rattle.cb_actions.specs.declared.act.Break.{Break}
 use Rattle.cb_actions.specs.declared.stop.Stop.TheVariants as stop
-use Rattle.cb_io.specs.Histories.{Writes}
+use Rattle.cb_io.specs.Histories.{PastWrites}
 use Rattle.cb_io.specs.Output.{OutState}
 use Rattle.cb_session.specs.Actions.{in_state, on_world}
 use Rattle.cb_session.specs.States.{State}
 
 -- an act on the world that went so
-pub went_on_world : {K A : Type 0} (writes : K → Writes) (o o1 : OutState K) (s : State) (w : World) (r : Result A Break) (act : Act World A) → Went writes o o1 w r (act s.world)
+pub went_on_world : {K A : Type 0} (writes : K → PastWrites) (o o1 : OutState K) (s : State) (w : World) (r : Result A Break) (act : Act World A) → Went writes o o1 w r (act s.world)
     → Went writes o o1 (record s { world = w }) r (on_world act s)
 went_on_world writes o o1 s w (Ok a) act h = record { puts = h.puts; answers = (ap (λ v. record s { world = v }) h.answers.0, h.answers.1) }
 went_on_world writes o o1 s w (Err (break.Ended e)) act h = record { puts = h.puts; answers = (ap (λ v. record s { world = v }) h.answers.0, h.answers.1) }

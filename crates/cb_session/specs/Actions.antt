@@ -1,8 +1,5 @@
 -- What the requests of a script do.
-use Rattle.std.specs.Prelude.{◌||◌, ℕ, Bool, false, List, [], Option, Some, None, Ok}
-use Rattle.std.specs.List.{list_any}
-use Rattle.std.specs.Option.{option_map_or}
-use Rattle.std.specs.Str.{bytes_eq}
+use Rattle.std.specs.Prelude.{ℕ, List, [], Option, Some, None, Result, Ok}
 use Rattle.cb_actions.specs.Actions.{carried}
 use Rattle.cb_actions.specs.Acts.{Act, Effect, give_or_fault, write, become, ◌>>=◌}
 use Rattle.cb_actions.specs.Definitions.{all_asserted, all_evaluated, globals_defined, template_defined}
@@ -10,14 +7,15 @@ use Rattle.cb_actions.specs.Worlds.{World, cleared, without_facts, without_varia
 use Rattle.cb_exprs.specs.FactTerms.{FactTerm}
 use Rattle.cb_exprs.specs.GlobalTerms.{GlobalTerm}
 use Rattle.cb_facts.specs.declared.value.Value.{Value}
-use Rattle.cb_forms.specs.Members.{head_and_rest}
-use Rattle.cb_forms.specs.Trees.{Reading, Trees}
+use Rattle.cb_forms.specs.Trees.{Reading}
+use Rattle.cb_forms.specs.declared.fault.Fault.{Fault}
 use Rattle.cb_requests.specs.Requests as request
 use Rattle.cb_requests.specs.Requests.{Request, request_of}
+use Rattle.cb_requests.specs.Uses.{is_in_use}
 use Rattle.cb_session.specs.Globals.{with_initials}
 use Rattle.cb_session.specs.Lines.{value_line, fact_lines}
 use Rattle.cb_session.specs.States.{State}
-use Rattle.cb_working_memory.specs.Deffacts.{with_deffacts, facts_in, is_named_in_deffacts}
+use Rattle.cb_working_memory.specs.Deffacts.{kept_facts, with_deffacts}
 
 -- an effect on the world, as one on the whole state
 abbrev pub in_state : {A : Type 0} → State → Effect World A → Effect State A
@@ -27,13 +25,9 @@ in_state s effect = record { state = record s { world = effect.state }; written 
 abbrev pub on_world : {A : Type 0} → Act World A → Act State A
 on_world act s = in_state s (act s.world)
 
--- a relation is in use: a fact that is there or one of a `deffacts` names it
-abbrev pub is_in_use : State → List ℕ → Bool
-is_in_use s relation = list_any (λ entry. bytes_eq entry.1.relation relation) s.world.memory.facts || is_named_in_deffacts relation s.deffacts
-
--- the symbol after `deftemplate`, if there is one, is a relation in use
-abbrev pub is_name_in_use : State → Trees → Bool
-is_name_in_use s ts = option_map_or (λ split. is_in_use s split.0) (head_and_rest ts) false
+-- what an item asks for, by the templates and the values that there are and the relations in use, or its first fault
+abbrev pub requested : State → Reading → Result Request Fault
+requested s r = request_of s.world.templates s.world.env (is_in_use s.world.memory s.deffacts) r
 
 -- globals have these initial expressions now
 abbrev pub initials_kept : List GlobalTerm → Act State (Option Value)
@@ -51,11 +45,11 @@ reset_to gs facts = all_evaluated gs >>= (λ _. started_over >>= (λ _. all_asse
 -- what a request does, and its value if it has one
 abbrev pub performed : Request → Act State (Option Value)
 performed (request.act t) s = on_world (carried t) s
-performed (request.define_template ts) s = on_world (template_defined (is_name_in_use s ts) ts) s
+performed (request.define_template template) s = on_world (template_defined template) s
 performed (request.define_deffacts name facts) s = become (record s { deffacts = with_deffacts s.deffacts name facts }) s
 performed (request.define_globals gs) s = (on_world (globals_defined gs) >>= (λ _. initials_kept gs)) s
 performed request.list_facts s = write (fact_lines s.world.memory.facts) s
-performed request.reset s = on_world (reset_to s.globals (facts_in s.deffacts)) s
+performed request.reset s = on_world (reset_to s.globals (kept_facts s.deffacts)) s
 performed request.clear s = become (record { world = cleared s.world; deffacts = []; globals = []; is_faulted = s.is_faulted }) s
 
 -- the line of the value of an item, if it has one
@@ -73,4 +67,4 @@ performed_and_shown request = performed request >>= shown
 
 -- an item: its request is read and done, and its value is shown
 unfoldable pub acted : Reading → Act State (Unit {0})
-acted r s = (give_or_fault (request_of s.world.templates s.world.env r) >>= performed_and_shown) s
+acted r s = (give_or_fault (requested s r) >>= performed_and_shown) s

@@ -1,5 +1,5 @@
 -- The initial expressions that `defglobal` keeps for `reset`.
-use Rattle.std.specs.Prelude.{ℕ, suc, List, [], ◌∷◌, Option, Some, None, option_map, if◌then◌else◌}
+use Rattle.std.specs.Prelude.{List, [], ◌∷◌, if◌then◌else◌}
 use Rattle.std.specs.Str.{bytes_eq}
 use Rattle.cb_exprs.specs.GlobalTerms.{GlobalTerm}
 
@@ -12,8 +12,3 @@ with_initial g (h ∷ hs) = if bytes_eq h.0 g.0 then g ∷ hs else h ∷ with_in
 abbrev pub with_initials : List GlobalTerm → List GlobalTerm → List GlobalTerm
 with_initials [] hs = hs
 with_initials (g ∷ gs) hs = with_initials gs (with_initial g hs)
-
--- the place of the global with this name
-abbrev pub place_of : List ℕ → List GlobalTerm → Option ℕ
-place_of name [] = None
-place_of name (h ∷ hs) = if bytes_eq h.0 name then Some 0 else option_map suc (place_of name hs)

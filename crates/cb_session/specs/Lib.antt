@@ -1,10 +1,8 @@
-pub mod Lines
-pub mod States
-pub mod Globals
-pub mod GlobalPlaces
 pub mod Actions
-pub mod Transcripts
+pub mod Globals
+pub mod Internal
 pub mod Laws
-pub mod Executing
+pub mod Lines
 pub mod Sessions
-pub mod Scripts
+pub mod States
+pub mod Transcripts

@@ -1,6 +1,5 @@
 -- What a session has been fed, and how it goes on.
-use Rattle.std.specs.Prelude.{◌≡◌, ◌++◌, ℕ, List, [], Option, Some, None, Result, OnOk}
-use Rattle.cb_session.specs.Transcripts.{so_far}
+use Rattle.std.specs.Prelude.{ℕ, List, [], Option, Some, None}
 use Rattle.cb_session.specs.declared.limits.Limits.{Limits}
 use Rattle.cb_session.specs.declared.status.Flow.{Flow}
 use Rattle.cb_session.specs.declared.status.Flow.TheVariants.{GoOn, Ended}
@@ -20,11 +19,6 @@ fresh_session limits = record { limits = limits; fed = []; status = None; stop =
 -- the bytes and the status are these now
 abbrev pub session_after : Limits → List ℕ → Option Status → SessionState
 session_after limits fed status = record { limits = limits; fed = fed; status = status; stop = None }
-
--- a session has taken these bytes, where the call answers so
-abbrev pub HasTaken : {T : Type 0} → SessionState → List ℕ → SessionState → Result T Stop → Type 0
-HasTaken old bytes new result =
-    OnOk result (new ≡ session_after old.limits (old.fed ++ bytes) (so_far old.limits (old.fed ++ bytes)).status)
 
 abbrev pub flow_of : Option Status → Flow
 flow_of None = GoOn

@@ -34,12 +34,12 @@ concluded s bytes (Err (ended.Limit limit)) = record { state = s; written = byte
 unfoldable pub executed : State → Reading → Run
 executed s r = concluded (acted r s).state (acted r s).written (acted r s).answer
 
-abbrev pub joined : Run → Run → Run
-joined run next = record { state = next.state; written = run.written ++ next.written; status = next.status }
+abbrev pub runs_joined : Run → Run → Run
+runs_joined run next = record { state = next.state; written = run.written ++ next.written; status = next.status }
 
 -- one more item; after the end nothing counts
 abbrev pub after_status : Option Status → Run → Reading → Run
-after_status None run item = joined run (executed run.state item)
+after_status None run item = runs_joined run (executed run.state item)
 after_status (Some status) run item = run
 
 abbrev pub after : Run → Reading → Run

@@ -1,16 +1,16 @@
 //! Carrying out items.
 ghost use Rattle.std.specs.Prelude.{◌≡◌, IfSome, Ok, None, Some, IfOk, OnOk, false, true};
-ghost use Rattle.cb_actions.specs.Went.{Quietly, Went, stop_extent};
+ghost use Rattle.cb_actions.specs.Went.{stop_extent};
+ghost use Rattle.cb_actions.specs.Internal.{Quietly, Went};
 ghost use Rattle.cb_exprs.specs.Terms.{term_of};
-ghost use Rattle.cb_forms.specs.Members.{members};
 ghost use Rattle.cb_forms.specs.Trees.{atom, reading_of};
 ghost use Rattle.cb_io.specs.Output.{Puts};
 ghost use Rattle.cb_requests.specs.Requests as request;
 ghost use Rattle.cb_requests.specs.Requests.{request_by};
-ghost use Rattle.cb_session.specs.Actions.{acted, is_in_use, is_name_in_use, performed, performed_and_shown, shown_line};
-ghost use Rattle.cb_session.specs.Executing.{Executes};
+ghost use Rattle.cb_session.specs.Actions.{acted, performed, performed_and_shown, shown_line};
+ghost use Rattle.cb_session.specs.Internal.Executing.{Executes};
 ghost use Rattle.cb_session.specs.Lines.{fault_line, value_line};
-ghost use Rattle.cb_session.specs.Scripts.{cut_run};
+ghost use Rattle.cb_session.specs.Internal.Scripts.{cut_run};
 ghost use Rattle.cb_session.specs.States.{state_with};
 ghost use Rattle.cb_session.specs.Transcripts.{executed, limit_status};
 
@@ -21,8 +21,9 @@ use crate::status::Status;
 use cb_actions::{Break, Ended, Stop, World, put, put_text};
 use cb_exprs::{Expr, FactExpr, GlobalExpr};
 use cb_facts::{Name, Names, Value};
-use cb_forms::{Cut, Fault, Form, Item, NoMemory, Out, Sink, Token, split_head};
-use cb_requests::{Command, read_command};
+use cb_forms::{Cut, Fault, Form, Item, Out, Sink, Token};
+use cb_requests::{Command, Known, read_command};
+use cb_templates::Template;
 use cb_working_memory::DeffactsTable;
 use std::alloc::Global;
 use std::marker::Model;
@@ -44,7 +45,8 @@ pub(crate) struct Engine {
 
 impl Model for Engine {
     ghost use Rattle.std.specs.Coded.{codes};
-    ghost use Rattle.cb_session.specs.States.{State, state_code};
+    ghost use Rattle.cb_session.specs.States.{State};
+    ghost use Rattle.cb_session.specs.Internal.{state_code};
 
     ghost Value = { State };
 
@@ -150,25 +152,22 @@ impl Engine {
         ensures { Went K.writes out.old out.new self.new result
             (acted (reading_of item.now) self.old) }
     {
-        match read_command(
-            &mut self.names,
-            self.world.relations(),
-            self.world.env(),
-            item,
-        ) {
+        let known = Known {
+            relations: self.world.relations(),
+            env: self.world.env(),
+            memory: self.world.memory(),
+            deffacts: &self.deffacts,
+        };
+        match read_command(&mut self.names, &known, item) {
             Ok(command) => self.perform_and_show(command, out),
             Err(refused) => Err(Break::from(refused)),
         }
     }
 
-    fn perform_and_show<K: Sink>(
-        &mut self,
-        command: Command<'_>,
-        out: &mut Out<K>,
-    ) -> Result<(), Break>
+    fn perform_and_show<K: Sink>(&mut self, command: Command, out: &mut Out<K>) -> Result<(), Break>
         requires { out.old.fault ≡ false }
         ensures { Went K.writes out.old out.new self.new result
-            (performed_and_shown (request_by command.entry) self.old) }
+            (performed_and_shown (request_by command) self.old) }
     {
         let value = self.perform(command, out)?;
         show(self.alloc, value, out)?;
@@ -178,16 +177,18 @@ impl Engine {
     /// Does what a request asks for. The answer is its value, if it has one.
     fn perform<K: Sink>(
         &mut self,
-        command: Command<'_>,
+        command: Command,
         out: &mut Out<K>,
     ) -> Result<Option<Value>, Break>
         requires { out.old.fault ≡ false }
         ensures { Went K.writes out.old out.new self.new result
-            (performed (request_by command.entry) self.old) }
+            (performed (request_by command) self.old) }
     {
         match command {
             Command::Act(expr) => self.carry_out(&expr, out),
-            Command::DefineTemplate(forms) => self.define_template(forms),
+            Command::DefineTemplate(relation, template) => {
+                self.define_template(relation, template)
+            }
             Command::DefineDeffacts(name, facts) => self.define_deffacts(name, facts),
             Command::DefineGlobals(globals) => self.define_globals(globals),
             Command::ListFacts => self.list_facts(out),
@@ -205,29 +206,16 @@ impl Engine {
         self.world.carry_out(expr, out)
     }
 
-    /// Defines the template that these forms write.
-    fn define_template(&mut self, forms: &[Form]) -> Result<Option<Value>, Break>
+    /// Takes a template for the one that its relation had.
+    fn define_template(
+        &mut self,
+        relation: Name,
+        template: Template,
+    ) -> Result<Option<Value>, Break>
         ensures { Quietly self.new result
-            (performed (request.define_template (members forms.now)) self.old) }
+            (performed (request.define_template (relation, template)) self.old) }
     {
-        let in_use = self.is_name_in_use(forms)?;
-        self.world.define_template(&mut self.names, forms, in_use)
-    }
-
-    /// Whether the relation that a template is written for is in use.
-    fn is_name_in_use(&self, forms: &[Form]) -> Result<bool, NoMemory>
-        ensures { IfOk result (λ in_use. in_use ≡ is_name_in_use self.now (members forms.now)) }
-    {
-        match split_head(forms) {
-            Some((relation, _)) => Ok(self.is_in_use(&Name::new(self.alloc, relation)?)),
-            None => Ok(false),
-        }
-    }
-
-    fn is_in_use(&self, relation: &Name) -> bool
-        ensures { result ≡ is_in_use self.now relation.now }
-    {
-        self.world.memory().mentions(relation) || self.deffacts.mentions(relation)
+        self.world.define_template(relation, template)
     }
 
     /// Keeps facts under a name for `reset`.

@@ -1,6 +1,7 @@
 //! The initial expressions that `defglobal` keeps for `reset`.
 ghost use Rattle.std.specs.Prelude.{◌≡◌, [], None, OnOk};
-ghost use Rattle.cb_session.specs.Globals.{place_of, with_initial, with_initials};
+ghost use Rattle.cb_session.specs.Globals.{with_initial, with_initials};
+ghost use Rattle.cb_session.specs.Internal.GlobalPlaces.{place_of_global};
 
 use cb_exprs::GlobalExpr;
 use cb_facts::Name;
@@ -24,8 +25,9 @@ pub(crate) struct GlobalTable {
 impl Model for GlobalTable {
     ghost use Rattle.std.specs.Coded.{codes, coded_list};
     ghost use Rattle.std.specs.Prelude.{List};
-    ghost use Rattle.cb_exprs.specs.GlobalTerms.{GlobalTerm, global_code};
-    ghost use Rattle.cb_session.specs.GlobalPlaces.{AreFound};
+    ghost use Rattle.cb_exprs.specs.GlobalTerms.{GlobalTerm};
+    ghost use Rattle.cb_exprs.specs.Internal.{global_code};
+    ghost use Rattle.cb_session.specs.Internal.GlobalPlaces.{AreFound};
 
     ghost Value = { List GlobalTerm };
 
@@ -81,7 +83,7 @@ impl GlobalTable {
 
     /// Keeps a global after the others.
     fn push(&mut self, global: GlobalExpr) -> Result<(), NoMemory>
-        requires { place_of global.0 self.old ≡ None }
+        requires { place_of_global global.0 self.old ≡ None }
         ensures { OnOk result (self.new ≡ with_initial global self.old) }
     {
         let name = global.name().clone()?;

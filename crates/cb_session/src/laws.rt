@@ -1,16 +1,16 @@
 //! Laws of the transcript and of faults. Each is the contract of a function that does nothing.
-ghost use Rattle.std.specs.Prelude.{◌≡◌, ◌≤◌, true, ℕ, List, [], ◌++◌, Some, Ok, Err};
+ghost use Rattle.std.specs.Prelude.{◌≡◌, ◌≢◌, ◌≤◌, true, ℕ, List, [], ◌++◌, Some, Ok, Err};
 ghost use Rattle.cb_forms.specs.Laws.{BeginsWith};
 ghost use Rattle.cb_exprs.specs.GlobalTerms.{GlobalTerm};
-ghost use Rattle.cb_forms.specs.Trees.{Reading, Trees};
+ghost use Rattle.cb_forms.specs.Trees.{Reading};
 ghost use Rattle.cb_forms.specs.declared.fault.Fault.{Fault};
 ghost use Rattle.cb_requests.specs.Requests as request;
-ghost use Rattle.cb_requests.specs.Requests.{request_of};
 ghost use Rattle.cb_session.specs.States.{State};
-ghost use Rattle.cb_session.specs.Actions.{acted};
+ghost use Rattle.cb_session.specs.Actions.{acted, requested};
 ghost use Rattle.cb_session.specs.Laws.{EndsWithFault, KeepsDefinitions};
-ghost use Rattle.cb_session.specs.Transcripts.{begun, so_far, complete, executed, transcript};
+ghost use Rattle.cb_session.specs.Transcripts.{added, added_at_end, begun, so_far, complete, executed, transcript};
 ghost use Rattle.cb_session.specs.declared.limits.Limits.{Limits};
+ghost use Rattle.cb_session.specs.declared.status.Ending.TheVariants as ending;
 ghost use Rattle.cb_session.specs.declared.status.Status.{Status};
 
 /// Before its first byte a script has written nothing. What it has written so far is a beginning of what it writes
@@ -23,6 +23,20 @@ pub fn what_is_written_stays()
         → BeginsWith (so_far limits p).written (transcript limits (p ++ r)) }
 {}
 
+/// What bytes add to the transcript so far stands right after it, and what the end adds completes the transcript.
+pub fn what_is_added_stands_after_what_is_written()
+    ensures so_far { (limits : Limits) (p q : List ℕ)
+        → (so_far limits (p ++ q)).written ≡ (so_far limits p).written ++ added limits p q }
+    ensures whole { (limits : Limits) (p : List ℕ)
+        → transcript limits p ≡ (so_far limits p).written ++ added_at_end limits p }
+{}
+
+/// A script that has ended before its end doesn't end as one that was carried out to its end.
+pub fn what_ends_early_is_not_done()
+    ensures { (limits : Limits) (p : List ℕ) (status : Status)
+        → (so_far limits p).status ≡ Some status → status.ending ≢ ending.Done }
+{}
+
 /// A script that has ended has ended so, whatever follows.
 pub fn what_has_ended_counts_alone()
     ensures so_far { (limits : Limits) (p r : List ℕ) (status : Status)
@@ -33,19 +47,15 @@ pub fn what_has_ended_counts_alone()
         → complete limits (p ++ r) ≡ so_far limits p }
 {}
 
-/// An item that is refused changes nothing but the mark for status 1, and so does a definition that ends with a fault: of
-/// the globals of a `defglobal` either all are defined or none. Whatever item ends with a fault, each `deffacts` and the
-/// initial expressions of the globals stay.
+/// An item that is refused, be it a `deftemplate` or another, changes nothing but the mark for status 1. Nor does a
+/// `defglobal` that ends with a fault: either all of its globals are defined or none. Whatever item ends with a fault, each `deffacts` and
+/// the initial expressions of the globals stay.
 pub fn a_fault_changes_nothing_else()
     ensures refused { (s : State) (r : Reading) (fault : Fault)
-        → request_of s.world.templates s.world.env r ≡ Err fault
-        → (executed s r).state ≡ record s { is_faulted = true } }
-    ensures template { (s : State) (r : Reading) (fault : Fault) (ts : Trees)
-        → request_of s.world.templates s.world.env r ≡ Ok (request.define_template ts)
-        → EndsWithFault s r fault
+        → requested s r ≡ Err fault
         → (executed s r).state ≡ record s { is_faulted = true } }
     ensures globals { (s : State) (r : Reading) (fault : Fault) (gs : List GlobalTerm)
-        → request_of s.world.templates s.world.env r ≡ Ok (request.define_globals gs)
+        → requested s r ≡ Ok (request.define_globals gs)
         → EndsWithFault s r fault
         → (executed s r).state ≡ record s { is_faulted = true } }
     ensures kept { (s : State) (r : Reading) (fault : Fault)
@@ -62,7 +72,7 @@ pub fn what_an_item_writes_comes_first()
 /// `(facts)` leaves everything as it is.
 pub fn a_listing_changes_nothing()
     ensures { (s : State) (r : Reading)
-        → request_of s.world.templates s.world.env r ≡ Ok request.list_facts
+        → requested s r ≡ Ok request.list_facts
         → (executed s r).state ≡ s }
 {}
 

@@ -1,8 +1,8 @@
 //! What `reset` does.
 ghost use Rattle.std.specs.Prelude.{◌≡◌, false};
-ghost use Rattle.cb_actions.specs.Went.{Went};
+ghost use Rattle.cb_actions.specs.Internal.{Went};
 ghost use Rattle.cb_session.specs.Actions.{reset_to};
-ghost use Rattle.cb_working_memory.specs.Deffacts.{facts_in};
+ghost use Rattle.cb_working_memory.specs.Deffacts.{kept_facts};
 
 use cb_actions::{Break, World};
 use cb_exprs::GlobalExpr;
@@ -20,7 +20,7 @@ pub(crate) fn reset_world<K: Sink>(
 ) -> Result<Option<Value>, Break>
     requires { out.old.fault ≡ false }
     ensures { Went K.writes out.old out.new world.new result
-        (reset_to globals.now (facts_in deffacts.now) world.old) }
+        (reset_to globals.now (kept_facts deffacts.now) world.old) }
 {
     drop(world.evaluate_anew(globals)?);
     world.drop_variables();

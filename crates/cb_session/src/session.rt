@@ -2,8 +2,9 @@
 ghost use Rattle.std.specs.Prelude.{◌≡◌, ◌≤◌, List, ℕ, ◌++◌, [], ◌∷◌, Some, None, Ok, Err, IfOk, IfErr, IfSome, IsSome, OnOk, is_some, length, take, false};
 ghost use Rattle.cb_forms.specs.Items.{rest};
 ghost use Rattle.cb_io.specs.Output.{IsReady, OutState, Puts};
-ghost use Rattle.cb_session.specs.Scripts.{Ends, IsUnderWay, Steps};
-ghost use Rattle.cb_session.specs.Sessions.{HasTaken, flow_of, fresh_session, session_after};
+ghost use Rattle.cb_session.specs.Internal.Scripts.{Ends, IsUnderWay, Steps};
+ghost use Rattle.cb_session.specs.Sessions.{flow_of, fresh_session, session_after};
+ghost use Rattle.cb_session.specs.Internal.{HasTaken};
 ghost use Rattle.cb_session.specs.Transcripts.{added, added_at_end, so_far, status_at_end, status_of};
 ghost use Rattle.cb_actions.specs.Went.{extent_at, stop_extent};
 
@@ -32,7 +33,7 @@ pub struct Session {
 
 impl Model for Session {
     ghost use Rattle.std.specs.Prelude.{◌≡◌, None};
-    ghost use Rattle.cb_session.specs.Scripts.{IsUnderWay};
+    ghost use Rattle.cb_session.specs.Internal.Scripts.{IsUnderWay};
     ghost use Rattle.cb_session.specs.Sessions.{SessionState};
 
     ghost Value = { SessionState };

@@ -1,4 +1,6 @@
-pub mod AttributeLaws
-pub mod PlaceLaws
-pub mod SlotLaws
+pub mod Cited
+mod PlaceLaws
+mod SlotLaws
 mod TemplateLaws
+mod TemplateReads
+mod TemplateFaultLaws

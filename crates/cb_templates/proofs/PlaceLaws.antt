@@ -14,7 +14,8 @@ use Rattle.std.specs.Str.{bytes_eq}
 use Rattle.cb_facts.specs.declared.value.Value.{Value}
 use Rattle.cb_templates.specs.Building.{Given, are_distinct, given_for, given_names}
 use Rattle.cb_templates.specs.Slots.{GivenValues, SlotShape, names, slot_named}
-use Rattle.cb_templates.specs.Places.{HasPlaces, NotesPlace, place_at, place_in}
+use Rattle.cb_templates.specs.Places.{place_in}
+use Rattle.cb_templates.specs.Internal.{HasPlaces, NotesPlace, place_at}
 
 abbrev if_is : Bool → ℕ → Option ℕ
 if_is t i = if t then Some i else None

@@ -48,14 +48,14 @@ is_one (v ∷ []) = true
 is_one vs = false
 
 -- a slot can take what it is given: a multislot any number of values, another slot one; given none, it has a default
-abbrev pub takes : SlotShape → Option (List Value) → Bool
-takes s None = is_some s.default
-takes s (Some vs) = s.is_multi || is_one vs
+abbrev pub can_take : SlotShape → Option (List Value) → Bool
+can_take s None = is_some s.default
+can_take s (Some vs) = s.is_multi || is_one vs
 
 -- what is given fits the slots: it names slots that are there, each at most once, and each slot can take it
 abbrev pub fits : List SlotShape → Given → Bool
 fits slots given =
-    list_all (λ g. is_some (slot_named slots g.0)) given && (are_distinct given && list_all (λ s. takes s (given_for given s.name)) slots)
+    list_all (λ g. is_some (slot_named slots g.0)) given && (are_distinct given && list_all (λ s. can_take s (given_for given s.name)) slots)
 
 -- one value, which is no multifield
 abbrev pub one_value : List Value → Result Value Fault

@@ -1,7 +1,11 @@
 pub mod Building
+pub mod FaultLists
+pub mod Internal
 pub mod Laws
 pub mod Places
 pub mod Reserved
 pub mod SlotForms
 pub mod Slots
+pub mod TemplateFaults
+pub mod TemplateShapes
 pub mod Templates

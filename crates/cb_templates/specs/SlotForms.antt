@@ -1,21 +1,14 @@
--- A slot as it is written in a template, or what is wrong with it.
-use Rattle.std.specs.Prelude.{◌||◌, ℕ, Bool, true, false, List, [], Option, Some, None, Result, Ok, Err, codes, is_some, pos, if◌then◌else◌}
-use Rattle.std.specs.Option.{ok_or, option_flatten}
+-- What the faults and the shape of a template share: variables that stand alone, names of types, derived defaults.
+use Rattle.std.specs.Prelude.{◌||◌, ℕ, Bool, false, List, [], Option, Some, None, codes, pos, if◌then◌else◌}
 use Rattle.std.specs.Str.{bytes_eq}
-use Rattle.cb_forms.specs.Members.{call_of, head_and_rest, symbol_of}
 use Rattle.cb_forms.specs.Trees.{Tree, atom, branch, Trees, no_trees, tree}
 use Rattle.cb_forms.specs.declared.fault.Fault.{Fault}
-use Rattle.cb_forms.specs.declared.fault.Fault.TheVariants.{MalformedForm, ValueNotAllowed, NotInProfile}
+use Rattle.cb_forms.specs.declared.fault.Fault.TheVariants.{MalformedForm, NotInProfile}
 use Rattle.cb_forms.specs.declared.token.Token.{Token}
 use Rattle.cb_forms.specs.declared.token.Token.TheVariants as token
-use Rattle.cb_facts.specs.Values.{constant_of, spliced}
 use Rattle.cb_facts.specs.declared.value.Value.{Value}
 use Rattle.cb_facts.specs.declared.value.Value.TheVariants as value
-use Rattle.cb_facts.specs.Results.{ok_then, and_then, with_first}
-use Rattle.cb_templates.specs.Slots.{Types, allows_all, are_only, with_type, SlotShape, slot_named}
-use Rattle.cb_templates.specs.declared.attribute.Attributes.{Attributes}
-use Rattle.cb_templates.specs.declared.attribute.SlotDefault.{SlotDefault}
-use Rattle.cb_templates.specs.declared.attribute.SlotDefault.TheVariants.{Required, Derived, Fixed}
+use Rattle.cb_templates.specs.Slots.{Types, are_only}
 use Rattle.cb_templates.specs.declared.slot_type.SlotType.{SlotType}
 use Rattle.cb_templates.specs.declared.slot_type.SlotType.TheVariants as type
 
@@ -32,7 +25,7 @@ abbrev pub is_variable : List ℕ → Trees → Bool
 is_variable name (tree t no_trees) = is_variable_form name t
 is_variable name ts = false
 
--- the type of a name
+-- the type with this name
 abbrev pub type_named : List ℕ → Option SlotType
 type_named name =
     if bytes_eq name (codes "INTEGER") then Some type.Integer else (
@@ -41,83 +34,17 @@ type_named name =
     if bytes_eq name (codes "NUMBER") then Some type.Number else (
     if bytes_eq name (codes "LEXEME") then Some type.Lexeme else None))))
 
--- one type of a `type` attribute: a symbol that is no type's name is one that CLIPS may know
-abbrev pub type_by : Option (List ℕ) → Result SlotType Fault
-type_by None = Err MalformedForm
-type_by (Some name) = ok_or (type_named name) NotInProfile
-
--- the types that forms name, each once, after those that were named
-abbrev pub types_after : List SlotType → Trees → Result (List SlotType) Fault
-types_after types no_trees = Ok types
-types_after types (tree t ts) = and_then (type_by (symbol_of t)) (λ more. types_after (with_type types more) ts)
-
-abbrev pub some_types : Trees → Result Types Fault
-some_types no_trees = Err MalformedForm
-some_types (tree t ts) = ok_then Some (types_after [] (tree t ts))
-
--- `(type T ..)`, by what follows its head: at least one type, or `?VARIABLE` for any value
-abbrev pub types_of : Trees → Result Types Fault
-types_of ts = if is_variable (codes "VARIABLE") ts then Ok None else some_types ts
-
 -- what is wrong with a token that is no constant
 abbrev pub no_constant : Token → Fault
 no_constant (token.Global name) = NotInProfile
 no_constant t = MalformedForm
 
--- what is wrong with a list there: it may be a call, which CLIPS allows
+-- what is wrong with a list in a default: a call is valid in CLIPS, but not in this profile
 abbrev pub no_call : Option (List ℕ × Trees) → Fault
 no_call None = MalformedForm
 no_call (Some call) = NotInProfile
 
--- one constant of a `default` attribute
-abbrev pub default_constant : Tree → Result Value Fault
-default_constant (atom t) = ok_or (constant_of t) (no_constant t)
-default_constant (branch ts) = Err (no_call (head_and_rest ts))
-
-abbrev pub default_constants : Trees → Result (List Value) Fault
-default_constants no_trees = Ok []
-default_constants (tree t ts) = with_first (default_constant t) (default_constants ts)
-
--- the one constant of a slot's default
-abbrev pub one_default : Trees → Result SlotDefault Fault
-one_default (tree t no_trees) = ok_then Fixed (default_constant t)
-one_default ts = Err MalformedForm
-
--- the constants of a multislot's default
-abbrev pub multi_default : Trees → Result SlotDefault Fault
-multi_default ts = ok_then (λ vs. Fixed (value.Multi (spliced vs))) (default_constants ts)
-
--- `(default ..)`, by what follows its head
-abbrev pub default_of : Bool → Trees → Result SlotDefault Fault
-default_of is_multi ts =
-    if is_variable (codes "NONE") ts then Ok Required else (
-    if is_variable (codes "DERIVE") ts then Ok Derived else (
-    if is_multi then multi_default ts else one_default ts))
-
--- the attributes so far, and the one of these types or this default
-abbrev pub no_attributes : Attributes
-no_attributes = record { types = None; default = None }
-
-abbrev pub with_types : Attributes → Types → Attributes
-with_types a ts = record { types = Some ts; default = a.default }
-
-abbrev pub with_default : Attributes → SlotDefault → Attributes
-with_default a d = record { types = a.types; default = Some d }
-
--- one attribute more, by its head and what follows; each is given at most once
-abbrev pub attribute_by : Bool → Attributes → Option (List ℕ × Trees) → Result Attributes Fault
-attribute_by is_multi a None = Err MalformedForm
-attribute_by is_multi a (Some (name, ts)) =
-    if bytes_eq name (codes "type") then (if is_some a.types then Err MalformedForm else ok_then (with_types a) (types_of ts)) else (
-    if bytes_eq name (codes "default") then (if is_some a.default then Err MalformedForm else ok_then (with_default a) (default_of is_multi ts)) else
-    Err NotInProfile)
-
--- the attributes of a slot, after those that were given
-abbrev pub attributes_after : Bool → Attributes → Trees → Result Attributes Fault
-attributes_after is_multi a no_trees = Ok a
-attributes_after is_multi a (tree t ts) = and_then (attribute_by is_multi a (call_of t)) (λ b. attributes_after is_multi b ts)
-
--- the value that a slot of these types has where nothing says which
+-- the derived default of a slot of these types that is no multislot
 abbrev pub derived_one : Types → Value
 derived_one ts =
     if are_only type.Str ts then value.Str [] else (
@@ -125,28 +52,3 @@ derived_one ts =
 
 abbrev pub derived : Bool → Types → Value
 derived is_multi ts = if is_multi then value.Multi [] else derived_one ts
-
--- The slot with these attributes. Constants must be of its types; the derived value need not.
-abbrev pub slot_with : List ℕ → Bool → Types → Option SlotDefault → Result SlotShape Fault
-slot_with name is_multi ts None = Ok (record { name = name; is_multi = is_multi; types = ts; default = Some (derived is_multi ts) })
-slot_with name is_multi ts (Some Derived) = Ok (record { name = name; is_multi = is_multi; types = ts; default = Some (derived is_multi ts) })
-slot_with name is_multi ts (Some Required) = Ok (record { name = name; is_multi = is_multi; types = ts; default = None })
-slot_with name is_multi ts (Some (Fixed v)) =
-    if allows_all ts v then Ok (record { name = name; is_multi = is_multi; types = ts; default = Some v }) else Err ValueNotAllowed
-
-abbrev pub finished : List ℕ → Bool → Attributes → Result SlotShape Fault
-finished name is_multi a = slot_with name is_multi (option_flatten a.types) a.default
-
--- a slot after those of the template so far, by its name and its attributes; each name is given at most once
-abbrev pub slot_defined : List SlotShape → Bool → Option (List ℕ × Trees) → Result SlotShape Fault
-slot_defined slots is_multi None = Err MalformedForm
-slot_defined slots is_multi (Some (name, ts)) =
-    if is_some (slot_named slots name) then Err MalformedForm else and_then (attributes_after is_multi no_attributes ts) (finished name is_multi)
-
--- `(slot name attribute ..)` or `(multislot name attribute ..)`, by its head and what follows
-abbrev pub slot_by : List SlotShape → Option (List ℕ × Trees) → Result SlotShape Fault
-slot_by slots None = Err MalformedForm
-slot_by slots (Some (head, ts)) =
-    if bytes_eq head (codes "slot") then slot_defined slots false (head_and_rest ts) else (
-    if bytes_eq head (codes "multislot") then slot_defined slots true (head_and_rest ts) else
-    Err MalformedForm)

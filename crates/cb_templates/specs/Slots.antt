@@ -10,25 +10,25 @@ use Rattle.cb_templates.specs.contracts.slot_type.SlotTypePartialEq.TheImpl as t
 use Rattle.cb_templates.specs.declared.slot_type.SlotType.{SlotType}
 use Rattle.cb_templates.specs.declared.slot_type.SlotType.TheVariants.{Integer, Symbol, Str, Number, Lexeme}
 
-abbrev pub is_integer : Single → Bool
-is_integer (single.Int n) = true
-is_integer v = false
+abbrev pub is_integer_field : Single → Bool
+is_integer_field (single.Int n) = true
+is_integer_field v = false
 
-abbrev pub is_symbol : Single → Bool
-is_symbol (single.Symbol bytes) = true
-is_symbol v = false
+abbrev pub is_symbol_field : Single → Bool
+is_symbol_field (single.Symbol bytes) = true
+is_symbol_field v = false
 
-abbrev pub is_string : Single → Bool
-is_string (single.Str bytes) = true
-is_string v = false
+abbrev pub is_string_field : Single → Bool
+is_string_field (single.Str bytes) = true
+is_string_field v = false
 
 -- the field is of the type; there are no numbers but integers, and a lexeme is a symbol or a string
 abbrev pub is_of : SlotType → Single → Bool
-is_of Integer v = is_integer v
-is_of Number v = is_integer v
-is_of Symbol v = is_symbol v
-is_of Str v = is_string v
-is_of Lexeme v = is_symbol v || is_string v
+is_of Integer v = is_integer_field v
+is_of Number v = is_integer_field v
+is_of Symbol v = is_symbol_field v
+is_of Str v = is_string_field v
+is_of Lexeme v = is_symbol_field v || is_string_field v
 
 -- the types that a slot names, or `None` where it takes any value
 abbrev pub Types : Type 0
@@ -38,7 +38,7 @@ Types = Option (List SlotType)
 abbrev pub with_type : List SlotType → SlotType → List SlotType
 with_type ts t = if list_any (λ u. type_eq.ghosts.eq u t) ts then ts else ts ++ t ∷ []
 
--- the types are this one alone
+-- no type but this one is named
 abbrev pub are_only : SlotType → Types → Bool
 are_only t None = false
 are_only t (Some ts) = list_all (λ u. type_eq.ghosts.eq u t) ts

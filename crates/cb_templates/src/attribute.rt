@@ -4,7 +4,8 @@ ghost use Rattle.std.specs.List.{list_any};
 ghost use Rattle.cb_forms.specs.Members.{call_of, head_and_rest, members, symbol_of};
 ghost use Rattle.cb_forms.specs.Trees.{tree_of};
 ghost use Rattle.cb_facts.specs.Results.{Returns, Settles};
-ghost use Rattle.cb_templates.specs.SlotForms.{attribute_by, attributes_after, default_constant, default_constants, default_of, is_variable, is_variable_form, is_variable_token, multi_default, no_call, no_attributes, no_constant, one_default, some_types, type_by, types_after, types_of};
+ghost use Rattle.cb_templates.specs.Internal.SlotReads.{attribute_by, attributes_after, default_constant, default_constants, default_of, multi_default, no_attributes, one_default, some_types, type_by, types_after, types_of};
+ghost use Rattle.cb_templates.specs.SlotForms.{is_variable, is_variable_form, is_variable_token, no_call, no_constant};
 ghost use Rattle.cb_templates.specs.Slots.{with_type};
 ghost use Rattle.cb_templates.specs.contracts.slot_type.SlotTypePartialEq.TheImpl as type_eq;
 
@@ -177,7 +178,7 @@ fn read_multi_default(names: &mut Names, forms: &[Form]) -> Result<SlotDefault, 
     Ok(SlotDefault::Fixed(Value::Multi(Multifield::from_vec(fields)?)))
 }
 
-#[tactic(auto, using(cb_facts::proofs::Firsts::after_none, cb_facts::proofs::Firsts::after_all, cb_facts::proofs::Firsts::after_one))]
+#[tactic(auto, using(cb_facts::proofs::Cited::after_none, cb_facts::proofs::Cited::after_all, cb_facts::proofs::Cited::after_one))]
 fn read_constants(names: &mut Names, forms: &[Form]) -> Result<Vec<Value>, Refused>
     ensures { Settles (λ values. values.items) result (default_constants (members forms.now)) }
 {

@@ -3,7 +3,7 @@ ghost use Rattle.std.specs.Prelude.{◌≡◌, None, Ok, Err, IfOk, IfErr, is_so
 ghost use Rattle.std.specs.List.{list_all};
 ghost use Rattle.cb_facts.specs.Facts.{ordered_fact};
 ghost use Rattle.cb_facts.specs.Values.{spliced};
-ghost use Rattle.cb_templates.specs.Building.{built, filled, fits, given_for, is_one, one_value, part_values, value_or_default, slots_built, takes};
+ghost use Rattle.cb_templates.specs.Building.{built, filled, fits, given_for, is_one, one_value, part_values, value_or_default, slots_built, can_take};
 ghost use Rattle.cb_facts.specs.Results.{Returns, Settles};
 ghost use Rattle.cb_templates.specs.Slots.{slot_named};
 
@@ -103,13 +103,13 @@ fn is_known(template: &Template, name: &Name) -> bool
 
 /// Whether each slot can take what it is given.
 fn can_take(slots: &[Slot], given: &GivenSlots) -> bool
-    ensures { result ≡ list_all (λ s. takes s (given_for given.now s.name)) slots.now }
+    ensures { result ≡ list_all (λ s. can_take s (given_for given.now s.name)) slots.now }
 {
     slots.iter().all(|slot| takes(slot, given))
 }
 
 fn takes(slot: &Slot, given: &GivenSlots) -> bool
-    ensures { result ≡ takes slot.now (given_for given.now slot.now.name) }
+    ensures { result ≡ can_take slot.now (given_for given.now slot.now.name) }
 {
     match given.find(slot.name()) {
         None => slot.default().is_some(),
@@ -130,7 +130,7 @@ fn is_one(values: &[Value]) -> bool
 }
 
 /// The slots of a template, each with its value.
-#[tactic(auto, using(cb_facts::proofs::Firsts::after_none, cb_facts::proofs::Firsts::after_all, cb_facts::proofs::Firsts::after_one))]
+#[tactic(auto, using(cb_facts::proofs::Cited::after_none, cb_facts::proofs::Cited::after_all, cb_facts::proofs::Cited::after_one))]
 fn fill(alloc: Global, slots: &[Slot], given: &GivenSlots) -> Result<Vec<(Name, Value)>, Refused>
     ensures { Settles (λ content. content.items) result (filled slots.now given.now) }
 {

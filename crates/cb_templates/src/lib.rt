@@ -20,7 +20,7 @@ pub use build::{build_fact, build_slots};
 pub use comment::without_comment;
 pub use parts::{GivenSlot, GivenSlots, Parts, find_given};
 pub use places::Places;
-pub use relations::Relations;
+pub use relations::{Relations, read_template};
 pub use reserved::is_reserved;
 pub use slot::{Slot, find_slot};
 pub use template::Template;

@@ -1,6 +1,7 @@
 //! The places of names in a list.
 ghost use Rattle.std.specs.Prelude.{◌≡◌, ◌++◌, ◌∷◌, [], IfOk, OnOk, OnErr, is_some, length, not};
-ghost use Rattle.cb_templates.specs.Places.{NotesPlace, place_at, place_in};
+ghost use Rattle.cb_templates.specs.Places.{place_in};
+ghost use Rattle.cb_templates.specs.Internal.{NotesPlace, place_at};
 
 use cb_facts::Name;
 use cb_forms::NoMemory;
@@ -20,7 +21,7 @@ pub struct Places {
 
 impl Model for Places {
     ghost use Rattle.std.specs.Prelude.{List, ℕ};
-    ghost use Rattle.cb_templates.specs.Places.{HasPlaces};
+    ghost use Rattle.cb_templates.specs.Internal.{HasPlaces};
 
     ghost Value = { List (List ℕ) };
 

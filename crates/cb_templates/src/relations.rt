@@ -1,8 +1,12 @@
 //! The relations that have a template.
-ghost use Rattle.std.specs.Prelude.{◌≡◌, [], None, Some, Ok, Err, MatchOption, IfErr, IfOk, OnOk, OnErr};
-ghost use Rattle.cb_forms.specs.Members.{head_and_rest, members};
-ghost use Rattle.cb_facts.specs.Results.{Returns, Settles};
-ghost use Rattle.cb_templates.specs.Templates.{defined, named_template, slots_after, slots_of, template_of};
+ghost use Rattle.std.specs.Prelude.{◌≡◌, [], None, Some, MatchOption, OnOk, OnErr};
+ghost use Rattle.cb_forms.specs.Members.{members};
+ghost use Rattle.cb_facts.specs.Results.{Returns};
+ghost use Rattle.cb_templates.specs.FaultLists.{ReadsAs};
+ghost use Rattle.cb_templates.specs.TemplateFaults.{template_faults};
+ghost use Rattle.cb_templates.specs.TemplateShapes.{template_shape};
+ghost use Rattle.cb_templates.specs.Internal.SlotReads.{slots_after};
+ghost use Rattle.cb_templates.specs.Templates.{slots_of, with_template};
 
 use crate::comment::without_comment;
 use crate::reserved::is_reserved;
@@ -10,7 +14,7 @@ use crate::slot::Slot;
 use crate::slot_form::read_slot;
 use crate::template::Template;
 use cb_facts::{Name, Names, Refused};
-use cb_forms::{Fault, Form, split_head};
+use cb_forms::{Fault, Form, NoMemory, split_head};
 use std::alloc::Global;
 use std::collections::BTreeMap;
 use std::marker::Model;
@@ -44,22 +48,30 @@ impl Relations {
     }
 
     /// Defines the template that a `deftemplate` form is, by the members after its head, and takes it for the one that the
-    /// relation had, if it had one. `in_use` says that a fact, a `deffacts` or a rule names the relation.
-    ///
-    /// It refuses with the first fault in this order: CB08 where the name is no symbol or a reserved word, CB23 where the
-    /// relation is in use, and then those of each slot: CB08, CB14 and, after its last attribute, CB10. Whatever it refuses,
-    /// nothing has changed.
+    /// relation had, if it had one. Whatever it refuses, as `read_template` does, nothing has changed.
     pub fn define_template(
         &mut self,
         names: &mut Names,
         form: &[Form],
         in_use: bool,
     ) -> Result<(), Refused>
-        ensures done { Settles (λ _. self.new) result (defined self.old in_use (members form.now)) }
+        ensures done { ReadsAs (λ _. self.new) result
+            (template_faults (λ _. in_use) (members form.now))
+            (with_template self.old (template_shape (members form.now))) }
         ensures err { OnErr result (self.new ≡ self.old) }
     {
         let (name, template) = read_template(names, form, in_use)?;
-        self.templates.insert(name, template)?;
+        self.insert(name, template)?;
+        Ok(())
+    }
+
+    /// Takes a template for the one that its relation had, if it had one. Growth is refused as `NoMemory`, and then nothing
+    /// has changed.
+    pub fn insert(&mut self, relation: Name, template: Template) -> Result<(), NoMemory>
+        ensures ok { OnOk result (self.new ≡ with_template self.old (relation, template)) }
+        ensures err { OnErr result (self.new ≡ self.old) }
+    {
+        self.templates.insert(relation, template)?;
         Ok(())
     }
 
@@ -81,12 +93,19 @@ impl Relations {
     }
 }
 
-fn read_template(
+/// Reads a `deftemplate` from the members after its head, and returns the relation's name and the template. `in_use` says
+/// that a fact or a `deffacts` names the relation.
+///
+/// It refuses with the first fault in this order: CB08 where the name is no symbol or a reserved word, CB23 where the
+/// relation is in use, and then those of each slot: CB08, CB14 and, after its last attribute, CB10.
+#[tactic(auto, using(crate::proofs::TemplateFaultLaws::slots_as_said))]
+pub fn read_template(
     names: &mut Names,
     forms: &[Form],
     in_use: bool,
 ) -> Result<(Name, Template), Refused>
-    ensures { Returns result (template_of in_use (members forms.now)) }
+    ensures { ReadsAs (λ it. it) result (template_faults (λ _. in_use) (members forms.now))
+        (template_shape (members forms.now)) }
 {
     let Some((name, forms)) = split_head(forms) else {
         return Err(Refused::Fault(Fault::MalformedForm));

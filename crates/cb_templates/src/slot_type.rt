@@ -1,7 +1,7 @@
 //! The types that the slots of a template may name.
 ghost use Rattle.std.specs.Prelude.{◌≡◌};
 ghost use Rattle.cb_templates.specs.SlotForms.{type_named};
-ghost use Rattle.cb_templates.specs.Slots.{is_of, is_integer, is_string, is_symbol};
+ghost use Rattle.cb_templates.specs.Slots.{is_of, is_integer_field, is_string_field, is_symbol_field};
 
 use cb_facts::Single;
 
@@ -57,19 +57,19 @@ impl SlotType {
 }
 
 fn is_integer(field: &Single) -> bool
-    ensures { result ≡ is_integer field.now }
+    ensures { result ≡ is_integer_field field.now }
 {
     matches!(field, Single::Int(_))
 }
 
 fn is_symbol(field: &Single) -> bool
-    ensures { result ≡ is_symbol field.now }
+    ensures { result ≡ is_symbol_field field.now }
 {
     matches!(field, Single::Symbol(_))
 }
 
 fn is_string(field: &Single) -> bool
-    ensures { result ≡ is_string field.now }
+    ensures { result ≡ is_string_field field.now }
 {
     matches!(field, Single::Str(_))
 }

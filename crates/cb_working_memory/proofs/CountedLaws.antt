@@ -8,12 +8,11 @@ use Rattle.std.specs.Map.{values_of}
 use Rattle.std.specs.Option.{unwrap_or}
 use Rattle.std.specs.Ordering.{nat_cmp}
 use Rattle.std.specs.Str.{bytes_eq}
-use Rattle.cb_facts.proofs.CountLaws.{any_counted}
-use Rattle.cb_facts.proofs.ListLaws.{any_of_map}
+use Rattle.cb_facts.proofs.Cited.{any_counted, any_of_map}
 use Rattle.cb_facts.specs.FactLists.{IndexedFacts, IsFactBase, fact_at, with_fact, without_fact}
 use Rattle.cb_facts.specs.Facts.{FactValue}
 use Rattle.cb_facts.specs.RelationCounts.{Counts, HasOneLess, HasOneMore, IsCountOf, IsEmpty, count_of, one_if}
-use Rattle.cb_working_memory.specs.WorkingMemories.{IsLessBy}
+use Rattle.cb_working_memory.specs.Internal.WorkingMemories.{IsLessBy}
 
 abbrev pub AreCounted : Counts → IndexedFacts → Type 0
 AreCounted counts facts = IsCountOf (λ f. f.relation) counts (values_of facts)

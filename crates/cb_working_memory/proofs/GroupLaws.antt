@@ -12,12 +12,12 @@ use Rattle.std.specs.List.{Contains}
 use Rattle.std.specs.Map.{keys_of, lookup, remove_entry, values_of}
 use Rattle.std.specs.Ordering.{eq_by_cmp, is_eq, match_ordering, nat_cmp}
 use Rattle.std.specs.Str.{bytes_eq}
-use Rattle.cb_facts.proofs.FactListLaws.{false-from_not, is_at-Decides}
-use Rattle.cb_facts.proofs.Inverses.{as_before, known-added, known-removed, listed-added, listed-removed}
+use Rattle.std.proofs.lemmas.Bool.{false_from_ne_true}
+use Rattle.cb_facts.proofs.Cited.{is_at-Decides, as_before, known-added, known-removed, listed-added, listed-removed}
 use Rattle.cb_facts.specs.FactLists.{ChangesOnly}
 use Rattle.cb_working_memory.proofs.IndexLaws.{contains_here, contains_there}
 use Rattle.cb_working_memory.specs.Deffacts.{DeffactsTable}
-use Rattle.cb_working_memory.specs.Groups.{AreNumbered, Group, IsAfterAll, NumberedGroups, name_at}
+use Rattle.cb_working_memory.specs.Internal.Groups.{AreNumbered, Group, IsAfterAll, NumberedGroups, name_at}
 
 -- the numbers by names
 abbrev pub Numbers : Type 0
@@ -36,14 +36,14 @@ name-cases n m = names_by n m (bytes_eq n m) refl
 numbers-change : (m n : Numbers) (name : List ℕ) (answer : Option ℕ) → tree.Updates (slice_cmp nat_cmp) m n name answer → ChangesOnly (number_of m) (number_of n) name answer
 numbers-change m n name answer u = record {
   here = u.1;
-  others = λ q apart. u.2 q (false-from_not (is_at (slice_cmp nat_cmp name) q) (λ e. apart ((bytes_decides name q).0 (texts_ties name q ∙ e))));
+  others = λ q apart. u.2 q (false_from_ne_true (is_at (slice_cmp nat_cmp name) q) (λ e. apart ((bytes_decides name q).0 (texts_ties name q ∙ e))));
 }
 
 names-change : (m n : BTreeMap ℕ Group) (k : ℕ) (group : Option Group) → tree.Updates nat_cmp m n k group
     → ChangesOnly (name_at m.entries) (name_at n.entries) k (option_map (λ g. g.0) group)
 names-change m n k group u = record {
   here = ap (option_map (λ g. g.0)) u.1;
-  others = λ q apart. ap (option_map (λ g. g.0)) (u.2 q (false-from_not (is_at (nat_cmp k) q) (λ e. apart ((is_at-Decides k q).0 e))));
+  others = λ q apart. ap (option_map (λ g. g.0)) (u.2 q (false_from_ne_true (is_at (nat_cmp k) q) (λ e. apart ((is_at-Decides k q).0 e))));
 }
 
 pub numbered-taken : (old new : BTreeMap ℕ Group) (m n : Numbers) (k : ℕ) (name : List ℕ) → AreNumbered old.entries (number_of m) → number_of m name ≡ Some k
@@ -157,7 +157,7 @@ values-taken groups find n name inv found =
 missing : (groups : NumberedGroups) (name : List ℕ) → ((m : ℕ) (g : Group) → Contains groups (m, g) → g.0 ≢ name) → lookup (bytes_eq name) (values_of groups) ≡ None
 missing [] name none = refl
 missing ((m, g) ∷ groups) name none =
-    ap (λ t. cond t (Some g.1) (lookup (bytes_eq name) (values_of groups))) (false-from_not (bytes_eq name g.0) (λ e. none m g (contains_here (m, g) groups) (sym ((bytes_decides name g.0).0 e))))
+    ap (λ t. cond t (Some g.1) (lookup (bytes_eq name) (values_of groups))) (false_from_ne_true (bytes_eq name g.0) (λ e. none m g (contains_here (m, g) groups) (sym ((bytes_decides name g.0).0 e))))
     ∙ missing groups name (λ k h c. none k h (contains_there (m, g) (k, h) groups c))
 
 -- no group has a name that has no number

@@ -8,7 +8,7 @@ use Rattle.std.specs.List.{Contains}
 use Rattle.std.specs.Map.{keys_of}
 use Rattle.std.specs.Ordering.{nat_cmp, eq_by_cmp}
 use Rattle.cb_working_memory.specs.WorkingMemory.{index_of}
-use Rattle.cb_facts.proofs.FactEquality.{fact-Decides}
+use Rattle.cb_facts.proofs.Cited.{fact-Decides}
 use Rattle.cb_facts.specs.FactLists.{IndexedFacts, fact_at, IsAbsent, IsFactBase}
 use Rattle.cb_facts.specs.Facts.{FactValue, fact_eq}
 

@@ -4,12 +4,13 @@ use Rattle.std.specs.BTreeMap.{is_at}
 use Rattle.std.specs.Ordering.{is_eq, nat_cmp, match_ordering}
 use Rattle.cb_working_memory.specs.Laws.{NoneAfter, Keeps}
 use Rattle.cb_working_memory.specs.WorkingMemory.{Memory, greatest_index, grown, asserted_beside, asserted_one, index_of}
-use Rattle.cb_facts.proofs.FactListLaws.{is_at-Decides, false-from_not}
+use Rattle.cb_facts.proofs.Cited.{is_at-Decides}
+use Rattle.std.proofs.lemmas.Bool.{false_from_ne_true}
 use Rattle.cb_facts.specs.FactLists.{IndexedFacts, fact_at, with_fact}
 use Rattle.cb_facts.specs.Facts.{FactValue}
 
 not_at : (q i : ℕ) → q ≢ i → is_at (nat_cmp q) i ≡ false
-not_at q i apart = false-from_not (is_at (nat_cmp q) i) (λ e. apart ((is_at-Decides q i).0 e))
+not_at q i apart = false_from_ne_true (is_at (nat_cmp q) i) (λ e. apart ((is_at-Decides q i).0 e))
 
 -- elsewhere a fact more changes no look-up
 elsewhere_by : (facts : IndexedFacts) (ix i q : ℕ) (fact there : FactValue) (o : Ordering) → nat_cmp ix i ≡ o → q ≢ ix → fact_at (with_fact facts ix fact) q ≡ fact_at facts q

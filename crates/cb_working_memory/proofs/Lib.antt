@@ -1,5 +1,7 @@
+pub mod Cited
 mod CountedLaws
-pub mod IndexLaws
+mod Examples
+mod IndexLaws
 mod KeepLaws
 mod MemoryLaws
 mod GroupCountLaws

@@ -1,12 +1,9 @@
 -- The facts that each `deffacts` keeps for `reset`.
 use Rattle.std.specs.Prelude.{ℕ, Bool, List, [], ◌∷◌, ◌++◌}
-use Rattle.std.specs.Coded.{Coded, coded_list, coded×}
 use Rattle.std.specs.List.{flat_map, list_any}
 use Rattle.std.specs.Map.{remove_entry}
 use Rattle.std.specs.Str.{bytes_eq}
-use Rattle.cb_exprs.specs.Codes.{Piece}
-use Rattle.cb_exprs.specs.FactTerms.{FactTerm, fact_code}
-use Rattle.cb_exprs.specs.Shapes.{Shape}
+use Rattle.cb_exprs.specs.FactTerms.{FactTerm}
 
 -- the facts of each `deffacts` by its name, in the order of their definition
 abbrev pub DeffactsTable : Type 0
@@ -17,8 +14,8 @@ abbrev pub with_deffacts : DeffactsTable → List ℕ → List FactTerm → Deff
 with_deffacts table name facts = remove_entry (bytes_eq name) table ++ (name, facts) ∷ []
 
 -- all their facts, in order
-abbrev pub facts_in : DeffactsTable → List FactTerm
-facts_in table = flat_map (λ g. g.1) table
+abbrev pub kept_facts : DeffactsTable → List FactTerm
+kept_facts table = flat_map (λ g. g.1) table
 
 -- one of the facts has the relation
 abbrev pub has_relation : List ℕ → List FactTerm → Bool
@@ -27,10 +24,3 @@ has_relation relation facts = list_any (λ fact. bytes_eq fact.shape.relation re
 -- a fact of some `deffacts` has it
 abbrev pub is_named_in_deffacts : List ℕ → DeffactsTable → Bool
 is_named_in_deffacts relation table = list_any (λ g. has_relation relation g.1) table
-
--- how the logic stores a `deffacts`, and the table
-abbrev pub group_code : Coded (List ℕ) → Coded Shape → Coded Piece → Coded (List ℕ × List FactTerm)
-group_code name shape piece = coded× name (coded_list (fact_code shape piece))
-
-abbrev pub table_code : Coded (List ℕ) → Coded Shape → Coded Piece → Coded DeffactsTable
-table_code name shape piece = coded_list (group_code name shape piece)

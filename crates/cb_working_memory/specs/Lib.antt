@@ -1,6 +1,4 @@
 pub mod Deffacts
-pub mod GroupCounts
-pub mod Groups
+pub mod Internal
 pub mod Laws
-pub mod WorkingMemories
 pub mod WorkingMemory

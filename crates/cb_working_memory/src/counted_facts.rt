@@ -2,7 +2,7 @@
 ghost use Rattle.std.specs.Prelude.{◌≡◌, [], None, Some, IfSome, IfNone, OnOk, OnErr, option_copied};
 ghost use Rattle.std.specs.List.{list_any};
 ghost use Rattle.std.specs.Str.{bytes_eq};
-ghost use Rattle.cb_working_memory.specs.WorkingMemories.{IsLessBy};
+ghost use Rattle.cb_working_memory.specs.Internal.WorkingMemories.{IsLessBy};
 ghost use Rattle.cb_facts.specs.FactLists.{ChangesOnly, IsAbsent, IsFactBase, fact_at, with_fact, without_fact};
 
 use cb_facts::{Fact, FactList, Name, RelationCounts};

@@ -3,7 +3,7 @@ ghost use Rattle.std.specs.Prelude.{◌≡◌, ◌++◌, ◌∷◌, [], None, On
 ghost use Rattle.std.specs.Map.{lookup, remove_entry};
 ghost use Rattle.std.specs.Str.{bytes_eq};
 ghost use Rattle.cb_working_memory.specs.Deffacts.{is_named_in_deffacts, with_deffacts};
-ghost use Rattle.cb_working_memory.specs.GroupCounts.{AreCounted, HasLess, HasMore, IsLessByGroup};
+ghost use Rattle.cb_working_memory.specs.Internal.GroupCounts.{AreCounted, HasLess, HasMore, IsLessByGroup};
 
 use crate::groups::{Deffacts, Groups};
 use cb_exprs::FactExpr;
@@ -27,8 +27,9 @@ pub struct DeffactsTable {
 
 impl Model for DeffactsTable {
     ghost use Rattle.std.specs.Coded.{codes};
-    ghost use Rattle.cb_working_memory.specs.Deffacts.{DeffactsTable as Table, table_code};
-    ghost use Rattle.cb_working_memory.specs.GroupCounts.{AreCounted};
+    ghost use Rattle.cb_working_memory.specs.Deffacts.{DeffactsTable as Table};
+    ghost use Rattle.cb_working_memory.specs.Internal.{table_code};
+    ghost use Rattle.cb_working_memory.specs.Internal.GroupCounts.{AreCounted};
 
     ghost Value = { Table };
 

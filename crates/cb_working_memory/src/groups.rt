@@ -4,7 +4,7 @@ ghost use Rattle.std.specs.List.{sum_by};
 ghost use Rattle.std.specs.Map.{lookup, remove_entry};
 ghost use Rattle.std.specs.Option.{unwrap_or};
 ghost use Rattle.std.specs.Str.{bytes_eq};
-ghost use Rattle.cb_working_memory.specs.Groups.{Group, IsAfterAll};
+ghost use Rattle.cb_working_memory.specs.Internal.Groups.{Group, IsAfterAll};
 
 use cb_exprs::FactExpr;
 use cb_facts::Name;
@@ -25,8 +25,8 @@ pub struct Deffacts {
 
 impl Model for Deffacts {
     ghost use Rattle.std.specs.Coded.{codes};
-    ghost use Rattle.cb_working_memory.specs.Deffacts.{group_code};
-    ghost use Rattle.cb_working_memory.specs.Groups.{Group};
+    ghost use Rattle.cb_working_memory.specs.Internal.{group_code};
+    ghost use Rattle.cb_working_memory.specs.Internal.Groups.{Group};
 
     ghost Value = { Group };
 
@@ -61,8 +61,9 @@ impl Model for Groups {
     ghost use Rattle.std.specs.Map.{values_of};
     ghost use Rattle.std.specs.Ordering.{nat_cmp};
     ghost use Rattle.std.specs.Coded.{codes};
-    ghost use Rattle.cb_working_memory.specs.Deffacts.{DeffactsTable as Table, table_code};
-    ghost use Rattle.cb_working_memory.specs.Groups.{AreNumbered};
+    ghost use Rattle.cb_working_memory.specs.Deffacts.{DeffactsTable as Table};
+    ghost use Rattle.cb_working_memory.specs.Internal.{table_code};
+    ghost use Rattle.cb_working_memory.specs.Internal.Groups.{AreNumbered};
 
     ghost Value = { Table };
 

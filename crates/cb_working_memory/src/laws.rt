@@ -1,7 +1,18 @@
-//! A law of the working memory: the contract of a function that does nothing.
+//! Laws of the working memory: each is the contract of a function that does nothing.
+ghost use Rattle.std.specs.Prelude.{◌≡◌, ℕ, None, Some};
+ghost use Rattle.cb_facts.specs.FactLists.{IndexedFacts, IsAbsent, IsFactBase, fact_at};
 ghost use Rattle.cb_facts.specs.Facts.{FactValue};
 ghost use Rattle.cb_working_memory.specs.Laws.{Keeps, NoneAfter};
-ghost use Rattle.cb_working_memory.specs.WorkingMemory.{Memory, asserted_one};
+ghost use Rattle.cb_working_memory.specs.WorkingMemory.{Memory, asserted_one, index_of};
+
+/// Where the indices rise and no two facts are equal, a fact is found at the index at which it stands, and at none where it
+/// is absent.
+pub fn a_fact_is_found_at_its_index()
+    ensures there { (facts : IndexedFacts) (fact : FactValue) (ix : ℕ)
+        → IsFactBase facts → fact_at facts ix ≡ Some fact → index_of facts fact ≡ Some ix }
+    ensures absent { (facts : IndexedFacts) (fact : FactValue)
+        → IsFactBase facts → IsAbsent facts fact → index_of facts fact ≡ None }
+{}
 
 /// Where no fact has an index after the one given last, a fact that is asserted takes no fact away and changes no index,
 /// and if it is added, it has an index after that one; then again no fact has an index after the last. (A fact that is

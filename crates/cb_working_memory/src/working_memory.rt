@@ -26,7 +26,7 @@ pub struct WorkingMemory {
 
 impl Model for WorkingMemory {
     ghost use Rattle.cb_working_memory.specs.WorkingMemory.{Memory};
-    ghost use Rattle.cb_working_memory.specs.WorkingMemories.{IsLastOf};
+    ghost use Rattle.cb_working_memory.specs.Internal.WorkingMemories.{IsLastOf};
 
     ghost Value = { Memory };
 

@@ -4,6 +4,7 @@ use cb_actions::{Break, Ended, Limit, World};
 use cb_exprs::Expr;
 use cb_facts::{Names, Refused, Value, quoted_text};
 use cb_forms::{Fault, Form, Item, MemSink, NoMemory, Out, read_items};
+use cb_templates::read_template;
 use std::alloc::Global;
 
 /// Forms, the turns that there are for them, and what comes of each: what it writes, and then its value on a line, or the
@@ -129,7 +130,8 @@ fn define(alloc: Global, world: &mut World, text: &[u8]) -> Result<(), Refused> 
         }
     }
     let mut names = Names::new(alloc);
-    match world.define_template(&mut names, forms.as_slice(), false) {
+    let (relation, template) = read_template(&mut names, forms.as_slice(), false)?;
+    match world.define_template(relation, template) {
         Ok(_) => Ok(()),
         Err(_) => Err(Refused::NoMemory),
     }

@@ -3,6 +3,7 @@ use super::rows::{Given, fact, shown_fact};
 use cb_forms::NoMemory;
 use cb_values::{Fact, Refused};
 use std::alloc::Global;
+use std::cmp::Ordering;
 
 /// Templates, what a fact is given by its relation's name, and the fact's text or the number of its fault.
 type Row = (&'static str, &'static str, &'static str);
@@ -170,5 +171,18 @@ fn signs(alloc: Global) -> Result<Vec<u8>, Refused> {
 #[test]
 fn tells_facts_apart(rt: HostRuntime) -> Result<(), Refused> {
     assert!(rt; signs(rt.alloc())?.as_slice() == EQUAL);
+    Ok(())
+}
+
+/// How two facts stand to each other that are fed to a hasher alike: the ordered one, and the one of a template.
+fn sign_of_alike(alloc: Global) -> Result<Ordering, Refused> {
+    let ordered = fact(alloc, "", &Given::Fields("item"))?;
+    let of_slots = fact(alloc, "(item)", &Given::Slots("item"))?;
+    Ok(ordered.cmp(&of_slots))
+}
+
+#[test]
+fn puts_fields_before_slots(rt: HostRuntime) -> Result<(), Refused> {
+    assert!(rt; sign_of_alike(rt.alloc())? == Ordering::Less);
     Ok(())
 }

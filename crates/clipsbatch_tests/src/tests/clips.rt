@@ -1,7 +1,7 @@
-//! The scripts of `docs/CLIPS.md` and of `README.md`, made by `docs/examples.py`.
+//! The scripts of `docs/CLIPS.md`, of `README.md` and of the man page, made by `docs/examples.py`.
 use super::rows::{Example, WITH_A_FAULT, WITHOUT_FAULT};
 
-pub(super) const CLIPS: [Example; 22] = [
+pub(super) const CLIPS: [Example; 23] = [
     Example {
         name: "Input and output: 1",
         script: b"(+ 1 2)
@@ -294,6 +294,18 @@ f-2     (lamp (room attic) (watts 100))
 f-3     (lamp (room cellar) (watts 15))
 For a total of 2 facts.
 Watt hours: 345
+",
+        outcome: WITH_A_FAULT,
+    },
+    Example {
+        name: "The man page: 1",
+        script: b"(assert (color red)) (facts) (+ 1 2) (div 1 0)
+",
+        written: b"<Fact-1>
+f-1     (color red)
+For a total of 1 fact.
+3
+[CB19] division by zero
 ",
         outcome: WITH_A_FAULT,
     },

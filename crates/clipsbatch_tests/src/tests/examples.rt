@@ -4,8 +4,8 @@ use super::rows::{Example, WITHOUT_FAULT};
 pub(super) const EXAMPLES: [Example; 4] = [
     Example {
         name: "cluster.clp",
-        script: b"; The configuration of a small cluster, written down before it is rolled out. Services and settings are templates: a port
-; that is no number or a service without a name would be a fault, and the exit status of the run would be 1.
+        script: b"; The configuration of a small cluster, checked before it is rolled out. Services and settings have templates: a port
+; that isn't a number or a service without a name would be a fault, and the exit status would be 1.
 
 (deftemplate service \"a program that runs on a machine\"
   (slot name (type SYMBOL) (default ?NONE))
@@ -37,7 +37,7 @@ pub(super) const EXAMPLES: [Example; 4] = [
 (assert (setting (of web) (key \"max clients\") (value 200)))
 (assert (service (name cache) (port 6379)))
 
-; The mail moves to another house, and its service goes.
+; Mail moves to another host, and its service is removed.
 (retract 6)
 (facts)
 ",
@@ -65,7 +65,7 @@ For a total of 7 facts.
     },
     Example {
         name: "inventory.clp",
-        script: b"; What stands in the storeroom. A line of a count is a fact, and a line that both people counted is one fact.
+        script: b"; The contents of the storeroom. Each line of a count is a fact, and a line that both people counted is one fact.
 
 (printout t \"Storeroom 4, counted by two people\" crlf)
 
@@ -75,7 +75,7 @@ For a total of 7 facts.
         (item nut m6 900)
         (note bolt m8 \"box \\\"B\\\" is torn\"))
 
-; The second count. What agrees with the first adds no line.
+; The second count. A line that agrees with the first adds no fact.
 (assert (item nut m6 900))
 (assert (item bolt m8 345)
         (item washer m6 280))
@@ -117,7 +117,7 @@ For a total of 6 facts.
   (slot findings (type INTEGER))
   (multislot rooms))                 ; those with a finding
 
-; Each room, with the least and the greatest temperature that it may have.
+; Each room, with its lowest and highest allowed temperature.
 (defglobal ?*limits* = (create$ dairy 2 6  freezer -25 -18  cellar 8 14))
 
 ; When the readings were taken, and what they were, room by room.
@@ -202,14 +202,14 @@ For a total of 9 facts.
     (println ?feet \"' \" ?inches \"\\\" = \" (div ?mm 1000) \".\" ?zeros ?rest \" m\"))
   (println \"Board needed: \" (div (+ ?total 9) 10) \" mm\"))
 
-; A thinner saw, for once. `reset` has the usual one again.
+; A thinner saw, for once. `reset` brings back the usual one.
 (bind ?*kerf* 12)
 (bind ?cuts (div (length$ ?*pieces*) 2))
 (println \"Lost to the thin saw: \" (div (+ (* ?cuts ?*kerf*) 9) 10) \" mm\")
 (reset)
 (println \"The usual saw takes \" (div ?*kerf* 10) \" mm a cut.\")
 
-; The glue wants some warmth. The nearest whole degree: a quotient is cut towards zero, so half a degree is added first,
+; The glue needs some warmth. The nearest whole degree: `div` truncates towards zero, so half a degree is added first,
 ; away from zero.
 (defglobal ?*fahrenheit* = (create$ 50 75 0 -40))
 (if TRUE then

@@ -1,4 +1,4 @@
-use Rattle.cb_io.proofs.Putting.{puts_nothing}
+use Rattle.cb_io.proofs.Cited.{puts_nothing}
 use Rattle.cb_actions.proofs.output.put_text.Goals as goal
 
 pub returns-in-Err : goal.returns-in-Err

@@ -1,6 +1,6 @@
 use Rattle.std.proofs.Common.{◌≡◌, ◌++◌, ◌+◌, Err, take, drop, refl, ap, sym, rules}
 use Rattle.std.specs.List.{flat_map}
-use Rattle.cb_io.proofs.Putting.{puts_none, puts_fine, puts_then, puts_as}
+use Rattle.cb_io.proofs.Cited.{puts_none, puts_fine, puts_then, puts_as}
 use Rattle.cb_actions.specs.Printing.{printed_value}
 use Rattle.cb_actions.specs.Went.{stop_extent}
 use Rattle.cb_actions.proofs.ActLaws.{flat-next, flat-split, stopped-more}

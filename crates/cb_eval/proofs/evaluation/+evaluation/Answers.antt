@@ -1,8 +1,14 @@
 use Rattle.std.proofs.Common.{◌∙◌, ap, subst, sym}
-use Rattle.cb_eval.proofs.Pairs.{two_items, two_values}
+use Rattle.cb_eval.proofs.Pairs.{one_item, two_items, two_values, value_alone}
 use Rattle.cb_facts.specs.Results.{Returns, and_then}
 use Rattle.cb_functions.specs.Applied.{applied}
 use Rattle.cb_eval.proofs.evaluation.+evaluation.Goals as goal
+
+pub call-returns-in-len1 : goal.call-returns-in-len1
+call-returns-in-len1 t c =
+    let are = one_item c.args.args.now c.only-item.result c.in-len1.len_at_least c.in-len1.len_below c.only-item.is in
+    let values = value_alone c.args.function c.args.args.now c.only-item.result c.in_ok-value.value c.args.env.now are c.in_ok-value.ensures in
+    subst (Returns c.apply.result) (sym (ap (λ r. and_then r (applied c.args.function)) values)) c.apply.ensures
 
 pub call-returns-in-len2 : goal.call-returns-in-len2
 call-returns-in-len2 t c =

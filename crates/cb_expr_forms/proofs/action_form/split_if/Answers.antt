@@ -15,9 +15,11 @@ returns c =
     let first = c.split_else.result.0.now in
     let second = c.split_else.result.1.now in
     let h = sym c.is_symbol.ensures ∙ c.if-not-is_symbol.false in
-    let cut = c.split_else.ensures in (
-      is_if all rest body c.in_ok-test.test.now c.in_ok-word.word.now c.in_ok-test.ensures.cases.0 c.in_ok-word.ensures.cases.0 first second h cut.before cut.after cut.faults c.if-has_else.ensures,
-      if_faults_are all rest body c.in_ok-test.test.now c.in_ok-word.word.now c.in_ok-test.ensures.cases.0 c.in_ok-word.ensures.cases.0 first second h cut.before cut.after cut.faults
-          c.if-has_else.ensures,
-      if_fits all rest body first second c.in_ok-test.test.now c.in_ok-word.word.now c.in_ok-test.ensures.cases.0 c.in_ok-word.ensures.cases.0 cut.sizes,
+    let cut = c.split_else.ensures in
+    let once = c.if-has_else.ensures in
+    let starts = c.in_ok-test.ensures.cases.0 in
+    let goes_on = c.in_ok-word.ensures.cases.0 in (
+      is_if all rest body c.in_ok-test.test.now c.in_ok-word.word.now starts goes_on first second h cut once,
+      if_faults_are all rest body c.in_ok-test.test.now c.in_ok-word.word.now starts goes_on first second h cut once,
+      if_fits all rest body c.in_ok-test.test.now c.in_ok-word.word.now starts goes_on first second h cut once,
     )

@@ -2,7 +2,7 @@ use Rattle.std.proofs.Common.{◌≡◌, ◌≤◌, ◌+◌, ◌*◌, ◌++◌, 
 use Rattle.std.specs.Option.{option_and_then}
 use Rattle.cb_expr_forms.specs.ExprFaults.{all_faults, facts_faults, slots_faults, values_faults}
 use Rattle.cb_expr_forms.specs.ExprForms.{assertions, exprs_of, slot_exprs, slot_names}
-use Rattle.cb_expr_forms.specs.Sizes.{filling_size, plan_size, tree_size, trees_size}
+use Rattle.cb_expr_forms.specs.Internal.Sizes.{filling_size, plan_size, tree_size, trees_size}
 use Rattle.cb_exprs.specs.Terms.{term_of}
 use Rattle.cb_forms.specs.Members.{members}
 use Rattle.cb_forms.specs.Trees.{tree_of}
@@ -17,8 +17,8 @@ decreases-read_value l = 8 * tree_size (tree_of l.form.now) + 1
 abbrev pub decreases-read_fact : goal.decreases-read_fact
 decreases-read_fact l = 8 * tree_size (tree_of l.form.now) + 1
 
-abbrev pub decreases-read_all : goal.decreases-read_all
-decreases-read_all l = 8 * trees_size (members l.forms.now) + 1
+abbrev pub decreases-read_exprs : goal.decreases-read_exprs
+decreases-read_exprs l = 8 * trees_size (members l.forms.now) + 1
 
 abbrev pub decreases-read_joined : goal.decreases-read_joined
 decreases-read_joined l = 8 * trees_size (members l.forms.now) + 2
@@ -35,12 +35,6 @@ decreases-read_if l = 8 * (tree_size (tree_of l.test.now) + (trees_size (members
 abbrev pub decreases-read_while : goal.decreases-read_while
 decreases-read_while l = 8 * (tree_size (tree_of l.test.now) + trees_size (members l.actions.now)) + 2
 
-abbrev pub decreases-read_bind : goal.decreases-read_bind
-decreases-read_bind l = 8 * trees_size (members l.values.now) + 3
-
-abbrev pub decreases-read_bind_global : goal.decreases-read_bind_global
-decreases-read_bind_global l = 8 * trees_size (members l.values.now) + 3
-
 abbrev pub decreases-read_action : goal.decreases-read_action
 decreases-read_action l = 8 * plan_size l.action + 4
 
@@ -53,8 +47,8 @@ decreases-read_slots l = 8 * trees_size (members l.forms.now) + 4
 abbrev pub decreases-read_list : goal.decreases-read_list
 decreases-read_list l = 8 * trees_size (members l.forms.now) + 4
 
-abbrev pub invariant-read_all-loop-form : goal.invariant-read_all-loop-form
-invariant-read_all-loop-form l =
+abbrev pub invariant-read_exprs-loop-form : goal.invariant-read_exprs-loop-form
+invariant-read_exprs-loop-form l =
     (all_faults l.scope (members (drop l.form-index l.forms)) ≡ all_faults l.scope (members l.forms))
     × (map term_of l.exprs.items ++ exprs_of l.scope.templates (members (drop l.form-index l.forms)) ≡ exprs_of l.scope.templates (members l.forms))
 

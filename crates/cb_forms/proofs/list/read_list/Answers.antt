@@ -1,6 +1,6 @@
 use Rattle.std.proofs.Common.{ℕ, List, [], ◌∷◌, length, get_or, drop, refl, sym, ◌∙◌, subst, arith}
 use Rattle.std.proofs.lemmas.Bool.{eqb-true, eqb-false}
-use Rattle.cb_forms.specs.ListStacks.{frames_of}
+use Rattle.cb_forms.specs.Internal.ListStacks.{frames_of}
 use Rattle.cb_forms.specs.Trees.{Tree, trees_in}
 use Rattle.cb_forms.proofs.ListLaws.{IsListSoFar, list-begin, list-gap, list-open, list-close, list-never}
 use Rattle.cb_forms.proofs.PieceLaws.{blank-first}

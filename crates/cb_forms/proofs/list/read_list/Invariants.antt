@@ -1,5 +1,5 @@
 use Rattle.std.proofs.Common.{length}
-use Rattle.cb_forms.specs.ListStacks.{frames_of}
+use Rattle.cb_forms.specs.Internal.ListStacks.{frames_of}
 use Rattle.cb_forms.proofs.ListLaws.{IsListSoFar}
 use Rattle.cb_forms.proofs.list.read_list.Given as goal
 

@@ -2,8 +2,8 @@ use Rattle.std.proofs.Common.{◌≡◌, ℤ, Err, FitsSigned, map, ap, subst, �
 use Rattle.std.proofs.lemmas.Int.{to_z-of_z}
 use Rattle.cb_facts.specs.Results.{Tells}
 use Rattle.cb_functions.specs.Arithmetic.{with_others}
-use Rattle.cb_functions.specs.Numbers.{number_of}
-use Rattle.cb_functions.specs.Operations.{operator_of}
+use Rattle.cb_functions.specs.Internal.{as_number}
+use Rattle.cb_functions.specs.Internal.Operations.{operator_of}
 use Rattle.cb_functions.proofs.Steps.{step_off}
 use Rattle.cb_functions.proofs.arithmetic.go_on.Goals as goal
 
@@ -17,7 +17,7 @@ returns-in_err-total c =
     let fits : FitsSigned w64 c.number.result = search rules in
     let number_is = to_z-of_z w64 c.number.result fits ∙ c.number.ensures in
     let first_is = to_z-of_z w64 c.args.first c.ranges.first in
-    let goes = c.loop-value.invariant ∙ ap (λ n. with_others op n (map number_of vs)) first_is in
+    let goes = c.loop-value.invariant ∙ ap (λ n. with_others op n (map as_number vs)) first_is in
     let told = subst (λ (m : ℤ). Tells why (λ f. op total m ≡ Err f)) number_is c.in_err-total.ensures in
-    let off = step_off op total vs c.loop-value.value-index c.value-item.result (with_others op c.args.first (map number_of vs)) why c.loop-value-test.true c.value-item.is goes told in
+    let off = step_off op total vs c.loop-value.value-index c.value-item.result (with_others op c.args.first (map as_number vs)) why c.loop-value-test.true c.value-item.is goes told in
     rw r off

@@ -1,4 +1,4 @@
-use Rattle.cb_laws.proofs.ActLaws.{fine_left, missing_left, wrong_stays}
+use Rattle.cb_laws.proofs.ActLaws.{fine_left, missing_left, wrong_first, wrong_stays}
 use Rattle.cb_laws.proofs.acting.a_retraction_takes_what_is_named.Goals as goal
 
 pub returns-clause-fine : goal.returns-clause-fine
@@ -9,3 +9,6 @@ returns-clause-missing c = missing_left
 
 pub returns-clause-wrong_type : goal.returns-clause-wrong_type
 returns-clause-wrong_type c = wrong_stays
+
+pub returns-clause-first : goal.returns-clause-first
+returns-clause-first c = wrong_first

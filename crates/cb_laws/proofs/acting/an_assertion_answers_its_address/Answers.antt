@@ -1,4 +1,4 @@
-use Rattle.cb_laws.proofs.ActLaws.{address_there, fault_stays, one_asserted}
+use Rattle.cb_laws.proofs.ActLaws.{address_there, fault_ends, fault_stays, one_asserted}
 use Rattle.cb_laws.proofs.acting.an_assertion_answers_its_address.Goals as goal
 
 pub returns-clause-asserted : goal.returns-clause-asserted
@@ -9,3 +9,6 @@ returns-clause-one c = one_asserted
 
 pub returns-clause-fault : goal.returns-clause-fault
 returns-clause-fault c = fault_stays
+
+pub returns-clause-fault_ends : goal.returns-clause-fault_ends
+returns-clause-fault_ends c = fault_ends

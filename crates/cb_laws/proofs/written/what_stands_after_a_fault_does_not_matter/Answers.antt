@@ -1,11 +1,14 @@
-use Rattle.cb_laws.proofs.AttributeFormLaws.{faulty_attributes}
-use Rattle.cb_laws.proofs.SlotFormLaws.{faulty_slots}
-use Rattle.std.proofs.Common.{[]}
+use Rattle.cb_laws.proofs.WrittenLaws.{first_attribute_fault, first_slot_fault, next_attribute_fault, next_slot_fault}
 use Rattle.cb_laws.proofs.written.what_stands_after_a_fault_does_not_matter.Goals as goal
-use Rattle.cb_templates.specs.SlotForms.{no_attributes}
 
 pub returns-clause-slots : goal.returns-clause-slots
-returns-clause-slots c = λ before after t slots fault. faulty_slots [] slots before after t fault
+returns-clause-slots c = first_slot_fault
 
 pub returns-clause-attributes : goal.returns-clause-attributes
-returns-clause-attributes c = λ m before after t so_far fault. faulty_attributes m no_attributes so_far before after t fault
+returns-clause-attributes c = first_attribute_fault
+
+pub returns-clause-next_slot : goal.returns-clause-next_slot
+returns-clause-next_slot c = λ before after t fault. next_slot_fault before after t fault
+
+pub returns-clause-next_attribute : goal.returns-clause-next_attribute
+returns-clause-next_attribute c = λ m before after t fault. next_attribute_fault m before after t fault

@@ -1,8 +1,8 @@
 use Rattle.std.proofs.Common.{◌≡◌, ◌∙◌, None, ap, rules}
-use Rattle.cb_expr_forms.specs.FaultLists.{first_of}
+use Rattle.cb_templates.specs.FaultLists.{first_of}
 use Rattle.cb_expr_forms.specs.Scopes.{is_known}
 use Rattle.cb_forms.specs.Members.{members}
-use Rattle.cb_pattern_forms.specs.PatternFaults.{filling_faults, named_faults, slot_by}
+use Rattle.cb_pattern_forms.specs.PatternFaults.{slot_row_faults, named_faults, found_slot_faults}
 use Rattle.cb_pattern_forms.proofs.SlotLaws.{unplaced}
 use Rattle.cb_templates.specs.Places.{place_in}
 use Rattle.cb_templates.specs.Slots.{names}
@@ -16,4 +16,4 @@ returns-in_default-place c =
     let name = c.in-Some.name.now in
     let none : place_in (names slots) name ≡ None = search rules in
     ap (λ call. first_of (named_faults s slots given call)) c.in-Some.ensures
-    ∙ ap (λ slot. first_of (slot_by slot (is_known given name) (λ is_multi. filling_faults s is_multi (members c.in-Some.forms.now)))) (unplaced slots name none)
+    ∙ ap (λ slot. first_of (found_slot_faults slot (is_known given name) (λ is_multi. slot_row_faults s is_multi (members c.in-Some.forms.now)))) (unplaced slots name none)

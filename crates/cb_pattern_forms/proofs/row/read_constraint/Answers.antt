@@ -2,16 +2,16 @@ use Rattle.std.proofs.Common.{◌≡◌, ◌∙◌, ◌||◌, ◌++◌, ◌∷�
 use Rattle.std.specs.Prelude.{MatchResult}
 use Rattle.cb_constraints.specs.Constraints.{check_of, constraint_of}
 use Rattle.cb_constraints.specs.declared.constraint.Constraint.{Constraint}
-use Rattle.cb_expr_forms.specs.FaultLists.{first_of}
+use Rattle.cb_templates.specs.FaultLists.{first_of}
 use Rattle.cb_facts.specs.Results.{Tells}
 use Rattle.cb_facts.specs.declared.refused.Refused.{Refused}
 use Rattle.cb_forms.specs.Members.{members}
 use Rattle.cb_forms.specs.declared.form.Form.{Form}
 use Rattle.cb_pattern_forms.specs.Members.{check, members_in}
 use Rattle.cb_pattern_forms.specs.RowFaults.{written_faults}
-use Rattle.cb_pattern_forms.specs.Rows.{check_in, is_several, put_before, runs_in}
-use Rattle.cb_pattern_forms.specs.Splits.{BeginsWith, alternatives_of, checks_faults, checks_of, connective_of, written_of}
-use Rattle.cb_pattern_forms.proofs.RunLaws.{check_faulty, checks_more, ends_with, faults_on, runs_on, tells}
+use Rattle.cb_pattern_forms.specs.Rows.{check_in, is_several, put_before, written_constraints}
+use Rattle.cb_pattern_forms.specs.Internal.{StartsWithConstraint, alternatives_of, checks_faults, checks_of, connective_of, written_of}
+use Rattle.cb_pattern_forms.proofs.RowLaws.{check_faulty, checks_more, ends_with, faults_on, written_on, tells}
 use Rattle.cb_pattern_forms.proofs.row.read_constraint.Goals as goal
 use Rattle.cb_pattern_forms.proofs.row.read_constraint.Goals.{then-takes_segment, else-takes_segment}
 
@@ -25,7 +25,7 @@ returns-in_err-read_check-clause-constraint c =
     let r : c.from_residual.result ≡ Err c.in_err-read_check.field-0.0 = search rules in
     subst
     (λ (it : Result (Constraint × Bor (List Form)) Refused).
-    MatchResult it (λ split. BeginsWith s (first_of (checks_faults s all)) all (constraint_of split.0) (members_in (members split.1.now))) (λ e. Tells e (λ f. first_of (checks_faults s all) ≡ Some f)))
+    MatchResult it (λ split. StartsWithConstraint s (first_of (checks_faults s all)) all (constraint_of split.0) (members_in (members split.1.now))) (λ e. Tells e (λ f. first_of (checks_faults s all) ≡ Some f)))
     (sym r)
     (tells check_of (check_in s.templates n w) c.in_err-read_check.field-0.0 (written_faults s w) (λ f. first_of (checks_faults s all) ≡ Some f)
     (λ f h. ap first_of (sym c.loop-is_negated.invariant.0 ∙ ap (checks_faults s) c.in-Some.ensures.check) ∙ check_faulty s n w others f h)
@@ -64,8 +64,8 @@ loop-is_negated-preserved c =
     let least = c.in-Some-split_connective.ensures.shorter in
     let within = inv.2 in (
       sym (ap (checks_faults s) here ∙ faults_on s k n w others c.in_ok-read_check.ensures.0) ∙ inv.0,
-      sym (ap (λ ms. before (runs_in s.templates ms)) here
-          ∙ runs_on s.templates k c.loop-is_negated.takes_segment c.if-takes_segment.takes_segment (alternatives_of c.loop-is_negated.alternatives) (alternatives_of c.connect.new.alternatives)
+      sym (ap (λ ms. before (written_constraints s.templates ms)) here
+          ∙ written_on s.templates k c.loop-is_negated.takes_segment c.if-takes_segment.takes_segment (alternatives_of c.loop-is_negated.alternatives) (alternatives_of c.connect.new.alternatives)
           (checks_of c.loop-is_negated.checks) (checks_of c.push.new.self) (checks_of c.connect.new.checks) n w others more grown c.in_ok-connect.ensures) ∙ inv.1,
       omega arith,
     )

@@ -1,5 +1,5 @@
 use Rattle.std.proofs.Common.{◌≡◌, drop}
-use Rattle.cb_facts.proofs.Firsts.{after_those}
+use Rattle.cb_facts.specs.Internal.{after_those}
 use Rattle.cb_forms.specs.Members.{members}
 use Rattle.cb_requests.specs.Reads.{facts_in}
 use Rattle.cb_requests.proofs.fact_list.read_facts.Given as goal

@@ -1,5 +1,5 @@
 use Rattle.std.proofs.Common.{◌∙◌, sym, ap}
-use Rattle.cb_facts.proofs.Firsts.{after_those}
+use Rattle.cb_facts.specs.Internal.{after_those}
 use Rattle.cb_forms.specs.Members.{members}
 use Rattle.cb_requests.specs.Reads.{globals_in}
 use Rattle.cb_requests.proofs.global_list.read_globals.Goals as goal

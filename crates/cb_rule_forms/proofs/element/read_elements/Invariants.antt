@@ -1,6 +1,6 @@
 use Rattle.std.proofs.Common.{◌≡◌, ◌++◌, length, map}
 use Rattle.cb_forms.specs.Members.{members}
-use Rattle.cb_rule_forms.specs.ElementForms.{form_value}
+use Rattle.cb_rule_forms.specs.Internal.{form_value}
 use Rattle.cb_rule_forms.specs.Elements.{elements_faults, elements_of, written_in}
 use Rattle.cb_rule_forms.proofs.element.read_elements.Given as goal
 

@@ -1,5 +1,5 @@
 use Rattle.std.proofs.Common.{◌≡◌, ◌++◌, map}
-use Rattle.cb_rule_forms.specs.ElementForms.{form_value}
+use Rattle.cb_rule_forms.specs.Internal.{form_value}
 use Rattle.cb_rule_forms.specs.RuleValues.{element_value}
 use Rattle.cb_rule_forms.proofs.rule.close_patterns.Given as goal
 

@@ -1,5 +1,5 @@
 use Rattle.std.proofs.Common.{refl, ap}
-use Rattle.cb_io.proofs.Putting.{puts_none, puts_as}
+use Rattle.cb_io.proofs.Cited.{puts_none, puts_as}
 use Rattle.cb_session.specs.Actions.{shown_line}
 use Rattle.cb_session.proofs.engine.show.Goals as goal
 

@@ -1,7 +1,7 @@
 use Rattle.std.proofs.Common.{◌≡◌, Err, codes, refl, ap, rules}
-use Rattle.cb_io.proofs.Putting.{puts_fine, puts_then, puts_as}
+use Rattle.cb_io.proofs.Cited.{puts_fine, puts_then, puts_as}
 use Rattle.cb_actions.specs.Went.{stop_extent}
-use Rattle.cb_actions.proofs.ActLaws.{stopped-more}
+use Rattle.cb_actions.proofs.Cited.{stopped-more}
 use Rattle.cb_session.proofs.engine.show_symbol.Goals as goal
 
 pub returns-in_err-put-clause-puts : goal.returns-in_err-put-clause-puts

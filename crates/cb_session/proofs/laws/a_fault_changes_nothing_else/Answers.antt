@@ -1,11 +1,8 @@
-use Rattle.cb_session.proofs.FaultLaws.{fault_refused, fault_of_template, fault_of_globals, fault_keeping}
+use Rattle.cb_session.proofs.FaultLaws.{fault_refused, fault_of_globals, fault_keeping}
 use Rattle.cb_session.proofs.laws.a_fault_changes_nothing_else.Goals as goal
 
 pub returns-clause-refused : goal.returns-clause-refused
 returns-clause-refused c = λ s r fault is. fault_refused s r fault is
-
-pub returns-clause-template : goal.returns-clause-template
-returns-clause-template c = λ s r fault ts is ends. fault_of_template s r fault ts is ends
 
 pub returns-clause-globals : goal.returns-clause-globals
 returns-clause-globals c = λ s r fault gs is ends. fault_of_globals s r fault gs is ends

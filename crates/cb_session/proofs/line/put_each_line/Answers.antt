@@ -1,9 +1,9 @@
 use Rattle.std.proofs.Common.{◌≡◌, ◌++◌, [], Err, ap, sym, ◌∙◌, append_assoc, rules}
 use Rattle.std.specs.List.{flat_map}
-use Rattle.cb_io.proofs.Putting.{puts_fine, puts_none, puts_then, puts_as}
+use Rattle.cb_io.proofs.Cited.{puts_fine, puts_none, puts_then, puts_as}
 use Rattle.cb_session.specs.Lines.{fact_line}
 use Rattle.cb_actions.specs.Went.{stop_extent}
-use Rattle.cb_actions.proofs.ActLaws.{stopped-more}
+use Rattle.cb_actions.proofs.Cited.{stopped-more}
 use Rattle.cb_session.proofs.line.put_each_line.Goals as goal
 
 pub loop-ix-init : goal.loop-ix-init

@@ -3,7 +3,7 @@ use Rattle.cb_forms.specs.Cuts.{item_readings}
 use Rattle.cb_forms.specs.Cutter.{readings_in}
 use Rattle.cb_forms.specs.Items.{items, over}
 use Rattle.cb_forms.specs.declared.form.Item.{Item}
-use Rattle.cb_io.proofs.Putting.{puts_nothing}
+use Rattle.cb_io.proofs.Cited.{puts_nothing}
 use Rattle.cb_session.proofs.StepLaws.{ends-item, ends-none}
 use Rattle.cb_session.proofs.session.execute_last.Goals as goal
 

@@ -1,4 +1,4 @@
-use Rattle.cb_io.proofs.Putting.{puts_fine}
+use Rattle.cb_io.proofs.Cited.{puts_fine}
 use Rattle.cb_session.proofs.session.flush.Goals as goal
 
 pub returns-in-Ok-clause-ready : goal.returns-in-Ok-clause-ready

@@ -1,5 +1,5 @@
 use Rattle.std.proofs.Common.{refl, ap, sym}
-use Rattle.cb_io.proofs.Putting.{puts_fine, puts_as, puts_part_then, puts_part_failed}
+use Rattle.cb_io.proofs.Cited.{puts_fine, puts_as, puts_part_then, puts_part_failed}
 use Rattle.cb_actions.specs.Went.{extent_at}
 use Rattle.cb_session.proofs.session.halt.Goals as goal
 

@@ -1,5 +1,5 @@
 use Rattle.std.proofs.Common.{◌≡◌, false, is_some, rules}
-use Rattle.cb_templates.specs.Places.{place_at}
+use Rattle.cb_templates.specs.Internal.{place_at}
 use Rattle.cb_templates.proofs.PlaceLaws.{noted-copy}
 use Rattle.cb_templates.proofs.places.note.Goals as goal
 

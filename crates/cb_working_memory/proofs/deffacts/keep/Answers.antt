@@ -1,5 +1,5 @@
 use Rattle.std.proofs.Common.{subst, sym}
-use Rattle.cb_working_memory.specs.GroupCounts.{AreCounted, HasMore}
+use Rattle.cb_working_memory.specs.Internal.GroupCounts.{AreCounted, HasMore}
 use Rattle.cb_working_memory.proofs.GroupCountLaws.{group_kept}
 use Rattle.cb_working_memory.proofs.deffacts.keep.Goals as goal
 

@@ -4,7 +4,7 @@ use Rattle.cb_actions.specs.Acts.{Act, give, write}
 use Rattle.cb_actions.specs.Actions.{carried, carried_all, carried_values}
 use Rattle.cb_actions.specs.Effects.{wanted, looked_up, global_looked_up, called, asserted, retracted, bound, global_bound, printed_line, chosen, ends}
 use Rattle.cb_actions.specs.Printing.{printed, printed_values}
-use Rattle.cb_actions.specs.Went.{Went, Quietly, listed}
+use Rattle.cb_actions.specs.Internal.{Went, Quietly, items_answered}
 use Rattle.cb_actions.specs.Worlds.{World}
 use Rattle.cb_actions.specs.declared.act.Break.TheVariants as break
 use Rattle.cb_actions.specs.declared.act.Ended.TheVariants as ended
@@ -15,7 +15,7 @@ use Rattle.cb_actions.proofs.LoopLaws.{all_then, all_off, values_then, values_en
 use Rattle.cb_actions.proofs.WentLaws.{went_at, went_unbegun, went_fine, went_ok}
 use Rattle.cb_exprs.specs.Terms.{constant, variable, global, call, assert, retract, bind, bind_global, choose, repeat, actions, printout, print, println, term_of, terms_of}
 use Rattle.cb_exprs.specs.declared.expr.Expr.{Expr}
-use Rattle.cb_exprs.proofs.TermLaws.{of_constant, of_variable, of_global, of_call, of_assert, of_retract, of_bind, of_bind_global, of_if, of_while, of_actions, of_printout, of_print, of_println}
+use Rattle.cb_exprs.proofs.Cited.{of_constant, of_variable, of_global, of_call, of_assert, of_retract, of_bind, of_bind_global, of_if, of_while, of_actions, of_printout, of_print, of_println}
 use Rattle.cb_facts.specs.declared.value.Value.{Value}
 use Rattle.cb_forms.specs.declared.fault.Fault.TheVariants.{WrongType}
 use Rattle.cb_functions.specs.Constants.{false_symbol}
@@ -55,12 +55,12 @@ carry_all-returns-clause-went g t c =
 
 pub carry_values-returns-in_err-value-clause-went : goal.carry_values-returns-in_err-value-clause-went
 carry_values-returns-in_err-value-clause-went g t c =
-    let r : listed c.from_residual.result ≡ Err c.in_err-value.field-0.0 = search rules in
+    let r : items_answered c.from_residual.result ≡ Err c.in_err-value.field-0.0 = search rules in
     went_as g.K.Sink.writes _ _ _ _ _ _ _ r refl (c.loop-expr.invariant.goes _ _ _ (values_off g.K.Sink.writes c.args.exprs.now c.loop-expr.expr-index c.expr-item.result c.expr-item.is c.loop-expr-test.true c.args.function c.loop-expr.values.items _ _ _ _ _ c.in_err-value.ensures.went))
 
 pub carry_values-returns-in_err-push-clause-went : goal.carry_values-returns-in_err-push-clause-went
 carry_values-returns-in_err-push-clause-went g t c =
-    let r : listed c.from_residual-in_err-push.result ≡ Err (break.Stop stop.NoMemory) = search rules in
+    let r : items_answered c.from_residual-in_err-push.result ≡ Err (break.Stop stop.NoMemory) = search rules in
     went_as g.K.Sink.writes _ _ _ _ _ _ _ r refl (c.loop-expr.invariant.goes _ _ _ (values_refused g.K.Sink.writes c.args.exprs.now c.loop-expr.expr-index c.expr-item.result c.expr-item.is c.loop-expr-test.true c.args.function c.loop-expr.values.items _ _ _ _ _ _ c.in_ok-value.ensures.went))
 
 pub carry_values-returns-then-is_last-clause-went : goal.carry_values-returns-then-is_last-clause-went

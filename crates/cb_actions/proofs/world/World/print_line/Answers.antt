@@ -2,7 +2,7 @@ use Rattle.std.proofs.Common.{◌≡◌, Err, codes, refl, rules}
 use Rattle.cb_actions.specs.Printing.{printed_values}
 use Rattle.cb_actions.specs.declared.act.Break.TheVariants as break
 use Rattle.cb_actions.proofs.ActLaws.{stopped-more, went_as}
-use Rattle.cb_io.proofs.Putting.{puts_fine, puts_then}
+use Rattle.cb_io.proofs.Cited.{puts_fine, puts_then}
 use Rattle.cb_actions.proofs.world.World.print_line.Goals as goal
 
 pub returns-in_err-put_values : goal.returns-in_err-put_values

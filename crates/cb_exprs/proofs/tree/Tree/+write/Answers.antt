@@ -1,6 +1,6 @@
 use Rattle.std.proofs.Common.{◌≡◌, ◌∷◌, ◌++◌, rules}
 use Rattle.cb_exprs.specs.Bindings.{with_value}
-use Rattle.cb_exprs.specs.Trees.{IsOrdered, pairs_of}
+use Rattle.cb_exprs.specs.Internal.Trees.{IsOrdered, pairs_of}
 use Rattle.cb_exprs.proofs.Ordered.{ordered_front, ordered_right, with_left, with_here, with_right}
 use Rattle.cb_exprs.proofs.Trees.{on_ok_then}
 use Rattle.cb_exprs.proofs.tree.Tree.+write.Goals as goal

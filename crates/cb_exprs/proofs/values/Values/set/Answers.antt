@@ -1,5 +1,5 @@
 use Rattle.std.proofs.Common.{subst, sym}
-use Rattle.cb_exprs.specs.Trees.{IsOrdered}
+use Rattle.cb_exprs.specs.Internal.Trees.{IsOrdered}
 use Rattle.cb_exprs.proofs.Ordered.{ordered_with}
 use Rattle.cb_exprs.proofs.values.Values.set.Goals as goal
 

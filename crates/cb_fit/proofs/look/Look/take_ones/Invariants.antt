@@ -1,12 +1,13 @@
-use Rattle.std.proofs.Common.{◌≡◌, ◌+◌, ◌≤◌, drop, length, map}
+use Rattle.std.proofs.Common.{◌≡◌, ◌+◌, ◌≤◌, drop, length, map, true}
 use Rattle.cb_constraints.specs.Constraints.{constraint_of}
-use Rattle.cb_fit.specs.FieldLists.{fields_of}
-use Rattle.cb_fit.specs.Steps.{after_ones}
+use Rattle.cb_fit.specs.FieldLists.{row_fields}
+use Rattle.cb_fit.specs.Internal.{after_ones, may_take}
 use Rattle.cb_fit.proofs.look.Look.take_ones.Given as goal
 
 abbrev pub invariant-loop-constraint : goal.invariant-loop-constraint
 invariant-loop-constraint l =
     (l.at ≡ l.fn.from + l.constraint-index)
-    × (l.at ≤ length (fields_of l.self.fields))
-    × (after_ones (map constraint_of (drop l.constraint-index l.constraints)) (drop l.at (fields_of l.self.fields)) l.env
-    ≡ after_ones (map constraint_of l.constraints) (drop l.fn.from (fields_of l.self.fields)) l.fn.env)
+    × (l.at ≤ length (row_fields l.self.fields))
+    × (may_take (map constraint_of (drop l.constraint-index l.constraints)) (drop l.at (row_fields l.self.fields)) ≡ true)
+    × (after_ones (map constraint_of (drop l.constraint-index l.constraints)) (drop l.at (row_fields l.self.fields)) l.env
+    ≡ after_ones (map constraint_of l.constraints) (drop l.fn.from (row_fields l.self.fields)) l.fn.env)

@@ -5,14 +5,14 @@ use Rattle.cb_constraints.specs.Rows.{fields_wanted, segments_wanted}
 use Rattle.cb_fit.proofs.Groups.{leading-none, leading-some, wrong-length}
 use Rattle.cb_fit.proofs.Splits.{ones-want}
 use Rattle.cb_fit.proofs.Takes.{none-met, nothing-taken, on-ok, some-met, some-place}
-use Rattle.cb_fit.specs.FieldLists.{fields_of}
-use Rattle.cb_fit.specs.Steps.{after_ones, endings, taken_of, takes_length}
+use Rattle.cb_fit.specs.FieldLists.{row_fields}
+use Rattle.cb_fit.specs.Internal.{after_ones, endings, taken_of, takes_length}
 use Rattle.cb_fit.specs.Ways.{after_cuts, ways_of_row}
 use Rattle.cb_fit.proofs.look.Look.take_row.Goals as goal
 
 pub returns-then-not-takes_length : goal.returns-then-not-takes_length
 returns-then-not-takes_length c =
-    sym (ap (λ xs. map taken_of c.args.kept.now.items ++ map (after_cuts c.args.begun.cuts.items) xs) (wrong-length c.args.row.now (fields_of c.args.self.fields) c.args.begun.env (sym (c.takes_length.ensures ∙ ap (takes_length c.args.row.now) c.len.ensures) ∙ c.if-not-takes_length.true))
+    sym (ap (λ xs. map taken_of c.args.kept.now.items ++ map (after_cuts c.args.begun.cuts.items) xs) (wrong-length c.args.row.now (row_fields c.args.self.fields) c.args.begun.env (sym (c.takes_length.ensures ∙ ap (takes_length c.args.row.now) c.len.ensures) ∙ c.if-not-takes_length.true))
     ∙ append-nil (map taken_of c.args.kept.now.items))
 
 pub returns-then-not-may_take : goal.returns-then-not-may_take
@@ -20,9 +20,9 @@ returns-then-not-may_take c =
     let row-is : c.args.row.now ≡ map constraint_of c.split_ones.result.0.now ++ map constraint_of c.split_ones.result.1.now =
     sym (sym (map-append constraint_of c.split_ones.result.0.now c.split_ones.result.1.now) ∙ (ap (map constraint_of) c.split_ones.ensures.all ∙ c.constraints.ensures)) in
     sym (ap (λ xs. map taken_of c.args.kept.now.items ++ map (after_cuts c.args.begun.cuts.items) xs)
-    (ap (λ cs. ways_of_row cs (fields_of c.args.self.fields) c.args.begun.env) row-is
-    ∙ leading-none (map constraint_of c.split_ones.result.0.now) (map constraint_of c.split_ones.result.1.now) (fields_of c.args.self.fields) c.args.begun.env c.split_ones.ensures.ones
-    (nothing-taken (map constraint_of c.split_ones.result.0.now) (fields_of c.args.self.fields) c.args.begun.env (sym c.may_take.ensures ∙ c.if-not-may_take.true)))
+    (ap (λ cs. ways_of_row cs (row_fields c.args.self.fields) c.args.begun.env) row-is
+    ∙ leading-none (map constraint_of c.split_ones.result.0.now) (map constraint_of c.split_ones.result.1.now) (row_fields c.args.self.fields) c.args.begun.env c.split_ones.ensures.ones
+    (nothing-taken (map constraint_of c.split_ones.result.0.now) (row_fields c.args.self.fields) c.args.begun.env (sym c.may_take.ensures ∙ c.if-not-may_take.true)))
     ∙ append-nil (map taken_of c.args.kept.now.items))
 
 pub returns-in_default : goal.returns-in_default
@@ -30,9 +30,9 @@ returns-in_default c =
     let row-is : c.args.row.now ≡ map constraint_of c.split_ones.result.0.now ++ map constraint_of c.split_ones.result.1.now =
     sym (sym (map-append constraint_of c.split_ones.result.0.now c.split_ones.result.1.now) ∙ (ap (map constraint_of) c.split_ones.ensures.all ∙ c.constraints.ensures)) in
     sym (ap (λ xs. map taken_of c.args.kept.now.items ++ map (after_cuts c.args.begun.cuts.items) xs)
-    (ap (λ cs. ways_of_row cs (fields_of c.args.self.fields) c.args.begun.env) row-is
-    ∙ leading-none (map constraint_of c.split_ones.result.0.now) (map constraint_of c.split_ones.result.1.now) (fields_of c.args.self.fields) c.args.begun.env c.split_ones.ensures.ones
-    (none-met c.in_ok-at.field-0 c.take_ones.new.env (after_ones (map constraint_of c.split_ones.result.0.now) (fields_of c.args.self.fields) c.args.begun.env) c.in_default.is c.in_ok-at.ensures.holds))
+    (ap (λ cs. ways_of_row cs (row_fields c.args.self.fields) c.args.begun.env) row-is
+    ∙ leading-none (map constraint_of c.split_ones.result.0.now) (map constraint_of c.split_ones.result.1.now) (row_fields c.args.self.fields) c.args.begun.env c.split_ones.ensures.ones
+    (none-met c.in_ok-at.field-0 c.take_ones.new.env (after_ones (map constraint_of c.split_ones.result.0.now) (row_fields c.args.self.fields) c.args.begun.env) c.in_default.is c.in_ok-at.ensures.holds))
     ∙ append-nil (map taken_of c.args.kept.now.items))
 
 pub overflow_sub-fields : goal.overflow_sub-fields
@@ -62,10 +62,10 @@ returns c =
     c.in_ok-add_ones.ensures ∙ ap (λ k. c.args.begun.cuts.items ++ replicate k 1) (sym (length-map c.split_ones.result.0.now constraint_of)) in
     let at-is : c.in-Some.at ≡ length (map constraint_of c.split_ones.result.0.now) = place ∙ (omega arith ∙ sym (length-map c.split_ones.result.0.now constraint_of)) in
     on-ok c.take_rest.result (λ e. e ∙ ap (λ xs. map taken_of c.args.kept.now.items ++ xs)
-    (append-nil (endings (map constraint_of c.split_ones.result.1.now) (record { cuts = c.add_ones.new.cuts.items; left = drop c.in-Some.at (fields_of c.args.self.fields); env = c.take_ones.new.env }))
-    ∙ (ap (λ cuts. endings (map constraint_of c.split_ones.result.1.now) (record { cuts = cuts; left = drop c.in-Some.at (fields_of c.args.self.fields); env = c.take_ones.new.env })) so-far
-    ∙ (ap (λ k. endings (map constraint_of c.split_ones.result.1.now) (record { cuts = c.args.begun.cuts.items ++ replicate (length (map constraint_of c.split_ones.result.0.now)) 1; left = drop k (fields_of c.args.self.fields); env = c.take_ones.new.env })) at-is
-    ∙ sym (ap (λ cs. map (after_cuts c.args.begun.cuts.items) (ways_of_row cs (fields_of c.args.self.fields) c.args.begun.env)) row-is
-    ∙ leading-some (map constraint_of c.split_ones.result.0.now) (map constraint_of c.split_ones.result.1.now) (fields_of c.args.self.fields) c.args.begun.cuts.items c.args.begun.env c.take_ones.new.env c.split_ones.ensures.ones
-    (some-met c.in_ok-at.field-0 c.in-Some.at c.take_ones.new.env (after_ones (map constraint_of c.split_ones.result.0.now) (fields_of c.args.self.fields) c.args.begun.env) c.in-Some.is c.in_ok-at.ensures.holds))))))
+    (append-nil (endings (map constraint_of c.split_ones.result.1.now) (record { cuts = c.add_ones.new.cuts.items; left = drop c.in-Some.at (row_fields c.args.self.fields); env = c.take_ones.new.env }))
+    ∙ (ap (λ cuts. endings (map constraint_of c.split_ones.result.1.now) (record { cuts = cuts; left = drop c.in-Some.at (row_fields c.args.self.fields); env = c.take_ones.new.env })) so-far
+    ∙ (ap (λ k. endings (map constraint_of c.split_ones.result.1.now) (record { cuts = c.args.begun.cuts.items ++ replicate (length (map constraint_of c.split_ones.result.0.now)) 1; left = drop k (row_fields c.args.self.fields); env = c.take_ones.new.env })) at-is
+    ∙ sym (ap (λ cs. map (after_cuts c.args.begun.cuts.items) (ways_of_row cs (row_fields c.args.self.fields) c.args.begun.env)) row-is
+    ∙ leading-some (map constraint_of c.split_ones.result.0.now) (map constraint_of c.split_ones.result.1.now) (row_fields c.args.self.fields) c.args.begun.cuts.items c.args.begun.env c.take_ones.new.env c.split_ones.ensures.ones
+    (some-met c.in_ok-at.field-0 c.in-Some.at c.take_ones.new.env (after_ones (map constraint_of c.split_ones.result.0.now) (row_fields c.args.self.fields) c.args.begun.env) c.in-Some.is c.in_ok-at.ensures.holds))))))
     c.take_rest.ensures

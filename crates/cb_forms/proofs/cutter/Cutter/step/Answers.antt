@@ -1,6 +1,7 @@
 use Rattle.std.proofs.Common.{◌≡◌, ◌++◌, sym, ap, ◌∙◌}
 use Rattle.std.proofs.lemmas.List.{map-append}
-use Rattle.cb_forms.specs.Cuts.{cut_items, cut_readings}
+use Rattle.cb_forms.specs.Cuts.{cut_items}
+use Rattle.cb_forms.specs.Internal.Cuts.{cut_readings}
 use Rattle.cb_forms.specs.Cutter.{readings_in}
 use Rattle.cb_forms.specs.Trees.{reading_of}
 use Rattle.cb_forms.proofs.CutterLaws.{in_step-push, in_step-over}

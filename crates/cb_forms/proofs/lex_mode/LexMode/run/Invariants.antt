@@ -1,5 +1,5 @@
 use Rattle.std.proofs.Common.{◌≤◌, ◌-◌, length, take}
-use Rattle.cb_forms.specs.ScanStates.{StaysIn}
+use Rattle.cb_forms.specs.Internal.ScanStates.{StaysIn}
 use Rattle.cb_forms.proofs.lex_mode.LexMode.run.Given as goal
 
 abbrev pub invariant-loop-end : goal.invariant-loop-end

@@ -1,9 +1,10 @@
 use Rattle.std.proofs.Common.{◌≡◌, ◌==◌, true, [], ◌∷◌, ◌++◌, sym, ap, ◌∙◌, arith}
 use Rattle.std.proofs.lemmas.Bool.{or_left, or_right, eq-eqb}
 use Rattle.cb_forms.specs.Bytes.{is_blank}
-use Rattle.cb_forms.specs.Cuts.{item_readings, opened_readings, open_bytes}
+use Rattle.cb_forms.specs.Cuts.{item_readings}
+use Rattle.cb_forms.specs.Internal.Cuts.{opened_readings, open_bytes}
 use Rattle.cb_forms.specs.Items.{is_gap, ended_readings}
-use Rattle.cb_forms.specs.ScanStates.{IsStateIn}
+use Rattle.cb_forms.specs.Internal.ScanStates.{IsStateIn}
 use Rattle.cb_forms.proofs.OpenPartLaws.{kept-state, opened-says, reaches-gap, reaches-item, no_gap-fresh, depth-fresh}
 use Rattle.cb_forms.proofs.ScanStateLaws.{state-fresh}
 use Rattle.cb_forms.proofs.open_part.OpenPart.begin.Goals as goal

@@ -1,9 +1,10 @@
 use Rattle.std.proofs.Common.{Vec, Global, ◌≡◌, ◌==◌, ◌<◌, ◌≤◌, ℕ, Bool, true, false, [], ◌∷◌, ◌++◌, length, vec_len, refl, sym, ap, ◌∙◌, arith}
 use Rattle.std.proofs.lemmas.Bool.{eqb-true, eqb-false}
 use Rattle.std.proofs.lemmas.List.{nil_from_length, length_push}
-use Rattle.cb_forms.specs.Cuts.{item_readings, open_bytes}
+use Rattle.cb_forms.specs.Cuts.{item_readings}
+use Rattle.cb_forms.specs.Internal.Cuts.{open_bytes}
 use Rattle.cb_forms.specs.Items.{ended_readings}
-use Rattle.cb_forms.specs.ScanStates.{IsStateIn}
+use Rattle.cb_forms.specs.Internal.ScanStates.{IsStateIn}
 use Rattle.cb_forms.proofs.OpenPartLaws.{state-goes, depth-next, kept-open, open-no_gap-push, reaches-item, reaches-comment}
 use Rattle.cb_forms.proofs.ScanStateLaws.{state-push}
 use Rattle.cb_forms.proofs.open_part.OpenPart.go_on.Goals as goal

@@ -1,6 +1,6 @@
 use Rattle.std.proofs.Common.{◌+◌, [], ◌∷◌, get_or, take, ℕ, sym, subst, arith}
 use Rattle.std.proofs.lemmas.List.{take_more}
-use Rattle.cb_forms.specs.OpenParts.{HasPassed}
+use Rattle.cb_forms.specs.Internal.OpenParts.{HasPassed}
 use Rattle.cb_forms.specs.declared.open_part.OpenPart.{OpenPart}
 use Rattle.cb_forms.proofs.RunLaws.{passed-both, passed-one}
 use Rattle.cb_forms.proofs.open_part.OpenPart.pass_gaps.Goals as goal

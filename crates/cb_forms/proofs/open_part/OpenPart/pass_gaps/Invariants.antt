@@ -1,5 +1,5 @@
 use Rattle.std.proofs.Common.{◌≡◌, ◌≤◌, ◌-◌, ℕ, [], length, take}
-use Rattle.cb_forms.specs.OpenParts.{HasPassed, IsKept}
+use Rattle.cb_forms.specs.Internal.OpenParts.{HasPassed, IsKept}
 use Rattle.cb_forms.proofs.open_part.OpenPart.pass_gaps.Given as goal
 
 abbrev pub invariant-loop-end : goal.invariant-loop-end

@@ -1,6 +1,6 @@
 use Rattle.std.proofs.Common.{◌≡◌, ◌≤◌, ℕ, ◌-◌, List, ◌++◌, length, take, ap, ◌∙◌, subst, arith}
 use Rattle.std.proofs.lemmas.List.{length-take-le, take-take}
-use Rattle.cb_forms.specs.ScanStates.{StaysOpen}
+use Rattle.cb_forms.specs.Internal.ScanStates.{StaysOpen}
 use Rattle.cb_forms.proofs.RunLaws.{passed-open}
 use Rattle.cb_forms.proofs.open_part.OpenPart.stay_open.Goals as goal
 

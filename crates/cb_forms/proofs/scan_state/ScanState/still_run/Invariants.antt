@@ -1,5 +1,5 @@
 use Rattle.std.proofs.Common.{◌≤◌, ◌-◌, length, take}
-use Rattle.cb_forms.specs.ScanStates.{StaysOpen}
+use Rattle.cb_forms.specs.Internal.ScanStates.{StaysOpen}
 use Rattle.cb_forms.proofs.scan_state.ScanState.still_run.Given as goal
 
 abbrev pub invariant-loop-end : goal.invariant-loop-end

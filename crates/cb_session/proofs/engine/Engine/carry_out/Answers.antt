@@ -1,5 +1,5 @@
 use Rattle.std.proofs.Common.{refl, ap, sym}
-use Rattle.cb_actions.proofs.ActLaws.{went_as}
+use Rattle.cb_actions.proofs.Cited.{went_as}
 use Rattle.cb_actions.specs.Actions.{carried}
 use Rattle.cb_exprs.specs.Terms.{term_of}
 use Rattle.cb_session.proofs.WorldLaws.{went_on_world}

@@ -1,8 +1,8 @@
 use Rattle.std.proofs.Common.{◌≡◌, Ok, None, ap, ◌∙◌, subst}
 use Rattle.cb_forms.specs.Trees.{reading_of}
 use Rattle.cb_session.specs.Transcripts.{executed}
-use Rattle.cb_session.specs.Executing.{Executes}
-use Rattle.cb_io.proofs.Putting.{puts_fine}
+use Rattle.cb_session.specs.Internal.Executing.{Executes}
+use Rattle.cb_io.proofs.Cited.{puts_fine}
 use Rattle.cb_session.proofs.ItemLaws.{executes-none, executes-long, executes-two, executes-first}
 use Rattle.cb_session.proofs.engine.Engine.execute_cut.Goals as goal
 

@@ -1,5 +1,5 @@
 use Rattle.std.proofs.Common.{refl, ap}
-use Rattle.cb_actions.proofs.ActLaws.{went_as, went_quietly}
+use Rattle.cb_actions.proofs.Cited.{went_as, went_quietly}
 use Rattle.cb_requests.specs.Requests.{request_by}
 use Rattle.cb_session.specs.Actions.{performed}
 use Rattle.cb_session.proofs.engine.Engine.perform.Goals as goal

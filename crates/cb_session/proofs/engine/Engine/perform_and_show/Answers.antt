@@ -1,10 +1,10 @@
 use Rattle.std.proofs.Common.{◌≡◌, Err, refl, rules}
-use Rattle.cb_io.proofs.Putting.{puts_fine}
+use Rattle.cb_io.proofs.Cited.{puts_fine}
 use Rattle.cb_session.specs.Actions.{shown}
 use Rattle.cb_session.specs.Actions.{performed}
 use Rattle.cb_requests.specs.Requests.{request_by}
 use Rattle.cb_actions.specs.declared.act.Break.TheVariants as break
-use Rattle.cb_actions.proofs.ActLaws.{went_as, went_off}
+use Rattle.cb_actions.proofs.Cited.{went_as, went_off}
 use Rattle.cb_session.proofs.ItemLaws.{went_shown, went_not_shown}
 use Rattle.cb_session.proofs.engine.Engine.perform_and_show.Goals as goal
 

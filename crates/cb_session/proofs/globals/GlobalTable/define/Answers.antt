@@ -4,13 +4,14 @@ use Rattle.std.specs.BTreeMap.{BTreeMap}
 use Rattle.std.specs.Cmp.Lexicographic.{slice_cmp}
 use Rattle.std.specs.Ordering.{nat_cmp}
 use Rattle.cb_exprs.specs.GlobalTerms.{GlobalTerm}
-use Rattle.cb_session.specs.GlobalPlaces.{AreFound}
-use Rattle.cb_session.specs.Globals.{place_of, with_initial}
+use Rattle.cb_session.specs.Internal.GlobalPlaces.{AreFound}
+use Rattle.cb_session.specs.Globals.{with_initial}
+use Rattle.cb_session.specs.Internal.GlobalPlaces.{place_of_global}
 use Rattle.cb_session.proofs.GlobalLaws.{found_replaced, replaced, within}
 use Rattle.cb_session.proofs.globals.GlobalTable.define.Goals as goal
 
 found : (places : BTreeMap (List ℕ) ℕ) (g : GlobalTerm) (hs : List GlobalTerm) (name : List ℕ) (i : ℕ) → AreFound places hs → name ≡ g.0 → Some i ≡ tree.get (slice_cmp nat_cmp) places name
-    → place_of g.0 hs ≡ Some i
+    → place_of_global g.0 hs ≡ Some i
 found places g hs name i all same there = sym (all g.0) ∙ (ap (tree.get (slice_cmp nat_cmp) places) (sym same) ∙ sym there)
 
 pub index_mut-requires : goal.index_mut-requires

@@ -2,15 +2,16 @@ use Rattle.std.proofs.Common.{◌≡◌, ◌∙◌, ◌∷◌, ◌++◌, [], Non
 use Rattle.std.specs.BTreeMap as tree
 use Rattle.std.specs.Cmp.Lexicographic.{slice_cmp}
 use Rattle.std.specs.Ordering.{nat_cmp}
-use Rattle.cb_session.specs.GlobalPlaces.{AreFound}
-use Rattle.cb_session.specs.Globals.{place_of, with_initial}
+use Rattle.cb_session.specs.Internal.GlobalPlaces.{AreFound}
+use Rattle.cb_session.specs.Globals.{with_initial}
+use Rattle.cb_session.specs.Internal.GlobalPlaces.{place_of_global}
 use Rattle.cb_session.proofs.GlobalLaws.{found_pushed, pushed}
 use Rattle.cb_session.proofs.globals.GlobalTable.push.Goals as goal
 
 pub invariant_of-self-in_default : goal.invariant_of-self-in_default
 invariant_of-self-in_default c =
     let items = c.self.inside.globals.items in
-    let none : place_of c.args.global.0 items ≡ None = ap (place_of c.args.global.0) c.self.view_is ∙ c.requires in
+    let none : place_of_global c.args.global.0 items ≡ None = ap (place_of_global c.args.global.0) c.self.view_is ∙ c.requires in
     let all : c.push.new.self.items ≡ items ++ c.args.global ∷ [] = search rules in
     let name : c.in_ok-name.name ≡ c.args.global.0 = search rules in
     let place : c.len-place.result ≡ length items = search rules in
@@ -20,6 +21,6 @@ invariant_of-self-in_default c =
 pub returns : goal.returns
 returns c =
     let items = c.self.inside.globals.items in
-    let none : place_of c.args.global.0 items ≡ None = ap (place_of c.args.global.0) c.self.view_is ∙ c.requires in
+    let none : place_of_global c.args.global.0 items ≡ None = ap (place_of_global c.args.global.0) c.self.view_is ∙ c.requires in
     let all : c.push.new.self.items ≡ items ++ c.args.global ∷ [] = search rules in
     all ∙ (sym (pushed c.args.global items none) ∙ ap (with_initial c.args.global) c.self.view_is)

@@ -1,5 +1,5 @@
 use Rattle.std.proofs.Common.{◌≡◌, Err, sym, ap, ap₂, ◌∙◌, Bool, Option, refl, rules}
-use Rattle.cb_io.proofs.Putting.{puts_as}
+use Rattle.cb_io.proofs.Cited.{puts_as}
 use Rattle.cb_session.specs.States.{State}
 use Rattle.cb_session.specs.Sessions.{SessionState}
 use Rattle.cb_session.specs.Transcripts.{added_at_end, status_at_end, status_of}

@@ -1,6 +1,6 @@
 use Rattle.std.proofs.Common.{◌≡◌, [], Err, refl, sym, ap, rules}
 use Rattle.std.proofs.lemmas.List.{append-nil}
-use Rattle.cb_io.proofs.Putting.{puts_fine, puts_fine_part, puts_then, puts_as}
+use Rattle.cb_io.proofs.Cited.{puts_fine, puts_fine_part, puts_then, puts_as}
 use Rattle.cb_session.specs.Transcripts.{added_at_end}
 use Rattle.cb_actions.specs.Went.{extent_at, stop_extent}
 use Rattle.cb_actions.specs.declared.stop.Stop.TheVariants as stop

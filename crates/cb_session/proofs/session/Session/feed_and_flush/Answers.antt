@@ -1,6 +1,6 @@
 use Rattle.std.proofs.Common.{[], refl, sym, ap}
 use Rattle.std.proofs.lemmas.List.{append-nil}
-use Rattle.cb_io.proofs.Putting.{puts_fine, puts_fine_part, puts_then, puts_as}
+use Rattle.cb_io.proofs.Cited.{puts_fine, puts_fine_part, puts_then, puts_as}
 use Rattle.cb_session.specs.Transcripts.{added}
 use Rattle.cb_actions.specs.Went.{extent_at}
 use Rattle.cb_session.proofs.session.Session.feed_and_flush.Goals as goal

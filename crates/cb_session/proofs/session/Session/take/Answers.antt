@@ -1,5 +1,5 @@
 use Rattle.std.proofs.Common.{◌≡◌, ◌++◌, ◌∷◌, [], true, Err, is_some, refl, sym, ap, ◌∙◌, rules}
-use Rattle.cb_io.proofs.Putting.{puts_none, puts_as}
+use Rattle.cb_io.proofs.Cited.{puts_none, puts_as}
 use Rattle.cb_session.specs.Sessions.{SessionState}
 use Rattle.cb_session.specs.Transcripts.{added}
 use Rattle.cb_actions.specs.Went.{stop_extent}

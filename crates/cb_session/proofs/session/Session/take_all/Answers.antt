@@ -1,10 +1,10 @@
 use Rattle.std.proofs.Common.{◌≡◌, ◌≤◌, ◌<◌, ◌-◌, ◌++◌, ◌+◌, ◌∷◌, [], ℕ, List, Err, arith, length, take, drop, get_or, refl, sym, ap, ◌∙◌, subst, rules}
 use Rattle.std.proofs.lemmas.List.{length-drop, take_rest}
-use Rattle.cb_io.proofs.Putting.{puts_none, puts_nothing, puts_fine, puts_then, puts_as}
+use Rattle.cb_io.proofs.Cited.{puts_none, puts_nothing, puts_fine, puts_then, puts_as}
 use Rattle.cb_session.specs.Sessions.{SessionState, session_after}
 use Rattle.cb_session.specs.Transcripts.{added, so_far}
 use Rattle.cb_actions.specs.Went.{stop_extent}
-use Rattle.cb_actions.proofs.ActLaws.{stopped-more}
+use Rattle.cb_actions.proofs.Cited.{stopped-more}
 use Rattle.cb_session.proofs.ScriptLaws.{added-nothing}
 use Rattle.cb_session.proofs.StepLaws.{session-here, taken-next, adds-next, adds-all, adds-rest, run-next, run-adds}
 use Rattle.cb_session.proofs.session.Session.take_all.Goals as goal

@@ -1,6 +1,6 @@
 use Rattle.std.proofs.Common.{◌≡◌, ◌++◌, Ok, None, true, is_some, take, refl, sym, ap, ◌∙◌, rules}
 use Rattle.std.proofs.Math.Seq.{take-length}
-use Rattle.cb_session.specs.Scripts.{IsUnderWay}
+use Rattle.cb_session.specs.Internal.Scripts.{IsUnderWay}
 use Rattle.cb_session.specs.Sessions.{SessionState}
 use Rattle.cb_session.specs.Transcripts.{so_far}
 use Rattle.cb_session.proofs.ScriptLaws.{run-nothing, way-status, way-taken}

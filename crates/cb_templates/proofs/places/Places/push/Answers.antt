@@ -1,5 +1,5 @@
 use Rattle.std.proofs.Common.{◌≡◌, length, rules, subst, sym}
-use Rattle.cb_templates.specs.Places.{HasPlaces}
+use Rattle.cb_templates.specs.Internal.{HasPlaces}
 use Rattle.cb_templates.proofs.PlaceLaws.{has_places-push}
 use Rattle.cb_templates.proofs.places.Places.push.Goals as goal
 

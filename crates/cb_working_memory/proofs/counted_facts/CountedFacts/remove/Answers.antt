@@ -1,6 +1,6 @@
 use Rattle.std.proofs.Common.{subst, sym}
 use Rattle.cb_working_memory.proofs.CountedLaws.{AreCounted, counted-remove}
-use Rattle.cb_working_memory.specs.WorkingMemories.{IsLessBy}
+use Rattle.cb_working_memory.specs.Internal.WorkingMemories.{IsLessBy}
 use Rattle.cb_working_memory.proofs.counted_facts.CountedFacts.remove.Goals as goal
 
 pub invariant_of-self : goal.invariant_of-self

@@ -1,7 +1,7 @@
 use Rattle.std.proofs.Common.{◌≡◌, ◌∙◌, ◌++◌, ◌∷◌, [], None, ap, refl, rules, subst, sym}
 use Rattle.std.specs.Map.{lookup, values_of}
 use Rattle.std.specs.Str.{bytes_eq}
-use Rattle.cb_working_memory.specs.Groups.{AreNumbered}
+use Rattle.cb_working_memory.specs.Internal.Groups.{AreNumbered}
 use Rattle.cb_working_memory.proofs.GroupLaws.{number_of, numbered-pushed, numbered-undone, values-push}
 use Rattle.cb_working_memory.proofs.groups.Groups.push.Goals as goal
 

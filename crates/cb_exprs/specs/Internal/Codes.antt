@@ -1,0 +1,117 @@
+-- How the logic stores a term: as the pieces that it is put together from, each after its parts.
+use Rattle.std.specs.Prelude.{◌≡◌, ℕ, List, [], ◌∷◌, refl}
+use Rattle.std.specs.Coded.{Coded, code_by, coded_list}
+use Rattle.std.proofs.Common.{◌∙◌, ap}
+use Rattle.cb_exprs.specs.Shapes.{Shape}
+use Rattle.cb_exprs.specs.Terms.{Term, constant, variable, global, call, assert, retract, bind, bind_global, choose, repeat, actions, printout, print, println, Terms, no_terms, term}
+use Rattle.cb_exprs.specs.declared.channel.Channel.{Channel}
+use Rattle.cb_facts.specs.declared.value.Value.{Value}
+use Rattle.cb_words.specs.declared.function.Function.{Function}
+
+pub data Piece : Type 0 where
+  a_constant : Value → Piece
+  a_variable : List ℕ → Piece
+  a_global : List ℕ → Piece
+  a_call : Function → Piece
+  an_assert : Shape → Piece
+  a_retract : Piece
+  a_bind : List ℕ → Piece
+  a_bind_global : List ℕ → Piece
+  a_choose : Piece
+  a_repeat : Piece
+  an_actions : Piece
+  a_printout : Channel → Piece
+  a_print : Piece
+  a_println : Piece
+  no_more : Piece
+  one_more : Piece
+
+-- the pieces of a term, before others
+abbrev mutual
+  pub term_pieces : Term → List Piece → List Piece
+  term_pieces (constant v) rest = a_constant v ∷ rest
+  term_pieces (variable x) rest = a_variable x ∷ rest
+  term_pieces (global x) rest = a_global x ∷ rest
+  term_pieces (call f ts) rest = pieces_of_all ts (a_call f ∷ rest)
+  term_pieces (assert shape ts) rest = pieces_of_all ts (an_assert shape ∷ rest)
+  term_pieces (retract ts) rest = pieces_of_all ts (a_retract ∷ rest)
+  term_pieces (bind x t) rest = term_pieces t (a_bind x ∷ rest)
+  term_pieces (bind_global x t) rest = term_pieces t (a_bind_global x ∷ rest)
+  term_pieces (choose t u w) rest = term_pieces t (term_pieces u (term_pieces w (a_choose ∷ rest)))
+  term_pieces (repeat t u) rest = term_pieces t (term_pieces u (a_repeat ∷ rest))
+  term_pieces (actions ts) rest = pieces_of_all ts (an_actions ∷ rest)
+  term_pieces (printout on ts) rest = pieces_of_all ts (a_printout on ∷ rest)
+  term_pieces (print ts) rest = pieces_of_all ts (a_print ∷ rest)
+  term_pieces (println ts) rest = pieces_of_all ts (a_println ∷ rest)
+
+  pub pieces_of_all : Terms → List Piece → List Piece
+  pieces_of_all no_terms rest = no_more ∷ rest
+  pieces_of_all (term t ts) rest = term_pieces t (pieces_of_all ts (one_more ∷ rest))
+
+-- the terms and the lists of terms that are put together so far, the last first
+pub record Built : Type 0 where
+  pub ones : List Term
+  pub lists : List Terms
+
+abbrev with_one : Term → List Term → List Terms → Built
+with_one t ones lists = record { ones = t ∷ ones; lists = lists }
+
+-- a piece takes its parts, which are the last that were put together
+abbrev built : Piece → List Term → List Terms → Built
+built (a_constant v) ones lists = with_one (constant v) ones lists
+built (a_variable x) ones lists = with_one (variable x) ones lists
+built (a_global x) ones lists = with_one (global x) ones lists
+built (a_call f) ones (ts ∷ lists) = with_one (call f ts) ones lists
+built (an_assert shape) ones (ts ∷ lists) = with_one (assert shape ts) ones lists
+built a_retract ones (ts ∷ lists) = with_one (retract ts) ones lists
+built (a_bind x) (t ∷ ones) lists = with_one (bind x t) ones lists
+built (a_bind_global x) (t ∷ ones) lists = with_one (bind_global x t) ones lists
+built a_choose (w ∷ u ∷ t ∷ ones) lists = with_one (choose t u w) ones lists
+built a_repeat (u ∷ t ∷ ones) lists = with_one (repeat t u) ones lists
+built an_actions ones (ts ∷ lists) = with_one (actions ts) ones lists
+built (a_printout on) ones (ts ∷ lists) = with_one (printout on ts) ones lists
+built a_print ones (ts ∷ lists) = with_one (print ts) ones lists
+built a_println ones (ts ∷ lists) = with_one (println ts) ones lists
+built no_more ones lists = record { ones = ones; lists = no_terms ∷ lists }
+built one_more (t ∷ ones) (ts ∷ lists) = record { ones = ones; lists = term t ts ∷ lists }
+built p ones lists = record { ones = ones; lists = lists }
+
+abbrev put_together : List Piece → List Term → List Terms → Built
+put_together [] ones lists = record { ones = ones; lists = lists }
+put_together (p ∷ ps) ones lists = put_together ps (built p ones lists).ones (built p ones lists).lists
+
+mutual
+  one_is : (t : Term) (rest : List Piece) (ones : List Term) (lists : List Terms) → put_together (term_pieces t rest) ones lists ≡ put_together rest (t ∷ ones) lists
+  one_is (constant v) rest ones lists = refl
+  one_is (variable x) rest ones lists = refl
+  one_is (global x) rest ones lists = refl
+  one_is (call f ts) rest ones lists = all_are ts (a_call f ∷ rest) ones lists
+  one_is (assert shape ts) rest ones lists = all_are ts (an_assert shape ∷ rest) ones lists
+  one_is (retract ts) rest ones lists = all_are ts (a_retract ∷ rest) ones lists
+  one_is (bind x t) rest ones lists = one_is t (a_bind x ∷ rest) ones lists
+  one_is (bind_global x t) rest ones lists = one_is t (a_bind_global x ∷ rest) ones lists
+  one_is (choose t u w) rest ones lists =
+      one_is t (term_pieces u (term_pieces w (a_choose ∷ rest))) ones lists
+      ∙ (one_is u (term_pieces w (a_choose ∷ rest)) (t ∷ ones) lists ∙ one_is w (a_choose ∷ rest) (u ∷ t ∷ ones) lists)
+  one_is (repeat t u) rest ones lists = one_is t (term_pieces u (a_repeat ∷ rest)) ones lists ∙ one_is u (a_repeat ∷ rest) (t ∷ ones) lists
+  one_is (actions ts) rest ones lists = all_are ts (an_actions ∷ rest) ones lists
+  one_is (printout on ts) rest ones lists = all_are ts (a_printout on ∷ rest) ones lists
+  one_is (print ts) rest ones lists = all_are ts (a_print ∷ rest) ones lists
+  one_is (println ts) rest ones lists = all_are ts (a_println ∷ rest) ones lists
+
+  all_are : (ts : Terms) (rest : List Piece) (ones : List Term) (lists : List Terms) → put_together (pieces_of_all ts rest) ones lists ≡ put_together rest ones (ts ∷ lists)
+  all_are no_terms rest ones lists = refl
+  all_are (term t ts) rest ones lists = one_is t (pieces_of_all ts (one_more ∷ rest)) ones lists ∙ all_are ts (one_more ∷ rest) (t ∷ ones) lists
+
+abbrev first_of : List Terms → Terms
+first_of [] = no_terms
+first_of (ts ∷ lists) = ts
+
+abbrev from_pieces : List Piece → Terms
+from_pieces ps = first_of (put_together ps [] []).lists
+
+pub from_pieces-pieces : (ts : Terms) → from_pieces (pieces_of_all ts []) ≡ ts
+from_pieces-pieces ts = ap (λ b. first_of b.lists) (all_are ts [] [] [])
+
+abbrev pub terms_code : Coded Piece → Coded Terms
+terms_code code = code_by (List Piece) (coded_list code) (λ ts. pieces_of_all ts []) from_pieces from_pieces-pieces

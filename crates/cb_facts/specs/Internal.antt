@@ -1,0 +1,29 @@
+-- What only the code needs.
+pub mod FactLaws
+use Rattle.std.specs.Prelude.{◌≡◌, ◌++◌, ℕ, List, Option, Some, Result, Ok, Err}
+use Rattle.std.specs.List.Sorted.{IsStrictlySortedBy}
+use Rattle.std.specs.Map.{keys_of}
+use Rattle.std.specs.Ordering.{nat_cmp}
+use Rattle.cb_facts.specs.Facts.{FactValue, content_of, hash_of}
+use Rattle.cb_facts.specs.FactLists.{IndexedFacts, fact_at}
+use Rattle.cb_facts.specs.declared.fact.Body.{Body}
+use Rattle.cb_forms.specs.declared.fault.Fault.{Fault}
+
+-- The indices rise, and the look-up by facts gives an index exactly where that index has the fact.
+pub record IsIndexed (facts : IndexedFacts) (find : FactValue → Option ℕ) : Type 0 where
+  pub rising : IsStrictlySortedBy nat_cmp (keys_of facts)
+  pub listed : (fact : FactValue) (ix : ℕ) → find fact ≡ Some ix → fact_at facts ix ≡ Some fact
+  pub known : (fact : FactValue) (ix : ℕ) → fact_at facts ix ≡ Some fact → find fact ≡ Some ix
+
+-- what the body of a fact says
+abbrev pub body_fact : Body → FactValue
+body_fact body = record { relation = body.relation; content = content_of body.content }
+
+-- this is the hash of the fact with the body
+abbrev pub IsHashOf : ℕ → Body → Type 0
+IsHashOf hash body = hash ≡ hash_of (body_fact body)
+
+-- results after those that are there
+abbrev pub after_those : {X : Type 0} → List X → Result (List X) Fault → Result (List X) Fault
+after_those xs (Ok ys) = Ok (xs ++ ys)
+after_those xs (Err f) = Err f

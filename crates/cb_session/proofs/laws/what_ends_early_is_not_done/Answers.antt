@@ -1,0 +1,5 @@
+use Rattle.cb_session.proofs.RunLaws.{so_far-early}
+use Rattle.cb_session.proofs.laws.what_ends_early_is_not_done.Goals as goal
+
+pub returns : goal.returns
+returns c = so_far-early

@@ -1,0 +1,48 @@
+-- How a session keeps in step with its script.
+use Rattle.std.specs.Prelude.{◌≡◌, ◌≤◌, ℕ, false, List, [], ◌∷◌, ◌++◌, Option, None, Result, OnOk, IfOk, if◌then◌else◌}
+use Rattle.cb_forms.specs.Cutter.{Progress, readings_in}
+use Rattle.cb_forms.specs.Cuts.{is_too_long}
+use Rattle.cb_forms.specs.Internal.Cuts.{cut_readings}
+use Rattle.cb_forms.specs.Items.{whole, over}
+use Rattle.cb_forms.specs.declared.cut.Cut.{Cut}
+use Rattle.cb_session.specs.States.{State}
+use Rattle.cb_io.specs.Histories.{PastWrites}
+use Rattle.cb_io.specs.Output.{OutState, Puts}
+use Rattle.cb_session.specs.Transcripts.{Run, begun, after_all, too_long, so_far, complete, added, added_at_end}
+use Rattle.cb_actions.specs.Went.{stop_extent}
+use Rattle.cb_session.specs.declared.status.Status.{Status}
+use Rattle.cb_actions.specs.declared.stop.Stop.{Stop}
+use Rattle.cb_session.specs.declared.limits.Limits.{Limits}
+
+-- a run that begins in this state
+abbrev pub from : State → Run
+from state = record { state = state; written = []; status = None }
+
+-- what a byte that gives this does in this state
+abbrev pub cut_run : State → Cut → Run
+cut_run state given = if is_too_long given then too_long (from state) else after_all (from state) (cut_readings given)
+
+-- The script goes on after these bytes: the cutter has stepped them, no item is too long, and the state is that after the items
+-- that have ended, none of which has ended the script.
+pub record IsUnderWay (limits : Limits) (fed : List ℕ) (cutter : Progress) (state : State) : Type 0 where
+  pub limit : cutter.limit ≡ limits.max_form
+  pub stepped : cutter.stepped ≡ fed
+  pub some : 1 ≤ limits.max_form
+  pub fine : cutter.failed ≡ false
+  pub fits : over limits.max_form fed ≡ false
+  pub given : readings_in cutter.given ≡ whole fed
+  pub state_is : state ≡ (after_all (begun limits) (whole fed)).state
+  pub goes : (after_all (begun limits) (whole fed)).status ≡ None
+
+-- A byte more of a script that goes on: what it adds was put, and it goes on after it unless it has ended with it.
+pub record Steps {K : Type 0} (writes : K → PastWrites) (old new : OutState K) (limits : Limits) (fed : List ℕ) (byte : ℕ) (cutter : Progress) (state : State)
+    (result : Result (Option Status) Stop) : Type 0 where
+  pub puts : Puts writes old new (stop_extent result) (added limits fed (byte ∷ []))
+  pub status : IfOk result (λ status. status ≡ (so_far limits (fed ++ byte ∷ [])).status)
+  pub goes : IfOk result (λ status. status ≡ None → IsUnderWay limits (fed ++ byte ∷ []) cutter state)
+
+-- The end of a script that goes on: what it adds was put.
+pub record Ends {K : Type 0} (writes : K → PastWrites) (old new : OutState K) (limits : Limits) (fed : List ℕ) (state : State) (result : Result (Option Status) Stop) : Type 0 where
+  pub puts : Puts writes old new (stop_extent result) (added_at_end limits fed)
+  pub state_is : OnOk result (state ≡ (complete limits fed).state)
+  pub status : IfOk result (λ status. status ≡ (complete limits fed).status)
