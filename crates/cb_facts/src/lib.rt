@@ -6,7 +6,6 @@
 
 mod fact;
 mod fact_list;
-mod fields;
 mod multifield;
 mod name;
 mod names;

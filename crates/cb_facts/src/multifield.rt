@@ -9,38 +9,38 @@ ghost use Rattle.cb_facts.specs.contracts.single.SinglePartialOrd.TheImpl.Laws a
 ghost use Rattle.cb_facts.specs.contracts.single.SingleOrd.TheImpl.Laws as single_ord;
 ghost use Rattle.cb_facts.specs.contracts.single.SingleHash.TheImpl.Laws as single_hash;
 
-use crate::fields::Fields;
 use crate::single::Single;
 use cb_forms::NoMemory;
-use std::alloc::{AllocError, Global};
+use std::alloc::AllocError;
 use std::cmp::Ordering;
 use std::fmt;
 use std::hash::{Hash, Hasher};
 use std::marker::Model;
-use std::rc::Rc;
+use std::rc::RcSlice;
 
-/// The fields of a multifield value, of which there may be none.
+/// The fields of a multifield value, of which there may be none: a part of a shared slice, or all of it.
 ///
-/// It takes 8 bytes, and with it a value 16, however many fields there are: so values of one field, which most are, take
-/// no more for it. A clone and a part share the fields. A clone takes no memory, and is refused only where the count of the
-/// sharers is full; a part takes constant memory. Two lists of fields compare field by field in order, as Rust compares
-/// slices.
+/// A clone and a part share the fields. They take no memory, and are refused only where the count of the sharers is full.
+/// Two lists of fields compare field by field in order, as Rust compares slices.
 ///
 /// Contracts see the list of its fields.
 #[derive(Drop)]
 pub struct Multifield {
-    alloc: Global,
-    fields: Rc<Fields>,
+    shared: RcSlice<Single>,
+    start: u32,
+    end: u32,
 }
 
 impl Model for Multifield {
-    ghost use Rattle.std.specs.Prelude.{List};
-    ghost use Rattle.std.specs.Rc.{rc_value};
+    ghost use Rattle.std.specs.Prelude.{◌<◌, ◌≤◌, ◌^◌, List, length, slice_range};
+    ghost use Rattle.std.specs.Rc.{rc_slice_items};
     ghost use Rattle.cb_facts.specs.declared.single.Single.{Single};
 
     ghost Value = { List Single };
 
-    ghost view = { λ m. rc_value m.fields };
+    ghost view = { λ m. slice_range (rc_slice_items m.shared) m.start m.end };
+
+    ghost invariant = { λ m. (m.start ≤ m.end) × (m.end ≤ length (rc_slice_items m.shared)) × (m.end < 2 ^ 32) };
 }
 
 impl Multifield {
@@ -48,27 +48,37 @@ impl Multifield {
     pub fn from_vec(fields: Vec<Single>) -> Result<Multifield, NoMemory>
         ensures { IfOk result (λ m. m ≡ fields.items) }
     {
-        let alloc = *fields.allocator();
-        let fields = Rc::new(alloc, Fields::from_vec(fields)?)?;
-        Ok(Multifield { alloc, fields })
+        let Ok(end) = u32::try_from(fields.len()) else {
+            return Err(NoMemory);
+        };
+        Ok(Multifield {
+            shared: RcSlice::from_vec(fields)?,
+            start: 0,
+            end,
+        })
     }
 
     /// The fields.
     pub fn as_slice(&self) -> &[Single]
         ensures { result.now ≡ self.now }
     {
-        self.fields.as_slice()
+        &self.shared.as_slice()[self.start as usize..self.end as usize]
     }
 
-    /// The fields from `from` up to and without `to`, shared. It takes constant memory, which may be refused as `NoMemory`.
+    /// The fields from `from` up to and without `to`, shared. It takes no memory, and is refused as `NoMemory` only where
+    /// the count of the sharers is full.
     pub fn part(&self, from: usize, to: usize) -> Result<Multifield, NoMemory>
         requires order { from ≤ to }
         requires within { to ≤ length self.now }
         ensures { IfOk result (λ m. m ≡ slice_range self.now from to) }
     {
-        let alloc = self.alloc;
-        let fields = Rc::new(alloc, self.fields.part(from, to)?)?;
-        Ok(Multifield { alloc, fields })
+        let before = self.start as usize;
+        let shared = self.shared.clone()?;
+        Ok(Multifield {
+            shared,
+            start: (before + from) as u32,
+            end: (before + to) as u32,
+        })
     }
 }
 
@@ -76,10 +86,11 @@ impl Clone for Multifield {
     ghost is_clone = { λ m copy. copy ≡ m };
 
     fn clone(&self) -> Result<Multifield, AllocError> {
-        let fields = self.fields.clone()?;
+        let shared = self.shared.clone()?;
         Ok(Multifield {
-            alloc: self.alloc,
-            fields,
+            shared,
+            start: self.start,
+            end: self.end,
         })
     }
 }

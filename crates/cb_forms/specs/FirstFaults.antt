@@ -22,12 +22,13 @@ closed (Gap ∷ ls) = closed ls
 closed (Opening ∷ ls) = closed ls
 closed (Atom r ∷ ls) = closed ls
 
--- After these lexemes one is at fault: an atom with a fault of its own, or a `(` with 200 more open than closed before it.
+-- After these lexemes one is at fault: an atom with a fault of its own, or a `(` that has at least 200 more `(` than `)`
+-- before it.
 abbrev pub IsFault : List Lexeme → Lexeme → Fault → Type 0
 IsFault before l f = (l ≡ Atom (Err f)) ⊎ ((l ≡ Opening) × (f ≡ NestingTooDeep) × (200 + closed before ≤ opened before))
 
--- The first fault of a text that is one list, if it has one. It stands in the list: each `)` before it has two or more
--- open lists before it, so it is not that of the list itself.
+-- The first fault of a text that is one list. It stands in the list: before each `)` that comes before it, at least two
+-- lists are open, so none of these `)` closes the list itself.
 pub record FirstFault (s : List ℕ) (f : Fault) : Type 0 where
   pub before : List Lexeme
   pub lexeme : Lexeme

@@ -82,8 +82,8 @@ pub fn a_text_is_its_forms_as_written()
         → without_gaps (lexemes s) ≡ flat_map written ts → items s ≡ map Ok ts }
 {}
 
-/// The fault that a list is read as is the first in it, by what stands before: an atom's own fault, or a `(` with 200 more
-/// open than closed before it. And where there is such a first fault, the list is read as it.
+/// The fault that a list is read as is the first in it, by what stands before: an atom's own fault, or a `(` that has at least
+/// 200 more `(` than `)` before it. And where there is such a first fault, the list is read as it.
 pub fn the_first_fault_counts()
     ensures found { (s : List ℕ) (f : Fault) → list_reading (lexemes s) ≡ Err f → FirstFault s f }
     ensures only { (s : List ℕ) (f : Fault) → FirstFault s f → list_reading (lexemes s) ≡ Err f }

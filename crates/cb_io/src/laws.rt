@@ -4,8 +4,8 @@ ghost use Rattle.cb_io.specs.Output.{OutState, Extent, all_put, out_of_memory, w
 
 use crate::sink::Sink;
 
-/// A call that puts nothing changes nothing. Of two calls, the first of which put all of its bytes, the bytes are to be put
-/// one after the other, and together they come as far as the second.
+/// To leave the output as it is, where no fault was answered, is to put all of no bytes. Of two calls, the first of which put
+/// all of its bytes, the bytes are to be put one after the other, and together they come as far as the second.
 pub fn calls_put_one_after_another<K: Sink>()
     ensures nothing { (o : OutState K) → o.fault ≡ false → Puts K.writes o o all_put [] }
     ensures two { (o o1 o2 : OutState K) (e : Extent) (w v : List ℕ)
@@ -13,8 +13,8 @@ pub fn calls_put_one_after_another<K: Sink>()
         → Puts K.writes o o2 e (w ++ v) }
 {}
 
-/// What a call put is a beginning of what was to be put. So where it breaks off, more bytes may have been to be put: after
-/// all of the first, after none of them, or after those at which memory was refused or a write failed.
+/// A call that breaks off promises only that a beginning of its bytes was put. So what it put counts as well for a call that
+/// was to put more bytes after these: where all of them were put, none, or those up to a refusal of memory or a failed write.
 pub fn what_breaks_off_may_have_been_longer<K: Sink>()
     ensures all { (o o1 : OutState K) (w v : List ℕ)
         → Puts K.writes o o1 all_put w → Puts K.writes o o1 out_of_memory (w ++ v) }

@@ -2,7 +2,7 @@ use Rattle.std.proofs.Common.{◌≡◌, ◌≤◌, ◌+◌, ℕ, List, arith, l
 use Rattle.std.specs.Rc.{rc_slice_items}
 use Rattle.cb_facts.specs.declared.single.Single.{Single}
 use Rattle.cb_facts.proofs.PartLaws.{part-within, slice_range-slice_range}
-use Rattle.cb_facts.proofs.fields.Fields.part.Goals as goal
+use Rattle.cb_facts.proofs.multifield.Multifield.part.Goals as goal
 
 ends : (fields now : List Single) (start end to : ℕ) → slice_range fields start end ≡ now → start ≤ end → to ≤ length now → start + to ≤ end
 ends fields now start end to view_is order within = part-within fields start end to order (subst (λ xs. to ≤ length xs) (sym view_is) within)
