@@ -60,8 +60,8 @@ impl Env {
     }
 
     /// Gives a variable a value, in place of the one that it has, if it has one. Growth is refused as `NoMemory`, and then
-    /// nothing has changed. The first eight variables take no memory; nor does one that has a value, from the second time on
-    /// that it is given one, where no clone shares the way to it.
+    /// nothing has changed. The first eight variables take no memory. A variable of a loop, which is given one value after
+    /// another, takes none from the second time on, unless a clone shares the way to it.
     pub fn set(&mut self, name: &Name, value: Value) -> Result<(), NoMemory>
         ensures ok { OnOk result (self.new ≡ with_variable name.now value self.old) }
         ensures err { OnErr result (self.new ≡ self.old) }
@@ -70,7 +70,8 @@ impl Env {
     }
 
     /// These values in which variables have these values more, one given after another: of two values of one variable the
-    /// later one counts. It shares with these what it does not change. Growth is refused as `NoMemory`.
+    /// later one counts. It shares with these what it does not change, and the first eight variables that are given a value
+    /// in it take no memory. Growth is refused as `NoMemory`.
     pub fn with(&self, bindings: Vec<(Name, Value)>) -> Result<Env, NoMemory>
         ensures ok { IfOk result (λ env. env ≡ with_variables bindings.items self.now) }
     {
@@ -78,6 +79,7 @@ impl Env {
         for (name, value) in bindings {
             env.set(&name, value)?;
         }
+        env.variables.settle()?;
         Ok(env)
     }
 

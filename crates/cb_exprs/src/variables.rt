@@ -69,8 +69,7 @@ impl Variables {
     }
 
     /// Gives a variable a value, in place of the one that it has, if it has one. Growth is refused as `NoMemory`, and then
-    /// nothing has changed; a variable that has a value takes no memory where it was given one twice and no clone shares the
-    /// way to it.
+    /// nothing has changed.
     #[tactic(auto, using(crate::proofs::RecentLaws::with_last))]
     pub(crate) fn set(&mut self, name: &Name, value: Value) -> Result<(), NoMemory>
         ensures ok { OnOk result (self.new ≡ with_value name.now value self.old) }
@@ -106,6 +105,15 @@ impl Variables {
         let mut all = self.gather()?;
         all.unset(name)?;
         *self = Variables::of(all);
+        Ok(())
+    }
+
+    /// Moves all values to where they are found in logarithmic time: the next eight variables that are given one take no
+    /// memory. Growth is refused as `NoMemory`, and then nothing has changed.
+    pub(crate) fn settle(&mut self) -> Result<(), NoMemory>
+        ensures { self.new ≡ self.old }
+    {
+        *self = Variables::of(self.gather()?);
         Ok(())
     }
 

@@ -1,5 +1,5 @@
 -- `==` of these types is equality.
-use Rattle.std.proofs.Common.{◌≡◌, ◌&&◌, List, Bool, true, ℕ, ap, ap₂, rules}
+use Rattle.std.proofs.Common.{◌≡◌, List, ℕ, ap, ap₂, rules}
 use Rattle.std.proofs.lemmas.Bool.{and_from}
 use Rattle.std.specs.Bool.{Decides}
 use Rattle.std.specs.Cmp.{first_so, second_so}

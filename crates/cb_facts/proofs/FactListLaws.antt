@@ -9,7 +9,8 @@ use Rattle.std.specs.Ordering.{nat_cmp}
 use Rattle.cb_facts.specs.FactLists.{IndexedFacts, fact_at, IsAbsent, IsFactBase, ChangesOnly}
 use Rattle.cb_facts.specs.Internal.{IsIndexed}
 use Rattle.cb_facts.specs.Internal.FactLaws.{fact_tied}
-use Rattle.cb_facts.specs.Facts.{FactValue, fact_cmp, fact_eq}
+use Rattle.cb_facts.specs.Facts.{FactValue, fact_eq}
+use Rattle.cb_facts.specs.Internal.FactOrder.{fact_cmp}
 use Rattle.cb_facts.proofs.FactEquality.{fact-Decides}
 use Rattle.cb_facts.proofs.Inverses.{as_before, known-added, known-removed, listed-added, listed-removed}
 

@@ -4,6 +4,7 @@ mod Equality
 mod FactEquality
 mod FactListLaws
 mod Firsts
+mod Hashes
 mod Inverses
 mod ListLaws
 mod PartLaws

@@ -1,10 +1,13 @@
 -- What only the code needs.
 pub mod FactLaws
+pub mod FactOrder
+pub mod Hashes
 use Rattle.std.specs.Prelude.{◌≡◌, ◌++◌, ℕ, List, Option, Some, Result, Ok, Err}
 use Rattle.std.specs.List.Sorted.{IsStrictlySortedBy}
 use Rattle.std.specs.Map.{keys_of}
 use Rattle.std.specs.Ordering.{nat_cmp}
-use Rattle.cb_facts.specs.Facts.{FactValue, content_of, hash_of}
+use Rattle.cb_facts.specs.Facts.{FactValue, content_of}
+use Rattle.cb_facts.specs.Internal.FactOrder.{hash_of}
 use Rattle.cb_facts.specs.FactLists.{IndexedFacts, fact_at}
 use Rattle.cb_facts.specs.declared.fact.Body.{Body}
 use Rattle.cb_forms.specs.declared.fault.Fault.{Fault}

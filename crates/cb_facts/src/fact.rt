@@ -4,7 +4,8 @@ ghost use Rattle.std.specs.Hash as fed;
 ghost use Rattle.std.specs.Hash.FoldHasher as folding;
 ghost use Rattle.std.specs.Cmp.{partial_equiv_from_equiv, po};
 ghost use Rattle.std.specs.Ordering.{as_partial_cmp};
-ghost use Rattle.cb_facts.specs.Facts.{ordered_fact, template_fact, content_of, content_writes, content_cmp, fact_cmp, fact_eq, hash_of, rest_cmp};
+ghost use Rattle.cb_facts.specs.Facts.{ordered_fact, template_fact, content_of, fact_eq};
+ghost use Rattle.cb_facts.specs.Internal.FactOrder.{content_writes, content_cmp, fact_cmp, hash_of, rest_cmp};
 ghost use Rattle.cb_facts.specs.Internal.{body_fact};
 ghost use Rattle.cb_facts.specs.Internal.FactLaws.{fact_equiv, fact_fed, fact_tied, fact_total};
 
@@ -150,7 +151,7 @@ impl Fact {
     }
 }
 
-#[tactic(auto, unfolding(crate::specs::Facts::hash_from))]
+#[tactic(auto, unfolding(crate::specs::Internal::FactOrder::hash_from))]
 fn hash_of(relation: &Name, content: &Content) -> u64
     ensures { result
         ≡ hash_of (record { relation = relation.now; content = content_of content.now }) }

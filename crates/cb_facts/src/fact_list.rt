@@ -25,7 +25,7 @@ pub struct FactList {
 
 impl Model for FactList {
     ghost use Rattle.std.specs.BTreeMap.{get};
-    ghost use Rattle.cb_facts.specs.Facts.{fact_cmp};
+    ghost use Rattle.cb_facts.specs.Internal.FactOrder.{fact_cmp};
     ghost use Rattle.cb_facts.specs.FactLists.{IndexedFacts};
     ghost use Rattle.cb_facts.specs.Internal.{IsIndexed};
 

@@ -6,33 +6,45 @@ ghost use Rattle.std.specs.Cmp.Lexicographic.{pointwise, slice_cmp, bytes_decide
 ghost use Rattle.std.specs.Cmp.{partial_order_from_own_ties};
 ghost use Rattle.std.specs.Cmp.Rules.{comparing};
 ghost use Rattle.std.proofs.Common.{rules};
+ghost use Rattle.cb_facts.specs.Internal.Hashes.{hash_of_bytes};
 
 use cb_forms::{ByteString, NoMemory};
 use std::alloc::{AllocError, Global};
 use std::cmp::Ordering;
 use std::fmt;
-use std::hash::{Hash, Hasher};
+use std::hash::{FoldHasher, Hash, Hasher};
 use std::marker::Model;
 use std::rc::Rc;
+
+/// Bytes, with their hash.
+#[derive(Drop)]
+struct Hashed {
+    hash: u64,
+    bytes: ByteString,
+}
 
 /// The bytes of a symbol, a string, a relation or a variable. Nothing checks them as UTF-8.
 ///
 /// A clone shares the bytes. It takes no memory, and is refused only where the count of its sharers is full. Two names
-/// compare by their bytes in order, as Rust compares slices.
+/// compare by their bytes in order, as Rust compares slices. Names that differ are found to do so by a number each, whatever
+/// their bytes are, but for those few that have the same number.
 ///
 /// Contracts see its list of bytes.
 #[derive(Drop)]
 pub struct Name {
-    bytes: Rc<ByteString>,
+    shared: Rc<Hashed>,
 }
 
 impl Model for Name {
-    ghost use Rattle.std.specs.Prelude.{List, ℕ};
+    ghost use Rattle.std.specs.Prelude.{◌≡◌, List, ℕ};
     ghost use Rattle.std.specs.Rc.{rc_value};
+    ghost use Rattle.cb_facts.specs.Internal.Hashes.{hash_of_bytes};
 
     ghost Value = { List ℕ };
 
-    ghost view = { λ n. rc_value n.bytes };
+    ghost view = { λ n. (rc_value n.shared).bytes };
+
+    ghost invariant = { λ n. (rc_value n.shared).hash ≡ hash_of_bytes (rc_value n.shared).bytes };
 }
 
 impl Name {
@@ -40,30 +52,56 @@ impl Name {
     pub fn new(alloc: Global, bytes: &[u8]) -> Result<Name, NoMemory>
         ensures { IfOk result (λ n. n ≡ bytes.now) }
     {
+        Name::with_hash(alloc, bytes, hash_of_bytes(bytes))
+    }
+
+    /// The same, where the hash of the bytes is known.
+    pub(crate) fn with_hash(alloc: Global, bytes: &[u8], hash: u64) -> Result<Name, NoMemory>
+        requires { hash ≡ hash_of_bytes bytes.now }
+        ensures { IfOk result (λ n. n ≡ bytes.now) }
+    {
+        let bytes = ByteString::new(alloc, bytes)?;
         Ok(Name {
-            bytes: Rc::new(alloc, ByteString::new(alloc, bytes)?)?,
+            shared: Rc::new(alloc, Hashed { hash, bytes })?,
         })
     }
 
     /// Whether another name shares the bytes.
     pub(crate) fn is_shared(&self) -> bool {
-        Rc::strong_count(&self.bytes) > 1
+        Rc::strong_count(&self.shared) > 1
+    }
+
+    /// The hash of the bytes.
+    fn hash_code(&self) -> u64
+        ensures { result ≡ hash_of_bytes self.now }
+    {
+        self.shared.hash
     }
 
     /// The bytes.
     pub fn as_slice(&self) -> &[u8]
         ensures { result.now ≡ self.now }
     {
-        self.bytes.as_slice()
+        self.shared.bytes.as_slice()
     }
+}
+
+/// The hash of bytes.
+#[tactic(auto, unfolding(crate::specs::Internal::Hashes::hash_of_bytes))]
+pub(crate) fn hash_of_bytes(bytes: &[u8]) -> u64
+    ensures { result ≡ hash_of_bytes bytes.now }
+{
+    let mut hasher = FoldHasher::default();
+    hasher.write(bytes);
+    hasher.finish()
 }
 
 impl Clone for Name {
     ghost is_clone = { λ n copy. copy ≡ n };
 
     fn clone(&self) -> Result<Name, AllocError> {
-        let bytes = self.bytes.clone()?;
-        Ok(Name { bytes })
+        let shared = self.shared.clone()?;
+        Ok(Name { shared })
     }
 }
 
@@ -72,7 +110,11 @@ impl PartialEq for Name {
 
     ghost laws = { Prim.search (comparing, rules) };
 
+    #[tactic(auto, using(crate::proofs::Hashes::apart))]
     fn eq(&self, other: &Name) -> bool {
+        if self.hash_code() != other.hash_code() {
+            return false;
+        }
         self.as_slice() == other.as_slice()
     }
 }

@@ -1,11 +1,11 @@
 //! The names that were read.
 ghost use Rattle.std.specs.Prelude.{◌≡◌, IfOk, IfSome};
+ghost use Rattle.cb_facts.specs.Internal.Hashes.{hash_of_bytes};
 
-use crate::name::Name;
+use crate::name::{Name, hash_of_bytes};
 use cb_forms::NoMemory;
 use std::alloc::Global;
 use std::collections::BTreeMap;
-use std::hash::{FoldHasher, Hasher};
 
 // What is kept of the names before the first sweep, in bytes.
 const LEAST_LIMIT: usize = 65_536;
@@ -50,7 +50,7 @@ impl Names {
     pub fn name(&mut self, bytes: &[u8]) -> Result<Name, NoMemory>
         ensures { IfOk result (λ name. name ≡ bytes.now) }
     {
-        let hash = hash_of(bytes);
+        let hash = hash_of_bytes(bytes);
         match self.find(hash, bytes) {
             Some(known) => Ok(known.clone()?),
             None => self.add(hash, bytes),
@@ -69,9 +69,10 @@ impl Names {
     }
 
     fn add(&mut self, hash: u64, bytes: &[u8]) -> Result<Name, NoMemory>
+        requires { hash ≡ hash_of_bytes bytes.now }
         ensures { IfOk result (λ name. name ≡ bytes.now) }
     {
-        let name = Name::new(self.alloc, bytes)?;
+        let name = Name::with_hash(self.alloc, bytes, hash)?;
         if self.size > self.limit {
             self.sweep();
         }
@@ -93,12 +94,6 @@ impl Names {
         self.size = size;
         self.limit = size.saturating_mul(2).max(LEAST_LIMIT);
     }
-}
-
-fn hash_of(bytes: &[u8]) -> u64 {
-    let mut hasher = FoldHasher::default();
-    hasher.write(bytes);
-    hasher.finish()
 }
 
 fn size_of_name(name: &Name) -> usize {

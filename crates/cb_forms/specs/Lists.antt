@@ -7,15 +7,15 @@ use Rattle.cb_forms.specs.declared.lexeme.Lexeme.{Lexeme}
 use Rattle.cb_forms.specs.declared.lexeme.Lexeme.TheVariants.{Gap, Opening, Closing, Atom}
 
 -- how deep lists may nest
-abbrev pub deepest : ℕ
-deepest = 200
+abbrev pub greatest_depth : ℕ
+greatest_depth = 200
 
 -- The first fault of a list, in the order of its bytes, where n lists are open so far. A `(` where the deepest is open is
 -- one. The `)` of the outermost list ends the search.
 abbrev pub first_fault : ℕ → List Lexeme → Option Fault
 first_fault n [] = None
 first_fault n (Gap ∷ ls) = first_fault n ls
-first_fault n (Opening ∷ ls) = if nat_le deepest n then Some NestingTooDeep else first_fault (n + 1) ls
+first_fault n (Opening ∷ ls) = if nat_le greatest_depth n then Some NestingTooDeep else first_fault (n + 1) ls
 first_fault n (Closing ∷ ls) = if nat_le n 1 then None else first_fault (n - 1) ls
 first_fault n (Atom (Ok t) ∷ ls) = first_fault n ls
 first_fault n (Atom (Err f) ∷ ls) = Some f

@@ -4,7 +4,7 @@ ghost use Rattle.cb_io.specs.Output.{OutState, Extent, all_put, out_of_memory, w
 
 use crate::sink::Sink;
 
-/// To leave the output as it is, where no fault was answered, is to put all of no bytes. Of two calls, the first of which put
+/// To leave the output as it is, where no `WriteFault` was returned, is to put all of no bytes. Of two calls, the first of which put
 /// all of its bytes, the bytes are to be put one after the other, and together they come as far as the second.
 pub fn calls_put_one_after_another<K: Sink>()
     ensures nothing { (o : OutState K) → o.fault ≡ false → Puts K.writes o o all_put [] }
@@ -37,7 +37,7 @@ pub fn what_was_put_is_written_later<K: Sink>()
         → Puts K.writes o o2 write_failed w }
 {}
 
-/// Where no write failed, no fault was answered, and more may be put.
+/// Where no write failed, no `WriteFault` was returned, and more may be put.
 pub fn without_a_failed_write_there_is_no_fault<K: Sink>()
     ensures all { (o o1 : OutState K) (w : List ℕ)
         → Puts K.writes o o1 all_put w → o1.fault ≡ false }

@@ -3,9 +3,10 @@ use Rattle.std.proofs.Common.{◌≡◌, ◌↔◌, ◌++◌, ◌||◌, ℕ, Boo
 use Rattle.std.proofs.lemmas.Map.Keys.{IsDistinct-cons, IsDistinct-head, IsDistinct-tail}
 use Rattle.std.specs.List.{AllByRecursion, IsDistinct, cons_option}
 use Rattle.std.specs.Str.{bytes_eq}
+use Rattle.cb_expr_forms.specs.Laws.{AreFaultless}
 use Rattle.cb_forms.specs.Trees.{Tree, Trees, no_trees, tree, trees_of}
 use Rattle.cb_forms.specs.declared.fault.Fault.{Fault}
-use Rattle.cb_laws.specs.Written.{AreFine, names_written}
+use Rattle.cb_laws.specs.Written.{names_written}
 use Rattle.cb_templates.specs.FaultLists.{first_of}
 use Rattle.cb_templates.specs.TemplateFaults.{is_among}
 
@@ -70,15 +71,15 @@ module _ (faults : List (List ℕ) → Tree → List Fault) (name : Tree → Opt
 
   -- what stands before a form matters by its name alone
   module _ (alone : (before : List (List ℕ)) (t : Tree) → (faults before t ≡ []) ↔ ((faults [] t ≡ []) × IsNew before (name t))) where
-    after_these : (before : List (List ℕ)) (ts : Trees) → (all before ts ≡ []) ↔ (AreFine (faults []) ts × (IsDistinct bytes_eq (names_written name ts) × AreNew before (names_written name ts)))
+    after_these : (before : List (List ℕ)) (ts : Trees) → (all before ts ≡ []) ↔ (AreFaultless (faults []) ts × (IsDistinct bytes_eq (names_written name ts) × AreNew before (names_written name ts)))
     unfolding IsDistinct
     after_these before no_trees = (λ h. (tt, (tt, tt)), λ h. refl)
     after_these before (tree t ts) = by (name t) (alone before t) (after_these (with_name before (name t)) ts)
       where
         by : (o : Option (List ℕ)) → (faults before t ≡ []) ↔ ((faults [] t ≡ []) × IsNew before o)
-            → (all (with_name before o) ts ≡ []) ↔ (AreFine (faults []) ts × (IsDistinct bytes_eq (names_written name ts) × AreNew (with_name before o) (names_written name ts)))
+            → (all (with_name before o) ts ≡ []) ↔ (AreFaultless (faults []) ts × (IsDistinct bytes_eq (names_written name ts) × AreNew (with_name before o) (names_written name ts)))
             → (faults before t ++ all (with_name before o) ts ≡ [])
-            ↔ (((faults [] t ≡ []) × AreFine (faults []) ts) × (IsDistinct bytes_eq (cons_option o (names_written name ts)) × AreNew before (cons_option o (names_written name ts))))
+            ↔ (((faults [] t ≡ []) × AreFaultless (faults []) ts) × (IsDistinct bytes_eq (cons_option o (names_written name ts)) × AreNew before (cons_option o (names_written name ts))))
         by None one others = (
           λ h.
               let both = (none_of_both (faults before t) (all before ts)).0 h in
@@ -100,7 +101,7 @@ module _ (faults : List (List ℕ) → Tree → List Fault) (name : Tree → Opt
               (none_of_both (faults before t) (all (n ∷ before) ts)).1 (one.1 (h.0.0, new.0), others.1 (h.0.1, (IsDistinct-tail bytes_eq n (names_written name ts) apart, more))),
         )
 
-    pub each_alone : (ts : Trees) → (all [] ts ≡ []) ↔ (AreFine (faults []) ts × IsDistinct bytes_eq (names_written name ts))
+    pub each_alone : (ts : Trees) → (all [] ts ≡ []) ↔ (AreFaultless (faults []) ts × IsDistinct bytes_eq (names_written name ts))
     each_alone ts =
         let them = after_these [] ts in
         (λ h. let all_of = them.0 h in (all_of.0, all_of.1.0), λ h. them.1 (h.0, (h.1, new_after_none (names_written name ts))))

@@ -3,15 +3,16 @@ use Rattle.std.proofs.Common.{◌≡◌, ◌∙◌, ◌++◌, ℕ, Bool, true, f
 use Rattle.std.proofs.lemmas.Map.Keys.{IsDistinct-cons, IsDistinct-head, IsDistinct-tail}
 use Rattle.std.specs.Cmp.Lexicographic.{bytes_decides}
 use Rattle.std.specs.List.{AllByRecursion, IsDistinct, cons_option}
-use Rattle.std.specs.Option.{option_flatten}
+use Rattle.std.specs.Option.{option_flatten, option_or}
 use Rattle.std.specs.Str.{bytes_eq}
+use Rattle.cb_expr_forms.specs.Laws.{AreFaultless}
 use Rattle.cb_forms.specs.Members.{call_of}
 use Rattle.cb_forms.specs.Trees.{Tree, Trees, tree, trees_of}
 use Rattle.cb_forms.specs.declared.fault.Fault.{Fault}
 use Rattle.cb_laws.proofs.WrittenLaws.{each_attribute_alone}
-use Rattle.cb_laws.specs.Written.{AreFine, attribute_name, names_written}
+use Rattle.cb_laws.specs.Written.{attribute_name, names_written}
 use Rattle.cb_templates.specs.TemplateFaults.{attributes_faults}
-use Rattle.cb_templates.specs.TemplateShapes.{after_head, attribute, default_said, or_else, slot_said, types_said, value_for}
+use Rattle.cb_templates.specs.TemplateShapes.{after_head, attribute, default_said, slot_said, types_said, value_for}
 
 differ_back : (a b : List ℕ) → bytes_eq a b ≡ false → bytes_eq b a ≡ false
 differ_back a b h = by (bytes_eq b a) refl
@@ -59,20 +60,20 @@ module _ (name : Tree → Option (List ℕ)) (t u : Tree) (after : List Tree) wh
   distinct_swapped [] h = distinct_by (name t) (name u) (names_written name (trees_of after)) h
   distinct_swapped (b ∷ before) h = distinct_more (name b) before (distinct_swapped before) h
 
-  fine_swapped : (faults : Tree → List Fault) (before : List Tree) → AreFine faults (trees_of (before ++ t ∷ u ∷ after)) → AreFine faults (trees_of (before ++ u ∷ t ∷ after))
+  fine_swapped : (faults : Tree → List Fault) (before : List Tree) → AreFaultless faults (trees_of (before ++ t ∷ u ∷ after)) → AreFaultless faults (trees_of (before ++ u ∷ t ∷ after))
   fine_swapped faults [] h = (h.1.0, (h.0, h.1.1))
   fine_swapped faults (b ∷ before) h = (h.0, fine_swapped faults before h.1)
 
 -- the first attribute of a name, where no two have one name
 module _ (word : List ℕ) where
   first_by : (o p : Option (List ℕ × Trees)) (ns : List (List ℕ)) (rest : Option Trees) → IsDistinct bytes_eq (cons_option (option_map (λ call. call.0) o) (cons_option (option_map (λ call. call.0) p) ns))
-      → or_else (after_head word o) (or_else (after_head word p) rest) ≡ or_else (after_head word p) (or_else (after_head word o) rest)
+      → option_or (after_head word o) (option_or (after_head word p) rest) ≡ option_or (after_head word p) (option_or (after_head word o) rest)
   first_by None p ns rest h = refl
   first_by (Some (n, ts)) None ns rest h = refl
   first_by (Some (n, ts)) (Some (m, us)) ns rest h = by (bytes_eq n word) (bytes_eq m word) refl refl
     where
       by : (a b : Bool) → bytes_eq n word ≡ a → bytes_eq m word ≡ b
-          → or_else (if a then Some ts else None) (or_else (if b then Some us else None) rest) ≡ or_else (if b then Some us else None) (or_else (if a then Some ts else None) rest)
+          → option_or (if a then Some ts else None) (option_or (if b then Some us else None) rest) ≡ option_or (if b then Some us else None) (option_or (if a then Some ts else None) rest)
       by true true d e =
           let same : bytes_eq n m ≡ true = (bytes_decides n m).1 ((bytes_decides n word).0 d ∙ sym ((bytes_decides m word).0 e)) in
           let differ : bytes_eq n m ≡ false = (IsDistinct-head bytes_eq n (m ∷ ns) h).0 in
@@ -89,7 +90,7 @@ module _ (word : List ℕ) where
       → attribute word (trees_of (before ++ t ∷ u ∷ after)) ≡ attribute word (trees_of (before ++ u ∷ t ∷ after))
   first_swapped t u after [] h = first_by (call_of t) (call_of u) (names_written attribute_name (trees_of after)) (attribute word (trees_of after)) h
   first_swapped t u after (b ∷ before) h =
-      ap (λ it. or_else (after_head word (call_of b)) it) (first_swapped t u after before (tail_of (attribute_name b) (names_written attribute_name (trees_of (before ++ t ∷ u ∷ after))) h))
+      ap (λ it. option_or (after_head word (call_of b)) it) (first_swapped t u after before (tail_of (attribute_name b) (names_written attribute_name (trees_of (before ++ t ∷ u ∷ after))) h))
 
 pub fine_either_way : (m : Bool) (before after : List Tree) (t u : Tree) → attributes_faults m [] (trees_of (before ++ t ∷ u ∷ after)) ≡ [] → attributes_faults m [] (trees_of (before ++ u ∷ t ∷ after)) ≡ []
 fine_either_way m before after t u h =

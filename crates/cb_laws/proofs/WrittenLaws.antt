@@ -3,12 +3,13 @@ use Rattle.std.proofs.Common.{◌≡◌, ◌↔◌, ◌∙◌, ◌++◌, ℕ, Bo
 use Rattle.std.specs.Cmp.Lexicographic.{bytes_decides}
 use Rattle.std.specs.List.{IsDistinct}
 use Rattle.std.specs.Str.{bytes_eq}
+use Rattle.cb_expr_forms.specs.Laws.{AreFaultless}
 use Rattle.cb_forms.specs.Members.{call_of, head_and_rest}
 use Rattle.cb_forms.specs.Trees.{Tree, Trees, no_trees, tree, trees_of}
 use Rattle.cb_forms.specs.declared.fault.Fault.{Fault}
 use Rattle.cb_forms.specs.declared.fault.Fault.TheVariants.{MalformedForm, NotInProfile}
 use Rattle.cb_laws.proofs.FaultListLaws.{IsNew, all, each_alone, first_stays, next_fault, with_name}
-use Rattle.cb_laws.specs.Written.{AreFine, attribute_name, name_after_head, names_written, written_slot_name}
+use Rattle.cb_laws.specs.Written.{attribute_name, name_after_head, names_written, written_slot_name}
 use Rattle.cb_templates.specs.FaultLists.{first_of, unless}
 use Rattle.cb_templates.specs.TemplateFaults.{and_name, and_slot, attribute_faults, attributes_faults, default_attribute_faults, is_among, kept_faults, kind_faults, named_slot_faults, slot_form_faults, slots_form_faults, type_attribute_faults}
 use Rattle.cb_templates.specs.TemplateShapes.{default_in, kind_of, types_in}
@@ -51,7 +52,7 @@ slots_in_turn before (tree t ts) =
     ap (λ it. slot_faults_in before t ++ slots_form_faults it ts) (slot_name_after before (call_of t))
     ∙ ap (λ fs. slot_faults_in before t ++ fs) (slots_in_turn (with_name before (written_slot_name t)) ts)
 
-pub each_slot_alone : (ts : Trees) → (slots_form_faults [] ts ≡ []) ↔ (AreFine (slot_faults_in []) ts × IsDistinct bytes_eq (names_written written_slot_name ts))
+pub each_slot_alone : (ts : Trees) → (slots_form_faults [] ts ≡ []) ↔ (AreFaultless (slot_faults_in []) ts × IsDistinct bytes_eq (names_written written_slot_name ts))
 each_slot_alone ts =
     let them = each_alone slot_faults_in written_slot_name slot_alone ts in
     (λ h. them.0 (sym (slots_in_turn [] ts) ∙ h), λ h. slots_in_turn [] ts ∙ them.1 h)
@@ -118,7 +119,7 @@ module _ (m : Bool) where
       ap (λ it. attribute_faults_in before t ++ attributes_faults m it ts) (attribute_name_after before (call_of t))
       ∙ ap (λ fs. attribute_faults_in before t ++ fs) (attributes_in_turn (with_name before (attribute_name t)) ts)
 
-  pub each_attribute_alone : (ts : Trees) → (attributes_faults m [] ts ≡ []) ↔ (AreFine (attribute_faults_in []) ts × IsDistinct bytes_eq (names_written attribute_name ts))
+  pub each_attribute_alone : (ts : Trees) → (attributes_faults m [] ts ≡ []) ↔ (AreFaultless (attribute_faults_in []) ts × IsDistinct bytes_eq (names_written attribute_name ts))
   each_attribute_alone ts =
       let them = each_alone attribute_faults_in attribute_name attribute_alone ts in
       (λ h. them.0 (sym (attributes_in_turn [] ts) ∙ h), λ h. attributes_in_turn [] ts ∙ them.1 h)

@@ -7,11 +7,6 @@ use Rattle.cb_forms.specs.declared.fault.Fault.{Fault}
 use Rattle.cb_templates.specs.Slots.{SlotShape}
 use Rattle.cb_templates.specs.TemplateShapes.{slot_headed}
 
--- each form by itself has no fault
-abbrev pub AreFine : (Tree → List Fault) → Trees → Type 0
-AreFine faults no_trees = Unit {0}
-AreFine faults (tree t ts) = (faults t ≡ []) × AreFine faults ts
-
 -- the names that forms have, in order
 abbrev pub names_written : (Tree → Option (List ℕ)) → Trees → List (List ℕ)
 names_written name no_trees = []

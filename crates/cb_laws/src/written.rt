@@ -2,10 +2,11 @@
 ghost use Rattle.std.specs.Prelude.{◌≡◌, ◌↔◌, ◌++◌, ◌∷◌, ℕ, Bool, List, [], Some, None, codes, false};
 ghost use Rattle.std.specs.List.{IsDistinct};
 ghost use Rattle.std.specs.Str.{bytes_eq};
+ghost use Rattle.cb_expr_forms.specs.Laws.{AreFaultless};
 ghost use Rattle.cb_forms.specs.Members.{call_of};
 ghost use Rattle.cb_forms.specs.Trees.{Tree, Trees, trees_of};
 ghost use Rattle.cb_forms.specs.declared.fault.Fault.{Fault};
-ghost use Rattle.cb_laws.specs.Written.{AreFine, AreShapes, attribute_name, names_written, written_slot_name};
+ghost use Rattle.cb_laws.specs.Written.{AreShapes, attribute_name, names_written, written_slot_name};
 ghost use Rattle.cb_templates.specs.FaultLists.{first_of};
 ghost use Rattle.cb_templates.specs.Slots.{names};
 ghost use Rattle.cb_templates.specs.TemplateFaults.{attribute_faults, attributes_faults, is_among, slot_form_faults, slots_form_faults};
@@ -16,7 +17,7 @@ ghost use Rattle.cb_templates.specs.TemplateShapes.{default_in, default_said, sl
 pub fn slots_are_accepted_each_by_itself()
     ensures { (forms : Trees)
         → (slots_form_faults [] forms ≡ [])
-        ↔ (AreFine (λ t. slot_form_faults [] (call_of t)) forms
+        ↔ (AreFaultless (λ t. slot_form_faults [] (call_of t)) forms
         × IsDistinct bytes_eq (names_written written_slot_name forms)) }
 {}
 
@@ -25,7 +26,7 @@ pub fn slots_are_accepted_each_by_itself()
 pub fn attributes_are_accepted_each_by_itself()
     ensures { (is_multi : Bool) (forms : Trees)
         → (attributes_faults is_multi [] forms ≡ [])
-        ↔ (AreFine (λ t. attribute_faults is_multi [] (call_of t)) forms
+        ↔ (AreFaultless (λ t. attribute_faults is_multi [] (call_of t)) forms
         × IsDistinct bytes_eq (names_written attribute_name forms)) }
 {}
 

@@ -16,7 +16,7 @@ use Rattle.cb_rule_forms.specs.RuleValues.{Element, RuleValue}
 use Rattle.cb_rule_forms.specs.Sections.{Sections, sections_of}
 use Rattle.cb_templates.specs.Templates.{Templates}
 
--- an expression of a left side may name any variable; whether it has a value is told by the mentions
+-- an expression of a left side may name any variable; whether that has a value, the mentions say
 abbrev pub left_scope : Templates → Bindings → Scope
 left_scope templates env = record { side = side.Left; variables = []; globals = names_of env.globals; templates = templates }
 

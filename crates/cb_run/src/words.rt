@@ -50,7 +50,7 @@ pub fn read_words<'a>(alloc: Global, words: &'a [&'a str]) -> Result<Limits, Err
 }
 
 static ABOUT: &str =
-    "Carries out a CLIPS script from standard input and writes its transcript to standard output";
+    "Runs a CLIPS script from standard input and writes its transcript to standard output";
 
 static FORM_HELP: &str =
     "The most bytes that an item of the script may have, 1 to 16777216 [default: 1048576]";

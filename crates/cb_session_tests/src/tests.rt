@@ -55,7 +55,7 @@ const DONE: Status = Status {
     ending: Ending::Done,
 };
 
-/// A script that goes to its end and tells a fault.
+/// A script that goes to its end and reports a fault.
 const FAULTY: Status = Status {
     code: 1,
     ending: Ending::Done,

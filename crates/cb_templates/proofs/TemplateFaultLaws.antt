@@ -2,7 +2,7 @@
 use Rattle.std.proofs.Common.{◌≡◌, ◌||◌, ◌++◌, ℕ, Bool, true, false, not, List, [], ◌∷◌, Option, Some, None, Result, Ok, Err, refl, sym, ap, ap₂, ◌∙◌, subst, codes, is_some, if◌then◌else◌}
 use Rattle.std.specs.Cmp.Lexicographic.{bytes_decides}
 use Rattle.std.specs.List.{IsDistinct}
-use Rattle.std.specs.Option.{option_flatten, option_map, option_map_or}
+use Rattle.std.specs.Option.{option_flatten, option_map, option_map_or, option_or}
 use Rattle.std.specs.Str.{bytes_eq}
 use Rattle.std.proofs.lemmas.List.{append-nil, append_assoc}
 use Rattle.cb_forms.specs.Members.{call_of, head_and_rest}
@@ -20,7 +20,7 @@ use Rattle.cb_templates.specs.Templates.{without_comment}
 use Rattle.cb_templates.specs.Internal.SlotReads.{attribute_by, attributes_after, default_of, finished, no_attributes, slot_by, slot_defined, slot_with, types_of, with_default, with_types, slots_after}
 use Rattle.cb_templates.specs.Slots.{Types, SlotShape, allows_all, names, slot_named}
 use Rattle.cb_templates.specs.TemplateFaults.{and_name, and_slot, attribute_faults, attributes_faults, default_attribute_faults, is_among, kept_faults, kind_faults, named_slot_faults, named_template_faults, slot_form_faults, slots_form_faults, template_faults, type_attribute_faults}
-use Rattle.cb_templates.specs.TemplateShapes.{after_head, attribute, default_in, default_said, kind_of, or_else, slot_headed, slot_of_kind, slot_said, slots_said, types_in, types_said, value_for}
+use Rattle.cb_templates.specs.TemplateShapes.{after_head, attribute, default_in, default_said, kind_of, slot_headed, slot_of_kind, slot_said, slots_said, types_in, types_said, value_for}
 use Rattle.cb_templates.specs.declared.attribute.Attributes.{Attributes}
 use Rattle.cb_templates.specs.declared.attribute.SlotDefault.{SlotDefault}
 use Rattle.cb_templates.specs.declared.attribute.SlotDefault.TheVariants.{Required, Derived, Fixed}
@@ -33,11 +33,11 @@ record IsGivenBy (a : Attributes) (names : List (List ℕ)) : Type 0 where
 -- the attributes that there are, and those that forms say
 abbrev said_with : Bool → Attributes → Trees → Attributes
 said_with is_multi a ts = record {
-  types = or_else a.types (option_map types_said (attribute (codes "type") ts));
-  default = or_else a.default (option_flatten (option_map (default_said is_multi) (attribute (codes "default") ts)));
+  types = option_or a.types (option_map types_said (attribute (codes "type") ts));
+  default = option_or a.default (option_flatten (option_map (default_said is_multi) (attribute (codes "default") ts)));
 }
 
-or_none : {X : Type 0} (o : Option X) → o ≡ or_else o None
+or_none : {X : Type 0} (o : Option X) → o ≡ option_or o None
 or_none None = refl
 or_none (Some x) = refl
 
@@ -54,30 +54,30 @@ module _ (is_multi : Bool) (name : List ℕ) (us ts : Trees) where
       → ((b : Attributes) → IsGivenBy b (name ∷ before) → IsRead (attributes_after is_multi b ts) (attributes_faults is_multi (name ∷ before) ts) (Some (said_with is_multi b ts)))
       → IsRead (and_then (if is_some o then Err MalformedForm else ok_then (with_types (record { types = o; default = d })) (types_of us)) (λ b. attributes_after is_multi b ts))
       ((unless (not (is_among before (codes "type"))) MalformedForm ++ type_attribute_faults us) ++ attributes_faults is_multi (name ∷ before) ts)
-      (Some (record { types = or_else o (Some (types_said us)); default = or_else d (option_flatten (option_map (default_said is_multi) (attribute (codes "default") ts))) }))
+      (Some (record { types = option_or o (Some (types_said us)); default = option_or d (option_flatten (option_map (default_said is_multi) (attribute (codes "default") ts))) }))
   type_next (Some types) d before is known known' others = subst (λ b. first_of ((unless (not b) MalformedForm ++ type_attribute_faults us) ++ attributes_faults is_multi (name ∷ before) ts) ≡ Some MalformedForm) known refl
   type_next None d before is known known' others =
       let given : (types : Types) → IsGivenBy (record { types = Some types; default = d }) (name ∷ before) = λ types. record {
         types = ap (λ b. b || is_among before (codes "type")) (sym is);
         default = known' ∙ ap (λ b. b || is_among before (codes "default")) (sym (no_default name is));
       } in
-      let read = then_read (types_of us) (type_attribute_faults us) (attributes_faults is_multi (name ∷ before) ts) (Some (types_said us)) (Some (record { types = Some (types_said us); default = or_else d (option_flatten (option_map (default_said is_multi) (attribute (codes "default") ts))) })) (λ types. attributes_after is_multi (record { types = Some types; default = d }) ts) (type_read us) (λ types same. subst (λ it. IsRead (attributes_after is_multi (record { types = Some types; default = d }) ts) (attributes_faults is_multi (name ∷ before) ts) (option_map (λ said. record { types = Some said; default = or_else d (option_flatten (option_map (default_said is_multi) (attribute (codes "default") ts))) }) it)) (sym same) (others (record { types = Some types; default = d }) (given types))) in
-      subst (λ b. IsRead (and_then (ok_then (with_types (record { types = None; default = d })) (types_of us)) (λ b'. attributes_after is_multi b' ts)) ((unless (not b) MalformedForm ++ type_attribute_faults us) ++ attributes_faults is_multi (name ∷ before) ts) (Some (record { types = Some (types_said us); default = or_else d (option_flatten (option_map (default_said is_multi) (attribute (codes "default") ts))) }))) known (subst (λ r. IsRead r (type_attribute_faults us ++ attributes_faults is_multi (name ∷ before) ts) (Some (record { types = Some (types_said us); default = or_else d (option_flatten (option_map (default_said is_multi) (attribute (codes "default") ts))) }))) (sym (mapped (types_of us) (with_types (record { types = None; default = d })) (λ b'. attributes_after is_multi b' ts))) read)
+      let read = then_read (types_of us) (type_attribute_faults us) (attributes_faults is_multi (name ∷ before) ts) (Some (types_said us)) (Some (record { types = Some (types_said us); default = option_or d (option_flatten (option_map (default_said is_multi) (attribute (codes "default") ts))) })) (λ types. attributes_after is_multi (record { types = Some types; default = d }) ts) (type_read us) (λ types same. subst (λ it. IsRead (attributes_after is_multi (record { types = Some types; default = d }) ts) (attributes_faults is_multi (name ∷ before) ts) (option_map (λ said. record { types = Some said; default = option_or d (option_flatten (option_map (default_said is_multi) (attribute (codes "default") ts))) }) it)) (sym same) (others (record { types = Some types; default = d }) (given types))) in
+      subst (λ b. IsRead (and_then (ok_then (with_types (record { types = None; default = d })) (types_of us)) (λ b'. attributes_after is_multi b' ts)) ((unless (not b) MalformedForm ++ type_attribute_faults us) ++ attributes_faults is_multi (name ∷ before) ts) (Some (record { types = Some (types_said us); default = option_or d (option_flatten (option_map (default_said is_multi) (attribute (codes "default") ts))) }))) known (subst (λ r. IsRead r (type_attribute_faults us ++ attributes_faults is_multi (name ∷ before) ts) (Some (record { types = Some (types_said us); default = option_or d (option_flatten (option_map (default_said is_multi) (attribute (codes "default") ts))) }))) (sym (mapped (types_of us) (with_types (record { types = None; default = d })) (λ b'. attributes_after is_multi b' ts))) read)
 
   -- `(default ..)` after them
   default_next : (o : Option Types) (d : Option SlotDefault) (before : List (List ℕ)) → bytes_eq name (codes "type") ≡ false → bytes_eq name (codes "default") ≡ true → is_some o ≡ is_among before (codes "type") → is_some d ≡ is_among before (codes "default")
       → ((b : Attributes) → IsGivenBy b (name ∷ before) → IsRead (attributes_after is_multi b ts) (attributes_faults is_multi (name ∷ before) ts) (Some (said_with is_multi b ts)))
       → IsRead (and_then (if is_some d then Err MalformedForm else ok_then (with_default (record { types = o; default = d })) (default_of is_multi us)) (λ b. attributes_after is_multi b ts))
       ((unless (not (is_among before (codes "default"))) MalformedForm ++ default_attribute_faults is_multi us) ++ attributes_faults is_multi (name ∷ before) ts)
-      (Some (record { types = or_else o (option_map types_said (attribute (codes "type") ts)); default = or_else d (default_said is_multi us) }))
+      (Some (record { types = option_or o (option_map types_said (attribute (codes "type") ts)); default = option_or d (default_said is_multi us) }))
   default_next o (Some said) before is_no is known known' others = subst (λ b. first_of ((unless (not b) MalformedForm ++ default_attribute_faults is_multi us) ++ attributes_faults is_multi (name ∷ before) ts) ≡ Some MalformedForm) known' refl
   default_next o None before is_no is known known' others =
       let given : (said : SlotDefault) → IsGivenBy (record { types = o; default = Some said }) (name ∷ before) = λ said. record {
         types = known ∙ ap (λ b. b || is_among before (codes "type")) (sym is_no);
         default = ap (λ b. b || is_among before (codes "default")) (sym is);
       } in
-      let read = then_read (default_of is_multi us) (default_attribute_faults is_multi us) (attributes_faults is_multi (name ∷ before) ts) (default_said is_multi us) (Some (record { types = or_else o (option_map types_said (attribute (codes "type") ts)); default = or_else None (default_said is_multi us) })) (λ said. attributes_after is_multi (record { types = o; default = Some said }) ts) (default_read is_multi us) (λ said same. subst (λ it. IsRead (attributes_after is_multi (record { types = o; default = Some said }) ts) (attributes_faults is_multi (name ∷ before) ts) (Some (record { types = or_else o (option_map types_said (attribute (codes "type") ts)); default = it }))) (sym same) (others (record { types = o; default = Some said }) (given said))) in
-      subst (λ b. IsRead (and_then (ok_then (with_default (record { types = o; default = None })) (default_of is_multi us)) (λ b'. attributes_after is_multi b' ts)) ((unless (not b) MalformedForm ++ default_attribute_faults is_multi us) ++ attributes_faults is_multi (name ∷ before) ts) (Some (record { types = or_else o (option_map types_said (attribute (codes "type") ts)); default = default_said is_multi us }))) known' (subst (λ r. IsRead r (default_attribute_faults is_multi us ++ attributes_faults is_multi (name ∷ before) ts) (Some (record { types = or_else o (option_map types_said (attribute (codes "type") ts)); default = default_said is_multi us }))) (sym (mapped (default_of is_multi us) (with_default (record { types = o; default = None })) (λ b'. attributes_after is_multi b' ts))) read)
+      let read = then_read (default_of is_multi us) (default_attribute_faults is_multi us) (attributes_faults is_multi (name ∷ before) ts) (default_said is_multi us) (Some (record { types = option_or o (option_map types_said (attribute (codes "type") ts)); default = option_or None (default_said is_multi us) })) (λ said. attributes_after is_multi (record { types = o; default = Some said }) ts) (default_read is_multi us) (λ said same. subst (λ it. IsRead (attributes_after is_multi (record { types = o; default = Some said }) ts) (attributes_faults is_multi (name ∷ before) ts) (Some (record { types = option_or o (option_map types_said (attribute (codes "type") ts)); default = it }))) (sym same) (others (record { types = o; default = Some said }) (given said))) in
+      subst (λ b. IsRead (and_then (ok_then (with_default (record { types = o; default = None })) (default_of is_multi us)) (λ b'. attributes_after is_multi b' ts)) ((unless (not b) MalformedForm ++ default_attribute_faults is_multi us) ++ attributes_faults is_multi (name ∷ before) ts) (Some (record { types = option_or o (option_map types_said (attribute (codes "type") ts)); default = default_said is_multi us }))) known' (subst (λ r. IsRead r (default_attribute_faults is_multi us ++ attributes_faults is_multi (name ∷ before) ts) (Some (record { types = option_or o (option_map types_said (attribute (codes "type") ts)); default = default_said is_multi us }))) (sym (mapped (default_of is_multi us) (with_default (record { types = o; default = None })) (λ b'. attributes_after is_multi b' ts))) read)
 
 attributes_read : (is_multi : Bool) (a : Attributes) (before : List (List ℕ)) (ts : Trees) → IsGivenBy a before → IsRead (attributes_after is_multi a ts) (attributes_faults is_multi before ts) (Some (said_with is_multi a ts))
 attributes_read is_multi a before no_trees given = (refl, ap₂ (λ (o : Option Types) (d : Option SlotDefault). Some (record { types = o; default = d })) (sym (or_none a.types)) (sym (or_none a.default)))
@@ -87,7 +87,7 @@ attributes_read is_multi a before (tree t ts) given = by (call_of t) (λ name b 
         → ((b : Attributes) → IsGivenBy b (name ∷ before) → IsRead (attributes_after is_multi b ts) (attributes_faults is_multi (name ∷ before) ts) (Some (said_with is_multi b ts)))
         → IsRead (and_then (if is_type then (if is_some a.types then Err MalformedForm else ok_then (with_types a) (types_of us)) else (if is_default then (if is_some a.default then Err MalformedForm else ok_then (with_default a) (default_of is_multi us)) else Err NotInProfile)) (λ b. attributes_after is_multi b ts))
         ((if is_type then unless (not (is_among before (codes "type"))) MalformedForm ++ type_attribute_faults us else (if is_default then unless (not (is_among before (codes "default"))) MalformedForm ++ default_attribute_faults is_multi us else NotInProfile ∷ [])) ++ attributes_faults is_multi (name ∷ before) ts)
-        (Some (record { types = or_else a.types (option_map types_said (or_else (if is_type then Some us else None) (attribute (codes "type") ts))); default = or_else a.default (option_flatten (option_map (default_said is_multi) (or_else (if is_default then Some us else None) (attribute (codes "default") ts)))) }))
+        (Some (record { types = option_or a.types (option_map types_said (option_or (if is_type then Some us else None) (attribute (codes "type") ts))); default = option_or a.default (option_flatten (option_map (default_said is_multi) (option_or (if is_default then Some us else None) (attribute (codes "default") ts)))) }))
     named name us true true is is' others =
         let no = no_default name is in absurd (cc)
     named name us true false is is' others = type_next is_multi name us ts a.types a.default before is given.types given.default others
@@ -96,7 +96,7 @@ attributes_read is_multi a before (tree t ts) given = by (call_of t) (λ name b 
 
     by : (c : Option (List ℕ × Trees)) → ((name : List ℕ) (b : Attributes) → IsGivenBy b (name ∷ before) → IsRead (attributes_after is_multi b ts) (attributes_faults is_multi (name ∷ before) ts) (Some (said_with is_multi b ts)))
         → IsRead (and_then (attribute_by is_multi a c) (λ b. attributes_after is_multi b ts)) (attribute_faults is_multi before c ++ attributes_faults is_multi (and_name before c) ts)
-        (Some (record { types = or_else a.types (option_map types_said (or_else (after_head (codes "type") c) (attribute (codes "type") ts))); default = or_else a.default (option_flatten (option_map (default_said is_multi) (or_else (after_head (codes "default") c) (attribute (codes "default") ts)))) }))
+        (Some (record { types = option_or a.types (option_map types_said (option_or (after_head (codes "type") c) (attribute (codes "type") ts))); default = option_or a.default (option_flatten (option_map (default_said is_multi) (option_or (after_head (codes "default") c) (attribute (codes "default") ts)))) }))
     by None others = refl
     by (Some (name, us)) others = named name us (bytes_eq name (codes "type")) (bytes_eq name (codes "default")) refl refl (others name)
 

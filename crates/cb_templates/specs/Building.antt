@@ -72,7 +72,7 @@ abbrev pub filled : List SlotShape → Given → Result (List (List ℕ × Value
 filled [] given = Ok []
 filled (s ∷ slots) given = with_first (ok_then (λ v. (s.name, v)) (value_or_default s (given_for given s.name))) (filled slots given)
 
--- the fact of a relation with these slots; that they don't fit is told before a multifield where one value is wanted
+-- the fact of a relation with these slots; that they don't fit is reported before a multifield where one value is wanted
 abbrev pub slots_built : List ℕ → List SlotShape → Given → Result FactValue Fault
 slots_built relation slots given = if fits slots given then ok_then (template_fact relation) (filled slots given) else Err FactDoesNotFit
 

@@ -1,6 +1,6 @@
 -- Which template a `deftemplate` without a fault defines.
 use Rattle.std.specs.Prelude.{ℕ, Bool, true, false, List, [], ◌∷◌, Option, Some, None, codes, if◌then◌else◌}
-use Rattle.std.specs.Option.{option_flatten, option_map, option_map_or}
+use Rattle.std.specs.Option.{option_flatten, option_map, option_map_or, option_or}
 use Rattle.std.specs.Str.{bytes_eq}
 use Rattle.cb_forms.specs.Members.{call_of, head_and_rest, symbol_of}
 use Rattle.cb_forms.specs.Trees.{Tree, atom, branch, Trees, no_trees, tree}
@@ -48,14 +48,10 @@ abbrev pub after_head : List ℕ → Option (List ℕ × Trees) → Option Trees
 after_head head None = None
 after_head head (Some (name, ts)) = if bytes_eq name head then Some ts else None
 
-abbrev pub or_else : {X : Type 0} → Option X → Option X → Option X
-or_else (Some x) y = Some x
-or_else None y = y
-
 -- what follows the head of the first attribute of this name
 abbrev pub attribute : List ℕ → Trees → Option Trees
 attribute name no_trees = None
-attribute name (tree t ts) = or_else (after_head name (call_of t)) (attribute name ts)
+attribute name (tree t ts) = option_or (after_head name (call_of t)) (attribute name ts)
 
 -- the types of a slot, by its attributes: without `type` it takes any value
 abbrev pub types_in : Trees → Types

@@ -1,4 +1,4 @@
-//! Carries out a CLIPS script from standard input and writes its transcript to standard output.
+//! Runs a CLIPS script from standard input and writes its transcript to standard output.
 //!
 //! `README.md` has the options and the exit statuses.
 #![tactic(auto)]

@@ -9,7 +9,8 @@ use Rattle.std.specs.declared.cmp.Ordering.TheVariants.{Less, Equal, Greater}
 use Rattle.std.specs.Ordering.{is_eq, is_lt, eq_by_cmp, nat_cmp, ordering_reverse, ordering_then}
 use Rattle.std.specs.Hash as fed
 use Rattle.std.specs.Hash.{Alike, and-Alike, on_Alike, items_Alike, same_Alike}
-use Rattle.cb_facts.specs.Facts.{FactContent, fields, slots, FactValue, slot_eq, slot_cmp, slot_writes, content_eq, content_cmp, content_writes, fact_eq, fact_cmp, rest_cmp, hash_from, hash_of}
+use Rattle.cb_facts.specs.Facts.{FactContent, fields, slots, FactValue, slot_eq, content_eq, fact_eq}
+use Rattle.cb_facts.specs.Internal.FactOrder.{slot_cmp, slot_writes, content_cmp, content_writes, fact_cmp, rest_cmp, hash_from, hash_of}
 use Rattle.cb_facts.specs.contracts.single.SingleEq.TheImpl.Laws as single_eq
 use Rattle.cb_facts.specs.contracts.single.SingleOrd.TheImpl as single_order
 use Rattle.cb_facts.specs.contracts.single.SingleOrd.TheImpl.Laws as single_ord

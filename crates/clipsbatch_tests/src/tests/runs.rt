@@ -235,7 +235,7 @@ fn stops_at_each_read(
     Ok(true)
 }
 
-/// Whether the run goes to its end where a read would fail after the one that tells the script's end: that read does not come.
+/// Whether the run goes to its end where a read would fail after the one that reports the script's end: that read does not come.
 fn ends_before_a_read(
     alloc: Global,
     row: &Row,

@@ -1,6 +1,6 @@
 use Rattle.std.proofs.Common.{◌≡◌, sym, subst}
 use Rattle.std.specs.BTreeMap.{get}
-use Rattle.cb_facts.specs.Facts.{fact_cmp}
+use Rattle.cb_facts.specs.Internal.FactOrder.{fact_cmp}
 use Rattle.cb_facts.specs.FactLists.{IsFactBase}
 use Rattle.cb_facts.specs.Internal.{IsIndexed}
 use Rattle.cb_facts.proofs.FactListLaws.{fact_base, indexed-remove}
