@@ -2,7 +2,6 @@ pub mod Constraints
 pub mod Holding
 pub mod Internal
 pub mod Laws
-pub mod Meters
 pub mod PartValues
 pub mod PatternValues
 pub mod Rows

@@ -1,9 +1,9 @@
 //! All ways in which a pattern fits a fact.
 ghost use Rattle.std.specs.Prelude.{◌≡◌, IfOk, OnOk, map};
-ghost use Rattle.cb_constraints.specs.Meters.{one_more};
 ghost use Rattle.cb_constraints.specs.PartValues.{asked_parts, asked_slot};
 ghost use Rattle.cb_facts.specs.Facts.{content_of};
 ghost use Rattle.cb_fit.specs.Internal.{taken_of};
+ghost use Rattle.cb_fit.specs.Meters.{one_more};
 ghost use Rattle.cb_fit.specs.WayValues.{way_of};
 ghost use Rattle.cb_fit.specs.Ways.{way_with, ways, ways_of_parts, ways_of_row, ways_of_slots};
 
@@ -11,9 +11,11 @@ use crate::beginning::{Beginning, Beginnings};
 use crate::fields::Fields;
 use crate::given::newly_bound;
 use crate::look::Look;
+use crate::meter::Meter;
+use crate::pattern::Pattern;
 use crate::slots::take_slots;
 use crate::way::Way;
-use cb_constraints::{Meter, Parts, Pattern, Row, SlotRow};
+use cb_constraints::{Parts, Row, SlotRow};
 use cb_exprs::Env;
 use cb_facts::{Content, Fact, Multifield, Name, Value};
 use cb_forms::NoMemory;

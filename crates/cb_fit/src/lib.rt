@@ -1,4 +1,4 @@
-//! The ways in which a pattern fits a fact.
+//! Patterns, and the ways in which one fits a fact.
 //!
 //! `docs/ARCHITECTURE.md` says where the layer stands.
 #![tactic(auto)]
@@ -9,9 +9,13 @@ mod fitting;
 mod given;
 pub mod laws;
 mod look;
+mod meter;
+mod pattern;
 mod row;
 mod slots;
 mod way;
 
 pub use fitting::fit;
+pub use meter::Meter;
+pub use pattern::Pattern;
 pub use way::Way;

@@ -4,10 +4,6 @@
 //! layers stand.
 #![tactic(auto)]
 
-pub use cb_constraints::{
-    Check, Constraint, Demand, Meter, Parts, Pattern, Row, SlotRow, Test, Tested, count_leading,
-    laws as constraint_laws, meets,
-};
-pub use cb_fit::{Way, fit, laws as fit_laws};
-pub use cb_pattern_forms::read_pattern;
+pub use cb_constraints::laws as constraint_laws;
+pub use cb_fit::{Meter, Pattern, Way, fit, laws as fit_laws};
 pub use cb_rule_forms::{Ce, Rule};

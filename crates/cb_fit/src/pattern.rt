@@ -1,17 +1,17 @@
 //! Patterns.
 ghost use Rattle.std.specs.Prelude.{◌≡◌};
-ghost use Rattle.cb_constraints.specs.Meters.{one_more};
 ghost use Rattle.cb_constraints.specs.PartValues.{asked_parts};
+ghost use Rattle.cb_fit.specs.Meters.{one_more};
 
 use crate::meter::Meter;
-use crate::parts::Parts;
+use cb_constraints::Parts;
 use cb_facts::Name;
 use std::marker::{Model, PhantomData};
 
 /// A pattern: the relation of the facts that it is for, and what it asks of them (`docs/LANGUAGE.md`, "Patterns").
 ///
-/// What it asks can be read with a meter of the same type alone, and each time the meter goes up: so who has no meter tests
-/// no pattern, and what a meter says is how often patterns were tested.
+/// What it asks can't be read from it: only `fit` tests it, with a meter of the same type, which goes up by one each time.
+/// So who has no meter tests no pattern, and what a meter says is how often patterns were tested.
 ///
 /// Contracts see the relation and the parts.
 #[derive(Drop)]
@@ -54,7 +54,7 @@ impl<T> Pattern<T> {
     }
 
     /// What it asks of a fact, for one test of the pattern: the meter goes up by one.
-    pub fn open(&self, meter: &mut Meter<T>) -> &Parts
+    pub(crate) fn open(&self, meter: &mut Meter<T>) -> &Parts
         ensures parts { asked_parts result.now ≡ self.now.parts }
         ensures counted { meter.new ≡ one_more meter.old }
     {

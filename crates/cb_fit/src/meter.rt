@@ -1,6 +1,6 @@
 //! How often patterns were tested.
 ghost use Rattle.std.specs.Prelude.{◌≡◌};
-ghost use Rattle.cb_constraints.specs.Meters.{one_more};
+ghost use Rattle.cb_fit.specs.Meters.{one_more};
 
 use std::marker::Model;
 
