@@ -4,8 +4,7 @@ use Rattle.std.proofs.lemmas.Grind.{flat_map-append}
 use Rattle.std.proofs.lemmas.List.{append-nil, take_more, take-append-drop}
 use Rattle.std.specs.List.{flat_map}
 use Rattle.cb_actions.specs.Acts.{Effect, Act, after_writing, follow}
-use Rattle.cb_actions.specs.Went.{extent_at}
-use Rattle.cb_actions.specs.Internal.{break_extent, Answers, Went, Quietly}
+use Rattle.cb_actions.specs.Went.{Answers, Quietly, Went, break_extent, extent_at}
 use Rattle.cb_actions.specs.declared.act.Break.{Break}
 use Rattle.cb_actions.specs.declared.act.Break.TheVariants as break
 use Rattle.cb_actions.specs.declared.act.Ended.{Ended}

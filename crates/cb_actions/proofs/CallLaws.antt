@@ -2,7 +2,7 @@
 use Rattle.std.proofs.Common.{◌≡◌, ◌<◌, ◌≤◌, Bool, true, false, List, [], ◌∷◌, length, get_or, drop, Option, Some, Result, Ok, Err, refl, ap, arith}
 use Rattle.cb_actions.specs.Actions.{carried, carried_values}
 use Rattle.cb_actions.specs.Effects.{called, valued, ends}
-use Rattle.cb_actions.specs.Internal.{Went, Quietly}
+use Rattle.cb_actions.specs.Went.{Went, Quietly}
 use Rattle.cb_actions.specs.Worlds.{World}
 use Rattle.cb_actions.specs.declared.act.Break.{Break}
 use Rattle.cb_actions.proofs.ActLaws.{went_then, went_off, went_quietly}

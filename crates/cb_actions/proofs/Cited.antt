@@ -6,8 +6,8 @@ use Rattle.cb_actions.proofs.TurnLaws as turns
 use Rattle.cb_actions.specs.Actions.{carried}
 use Rattle.cb_actions.specs.Acts.{Act, Effect, follow, ◌>>=◌}
 use Rattle.cb_actions.specs.Definitions.{all_asserted, all_evaluated, globals_defined, template_defined}
-use Rattle.cb_actions.specs.Internal.{Falls, Quietly, Went, turns_left}
-use Rattle.cb_actions.specs.Went.{extent_at}
+use Rattle.cb_actions.specs.Internal.{Falls, turns_left}
+use Rattle.cb_actions.specs.Went.{Quietly, Went, extent_at}
 use Rattle.cb_actions.specs.declared.act.Break.{Break}
 use Rattle.cb_actions.specs.declared.stop.Stop.{Stop}
 use Rattle.cb_exprs.specs.FactTerms.{FactTerm}

@@ -3,7 +3,7 @@ use Rattle.std.proofs.Common.{◌≡◌, ◌<◌, ◌+◌, ℕ, List, [], ◌∷
 use Rattle.cb_actions.specs.Acts.{Effect, Act, after_writing, follow, ◌>>=◌}
 use Rattle.cb_actions.specs.Actions.{carried}
 use Rattle.cb_actions.specs.Definitions.{all_asserted}
-use Rattle.cb_actions.specs.Internal.{Went}
+use Rattle.cb_actions.specs.Went.{Went}
 use Rattle.cb_actions.specs.Worlds.{World}
 use Rattle.cb_actions.specs.declared.act.Break.{Break}
 use Rattle.cb_actions.specs.declared.act.Ended.{Ended}

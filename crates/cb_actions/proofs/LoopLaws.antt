@@ -3,7 +3,7 @@ use Rattle.std.proofs.Common.{◌≡◌, ◌<◌, ◌+◌, ℕ, zero, suc, Bool,
 use Rattle.cb_actions.specs.Acts.{Effect, Act, give, ◌>>=◌}
 use Rattle.cb_actions.specs.Actions.{carried, carried_all, carried_values}
 use Rattle.cb_actions.specs.Effects.{valued, truth_of, ends, chosen, turn, turn_of}
-use Rattle.cb_actions.specs.Internal.{Went, Quietly}
+use Rattle.cb_actions.specs.Went.{Went, Quietly}
 use Rattle.cb_actions.specs.Worlds.{World}
 use Rattle.cb_actions.specs.declared.act.Break.{Break}
 use Rattle.cb_actions.specs.declared.act.Break.TheVariants as break

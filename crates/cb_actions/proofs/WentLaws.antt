@@ -1,7 +1,7 @@
 -- What a call that carried something out left, and calls that were refused memory.
 use Rattle.std.proofs.Common.{◌≡◌, false, Result, Ok, Err, OnOk, refl, sym, ap, subst, ◌∙◌}
 use Rattle.cb_actions.specs.Acts.{Effect, Act, follow}
-use Rattle.cb_actions.specs.Internal.{Went}
+use Rattle.cb_actions.specs.Went.{Went}
 use Rattle.cb_actions.specs.declared.act.Break.{Break}
 use Rattle.cb_actions.specs.declared.act.Break.TheVariants as break
 use Rattle.cb_actions.specs.declared.act.Ended.{Ended}

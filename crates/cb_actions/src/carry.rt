@@ -2,7 +2,8 @@
 ghost use Rattle.std.specs.Prelude.{◌≡◌, [], None, OnOk, Some, false};
 ghost use Rattle.cb_actions.specs.Actions.{carried, carried_all, carried_values};
 ghost use Rattle.cb_actions.specs.Effects.{truth_of, valued};
-ghost use Rattle.cb_actions.specs.Internal.{Went, items_answered};
+ghost use Rattle.cb_actions.specs.Internal.{items_answered};
+ghost use Rattle.cb_actions.specs.Went.{Went};
 ghost use Rattle.cb_exprs.specs.Terms.{call, term_of, terms_of};
 ghost use Rattle.cb_functions.specs.Constants.{false_symbol};
 

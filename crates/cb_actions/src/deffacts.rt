@@ -2,7 +2,7 @@
 ghost use Rattle.std.specs.Prelude.{◌≡◌, OnOk, false};
 ghost use Rattle.cb_actions.specs.Actions.{carried};
 ghost use Rattle.cb_actions.specs.Definitions.{all_asserted};
-ghost use Rattle.cb_actions.specs.Internal.{Went};
+ghost use Rattle.cb_actions.specs.Went.{Went};
 ghost use Rattle.cb_exprs.specs.Terms.{assert};
 ghost use Rattle.cb_working_memory.specs.Deffacts.{kept_facts};
 

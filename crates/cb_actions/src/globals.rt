@@ -1,7 +1,7 @@
 //! Global variables defined, and evaluated anew.
 ghost use Rattle.std.specs.Prelude.{◌≡◌};
 ghost use Rattle.cb_actions.specs.Definitions.{all_evaluated, global_after, globals_after, globals_defined, one_evaluated};
-ghost use Rattle.cb_actions.specs.Internal.{Quietly};
+ghost use Rattle.cb_actions.specs.Went.{Quietly};
 ghost use Rattle.cb_facts.specs.Results.{Returns, Settles};
 
 use crate::act::Break;

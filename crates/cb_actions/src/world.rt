@@ -7,7 +7,7 @@ ghost use Rattle.cb_actions.specs.Acts.{give, write};
 ghost use Rattle.cb_actions.specs.Definitions.{template_defined};
 ghost use Rattle.cb_actions.specs.Effects.{fact_added, asserted, bound, called, each_given, ends, global_bound, global_looked_up, looked_up, parts_of, printed_line, retracted, turn};
 ghost use Rattle.cb_actions.specs.Printing.{printed};
-ghost use Rattle.cb_actions.specs.Internal.{Quietly, Went};
+ghost use Rattle.cb_actions.specs.Went.{Quietly, Went};
 ghost use Rattle.cb_actions.specs.Worlds.{World as State, cleared, first_world, without_facts, without_variables};
 ghost use Rattle.cb_functions.specs.Constants.{false_symbol};
 ghost use Rattle.cb_templates.specs.Building.{part_values};

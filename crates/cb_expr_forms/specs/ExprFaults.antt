@@ -16,7 +16,7 @@ use Rattle.cb_forms.specs.declared.token.Token.{Token}
 use Rattle.cb_forms.specs.declared.token.Token.TheVariants as token
 use Rattle.cb_templates.specs.Reserved.{is_reserved}
 use Rattle.cb_templates.specs.Slots.{SlotShape, Types, allows_all, slot_named}
-use Rattle.cb_templates.specs.TemplateFaults.{is_none, is_one}
+use Rattle.cb_templates.specs.TemplateFaults.{is_no_form, is_one_form}
 use Rattle.cb_templates.specs.Templates.{slots_of}
 use Rattle.cb_words.specs.Arities.{arity_of, takes}
 use Rattle.cb_words.specs.Words.{head_of}
@@ -73,7 +73,7 @@ are_filled slots given = list_all (λ s. is_known given s.name || is_some s.defa
 -- What is wrong with a call with an effect: the number and the shape of its arguments, and then these faults of the
 -- arguments, or of the facts that it asserts.
 abbrev pub action_faults : Scope → Action → Trees → List Fault → List Fault → List Fault
-action_faults s action.Assert ts args facts = unless (not (is_none ts)) WrongArguments ++ facts
+action_faults s action.Assert ts args facts = unless (not (is_no_form ts)) WrongArguments ++ facts
 action_faults s a ts args facts = unless (is_some (action_of a (exprs_of s.templates ts))) (arguments_fault a) ++ args
 
 -- What is wrong with a call: its word is that of a function, an effect may stand there, and so on.
@@ -92,7 +92,7 @@ content_faults (Some shapes) fields slots = slots shapes
 abbrev pub given_slot_faults : Option SlotShape → Bool → Trees → (Types → List Fault) → List Fault
 given_slot_faults None is_given ts values = FactDoesNotFit ∷ []
 given_slot_faults (Some slot) is_given ts values =
-    unless (not is_given) FactDoesNotFit ++ (unless (slot.is_multi || is_one ts) FactDoesNotFit ++ values slot.types)
+    unless (not is_given) FactDoesNotFit ++ (unless (slot.is_multi || is_one_form ts) FactDoesNotFit ++ values slot.types)
 
 abbrev mutual
   -- what is wrong with an expression

@@ -17,7 +17,7 @@ use Rattle.cb_forms.specs.declared.fault.Fault.{Fault}
 use Rattle.cb_forms.specs.declared.fault.Fault.TheVariants.{FactDoesNotFit, OneValueWanted}
 use Rattle.cb_laws.proofs.SlotLaws.{found_given, given_found}
 use Rattle.cb_laws.specs.SlotValues.{CanTake, FitsSlots, IsGiven, IsLeftOut}
-use Rattle.cb_templates.specs.Building.{Given, are_distinct, built, built_by, filled, fits, given_for, given_names, is_one, one_value, slot_values, can_take, value_or_default}
+use Rattle.cb_templates.specs.Building.{Given, are_distinct, built, built_by, filled, fits, given_for, given_names, is_one_value, one_value, slot_values, can_take, value_or_default}
 use Rattle.cb_templates.specs.Slots.{SlotShape, slot_named}
 use Rattle.cb_templates.specs.Templates.{Templates, slots_of}
 use Rattle.cb_working_memory.proofs.Cited.{contains_here, contains_there}
@@ -49,7 +49,7 @@ pub record HasOne (s : SlotShape) (o : Option (List Value)) : Type 0 where
 
 multi_one : (s : SlotShape) (vs : List Value) → s.is_multi ≡ true → HasOne s (Some vs)
 multi_one s vs multi = record {
-  takes_it = ap (λ t. t || is_one vs) multi;
+  takes_it = ap (λ t. t || is_one_value vs) multi;
   v = value.Multi (spliced vs);
   is = ap (λ t. if t then Ok (value.Multi (spliced vs)) else one_value vs) multi;
 }

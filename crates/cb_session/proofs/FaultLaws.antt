@@ -15,6 +15,7 @@ use Rattle.cb_session.specs.Actions.{acted, on_world, initials_kept, performed, 
 use Rattle.cb_session.specs.Laws.{EndsWithFault, KeepsDefinitions}
 use Rattle.cb_session.specs.States.{State}
 use Rattle.cb_session.specs.Transcripts.{Run, concluded, executed}
+use Rattle.cb_templates.specs.Slots.{SlotShape}
 
 -- what an item does, by its request or the fault of it
 abbrev done : State → Result Request Fault → Effect State (Unit {0})
@@ -68,6 +69,12 @@ fault_leaves s r f request leaves is h =
 pub fault_of_globals : (s : State) (r : Reading) (f : Fault) (gs : List GlobalTerm) → requested s r ≡ Ok (asked.define_globals gs) → EndsWithFault s r f
     → (executed s r).state ≡ record s { is_faulted = true }
 fault_of_globals s r f gs is h = fault_leaves s r f (asked.define_globals gs) (globals_leave s gs (globals_after s.world.env gs)) is h
+
+pub template_is_defined : (s : State) (r : Reading) (f : Fault) (template : List ℕ × List SlotShape) → requested s r ≡ Ok (asked.define_template template) → EndsWithFault s r f → ⊥
+unfolding acted
+template_is_defined s r f template is h =
+    let ends : (done s (Ok (asked.define_template template))).answer ≡ Err (ended.Fault f) = sym (ap (λ (it : Result Request Fault). (done s it).answer) is) ∙ h in
+    let faulty : (performed (asked.define_template template) s).answer ≡ Err (ended.Fault f) = done_fault s (asked.define_template template) f ends in absurd (cc)
 
 -- the definitions stay where the state stays
 same_kept : (s t : State) → t ≡ s → KeepsDefinitions s t

@@ -4,8 +4,8 @@ use Rattle.std.proofs.lemmas.List.{append-nil}
 use Rattle.cb_forms.specs.Laws.{BeginsWith}
 use Rattle.cb_actions.proofs.Cited.{stopped-more, went_then, went_as}
 use Rattle.cb_actions.specs.Acts.{follow, give_or_fault}
-use Rattle.cb_actions.specs.Went.{extent_at, stop_extent}
-use Rattle.cb_actions.specs.Internal.{broken_by, Went}
+use Rattle.cb_actions.specs.Went.{Went, extent_at, stop_extent}
+use Rattle.cb_actions.specs.Internal.{broken_by}
 use Rattle.cb_actions.specs.declared.act.Break.TheVariants as break
 use Rattle.cb_actions.specs.declared.act.Break.{Break}
 use Rattle.cb_actions.specs.declared.act.Ended.TheVariants as ended

@@ -1,7 +1,7 @@
 -- Acts on the world, as acts on the whole state, and acts after acts that put nothing.
 use Rattle.std.proofs.Common.{◌≡◌, [], Result, Ok, Err, refl, sym, ap, subst}
 use Rattle.cb_actions.specs.Acts.{Act, Effect, follow}
-use Rattle.cb_actions.specs.Internal.{Quietly, Went}
+use Rattle.cb_actions.specs.Went.{Quietly, Went}
 use Rattle.cb_actions.specs.Worlds.{World}
 use Rattle.cb_actions.specs.declared.act.Break.TheVariants as break
 use Rattle.cb_actions.specs.declared.act.Break.{Break}

@@ -1,7 +1,6 @@
 //! Carrying out items.
 ghost use Rattle.std.specs.Prelude.{◌≡◌, IfSome, Ok, None, Some, IfOk, OnOk, false, true};
-ghost use Rattle.cb_actions.specs.Went.{stop_extent};
-ghost use Rattle.cb_actions.specs.Internal.{Quietly, Went};
+ghost use Rattle.cb_actions.specs.Went.{Quietly, Went, stop_extent};
 ghost use Rattle.cb_exprs.specs.Terms.{term_of};
 ghost use Rattle.cb_forms.specs.Trees.{atom, reading_of};
 ghost use Rattle.cb_io.specs.Output.{Puts};

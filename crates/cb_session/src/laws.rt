@@ -12,6 +12,7 @@ ghost use Rattle.cb_session.specs.Transcripts.{added, added_at_end, begun, so_fa
 ghost use Rattle.cb_session.specs.declared.limits.Limits.{Limits};
 ghost use Rattle.cb_session.specs.declared.status.Ending.TheVariants as ending;
 ghost use Rattle.cb_session.specs.declared.status.Status.{Status};
+ghost use Rattle.cb_templates.specs.Slots.{SlotShape};
 
 /// Before its first byte a script has written nothing. What it has written so far is a beginning of what it writes
 /// however it goes on.
@@ -48,8 +49,8 @@ pub fn what_has_ended_counts_alone()
 {}
 
 /// An item that is refused, be it a `deftemplate` or another, changes nothing but the mark for status 1. Nor does a
-/// `defglobal` that ends with a fault: either all of its globals are defined or none. Whatever item ends with a fault, each `deffacts` and
-/// the initial expressions of the globals stay.
+/// `defglobal` that ends with a fault: either all of its globals are defined or none. A template that isn't refused is
+/// defined without a fault. Whatever item ends with a fault, each `deffacts` and the initial expressions of the globals stay.
 pub fn a_fault_changes_nothing_else()
     ensures refused { (s : State) (r : Reading) (fault : Fault)
         → requested s r ≡ Err fault
@@ -58,6 +59,9 @@ pub fn a_fault_changes_nothing_else()
         → requested s r ≡ Ok (request.define_globals gs)
         → EndsWithFault s r fault
         → (executed s r).state ≡ record s { is_faulted = true } }
+    ensures template { (s : State) (r : Reading) (fault : Fault) (template : List ℕ × List SlotShape)
+        → requested s r ≡ Ok (request.define_template template)
+        → EndsWithFault s r fault → ⊥ }
     ensures kept { (s : State) (r : Reading) (fault : Fault)
         → EndsWithFault s r fault
         → KeepsDefinitions s (executed s r).state }

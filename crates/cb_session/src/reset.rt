@@ -1,6 +1,6 @@
 //! What `reset` does.
 ghost use Rattle.std.specs.Prelude.{◌≡◌, false};
-ghost use Rattle.cb_actions.specs.Internal.{Went};
+ghost use Rattle.cb_actions.specs.Went.{Went};
 ghost use Rattle.cb_session.specs.Actions.{reset_to};
 ghost use Rattle.cb_working_memory.specs.Deffacts.{kept_facts};
 

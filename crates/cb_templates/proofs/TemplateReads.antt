@@ -16,7 +16,7 @@ use Rattle.cb_templates.specs.FaultLists.{ReadsAs, unless, first_of, unless_faul
 use Rattle.cb_templates.specs.Internal.SlotReads.{default_constant, default_constants, default_of, multi_default, one_default, some_types, type_by, types_after, types_of}
 use Rattle.cb_templates.specs.SlotForms.{is_variable, no_constant, type_named}
 use Rattle.cb_templates.specs.Slots.{with_type}
-use Rattle.cb_templates.specs.TemplateFaults.{constant_faults, constants_faults, default_attribute_faults, is_none, is_one, type_attribute_faults, type_name_faults, types_faults}
+use Rattle.cb_templates.specs.TemplateFaults.{constant_faults, constants_faults, default_attribute_faults, is_no_form, is_one_form, type_attribute_faults, type_name_faults, types_faults}
 use Rattle.cb_templates.specs.TemplateShapes.{constant_in, constants_listed, default_said, default_by, types_listed, types_said}
 use Rattle.cb_templates.specs.declared.attribute.SlotDefault.TheVariants.{Required, Derived, Fixed}
 use Rattle.cb_templates.specs.declared.slot_type.SlotType.{SlotType}
@@ -73,7 +73,7 @@ types_read types (tree t ts) = by (symbol_of t) (λ more. types_read more ts)
 pub type_read : (ts : Trees) → IsRead (types_of ts) (type_attribute_faults ts) (Some (types_said ts))
 type_read ts = by (is_variable (codes "VARIABLE") ts) ts
   where
-    by : (b : Bool) (us : Trees) → IsRead (if b then Ok None else some_types us) (if b then [] else unless (not (is_none us)) MalformedForm ++ types_faults us) (Some (if b then None else Some (types_listed [] us)))
+    by : (b : Bool) (us : Trees) → IsRead (if b then Ok None else some_types us) (if b then [] else unless (not (is_no_form us)) MalformedForm ++ types_faults us) (Some (if b then None else Some (types_listed [] us)))
     by true us = (refl, refl)
     by false no_trees = refl
     by false (tree t us) = map_read (types_after [] (tree t us)) (types_faults (tree t us)) (Some (types_listed [] (tree t us))) (Some (Some (types_listed [] (tree t us)))) Some (types_read [] (tree t us)) (λ x is. ap Some is)
@@ -97,7 +97,7 @@ constants_read : (ts : Trees) → IsRead (default_constants ts) (constants_fault
 constants_read no_trees = (refl, refl)
 constants_read (tree t ts) = both_read (default_constant t) (default_constants ts) (constant_faults t) (constants_faults ts) (constant_in t) (constants_listed ts) (constant_read t) (constants_read ts)
 
-one_read : (ts : Trees) → IsRead (one_default ts) (unless (is_one ts) MalformedForm ++ constants_faults ts) (default_by (constants_listed ts))
+one_read : (ts : Trees) → IsRead (one_default ts) (unless (is_one_form ts) MalformedForm ++ constants_faults ts) (default_by (constants_listed ts))
 one_read no_trees = refl
 one_read (tree t no_trees) = subst (λ fs. IsRead (ok_then Fixed (default_constant t)) fs (default_by (option_map_or (λ v. v ∷ []) (constant_in t) []))) (sym (append-nil (constant_faults t))) (map_read (default_constant t) (constant_faults t) (constant_in t) (default_by (option_map_or (λ v. v ∷ []) (constant_in t) [])) Fixed (constant_read t) (λ x is. ap (λ o. default_by (option_map_or (λ v. v ∷ []) o [])) is))
 one_read (tree t (tree u ts)) = refl
@@ -105,7 +105,7 @@ one_read (tree t (tree u ts)) = refl
 pub default_read : (is_multi : Bool) (ts : Trees) → IsRead (default_of is_multi ts) (default_attribute_faults is_multi ts) (default_said is_multi ts)
 default_read is_multi ts = by (is_variable (codes "NONE") ts) (is_variable (codes "DERIVE") ts) is_multi
   where
-    by : (none derive multi : Bool) → IsRead (if none then Ok Required else (if derive then Ok Derived else (if multi then multi_default ts else one_default ts))) (if none || derive then [] else unless (multi || is_one ts) MalformedForm ++ constants_faults ts) (if none then Some Required else (if derive then Some Derived else (if multi then Some (Fixed (value.Multi (spliced (constants_listed ts)))) else default_by (constants_listed ts))))
+    by : (none derive multi : Bool) → IsRead (if none then Ok Required else (if derive then Ok Derived else (if multi then multi_default ts else one_default ts))) (if none || derive then [] else unless (multi || is_one_form ts) MalformedForm ++ constants_faults ts) (if none then Some Required else (if derive then Some Derived else (if multi then Some (Fixed (value.Multi (spliced (constants_listed ts)))) else default_by (constants_listed ts))))
     by true derive multi = (refl, refl)
     by false true multi = (refl, refl)
     by false false true = map_read (default_constants ts) (constants_faults ts) (Some (constants_listed ts)) (Some (Fixed (value.Multi (spliced (constants_listed ts))))) (λ vs. Fixed (value.Multi (spliced vs))) (constants_read ts) (λ vs is. ap (λ o. option_map_or (λ us. Some (Fixed (value.Multi (spliced us)))) o None) is)

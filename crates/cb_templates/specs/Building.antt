@@ -43,14 +43,14 @@ abbrev pub are_distinct : Given → Bool
 are_distinct [] = true
 are_distinct (g ∷ given) = not (is_some (given_for given g.0)) && are_distinct given
 
-abbrev pub is_one : List Value → Bool
-is_one (v ∷ []) = true
-is_one vs = false
+abbrev pub is_one_value : List Value → Bool
+is_one_value (v ∷ []) = true
+is_one_value vs = false
 
 -- a slot can take what it is given: a multislot any number of values, another slot one; given none, it has a default
 abbrev pub can_take : SlotShape → Option (List Value) → Bool
 can_take s None = is_some s.default
-can_take s (Some vs) = s.is_multi || is_one vs
+can_take s (Some vs) = s.is_multi || is_one_value vs
 
 -- what is given fits the slots: it names slots that are there, each at most once, and each slot can take it
 abbrev pub fits : List SlotShape → Given → Bool

@@ -20,13 +20,13 @@ use Rattle.cb_templates.specs.declared.attribute.SlotDefault.TheVariants.{Fixed}
 abbrev pub is_among : List (List ℕ) → List ℕ → Bool
 is_among names name = list_any (λ n. bytes_eq n name) names
 
-abbrev pub is_none : Trees → Bool
-is_none no_trees = true
-is_none (tree t ts) = false
+abbrev pub is_no_form : Trees → Bool
+is_no_form no_trees = true
+is_no_form (tree t ts) = false
 
-abbrev pub is_one : Trees → Bool
-is_one (tree t no_trees) = true
-is_one ts = false
+abbrev pub is_one_form : Trees → Bool
+is_one_form (tree t no_trees) = true
+is_one_form ts = false
 
 -- a type is a symbol that names one of the five types
 abbrev pub type_name_faults : Option (List ℕ) → List Fault
@@ -39,7 +39,7 @@ types_faults (tree t ts) = type_name_faults (symbol_of t) ++ types_faults ts
 
 -- `(type ..)` has `?VARIABLE` alone, or one type or more
 abbrev pub type_attribute_faults : Trees → List Fault
-type_attribute_faults ts = if is_variable (codes "VARIABLE") ts then [] else unless (not (is_none ts)) MalformedForm ++ types_faults ts
+type_attribute_faults ts = if is_variable (codes "VARIABLE") ts then [] else unless (not (is_no_form ts)) MalformedForm ++ types_faults ts
 
 -- a default is a constant
 abbrev pub constant_faults : Tree → List Fault
@@ -53,7 +53,7 @@ constants_faults (tree t ts) = constant_faults t ++ constants_faults ts
 -- `(default ..)` has `?NONE` or `?DERIVE` alone, or constants; a `slot` has exactly one
 abbrev pub default_attribute_faults : Bool → Trees → List Fault
 default_attribute_faults is_multi ts =
-    if is_variable (codes "NONE") ts || is_variable (codes "DERIVE") ts then [] else unless (is_multi || is_one ts) MalformedForm ++ constants_faults ts
+    if is_variable (codes "NONE") ts || is_variable (codes "DERIVE") ts then [] else unless (is_multi || is_one_form ts) MalformedForm ++ constants_faults ts
 
 -- an attribute is `type` or `default`, and its name isn't among those before it
 abbrev pub attribute_faults : Bool → List (List ℕ) → Option (List ℕ × Trees) → List Fault

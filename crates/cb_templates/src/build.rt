@@ -3,7 +3,7 @@ ghost use Rattle.std.specs.Prelude.{◌≡◌, None, Ok, Err, IfOk, IfErr, is_so
 ghost use Rattle.std.specs.List.{list_all};
 ghost use Rattle.cb_facts.specs.Facts.{ordered_fact};
 ghost use Rattle.cb_facts.specs.Values.{spliced};
-ghost use Rattle.cb_templates.specs.Building.{built, filled, fits, given_for, is_one, one_value, part_values, value_or_default, slots_built, can_take};
+ghost use Rattle.cb_templates.specs.Building.{built, filled, fits, given_for, is_one_value, one_value, part_values, value_or_default, slots_built, can_take};
 ghost use Rattle.cb_facts.specs.Results.{Returns, Settles};
 ghost use Rattle.cb_templates.specs.Slots.{slot_named};
 
@@ -113,12 +113,12 @@ fn takes(slot: &Slot, given: &GivenSlots) -> bool
 {
     match given.find(slot.name()) {
         None => slot.default().is_some(),
-        Some(values) => slot.multi() || is_one(values),
+        Some(values) => slot.multi() || is_one_value(values),
     }
 }
 
-fn is_one(values: &[Value]) -> bool
-    ensures { result ≡ is_one values.now }
+fn is_one_value(values: &[Value]) -> bool
+    ensures { result ≡ is_one_value values.now }
 {
     let Some((_, rest)) = values.split_first() else {
         return false;

@@ -4,7 +4,8 @@ use Rattle.cb_actions.specs.Acts.{Act, give, write}
 use Rattle.cb_actions.specs.Actions.{carried, carried_all, carried_values}
 use Rattle.cb_actions.specs.Effects.{wanted, looked_up, global_looked_up, called, asserted, retracted, bound, global_bound, printed_line, chosen, ends}
 use Rattle.cb_actions.specs.Printing.{printed, printed_values}
-use Rattle.cb_actions.specs.Internal.{Went, Quietly, items_answered}
+use Rattle.cb_actions.specs.Internal.{items_answered}
+use Rattle.cb_actions.specs.Went.{Went, Quietly}
 use Rattle.cb_actions.specs.Worlds.{World}
 use Rattle.cb_actions.specs.declared.act.Break.TheVariants as break
 use Rattle.cb_actions.specs.declared.act.Ended.TheVariants as ended

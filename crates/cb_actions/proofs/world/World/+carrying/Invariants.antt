@@ -1,6 +1,6 @@
 use Rattle.std.proofs.Common.{◌≡◌, List, [], Option, Some, Result, drop, false}
 use Rattle.cb_actions.specs.Actions.{carried, carried_all, carried_values}
-use Rattle.cb_actions.specs.Internal.{Went}
+use Rattle.cb_actions.specs.Went.{Went}
 use Rattle.cb_actions.specs.Worlds.{World}
 use Rattle.cb_actions.specs.declared.act.Break.{Break}
 use Rattle.cb_exprs.specs.Terms.{term_of, terms_of}

@@ -1,6 +1,6 @@
 use Rattle.std.proofs.Common.{◌≡◌, ◌∷◌, ◌++◌, [], None, Ok, Err, refl, subst, sym, ap, ◌∙◌, rules}
 use Rattle.cb_actions.specs.Definitions.{all_asserted}
-use Rattle.cb_actions.specs.Internal.{Went}
+use Rattle.cb_actions.specs.Went.{Went}
 use Rattle.cb_actions.proofs.ActLaws.{went_quietly, went_as}
 use Rattle.cb_actions.proofs.FactLaws.{groups_then, groups_off}
 use Rattle.cb_actions.proofs.WentLaws.{went_fine}

@@ -6,8 +6,7 @@ use Rattle.cb_session.specs.Actions.{acted}
 use Rattle.cb_session.specs.States.{State}
 use Rattle.cb_session.specs.Transcripts.{executed}
 use Rattle.cb_session.specs.Internal.Executing.{Executes}
-use Rattle.cb_actions.specs.Went.{stop_extent}
-use Rattle.cb_actions.specs.Internal.{Went}
+use Rattle.cb_actions.specs.Went.{Went, stop_extent}
 use Rattle.cb_actions.specs.declared.act.Break.TheVariants as break
 use Rattle.cb_actions.specs.declared.act.Ended.TheVariants as ended
 use Rattle.cb_session.proofs.ItemLaws.{executes-done, executes-fault, executes-limit, executes-stopped}
