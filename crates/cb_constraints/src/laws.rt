@@ -79,8 +79,8 @@ pub fn the_first_check_comes_first()
         → after_demand (each (c ∷ cs)) v env ≡ after_demand (each cs) v grown }
 {}
 
-/// `~t` holds just where `t` alone doesn't, of each test that takes no value: a constant, a variable that has a value, a predicate
-/// or a return value.
+/// `~t` holds just where `t` alone doesn't, of each test by which no variable takes a value: that for a constant or a variable
+/// that has a value, a predicate, or a return value.
 pub fn the_opposite_holds_where_the_test_alone_does_not()
     ensures holds { (t : Test) (v : Value) (env : Bindings) → TakesNoValue t env
         → after_demand (only (plain t)) v env ≡ None
@@ -99,7 +99,8 @@ pub fn one_alternative_is_enough()
         → (OneHolds alternatives v env → ⊥)
         → after_demand (any_of_these alternatives) v env ≡ None }
     ensures only { (alternatives : List (List Check)) (v : Value) (env grown : Bindings)
-        → after_demand (any_of_these alternatives) v env ≡ Some grown → OneHolds alternatives v env }
+        → after_demand (any_of_these alternatives) v env ≡ Some grown
+        → OneHolds alternatives v env }
 {}
 
 /// A variable that is set apart comes first: `?x&red|blue` is `?x` and then `red|blue`.
