@@ -7,6 +7,7 @@ mod Givings
 mod Groups
 mod InTurn
 mod Listed
+mod Looked
 mod LooseDemands
 mod Numbers
 mod Places

@@ -1,5 +1,5 @@
 -- The constraints before the first that takes a segment.
-use Rattle.std.proofs.Common.{arith, ◌≡◌, ◌≢◌, ◌∙◌, ◌++◌, ◌+◌, ◌-◌, ◌<◌, ◌≤◌, ◌==◌, Bool, true, false, List, ℕ, zero, suc, [], ◌∷◌, ap, drop, length, map, refl, rules, sym, take}
+use Rattle.std.proofs.Common.{arith, ◌≡◌, ◌∙◌, ◌++◌, ◌+◌, ◌≤◌, ◌==◌, Bool, true, false, List, ℕ, suc, [], ◌∷◌, ap, drop, length, map, refl, rules, sym, take}
 use Rattle.std.proofs.lemmas.List.{length-map, map-append}
 use Rattle.std.proofs.lemmas.Bool.{eqb-true}
 use Rattle.std.specs.List.{drop-map, take-map}
@@ -45,6 +45,10 @@ segment-next (c ∷ cs) = next-step c cs c.segment refl (segment-next cs)
 -- the same of constraints of the program
 pub taken_ones : (cs : List program.Constraint) (n : ℕ) → n ≡ before_segments (map constraint_of cs) → segments_wanted (map constraint_of (take n cs)) ≡ 0
 taken_ones cs n e = ap segments_wanted (sym (take-map constraint_of n cs)) ∙ (ap (λ k. segments_wanted (take k (map constraint_of cs))) e ∙ leading-ones (map constraint_of cs))
+
+-- they are those before the first that takes a segment
+pub taken_front : (cs : List program.Constraint) (n : ℕ) → n ≡ before_segments (map constraint_of cs) → map constraint_of (take n cs) ≡ take (before_segments (map constraint_of cs)) (map constraint_of cs)
+taken_front cs n e = sym (take-map constraint_of n cs) ∙ ap (λ k. take k (map constraint_of cs)) e
 
 pub dropped_segment : (cs : List program.Constraint) (n : ℕ) → n ≡ before_segments (map constraint_of cs) → before_segments (map constraint_of (drop n cs)) ≡ 0
 dropped_segment cs n e = ap before_segments (sym (drop-map constraint_of n cs)) ∙ (ap (λ k. before_segments (drop k (map constraint_of cs))) e ∙ segment-next (map constraint_of cs))

@@ -1,14 +1,16 @@
 -- What a search for ways keeps: how far each has got with a row.
-use Rattle.std.specs.Prelude.{◌+◌, ◌≤◌, ◌==◌, ◌&&◌, ℕ, All, Bool, true, false, List, [], ◌∷◌, ◌++◌, Option, Some, None, map, length, take, drop, flat_map, nat_le, option_map, option_to_list, replicate, if◌then◌else◌}
+use Rattle.std.specs.Prelude.{◌≤◌, ◌==◌, ◌&&◌, ℕ, All, Bool, true, false, List, [], ◌∷◌, ◌++◌, Option, Some, None, map, length, take, drop, flat_map, nat_le, option_map, option_to_list, replicate, if◌then◌else◌}
 use Rattle.std.specs.List.{list_all}
-use Rattle.std.specs.Option.{option_and_then}
+use Rattle.std.specs.Option.{option_and_then, option_map_or}
 use Rattle.cb_constraints.specs.Constraints.{Constraint}
 use Rattle.cb_constraints.specs.Holding.{after_demand, may_hold}
-use Rattle.cb_constraints.specs.Rows.{fields_wanted, segments_wanted}
+use Rattle.cb_constraints.specs.PatternValues.{SlotValue}
+use Rattle.cb_constraints.specs.Rows.{before_segments, fields_wanted, segments_wanted}
 use Rattle.cb_exprs.specs.Bindings.{Bindings}
-use Rattle.cb_facts.specs.Values.{value_of_field}
+use Rattle.cb_facts.specs.Values.{fields_in, value_of_field}
 use Rattle.cb_facts.specs.declared.single.Single.{Single}
-use Rattle.cb_fit.specs.Ways.{Taken, after_cuts, after_segment, numbers, ways_of_row}
+use Rattle.cb_facts.specs.declared.value.Value.{Value}
+use Rattle.cb_fit.specs.Ways.{Taken, after_cuts, after_segment, numbers, slot_at, ways_of_row}
 use Rattle.cb_fit.specs.declared.beginning.Beginning as program
 
 -- the beginning of a way in a row: the lengths of the segments so far, in all rows, the fields of the row that are left, and
@@ -70,6 +72,18 @@ are_ones cs = segments_wanted cs == 0
 -- a row can take so many fields: more than its constraints for one field only where one takes a segment
 abbrev pub takes_length : List Constraint → ℕ → Bool
 takes_length cs n = if are_ones cs then n == fields_wanted cs else nat_le (fields_wanted cs) n
+
+-- a row may take these fields, by their number and by the constants that it asks for before its first segment
+abbrev pub may_take_row : List Constraint → List Single → Bool
+may_take_row cs fs = takes_length cs (length fs) && may_take (take (before_segments cs) cs) fs
+
+-- a row may take the fields of its slot
+abbrev pub may_take_slot : SlotValue → List (List ℕ × Value) → Bool
+may_take_slot s slots = option_map_or (λ v. may_take_row s.row (fields_in v)) (slot_at s.place slots) false
+
+-- each row may take the fields of its slot
+abbrev pub may_take_slots : List SlotValue → List (List ℕ × Value) → Bool
+may_take_slots rows slots = list_all (λ s. may_take_slot s slots) rows
 
 -- none of the beginnings has gone past the fields
 abbrev pub AreWithin : List Single → List program.Beginning → Type 0

@@ -13,7 +13,7 @@ use crate::given::newly_bound;
 use crate::look::Look;
 use crate::meter::Meter;
 use crate::pattern::Pattern;
-use crate::slots::take_slots;
+use crate::slots::{may_take_slots, take_slots};
 use crate::way::Way;
 use cb_constraints::{Parts, Row, SlotRow};
 use cb_exprs::Env;
@@ -68,7 +68,7 @@ fn take_parts(
 }
 
 /// The same of the fields of an ordered fact.
-#[tactic(auto, using(crate::proofs::InTurn::from_start))]
+#[tactic(auto, using(crate::proofs::InTurn::from_start, crate::proofs::Looked::never_taken))]
 fn take_fields(
     alloc: Global,
     constants: &Constants,
@@ -85,12 +85,15 @@ fn take_fields(
         constants,
         fields: Fields::All(fields),
     };
+    if !look.may_take_row(row) {
+        return Ok(all);
+    }
     look.take_row(row, Beginning::new(alloc, env)?, &mut all)?;
     Ok(all)
 }
 
 /// The same of the slots of a template's fact.
-#[tactic(auto, using(crate::proofs::InTurn::from_start_alone))]
+#[tactic(auto, using(crate::proofs::InTurn::from_start_alone, crate::proofs::Looked::slots_never_taken))]
 fn begin_slots(
     alloc: Global,
     constants: &Constants,
@@ -102,6 +105,9 @@ fn begin_slots(
         ≡ ways_of_slots (map asked_slot rows.now) slots.now env.now) }
 {
     let mut all = Beginnings::new(alloc);
+    if !may_take_slots(alloc, constants, rows, slots) {
+        return Ok(all);
+    }
     all.push(Beginning::new(alloc, env)?)?;
     let all = take_slots(alloc, constants, rows, slots, all)?;
     Ok(all)

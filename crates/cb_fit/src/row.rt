@@ -1,9 +1,9 @@
 //! All ways of a row.
-ghost use Rattle.std.specs.Prelude.{◌≡◌, ◌++◌, ◌∷◌, ◌-◌, ◌≤◌, IfOk, OnOk, [], flat_map, length, map, true};
+ghost use Rattle.std.specs.Prelude.{◌≡◌, ◌++◌, ◌∷◌, ◌-◌, ◌≤◌, IfOk, OnOk, [], flat_map, length, map, take, true};
 ghost use Rattle.cb_constraints.specs.Constraints.{constraint_of};
 ghost use Rattle.cb_constraints.specs.Rows.{before_segments, fields_wanted, segments_wanted};
 ghost use Rattle.cb_fit.specs.FieldLists.{row_fields};
-ghost use Rattle.cb_fit.specs.Internal.{AreWithin, begun_of, endings, endings_of_all, lengths_to_try, taken_of, takes_length, with_group};
+ghost use Rattle.cb_fit.specs.Internal.{AreWithin, begun_of, endings, endings_of_all, lengths_to_try, may_take_row, taken_of, takes_length, with_group};
 ghost use Rattle.cb_fit.specs.Ways.{after_cuts, ways_of_row};
 
 use crate::beginning::{Beginning, Beginnings, add_ones};
@@ -12,24 +12,32 @@ use cb_constraints::{Constraint, Row, count_leading};
 use cb_forms::NoMemory;
 
 impl Look<'_> {
-    /// Adds all beginnings with a row after this one.
+    /// Whether a row may take the fields, by their number and by what its constraints before the first segment ask by constants
+    /// alone. It takes no memory.
+    #[tactic(auto, using(crate::proofs::Looked::never_long, crate::proofs::Looked::by_its_front))]
+    pub(crate) fn may_take_row(self, row: &Row) -> bool
+        ensures { result ≡ may_take_row row.now (row_fields self.entry.fields) }
+    {
+        if !takes_length(row, self.fields.len()) {
+            return false;
+        }
+        let (leading, _) = split_ones(row.constraints());
+        self.may_take(leading, 0)
+    }
+
+    /// Adds all beginnings with a row, which may take the fields, after this one.
     pub(crate) fn take_row(
         self,
         row: &Row,
         begun: Beginning,
         kept: &mut Beginnings,
     ) -> Result<(), NoMemory>
+        requires { may_take_row row.now (row_fields self.fields) ≡ true }
         ensures { OnOk result (map taken_of kept.new.items ≡ map taken_of kept.old.items
             ++ map (after_cuts begun.cuts.items)
             (ways_of_row row.now (row_fields self.entry.fields) begun.env)) }
     {
-        if !takes_length(row, self.fields.len()) {
-            return Ok(());
-        }
         let (leading, rest) = split_ones(row.constraints());
-        if !self.may_take(leading, 0) {
-            return Ok(());
-        }
         let mut begun = begun;
         let Some(at) = self.take_ones(leading, 0, &mut begun.env)? else {
             return Ok(());
@@ -219,9 +227,12 @@ fn takes_length(row: &Row, count: usize) -> bool
 }
 
 /// The constraints before the first that takes a segment, and the others.
-#[tactic(auto, using(crate::proofs::Splits::taken_ones, crate::proofs::Splits::dropped_segment, crate::proofs::Splits::few_leading))]
+#[tactic(auto, using(crate::proofs::Splits::taken_front, crate::proofs::Splits::taken_ones, crate::proofs::Splits::dropped_segment, crate::proofs::Splits::few_leading))]
 fn split_ones(constraints: &[Constraint]) -> (&[Constraint], &[Constraint])
     ensures all { result.0.now ++ result.1.now ≡ constraints.now }
+    ensures front { map constraint_of result.0.now
+        ≡ take (before_segments (map constraint_of constraints.now))
+        (map constraint_of constraints.now) }
     ensures ones { segments_wanted (map constraint_of result.0.now) ≡ 0 }
     ensures segment { before_segments (map constraint_of result.1.now) ≡ 0 }
 {

@@ -1,29 +1,20 @@
-use Rattle.std.proofs.Common.{arith, ◌≡◌, ◌∙◌, ◌++◌, ◌+◌, ◌-◌, ◌∷◌, ◌≤◌, [], ap, drop, length, map, refl, replicate, rules, sym}
+use Rattle.std.proofs.Common.{arith, ◌≡◌, ◌∙◌, ◌++◌, ◌+◌, ap, drop, length, map, replicate, sym, take}
 use Rattle.std.proofs.lemmas.List.{append-nil, length-map, map-append}
 use Rattle.cb_constraints.specs.Constraints.{constraint_of}
-use Rattle.cb_constraints.specs.Rows.{fields_wanted, segments_wanted}
-use Rattle.cb_fit.proofs.Groups.{leading-none, leading-some, wrong-length}
+use Rattle.cb_constraints.specs.Rows.{before_segments, fields_wanted}
+use Rattle.cb_fit.proofs.Groups.{leading-none, leading-some}
+use Rattle.cb_fit.proofs.Looked.{front_may}
 use Rattle.cb_fit.proofs.Splits.{ones-want}
-use Rattle.cb_fit.proofs.Takes.{none-met, nothing-taken, on-ok, some-met, some-place}
+use Rattle.cb_fit.proofs.Takes.{none-met, on-ok, some-met, some-place}
 use Rattle.cb_fit.specs.FieldLists.{row_fields}
-use Rattle.cb_fit.specs.Internal.{after_ones, endings, taken_of, takes_length}
+use Rattle.cb_fit.specs.Internal.{after_ones, endings, may_take, taken_of}
 use Rattle.cb_fit.specs.Ways.{after_cuts, ways_of_row}
 use Rattle.cb_fit.proofs.look.Look.take_row.Goals as goal
 
-pub returns-then-not-takes_length : goal.returns-then-not-takes_length
-returns-then-not-takes_length c =
-    sym (ap (λ xs. map taken_of c.args.kept.now.items ++ map (after_cuts c.args.begun.cuts.items) xs) (wrong-length c.args.row.now (row_fields c.args.self.fields) c.args.begun.env (sym (c.takes_length.ensures ∙ ap (takes_length c.args.row.now) c.len.ensures) ∙ c.if-not-takes_length.true))
-    ∙ append-nil (map taken_of c.args.kept.now.items))
-
-pub returns-then-not-may_take : goal.returns-then-not-may_take
-returns-then-not-may_take c =
-    let row-is : c.args.row.now ≡ map constraint_of c.split_ones.result.0.now ++ map constraint_of c.split_ones.result.1.now =
-    sym (sym (map-append constraint_of c.split_ones.result.0.now c.split_ones.result.1.now) ∙ (ap (map constraint_of) c.split_ones.ensures.all ∙ c.constraints.ensures)) in
-    sym (ap (λ xs. map taken_of c.args.kept.now.items ++ map (after_cuts c.args.begun.cuts.items) xs)
-    (ap (λ cs. ways_of_row cs (row_fields c.args.self.fields) c.args.begun.env) row-is
-    ∙ leading-none (map constraint_of c.split_ones.result.0.now) (map constraint_of c.split_ones.result.1.now) (row_fields c.args.self.fields) c.args.begun.env c.split_ones.ensures.ones
-    (nothing-taken (map constraint_of c.split_ones.result.0.now) (row_fields c.args.self.fields) c.args.begun.env (sym c.may_take.ensures ∙ c.if-not-may_take.true)))
-    ∙ append-nil (map taken_of c.args.kept.now.items))
+pub take_ones-requires-clause-may : goal.take_ones-requires-clause-may
+take_ones-requires-clause-may c =
+    ap (λ cs. may_take cs (row_fields c.args.self.fields)) (c.split_ones.ensures.front ∙ ap (λ cs. take (before_segments cs) cs) c.constraints.ensures)
+    ∙ front_may c.args.row.now (row_fields c.args.self.fields) c.requires
 
 pub returns-in_default : goal.returns-in_default
 returns-in_default c =
