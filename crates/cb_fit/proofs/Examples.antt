@@ -1,13 +1,12 @@
 -- Patterns, and the ways in which they fit facts.
 use Rattle.std.proofs.Common.{◌≡◌, ℕ, pos, List, [], ◌∷◌, None, Some, codes, true, false, refl}
-use Rattle.cb_constraints.specs.Constraints.{Check, Constraint, Demand, Test, constant, variable, predicate, return_value, nothing, each, either}
+use Rattle.cb_constraints.specs.Constraints.{Check, Constraint, Test, constant, variable, predicate, nothing, each, either}
 use Rattle.cb_constraints.specs.PatternValues.{PatternValue, fields, slots}
-use Rattle.cb_exprs.specs.Bindings.{no_bindings}
+use Rattle.cb_exprs.specs.Bindings.{Bindings, no_bindings, with_variable}
 use Rattle.cb_exprs.specs.Terms as expr
 use Rattle.cb_facts.specs.Facts.{FactValue, ordered_fact, template_fact}
 use Rattle.cb_facts.specs.declared.single.Single.{Single}
 use Rattle.cb_facts.specs.declared.single.Single.TheVariants as single
-use Rattle.cb_facts.specs.declared.value.Value.{Value}
 use Rattle.cb_facts.specs.declared.value.Value.TheVariants as value
 use Rattle.cb_fit.specs.Ways.{WayValue, ways}
 
@@ -118,3 +117,16 @@ of_slots = refl
 
 other_relation : ways (of []) (ordered_fact (codes "q") []) no_bindings ≡ []
 other_relation = refl
+
+-- (p ?x ?y), where ?x has the value red from an earlier pattern: it decides, and is no variable that takes a value now
+abbrev red_before : Bindings
+red_before = with_variable x (value.Symbol (codes "red")) no_bindings
+
+abbrev after_another : List Single → List WayValue
+after_another fs = ways (of (one (is (variable x) ∷ []) ∷ one (is (variable y) ∷ []) ∷ [])) (fact fs) red_before
+
+as_before : after_another (symbol (codes "red") ∷ symbol (codes "blue") ∷ []) ≡ record { cuts = 1 ∷ 1 ∷ []; bound = (y, value.Symbol (codes "blue")) ∷ [] } ∷ []
+as_before = refl
+
+not_as_before : after_another (symbol (codes "blue") ∷ symbol (codes "blue") ∷ []) ≡ []
+not_as_before = refl

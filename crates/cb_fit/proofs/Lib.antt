@@ -1,5 +1,6 @@
 mod AllGiven
 mod Alone
+mod ByCuts
 mod CutsFix
 mod CutsInOrder
 mod Examples
@@ -16,4 +17,5 @@ mod Rows
 mod Segments
 mod Splits
 mod Takes
+mod Wildcards
 mod WithoutVariables

@@ -2,6 +2,7 @@ pub mod Bound
 pub mod FieldLists
 pub mod GivenValues
 pub mod Internal
+pub mod Laws
 pub mod Meters
 pub mod Related
 pub mod Shapes

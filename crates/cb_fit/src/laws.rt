@@ -1,5 +1,5 @@
 //! Laws of ways: each is the contract of a function that does nothing.
-ghost use Rattle.std.specs.Prelude.{◌≡◌, ℕ, List, AllPairs, Contains};
+ghost use Rattle.std.specs.Prelude.{◌≡◌, ◌≢◌, ◌∷◌, ℕ, List, [], AllPairs, Contains, length};
 ghost use Rattle.std.specs.Cmp.Lexicographic.{slice_cmp};
 ghost use Rattle.std.specs.Ordering.{nat_cmp};
 ghost use Rattle.std.specs.declared.cmp.Ordering.TheVariants.{Less};
@@ -7,9 +7,11 @@ ghost use Rattle.cb_constraints.specs.Constraints.{Demand};
 ghost use Rattle.cb_constraints.specs.Holding.{after_demand, may_hold, provided};
 ghost use Rattle.cb_constraints.specs.PatternValues.{PatternValue};
 ghost use Rattle.cb_exprs.specs.Bindings.{Bindings, with_variables};
-ghost use Rattle.cb_facts.specs.Facts.{FactValue};
+ghost use Rattle.cb_facts.specs.Facts.{FactValue, ordered_fact};
+ghost use Rattle.cb_facts.specs.declared.single.Single.{Single};
 ghost use Rattle.cb_facts.specs.declared.value.Value.{Value};
 ghost use Rattle.cb_fit.specs.Bound.{newly_bound};
+ghost use Rattle.cb_fit.specs.Laws.{any_fields, of_length, of_one, one_field};
 ghost use Rattle.cb_fit.specs.Related.{Fits};
 ghost use Rattle.cb_fit.specs.Shapes.{HasShape, loose, loose_demand};
 ghost use Rattle.cb_fit.specs.Ways.{WayValue, taken_way, ways};
@@ -64,4 +66,31 @@ pub fn the_shape_gives_no_values()
 pub fn constants_hold_where_the_shape_does()
     ensures { (d : Demand) (v : Value) (env : Bindings)
         → after_demand (loose_demand d) v env ≡ provided (may_hold d v) env }
+{}
+
+/// `?` fits exactly one field, whatever it is.
+pub fn a_wildcard_takes_one_field()
+    ensures one { (r : List ℕ) (f : Single) (env : Bindings)
+        → ways (of_one r one_field) (ordered_fact r (f ∷ [])) env ≡ of_length 1 ∷ [] }
+    ensures no_other { (r : List ℕ) (fs : List Single) (env : Bindings) → length fs ≢ 1
+        → ways (of_one r one_field) (ordered_fact r fs) env ≡ [] }
+{}
+
+/// `$?` fits any number of fields, whatever they are, in one way: it takes all of them.
+pub fn a_wildcard_for_a_segment_takes_any_number()
+    ensures { (r : List ℕ) (fs : List Single) (env : Bindings)
+        → ways (of_one r any_fields) (ordered_fact r fs) env ≡ of_length (length fs) ∷ [] }
+{}
+
+/// A pattern whose shape a fact doesn't have fits it in no way, whatever values variables have.
+pub fn no_shape_gives_no_ways()
+    ensures { (p : PatternValue) (f : FactValue) (before any : Bindings)
+        → ways (loose p) f any ≡ [] → ways p f before ≡ [] }
+{}
+
+/// Two ways of one pattern and one fact with the same lengths of segments are the same way.
+pub fn ways_with_the_same_cuts_are_the_same()
+    ensures { (p : PatternValue) (f : FactValue) (before : Bindings) (v w : WayValue)
+        → Contains (ways p f before) v → Contains (ways p f before) w
+        → v.cuts ≡ w.cuts → v ≡ w }
 {}
