@@ -1,2 +1,4 @@
+mod Alternatives
 pub mod Cited
 mod MayHold
+mod Opposites

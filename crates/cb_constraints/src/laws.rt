@@ -2,8 +2,8 @@
 ghost use Rattle.std.specs.Prelude.{◌≡◌, ◌∷◌, ℕ, List, Option, None, Some, Ok, Err, true, false};
 ghost use Rattle.std.specs.Option.{option_and_then};
 ghost use Rattle.cb_constraints.specs.Constraints.{Check, Demand, Test, constant, each, either, nothing, predicate, return_value, variable};
-ghost use Rattle.cb_constraints.specs.Holding.{after_demand, may_hold, one_holds, test_holds};
-ghost use Rattle.cb_constraints.specs.Laws.{any_of_these, only, opposite, plain};
+ghost use Rattle.cb_constraints.specs.Holding.{after_demand, may_hold, test_holds};
+ghost use Rattle.cb_constraints.specs.Laws.{OneHolds, TakesNoValue, any_of_these, only, opposite, plain};
 ghost use Rattle.cb_eval.specs.Evaluation.{value_of};
 ghost use Rattle.cb_exprs.specs.Bindings.{Bindings, value_at, with_variable};
 ghost use Rattle.cb_exprs.specs.Terms.{Term};
@@ -79,13 +79,27 @@ pub fn the_first_check_comes_first()
         → after_demand (each (c ∷ cs)) v env ≡ after_demand (each cs) v grown }
 {}
 
-/// Alternatives hold where one of them does, and no variable takes a value in them.
+/// `~t` holds just where `t` alone doesn't, of each test that takes no value: a constant, a variable that has a value, a predicate
+/// or a return value.
+pub fn the_opposite_holds_where_the_test_alone_does_not()
+    ensures holds { (t : Test) (v : Value) (env : Bindings) → TakesNoValue t env
+        → after_demand (only (plain t)) v env ≡ None
+        → after_demand (only (opposite t)) v env ≡ Some env }
+    ensures fails { (t : Test) (v : Value) (env grown : Bindings) → TakesNoValue t env
+        → after_demand (only (plain t)) v env ≡ Some grown
+        → after_demand (only (opposite t)) v env ≡ None }
+{}
+
+/// Alternatives hold just where there is one among them of which each check holds, and no variable takes a value in them.
 pub fn one_alternative_is_enough()
     ensures holds { (alternatives : List (List Check)) (v : Value) (env : Bindings)
-        → one_holds alternatives v env ≡ true
+        → OneHolds alternatives v env
         → after_demand (any_of_these alternatives) v env ≡ Some env }
     ensures fails { (alternatives : List (List Check)) (v : Value) (env : Bindings)
-        → one_holds alternatives v env ≡ false → after_demand (any_of_these alternatives) v env ≡ None }
+        → (OneHolds alternatives v env → ⊥)
+        → after_demand (any_of_these alternatives) v env ≡ None }
+    ensures only { (alternatives : List (List Check)) (v : Value) (env grown : Bindings)
+        → after_demand (any_of_these alternatives) v env ≡ Some grown → OneHolds alternatives v env }
 {}
 
 /// A variable that is set apart comes first: `?x&red|blue` is `?x` and then `red|blue`.
