@@ -135,14 +135,23 @@ def stale():
     return sorted(name for name in read_notes() if name not in keys)
 
 
+def misread(by_hand):
+    """The files with public definitions that the reading order doesn't have, or has twice."""
+    order = re.findall(r"`(cb_\w+/\w+)`", by_hand.split("## Reading order")[1])
+    files = {f"{d.crate}/{d.file}" for d in all_definitions() if not is_of_code(d)}
+    return sorted(file for file in files | set(order) if order.count(file) != (file in files))
+
+
 def main():
     page = PAGE.read_text(encoding="utf-8")
     by_hand = with_line_counts(page.split(BEGIN)[0])
     wanted = by_hand + index()
     for name in stale():
         print(f"docs/definitions.txt names what isn't there: {name}")
+    for file in misread(by_hand):
+        print(f"the reading order should have this once: {file}")
     if sys.argv[1:] == ["--check"]:
-        up_to_date = wanted == page
+        up_to_date = wanted == page and not misread(by_hand)
         print("docs/DEFINITIONS.md is up to date" if up_to_date else "docs/DEFINITIONS.md: run docs/definitions.py")
         sys.exit(0 if up_to_date and not stale() else 1)
     PAGE.write_text(wanted, encoding="utf-8")

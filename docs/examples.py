@@ -4,6 +4,8 @@
 docs/examples.py            writes the rows into crates/clipsbatch_tests/src/tests
 docs/examples.py --check    only checks that they are up to date
 
+Both also say where the table of patterns and the stored run of `pattern_fits` differ.
+
 A script of a page is a block of the kind `clips`, and its transcript is the next block of the kind `text`; a block of the
 kind `clips rules` is not for clipsbatch yet. In the table of functions each call is a line of one script, and what it shows
 a line of the transcript. In the man page the script is what `echo` writes. The exit status is told from the transcript: 4 where its last line is a limit's, 1 where one line
@@ -109,11 +111,41 @@ def modules():
     yield "examples.rt", module("`examples/`", "EXAMPLES", list(files()))
 
 
+def table_of_patterns():
+    """The patterns of LANGUAGE, in order: each with its facts, and the lines that a fit of each shows."""
+    patterns = []
+    for line in next(lines for heading, lines in sections("docs/LANGUAGE.md") if heading == "Patterns"):
+        cells = [cell.strip() for cell in re.split(r"(?<!\\)\|", line)[1:-1]]
+        if len(cells) != 4 or not any(cell.startswith("`(") for cell in cells):
+            continue
+        pattern, fact, ways, others = ([each.replace("\\|", "|") for each in re.findall(r"`([^`]*)`", cell)] for cell in cells)
+        if pattern:
+            patterns.append((pattern[0], {}))
+        patterns[-1][1].update({each: ways for each in fact} | {each: ["none"] for each in others})
+    return patterns
+
+
+def wrong_patterns():
+    """The rows of the table of patterns that the stored run of `pattern_fits` doesn't have."""
+    folder = TOP / "crates" / "pattern_fits"
+    written = dict(re.findall(r"^(\S+) 0\n((?:none\n|.*\|.*\n)*)", (folder / "stdout").read_text(), re.M))
+    runs = {}
+    for name, pattern, text in re.findall(r"^\(defrule (\S+) (.*) =>\)\n((?:\(fits .*\n)*)", (folder / "stdin").read_text(), re.M):
+        runs.setdefault(pattern, (re.findall(r"^\(fits (.*)\)$", text, re.M), written.get(name)))
+    for pattern, facts in table_of_patterns():
+        fits, shown = runs.get(pattern, ([], ""))
+        if sorted(fits) != sorted(facts) or shown != "".join(f"{line}\n" for fact in fits for line in facts[fact]):
+            yield f"the stored run of crates/pattern_fits doesn't have the row of {pattern} in docs/LANGUAGE.md"
+
+
 def main():
     words = sys.argv[1:]
     if words not in ([], ["--check"]):
         sys.exit(__doc__)
     stale = 0
+    for line in wrong_patterns():
+        stale += 1
+        print(line)
     for name, text in modules():
         path = ROWS / name
         if path.is_file() and path.read_text() == text:

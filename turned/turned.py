@@ -4,11 +4,15 @@
 turned/turned.py            turns each definition, runs what has to refuse it, and takes the change back
 turned/turned.py NAME ..    does so with these alone
 turned/turned.py --list     writes the table of docs/TURNED.md
-turned/turned.py --table    writes the table into docs/TURNED.md, with what the last runs saw; of others what stands there stays
-turned/turned.py --check    only checks that each old text stands exactly once and what has to refuse is there; runs nothing
+turned/turned.py --table    writes the table into docs/TURNED.md, with what the last run of each turn saw
+turned/turned.py --check    only checks that each old text stands exactly once, that what has to refuse is there, and that the
+                            table is up to date; runs nothing
+
+What a run saw is kept in turned/seen.json, with the digest of the turn's file: a turn that was changed since was not seen.
 
 The exit status is 0 where all are refused, or right with --check, else 1. docs/TURNED.md says what a file holds.
 """
+import hashlib
 import json
 import os
 import re
@@ -22,7 +26,7 @@ TOP = Path(__file__).resolve().parent.parent
 TURNED = TOP / "turned"
 PAGE = TOP / "docs" / "TURNED.md"
 SCRATCH = Path(os.environ.get("TURNED_SCRATCH", "/tmp/clipsbatch-turned"))
-SEEN = SCRATCH / "seen.json"
+SEEN = TURNED / "seen.json"
 NOTHING = "nothing yet"
 WAYS = {"test": 1, "run": 1, "law": 2, "example": 1}
 SECONDS = int(os.environ.get("TURNED_SECONDS", "1800"))
@@ -70,6 +74,7 @@ class Turn:
 
     def __init__(self, path):
         self.name, self.parts, self.by, self.because = path.stem, [], "", ""
+        self.digest = hashlib.sha256(path.read_bytes()).hexdigest()[:12]
         for line in path.read_text().splitlines():
             self.read(line)
         kinds = [part.kind for part in self.parts]
@@ -270,11 +275,14 @@ def cell(text):
     return text.replace("|", "\\|")
 
 
-def rows(turns, seen):
+def rows(turns):
+    seen = last_seen()
     lines = ["| Turned | Definition | Refused by | Why | Seen |", "|---|---|---|---|---|"]
     for turn in turns:
         path = turn.definition().removeprefix("crates/").replace("/specs/", " ").removesuffix(".antt")
-        cells = [f"`{turn.name}`", path, turn.by, turn.because, seen.get(turn.name, "")]
+        run = seen.get(turn.name, {})
+        saw = run["saw"] if run.get("turn") == turn.digest else ""
+        cells = [f"`{turn.name}`", path, turn.by, turn.because, saw]
         lines.append("| " + " | ".join(cell(text) for text in cells) + " |")
     return "\n".join(lines)
 
@@ -283,20 +291,10 @@ def last_seen():
     return json.loads(SEEN.read_text()) if SEEN.is_file() else {}
 
 
-def seen_before(turns):
-    """What the table says was seen of the turns whose way to be refused is still the same."""
-    found = {}
-    for turn in turns:
-        row = re.search(rf"^\| `{turn.name}` \| .* \| {re.escape(turn.by)} \| .* \| (.*) \|$", PAGE.read_text(), re.M)
-        if row:
-            found[turn.name] = row[1]
-    return found
-
-
-def write_table(turns):
-    """Writes the table in the place of the one on the page, which is its last part."""
+def with_table(turns):
+    """The page with the table in the place of its own, which is its last part."""
     head, _, _ = PAGE.read_text().partition("| Turned |")
-    PAGE.write_text(head + rows(turns, seen_before(turns) | last_seen()) + "\n")
+    return head + rows(turns) + "\n"
 
 
 def run_all(turns):
@@ -309,8 +307,8 @@ def run_all(turns):
             continue
         is_refused, words = tried(turn, root)
         counts["refused" if is_refused else "not refused"] += 1
-        seen[turn.name] = words if is_refused else f"not refused: {words}"
-        SEEN.write_text(json.dumps(seen, indent=1))
+        seen[turn.name] = {"turn": turn.digest, "saw": words if is_refused else f"not refused: {words}"}
+        SEEN.write_text(json.dumps(dict(sorted(seen.items())), indent=1) + "\n")
         print(f"{turn.name}: " + (f"refused by {turn.by}: {words}" if is_refused else f"NOT REFUSED by {turn.by}: {words}"), flush=True)
     print(", ".join(f"{count} {what}" for what, count in counts.items()))
     return counts["not refused"] + counts[NOTHING]
@@ -324,7 +322,7 @@ def main():
     turns, wrong = all_turns()
     turns = chosen(turns, [word for word in words if not word.startswith("-")])
     if "--list" in options:
-        print(rows(turns, {}))
+        print(rows(turns))
         return 0
     wrong += check(turns)
     for line in wrong:
@@ -332,9 +330,12 @@ def main():
     if wrong:
         return 1
     if "--table" in options:
-        write_table(turns)
+        PAGE.write_text(with_table(turns))
         return 0
     if "--check" in options:
+        if len(words) == 1 and PAGE.read_text() != with_table(turns):
+            print("the table of docs/TURNED.md is not up to date: turned/turned.py --table writes it")
+            return 1
         print(f"{len(turns)} turns, each old text once")
         return 0
     return 1 if run_all(turns) else 0

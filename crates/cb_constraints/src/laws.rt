@@ -79,8 +79,8 @@ pub fn the_first_check_comes_first()
         → after_demand (each (c ∷ cs)) v env ≡ after_demand (each cs) v grown }
 {}
 
-/// `~t` holds just where `t` alone doesn't, of each test by which no variable takes a value: that for a constant or a variable
-/// that has a value, a predicate, or a return value.
+/// `~t` holds just where `t` alone doesn't, of each test that takes no value: a constant, a variable that has a value, a
+/// predicate or a return value.
 pub fn the_opposite_holds_where_the_test_alone_does_not()
     ensures holds { (t : Test) (v : Value) (env : Bindings) → TakesNoValue t env
         → after_demand (only (plain t)) v env ≡ None

@@ -15,14 +15,15 @@ pub record IsStatusFor (k : ErrorKind) (status : ℕ) : Type 0 where
   pub help : k ≡ kind.DisplayHelp → status ≡ 0
   pub wrong : k ≢ kind.OutOfMemory → k ≢ kind.DisplayHelp → k ≢ kind.DisplayVersion → status ≡ 2
 
--- The script was carried out by these words, which have no fault, and the status is that of the run.
+-- The script was carried out by these words, which `clap` takes, and the status is that of the run.
 pub record EndedByRun (words : List Text) (status : ℕ) (left left' : Option (List ℕ)) (reads reads' : PastReads) (writes writes' : PastWrites) : Type 0 where
   pub faultless : fault_of limits_app words ≡ []
   pub outcome : Outcome
   pub ran : RanBy words outcome left left' reads reads' writes writes'
   pub status_is : status ≡ outcome.status
 
--- Nothing was read of the script and nothing written: the words have a fault, whose status this is, or memory was refused.
+-- Nothing was read of the script and nothing written: `clap` refuses the words, and this is the status for that, or memory
+-- was refused.
 pub record EndedBefore (words : List Text) (status : ℕ) (left left' : Option (List ℕ)) (reads reads' : PastReads) (writes writes' : PastWrites) : Type 0 where
   pub left_is : left' ≡ left
   pub reads_are : reads' ≡ reads

@@ -27,7 +27,7 @@ pub fn read_words<'a>(alloc: Global, words: &'a [&'a str]) -> Result<Limits, Err
     ensures refused { IfErr result (λ e. takes limits_app (map (λ w. w.now) words.entry.now) ≡ true
         → kind_of e ≡ ErrorKind.OutOfMemory) }
 
-    // Words with a fault are refused, and the error's kind is that of the fault.
+    // Words that `clap` refuses are refused, by an error of its kind.
     ensures kinds { FailsBy (fault_of limits_app (map (λ w. w.now) words.entry.now)) result }
 {
     let command = Command::new(alloc, "clipsbatch")
@@ -56,7 +56,7 @@ static FORM_HELP: &str =
     "The most bytes that an item of the script may have, 1 to 16777216 [default: 1048576]";
 
 static FIRINGS_HELP: &str =
-    "The most rules that may fire in the whole run, 0 to 1000000000000 [default: 1000000]";
+    "The most rules that may fire in the whole run, 0 to 1000000000000; no effect yet [default: 1000000]";
 
 static TURNS_HELP: &str =
     "The most turns that all loops together may take, 0 to 1000000000000 [default: 10000000]";

@@ -138,7 +138,7 @@ module _ (l : Limits) (s : SessionState) (left a a' : Option (List ℕ)) (reads 
         no_read_failed = λ _. read.failures ∙ before.read_failures;
         write_failed = λ h. absurd (ended_not_write_fault status.ending h);
         no_write_failed = λ _. more.failures ∙ before.write_failures;
-        status_of_fault = λ h. absurd (ended_not_failed status.ending h);
+        status_of_failure = λ h. absurd (ended_not_failed status.ending h);
         gave = all;
         whole_transcript = λ _. of_all l (ended_as status) left a' p (so_far l p).written all (λ rest. ended_transcript l p rest status ended);
         after_stop_of_all = λ h. absurd (ended_not_stopped status.ending h);
@@ -172,7 +172,7 @@ module _ (l : Limits) (s : SessionState) (left a a' : Option (List ℕ)) (reads 
         no_read_failed = λ _. read.failures ∙ before.read_failures;
         write_failed = λ h. let more : w.failures < w'.failures = some.write_fault (stopped_write_fault e h) in rw (← before.write_failures) more;
         no_write_failed = λ h. some.no_memory (stopped_no_memory e h) ∙ before.write_failures;
-        status_of_fault = λ _. stopped_status e;
+        status_of_failure = λ _. stopped_status e;
         gave = all;
         whole_transcript = λ h. absurd (stopped_not_ended e h);
         after_stop_of_all = λ _. begins_of_all l left a' p (here ++ some.written) all however;
@@ -212,7 +212,7 @@ module _ (l : Limits) (s : SessionState) (left a a' : Option (List ℕ)) (reads 
         no_read_failed = λ _. failures ∙ before.read_failures;
         write_failed = λ h. absurd (ended_not_write_fault status.ending h);
         no_write_failed = λ _. adds.failures ∙ before.write_failures;
-        status_of_fault = λ h. absurd (ended_not_failed status.ending h);
+        status_of_failure = λ h. absurd (ended_not_failed status.ending h);
         gave = gave_all;
         whole_transcript = λ _. of_all_read l (ended_as status) left a' s.fed (transcript l s.fed) gave_all end all;
         after_stop_of_all = λ h. absurd (ended_not_stopped status.ending h);
@@ -242,7 +242,7 @@ module _ (l : Limits) (s : SessionState) (left a a' : Option (List ℕ)) (reads 
         no_read_failed = λ _. failures ∙ before.read_failures;
         write_failed = λ h. let more : w.failures < w'.failures = some.write_fault (stopped_write_fault e h) in rw (← before.write_failures) more;
         no_write_failed = λ h. some.no_memory (stopped_no_memory e h) ∙ before.write_failures;
-        status_of_fault = λ _. stopped_status e;
+        status_of_failure = λ _. stopped_status e;
         gave = gave_all;
         whole_transcript = λ h. absurd (stopped_not_ended e h);
         after_stop_of_all = λ _. begins_of_all_read l left a' s.fed (here ++ some.written) gave_all end begins;
@@ -268,7 +268,7 @@ module _ (l : Limits) (s : SessionState) (left a : Option (List ℕ)) (reads r r
     no_read_failed = λ other. absurd (other refl);
     write_failed = λ h. cc;
     no_write_failed = λ _. before.write_failures;
-    status_of_fault = λ _. refl;
+    status_of_failure = λ _. refl;
     gave = before.gave;
     whole_transcript = λ h. absurd h;
     after_stop_of_all = λ h. absurd h;

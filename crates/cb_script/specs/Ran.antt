@@ -36,7 +36,7 @@ pub record Ran (limits : Limits) (result : Outcome) (left left' : Option (List �
   pub no_read_failed : (result.cause ≢ ReadFault) → reads'.failures ≡ reads.failures
   pub write_failed : result.cause ≡ WriteFault → writes.failures < writes'.failures
   pub no_write_failed : (result.cause ≢ WriteFault) → writes'.failures ≡ writes.failures
-  pub status_of_fault : HasFailed result.cause → result.status ≡ 3
+  pub status_of_failure : HasFailed result.cause → result.status ≡ 3
   -- A source that tells its bytes: of all of them, read or not. Where some are unread, it doesn't matter which.
   pub gave : Gave left left' read
   pub whole_transcript : HasEnded result.cause → IfSome left (λ s. IsTranscript limits result s wrote)
