@@ -1,6 +1,6 @@
 -- Rules as they are written, and which rule each is or what is wrong with it.
 use Prim.Native.String.{String}
-use Rattle.std.proofs.Common.{◌≡◌, ◌++◌, ℤ, pos, Bool, List, [], ◌∷◌, Option, Some, None, Result, Ok, map, codes, true, false, refl}
+use Rattle.std.proofs.Common.{◌≡◌, ◌++◌, ℕ, ℤ, pos, Bool, List, [], ◌∷◌, Option, Some, None, Result, Ok, map, codes, true, false, refl}
 use Rattle.cb_constraints.specs.Constraints.{Constraint, variable, each}
 use Rattle.cb_constraints.specs.PatternValues.{PatternValue, fields}
 use Rattle.cb_templates.specs.FaultLists.{first_of, unless_faulty}
@@ -68,6 +68,14 @@ salience t = form "declare" (form "salience" (t ∷ []) ∷ [])
 abbrev fault_in : List Tree → List Tree → Option Fault
 fault_in left actions = fault (word "r" ∷ (left ++ word "=>" ∷ actions))
 
+-- the relations that it names, and the layouts of one with no actions
+abbrev relations_in : List Tree → List Tree → Result (List (List ℕ)) Fault
+relations_in left actions =
+    let ts = trees_of (word "r" ∷ (left ++ word "=>" ∷ actions)) in unless_faulty (rule_faults [] env ts) ((rule_of [] env ts).relations)
+
+abbrev layouts_in : List Tree → Result (List (List Bool)) Fault
+layouts_in left = let ts = trees_of (word "r" ∷ (left ++ word "=>" ∷ [])) in unless_faulty (rule_faults [] env ts) ((rule_of [] env ts).layouts)
+
 -- the same with no actions, with this declaration alone, and with this salience alone
 abbrev on_left : List Tree → Option Fault
 on_left left = fault_in left []
@@ -91,7 +99,9 @@ whole_rule : read (word "r" ∷ text "c" ∷ salience (form "*" (glob "g" ∷ nu
       name = codes "r";
       salience = pos 10;
       branches = (pattern (Some (codes "f")) (of_one "a" false) ∷ pattern None (of_one "b" true) ∷ []) ∷ [];
+      layouts = (true ∷ true ∷ []) ∷ [];
       actions = retract (terms (expr.variable (codes "f") ∷ [])) ∷ println (terms (expr.variable (codes "x") ∷ [])) ∷ [];
+      relations = codes "a" ∷ codes "b" ∷ [];
     })
 unfolding head_of is_reserved operator_of
 whole_rule = refl
@@ -102,9 +112,28 @@ divided_once : read (word "r" ∷ word "=>" ∷ word "a" ∷ word "=>" ∷ word 
       name = codes "r";
       salience = pos 0;
       branches = [] ∷ [];
+      layouts = [] ∷ [];
       actions = map (λ bytes. expr.constant (value.Symbol bytes)) (codes "a" ∷ codes "=>" ∷ codes "b" ∷ []);
+      relations = [];
     })
 divided_once = refl
+
+-- (a ?x) (a 1) => (assert (c)) (if TRUE then (assert (b))): each relation once, as it is first named
+relations_once : relations_in (form "a" (var "x" ∷ []) ∷ form "a" (number (pos 1) ∷ []) ∷ []) (form "assert" (form "c" [] ∷ []) ∷ form "if" (word "TRUE" ∷ word "then" ∷ form "assert" (form "b" [] ∷ []) ∷ []) ∷ [])
+    ≡ Ok (codes "a" ∷ codes "c" ∷ codes "b" ∷ [])
+unfolding head_of is_reserved
+relations_once = refl
+
+-- => (println (assert (b 1))) (assert (b 2) (a)) (bind ?y (assert (c))) (while TRUE do (assert (a)) (assert (d))): at any depth
+relations_deep : relations_in [] (form "println" (form "assert" (form "b" (number (pos 1) ∷ []) ∷ []) ∷ []) ∷ form "assert" (form "b" (number (pos 2) ∷ []) ∷ form "a" [] ∷ []) ∷ form "bind" (var "y" ∷ form "assert" (form "c" [] ∷ []) ∷ []) ∷ form "while" (word "TRUE" ∷ word "do" ∷ form "assert" (form "a" [] ∷ []) ∷ form "assert" (form "d" [] ∷ []) ∷ []) ∷ [])
+    ≡ Ok (codes "b" ∷ codes "a" ∷ codes "c" ∷ codes "d" ∷ [])
+unfolding head_of is_reserved
+relations_deep = refl
+
+-- (a ?x) ?f <- (a 1) =>: two patterns
+layout_of_patterns : layouts_in (form "a" (var "x" ∷ []) ∷ var "f" ∷ word "<-" ∷ form "a" (number (pos 1) ∷ []) ∷ []) ≡ Ok ((true ∷ true ∷ []) ∷ [])
+unfolding is_reserved
+layout_of_patterns = refl
 
 -- => =>, 5 =>, r (a)
 no_rules : map fault ((word "=>" ∷ word "=>" ∷ []) ∷ (number (pos 5) ∷ word "=>" ∷ []) ∷ (word "r" ∷ form "a" [] ∷ []) ∷ [])

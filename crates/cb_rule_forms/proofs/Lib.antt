@@ -1,3 +1,4 @@
 pub mod Arrows
 mod Examples
 pub mod MentionLaws
+pub mod NameLaws

@@ -1,11 +1,11 @@
 -- What the program has read of condition elements, and what it knows after them: needed by the code alone.
-use Rattle.std.specs.Prelude.{ℕ, List, Result}
+use Rattle.std.specs.Prelude.{ℕ, List, [], ◌∷◌, Result}
 use Rattle.std.specs.Option.{option_map}
 use Rattle.cb_constraints.specs.PartValues.{asked_parts}
 use Rattle.cb_facts.specs.declared.refused.Refused.{Refused}
 use Rattle.cb_forms.specs.Trees.{tree_of}
 use Rattle.cb_rule_forms.specs.Elements.{WrittenElement, alone, addressed}
-use Rattle.cb_rule_forms.specs.Mentions.{Mention, known_after, mention_faults}
+use Rattle.cb_rule_forms.specs.Mentions.{Mention, known_after, mention_faults, with_name}
 use Rattle.cb_rule_forms.specs.RuleValues.{Element, pattern}
 use Rattle.cb_rule_forms.specs.declared.element.ElementForm.{ElementForm}
 use Rattle.cb_rule_forms.specs.declared.element.Next.{Next}
@@ -24,3 +24,8 @@ written_seen (next.Addressed name t) = addressed name.now (option_map (λ f. tre
 -- Of the variables that had a value the call makes those that have one after these mentions, or it returns the first fault.
 abbrev pub Knows : List (List ℕ) → List Mention → List (List ℕ) → Result (Unit {0}) Refused → Type 0
 Knows old ms new result = ReadsAs (λ _. new) result (mention_faults old ms) (known_after old ms)
+
+-- these names, and of the others each that is not yet among them
+abbrev pub with_names : List (List ℕ) → List (List ℕ) → List (List ℕ)
+with_names known [] = known
+with_names known (x ∷ names) = with_names (with_name known x) names

@@ -2,6 +2,7 @@ pub mod Declarations
 pub mod Elements
 pub mod Internal
 pub mod Mentions
+pub mod Relations
 pub mod RuleValues
 pub mod Rules
 pub mod Sections

@@ -1,5 +1,5 @@
 -- What rules are.
-use Rattle.std.specs.Prelude.{ℕ, ℤ, List, Option, map}
+use Rattle.std.specs.Prelude.{ℕ, ℤ, Bool, List, Option, map}
 use Rattle.cb_constraints.specs.PatternValues.{PatternValue}
 use Rattle.cb_exprs.specs.Terms.{Term, term_of}
 use Rattle.cb_rule_forms.specs.declared.rule.Ce as program_ce
@@ -10,12 +10,15 @@ use Rattle.cb_rule_forms.specs.declared.rule.Rule as program_rule
 pub data Element : Type 0 where
   pattern : Option (List ℕ) → PatternValue → Element
 
--- A rule. Each branch is what one way through the `or` elements asks; without them there is one.
+-- A rule. Each branch is what one way through the `or` elements asks; without them there is one. Its layout says of each of
+-- its elements that is a pattern or a group whether it is a pattern.
 pub record RuleValue : Type 0 where
   pub name : List ℕ
   pub salience : ℤ
   pub branches : List (List Element)
+  pub layouts : List (List Bool)
   pub actions : List Term
+  pub relations : List (List ℕ)
 
 module _ {T : Type 0} where
   abbrev pub element_value : program_ce.Ce T → Element
@@ -27,5 +30,7 @@ module _ {T : Type 0} where
     name = r.name;
     salience = r.salience;
     branches = map (λ branch. map element_value branch.items) r.branches.items;
+    layouts = map (λ layout. layout.items) r.layouts.items;
     actions = map term_of r.actions.items;
+    relations = r.relations.items;
   }

@@ -1,18 +1,20 @@
 -- Rules as they are written: which one forms are, and what is wrong with them, in the order in which it is looked for.
-use Rattle.std.specs.Prelude.{◌++◌, ℕ, pos, List, [], ◌∷◌, Option, Some, None}
+use Rattle.std.specs.Prelude.{◌++◌, ℕ, ℤ, pos, Bool, true, List, [], ◌∷◌, Option, Some, None, map}
 use Rattle.cb_expr_forms.specs.Bound.{bound_in_all}
 use Rattle.cb_expr_forms.specs.ExprFaults.{all_faults}
 use Rattle.cb_expr_forms.specs.ExprForms.{exprs_of}
 use Rattle.cb_expr_forms.specs.Scopes.{Scope, names_of}
 use Rattle.cb_expr_forms.specs.declared.scope.Side.TheVariants as side
 use Rattle.cb_exprs.specs.Bindings.{Bindings}
+use Rattle.cb_exprs.specs.Terms.{Term}
 use Rattle.cb_forms.specs.Trees.{Trees}
 use Rattle.cb_forms.specs.declared.fault.Fault.{Fault}
 use Rattle.cb_forms.specs.declared.fault.Fault.TheVariants.{MalformedForm}
 use Rattle.cb_rule_forms.specs.Declarations.{declared_faults, salience_of}
 use Rattle.cb_rule_forms.specs.Elements.{elements_faults, elements_of, written_in}
 use Rattle.cb_rule_forms.specs.Mentions.{branch_mentions, known_after, mention_faults}
-use Rattle.cb_rule_forms.specs.RuleValues.{Element, RuleValue}
+use Rattle.cb_rule_forms.specs.Relations.{relations_of}
+use Rattle.cb_rule_forms.specs.RuleValues.{Element, pattern, RuleValue}
 use Rattle.cb_rule_forms.specs.Sections.{Sections, sections_of}
 use Rattle.cb_templates.specs.Templates.{Templates}
 
@@ -45,15 +47,29 @@ sections_faults templates env (Some s) =
     declared_faults templates env s.declared
     ++ (elements_faults (left_scope templates env) (written_in s.elements) ++ branch_faults templates env (branch_of templates s.elements) s.actions)
 
+abbrev pub is_pattern : Element → Bool
+is_pattern (pattern x p) = true
+
+-- of each element of a branch whether it is a pattern; there are no groups yet
+abbrev pub layout_of : List Element → List Bool
+layout_of branch = map is_pattern branch
+
+-- the rule of these parts
+abbrev pub rule_with : List ℕ → ℤ → List (List Element) → List Term → RuleValue
+rule_with name salience branches actions = record {
+  name = name;
+  salience = salience;
+  branches = branches;
+  layouts = map layout_of branches;
+  actions = actions;
+  relations = relations_of branches actions;
+}
+
 -- the rule of these sections
 abbrev pub sections_rule : Templates → Bindings → Option Sections → RuleValue
-sections_rule templates env None = record { name = []; salience = pos 0; branches = []; actions = [] }
-sections_rule templates env (Some s) = record {
-  name = s.name;
-  salience = salience_of templates env s.declared;
-  branches = branch_of templates s.elements ∷ [];
-  actions = exprs_of templates s.actions;
-}
+sections_rule templates env None = rule_with [] (pos 0) [] []
+sections_rule templates env (Some s) =
+    rule_with s.name (salience_of templates env s.declared) (branch_of templates s.elements ∷ []) (exprs_of templates s.actions)
 
 -- what is wrong with a rule, by what follows the word `defrule`
 abbrev pub rule_faults : Templates → Bindings → Trees → List Fault

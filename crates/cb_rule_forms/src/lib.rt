@@ -7,6 +7,7 @@ mod actions;
 mod declaration;
 mod element;
 mod mentions;
+mod relations;
 mod rule;
 mod sections;
 

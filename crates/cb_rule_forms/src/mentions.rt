@@ -200,7 +200,7 @@ fn knows_test(known: &NameList, test: &Test) -> bool
 }
 
 /// Adds a name, if it is not among them.
-fn add_name(known: &mut NameList, name: &Name) -> Result<(), NoMemory>
+pub(crate) fn add_name(known: &mut NameList, name: &Name) -> Result<(), NoMemory>
     ensures { OnOk result (known.new ≡ with_name known.old name.now) }
 {
     if known.has(name) {

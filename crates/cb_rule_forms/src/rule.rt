@@ -1,18 +1,20 @@
 //! Rules.
-ghost use Rattle.std.specs.Prelude.{◌≡◌, IfOk, Some, map, option_map};
+ghost use Rattle.std.specs.Prelude.{◌≡◌, ◌∷◌, [], IfOk, Some, map, option_map};
 ghost use Rattle.cb_templates.specs.FaultLists.{ReadsAs};
+ghost use Rattle.cb_exprs.specs.Terms.{term_of};
 ghost use Rattle.cb_forms.specs.Members.{members};
 ghost use Rattle.cb_rule_forms.specs.Declarations.{declared_faults, salience_of};
 ghost use Rattle.cb_rule_forms.specs.Internal.{form_value};
 ghost use Rattle.cb_rule_forms.specs.Elements.{elements_faults, elements_of, written_in};
 ghost use Rattle.cb_rule_forms.specs.RuleValues.{element_value, rule_value};
-ghost use Rattle.cb_rule_forms.specs.Rules.{left_scope, rule_faults, rule_of, sections_faults, sections_rule};
+ghost use Rattle.cb_rule_forms.specs.Rules.{is_pattern, layout_of, left_scope, rule_faults, rule_of, rule_with, sections_faults, sections_rule};
 ghost use Rattle.cb_rule_forms.specs.Sections.{sections_seen};
 
 use crate::actions::read_actions;
 use crate::declaration::read_declaration;
 use crate::element::{ElementForm, read_elements};
 use crate::mentions::know_branch;
+use crate::relations::find_relations;
 use crate::sections::{Sections, split_sections};
 use cb_expr_forms::{NameList, Scope, Side};
 use cb_exprs::{Env, Expr};
@@ -21,6 +23,7 @@ use cb_fit::Pattern;
 use cb_forms::{Fault, Form, NoMemory};
 use cb_functions::Constants;
 use cb_templates::Relations;
+use std::alloc::Global;
 
 /// A condition element of a rule (`docs/LANGUAGE.md`, "Rules").
 #[derive(Drop)]
@@ -45,8 +48,13 @@ pub struct Rule<T> {
     pub salience: i64,
     /// What each way through its `or` elements asks, element by element; without them there is one.
     pub branches: Vec<Vec<Ce<T>>>,
+    /// For each branch whether each of its elements that is a pattern or a group is a pattern, from left to right.
+    pub layouts: Vec<Vec<bool>>,
     /// Its actions.
     pub actions: Vec<Expr>,
+    /// The relations that it names, each once: those of its patterns, in all branches, and then those of the facts that its
+    /// actions assert, at any depth. They come in the order in which they are first named.
+    pub relations: Vec<Name>,
 }
 
 impl<T> Rule<T> {
@@ -86,14 +94,34 @@ fn read_sections<T>(
     let mut known = NameList::new(names.alloc());
     know_branch(&mut known, elements.as_slice())?;
     let actions = read_actions(names, relations, env, known, sections.actions)?;
-    let name = names.name(sections.name)?;
+    Ok(build_rule(names, sections.name, salience, elements, actions)?)
+}
+
+/// The rule of these parts, which has one branch.
+fn build_rule<T>(
+    names: &mut Names,
+    name: &[u8],
+    salience: i64,
+    elements: Vec<ElementForm>,
+    actions: Vec<Expr>,
+) -> Result<Rule<T>, NoMemory>
+    ensures { IfOk result (λ rule. rule_value rule ≡ rule_with name.now salience
+        (map form_value elements.items ∷ []) (map term_of actions.items)) }
+{
+    let relations = find_relations(names.alloc(), elements.as_slice(), actions.as_slice())?;
+    let name = names.name(name)?;
+    let branch = close_patterns(names, elements)?;
+    let mut layouts = Vec::new(names.alloc());
+    layouts.push(lay_out(names.alloc(), branch.as_slice())?)?;
     let mut branches = Vec::new(names.alloc());
-    branches.push(close_patterns(names, elements)?)?;
+    branches.push(branch)?;
     Ok(Rule {
         name,
         salience,
         branches,
+        layouts,
         actions,
+        relations,
     })
 }
 
@@ -149,4 +177,23 @@ fn close_patterns<T>(names: &Names, elements: Vec<ElementForm>) -> Result<Vec<Ce
         })?;
     }
     Ok(closed)
+}
+
+/// Of each element of a branch whether it is a pattern.
+fn lay_out<T>(alloc: Global, branch: &[Ce<T>]) -> Result<Vec<bool>, NoMemory>
+    ensures { IfOk result (λ layout. layout.items ≡ layout_of (map element_value branch.now)) }
+{
+    let mut layout = Vec::new(alloc);
+    for element in branch {
+        layout.push(is_pattern(element))?;
+    }
+    Ok(layout)
+}
+
+fn is_pattern<T>(element: &Ce<T>) -> bool
+    ensures { result ≡ is_pattern (element_value element.now) }
+{
+    match element {
+        Ce::Pattern { .. } => true,
+    }
 }

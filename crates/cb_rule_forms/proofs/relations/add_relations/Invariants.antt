@@ -1,0 +1,9 @@
+use Rattle.std.proofs.Common.{◌≡◌, drop, map}
+use Rattle.cb_rule_forms.specs.Internal.{form_value, with_names}
+use Rattle.cb_rule_forms.specs.Relations.{relation_of}
+use Rattle.cb_rule_forms.proofs.relations.add_relations.Given as goal
+
+abbrev pub invariant-loop-element : goal.invariant-loop-element
+invariant-loop-element l =
+    with_names l.found (map relation_of (map form_value (drop l.element-index l.elements)))
+    ≡ with_names l.fn.found (map relation_of (map form_value l.elements))

@@ -1,0 +1,41 @@
+-- The relations that a rule names.
+use Rattle.std.specs.Prelude.{◌++◌, ℕ, not, List, [], ◌∷◌, filter, map}
+use Rattle.std.specs.List.{flat_map}
+use Rattle.std.specs.Str.{bytes_eq}
+use Rattle.cb_exprs.specs.Terms.{Term, constant, variable, global, call, assert, retract, bind, bind_global, choose, repeat, actions, printout, print, println, Terms, no_terms, term, terms}
+use Rattle.cb_rule_forms.specs.RuleValues.{Element, pattern}
+
+abbrev mutual
+  -- those of the facts that an expression asserts, in the order in which they stand, each as often as it does
+  pub asserted_by : Term → List (List ℕ)
+  asserted_by (constant v) = []
+  asserted_by (variable x) = []
+  asserted_by (global x) = []
+  asserted_by (call f ts) = asserted_in ts
+  asserted_by (assert shape ts) = shape.relation ∷ asserted_in ts
+  asserted_by (retract ts) = asserted_in ts
+  asserted_by (bind x t) = asserted_by t
+  asserted_by (bind_global x t) = asserted_by t
+  asserted_by (choose t u w) = asserted_by t ++ (asserted_by u ++ asserted_by w)
+  asserted_by (repeat t u) = asserted_by t ++ asserted_by u
+  asserted_by (actions ts) = asserted_in ts
+  asserted_by (printout on ts) = asserted_in ts
+  asserted_by (print ts) = asserted_in ts
+  asserted_by (println ts) = asserted_in ts
+
+  pub asserted_in : Terms → List (List ℕ)
+  asserted_in no_terms = []
+  asserted_in (term t ts) = asserted_by t ++ asserted_in ts
+
+-- the relation of an element's facts
+abbrev pub relation_of : Element → List ℕ
+relation_of (pattern x p) = p.relation
+
+-- these names, each once: of equal ones the first is kept
+abbrev pub each_once : List (List ℕ) → List (List ℕ)
+each_once [] = []
+each_once (x ∷ names) = x ∷ filter (λ y. not (bytes_eq x y)) (each_once names)
+
+-- the relations that a rule with these branches and actions names: first those of its patterns, then those that it asserts
+abbrev pub relations_of : List (List Element) → List Term → List (List ℕ)
+relations_of branches steps = each_once (flat_map (map relation_of) branches ++ asserted_in (terms steps))

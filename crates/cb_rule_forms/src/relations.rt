@@ -1,0 +1,84 @@
+//! The relations that a rule names.
+ghost use Rattle.std.specs.Prelude.{◌≡◌, ◌∷◌, [], IfOk, OnOk, map};
+ghost use Rattle.cb_exprs.specs.Terms.{term_of, terms_of};
+ghost use Rattle.cb_rule_forms.specs.Internal.{form_value, with_names};
+ghost use Rattle.cb_rule_forms.specs.Relations.{asserted_by, asserted_in, relation_of, relations_of};
+
+use crate::element::ElementForm;
+use crate::mentions::add_name;
+use cb_expr_forms::NameList;
+use cb_exprs::Expr;
+use cb_facts::Name;
+use cb_forms::NoMemory;
+use std::alloc::Global;
+
+/// The relations that a rule of one branch names: those of its elements, then those of the facts that its actions assert,
+/// each once.
+#[tactic(auto, using(crate::proofs::NameLaws::all_once))]
+pub(crate) fn find_relations(
+    alloc: Global,
+    elements: &[ElementForm],
+    actions: &[Expr],
+) -> Result<Vec<Name>, NoMemory>
+    ensures { IfOk result (λ found. found.items
+        ≡ relations_of (map form_value elements.now ∷ []) (map term_of actions.now)) }
+{
+    let mut found = NameList::new(alloc);
+    add_relations(&mut found, elements)?;
+    add_each_asserted(&mut found, actions)?;
+    Ok(found.into_vec())
+}
+
+/// Adds the relations of elements, those that are not among the names.
+fn add_relations(found: &mut NameList, elements: &[ElementForm]) -> Result<(), NoMemory>
+    ensures { OnOk result (found.new
+        ≡ with_names found.old (map relation_of (map form_value elements.now))) }
+{
+    for element in elements {
+        add_name(found, &element.relation)?;
+    }
+    Ok(())
+}
+
+/// Adds the relations of the facts that an expression asserts, those that are not among the names.
+///
+/// It calls itself as deep as the expression is nested.
+#[cycle(asserted)]
+fn add_asserted(found: &mut NameList, expr: &Expr) -> Result<(), NoMemory>
+    ensures { OnOk result (found.new ≡ with_names found.old (asserted_by (term_of expr.now))) }
+{
+    match expr {
+        Expr::Constant(_) | Expr::Variable(_) | Expr::Global(_) => Ok(()),
+        Expr::Assert(shape, exprs) => {
+            add_name(found, shape.relation())?;
+            add_each_asserted(found, exprs)
+        }
+        Expr::Call(_, exprs)
+        | Expr::Retract(exprs)
+        | Expr::Actions(exprs)
+        | Expr::Printout(_, exprs)
+        | Expr::Print(exprs)
+        | Expr::Println(exprs) => add_each_asserted(found, exprs),
+        Expr::Bind(_, value) | Expr::BindGlobal(_, value) => add_asserted(found, value),
+        Expr::If(test, yes, no) => {
+            add_asserted(found, test)?;
+            add_asserted(found, yes)?;
+            add_asserted(found, no)
+        }
+        Expr::While(test, actions) => {
+            add_asserted(found, test)?;
+            add_asserted(found, actions)
+        }
+    }
+}
+
+/// The same of several expressions, one after another.
+#[cycle(asserted)]
+fn add_each_asserted(found: &mut NameList, exprs: &[Expr]) -> Result<(), NoMemory>
+    ensures { OnOk result (found.new ≡ with_names found.old (asserted_in (terms_of exprs.now))) }
+{
+    for expr in exprs {
+        add_asserted(found, expr)?;
+    }
+    Ok(())
+}
