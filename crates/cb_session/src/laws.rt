@@ -59,8 +59,8 @@ pub fn a_fault_changes_nothing_else()
         → requested s r ≡ Ok (request.define_globals gs)
         → EndsWithFault s r fault
         → (executed s r).state ≡ record s { is_faulted = true } }
-    ensures template { (s : State) (r : Reading) (fault : Fault) (template : List ℕ × List SlotShape)
-        → requested s r ≡ Ok (request.define_template template)
+    ensures template { (s : State) (r : Reading) (fault : Fault)
+        (template : List ℕ × List SlotShape) → requested s r ≡ Ok (request.define_template template)
         → EndsWithFault s r fault → ⊥ }
     ensures kept { (s : State) (r : Reading) (fault : Fault)
         → EndsWithFault s r fault
