@@ -19,5 +19,6 @@ mod OpenLaws
 mod ActLaws
 mod DefaultLaws
 mod FitLaws
+mod FieldLaws
 mod OnlyFitLaws
 mod PrintedLaws
