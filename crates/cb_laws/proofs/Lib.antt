@@ -20,5 +20,8 @@ mod ActLaws
 mod DefaultLaws
 mod FitLaws
 mod FieldLaws
+mod PartLaws
+mod TypeLaws
+mod AttributeLaws
 mod OnlyFitLaws
 mod PrintedLaws
