@@ -1,11 +1,15 @@
 -- What `assert` and `retract` do to the facts once their arguments have values.
 use Rattle.std.proofs.Common.{◌≡◌, ◌∙◌, ℕ, Bool, true, false, List, [], ◌∷◌, Option, Some, None, Result, Ok, Err, refl, sym, ap, subst, if◌then◌else◌}
 use Rattle.std.specs.List.{list_all}
-use Rattle.cb_actions.specs.Acts.{give_or_fault, stop, ◌>>=◌}
+use Rattle.cb_actions.specs.Actions.{carried, carried_values}
+use Rattle.cb_actions.specs.Acts.{after_writing, follow, give_or_fault, stop, ◌>>=◌}
 use Rattle.cb_actions.specs.Effects.{fact_added, addressed, asserted, parts_of, retracted, taken}
+use Rattle.cb_actions.specs.Laws.{with_answer}
 use Rattle.cb_actions.specs.Worlds.{World}
+use Rattle.cb_actions.specs.declared.act.Ended.{Ended}
 use Rattle.cb_actions.specs.declared.act.Ended.TheVariants as ended
 use Rattle.cb_exprs.specs.Shapes.{Shape}
+use Rattle.cb_exprs.specs.Terms.{Terms, assert, retract}
 use Rattle.cb_facts.specs.FactLists.{fact_at}
 use Rattle.cb_facts.specs.Facts.{FactValue}
 use Rattle.cb_facts.specs.declared.value.Value.{Value}
@@ -92,3 +96,59 @@ module _ (vs : List Value) (s : World) where
 
   pub wrong_stays : (retracted vs s).answer ≡ Err (ended.Fault WrongType) → (retracted vs s).state ≡ s
   wrong_stays h = wrong_by (list_all is_retractable vs) (retracted_all s.memory vs) h
+
+  only_by : (t : Bool) (o : Memory × Bool)
+      → (if t then taken o s else stop (ended.Fault WrongType) s).state ≡ record s { memory = (if t then taken o s else stop (ended.Fault WrongType) s).state.memory }
+  only_by true (m, true) = refl
+  only_by true (m, false) = refl
+  only_by false o = refl
+
+  quiet_by : (t : Bool) (o : Memory × Bool) → (if t then taken o s else stop (ended.Fault WrongType) s).written ≡ []
+  quiet_by true (m, true) = refl
+  quiet_by true (m, false) = refl
+  quiet_by false o = refl
+
+  pub retracts_only : (retracted vs s).state ≡ record s { memory = (retracted vs s).state.memory }
+  retracts_only = only_by (list_all is_retractable vs) (retracted_all s.memory vs)
+
+  pub retracts_quietly : (retracted vs s).written ≡ []
+  retracts_quietly = quiet_by (list_all is_retractable vs) (retracted_all s.memory vs)
+
+-- an assertion changes the facts alone
+addressed_only : (o : Memory × Option ℕ) (s : World) → (addressed o s).state ≡ record s { memory = (addressed o s).state.memory }
+addressed_only (m, Some ix) s = refl
+addressed_only (m, None) s = refl
+
+addressed_quiet : (o : Memory × Option ℕ) (s : World) → (addressed o s).written ≡ []
+addressed_quiet (m, Some ix) s = refl
+addressed_quiet (m, None) s = refl
+
+pub asserts_only : (shape : Shape) (vs : List Value) (s : World) → (asserted shape vs s).state ≡ record s { memory = (asserted shape vs s).state.memory }
+asserts_only shape vs s = by (built s.templates shape.relation (parts_of shape.slots vs))
+  where
+    by : (r : Result FactValue Fault) → ((give_or_fault r >>= fact_added) s).state ≡ record s { memory = ((give_or_fault r >>= fact_added) s).state.memory }
+    by (Err f) = refl
+    by (Ok fact) = addressed_only (asserted_one s.memory fact) s
+
+pub asserts_quietly : (shape : Shape) (vs : List Value) (s : World) → (asserted shape vs s).written ≡ []
+asserts_quietly shape vs s = by (built s.templates shape.relation (parts_of shape.slots vs))
+  where
+    by : (r : Result FactValue Fault) → ((give_or_fault r >>= fact_added) s).written ≡ []
+    by (Err f) = refl
+    by (Ok fact) = addressed_quiet (asserted_one s.memory fact) s
+
+-- a command, by how its arguments end
+module _ (ts : Terms) (s : World) where
+  pub assert_acts : (shape : Shape) (vs : List Value) → (carried_values None [] ts s).answer ≡ Ok vs
+      → carried (assert shape ts) s ≡ after_writing (carried_values None [] ts s).written (asserted shape vs (carried_values None [] ts s).state)
+  assert_acts shape vs h = ap (λ r. follow (carried_values None [] ts s).state (carried_values None [] ts s).written r (asserted shape)) h
+
+  pub assert_ends : (shape : Shape) (e : Ended) → (carried_values None [] ts s).answer ≡ Err e → carried (assert shape ts) s ≡ with_answer (carried_values None [] ts s) (Err e)
+  assert_ends shape e h = ap (λ r. follow (carried_values None [] ts s).state (carried_values None [] ts s).written r (asserted shape)) h
+
+  pub retract_acts : (vs : List Value) → (carried_values None [] ts s).answer ≡ Ok vs
+      → carried (retract ts) s ≡ after_writing (carried_values None [] ts s).written (retracted vs (carried_values None [] ts s).state)
+  retract_acts vs h = ap (λ r. follow (carried_values None [] ts s).state (carried_values None [] ts s).written r retracted) h
+
+  pub retract_ends : (e : Ended) → (carried_values None [] ts s).answer ≡ Err e → carried (retract ts) s ≡ with_answer (carried_values None [] ts s) (Err e)
+  retract_ends e h = ap (λ r. follow (carried_values None [] ts s).state (carried_values None [] ts s).written r retracted) h

@@ -1,5 +1,5 @@
 -- What is asserted is there.
-use Rattle.std.proofs.Common.{◌≡◌, ◌≢◌, ◌↔◌, ◌⊎◌, inl, inr, ◌∙◌, ◌+◌, ◌<◌, ◌≤◌, ℕ, zero, suc, Bool, true, false, List, [], ◌∷◌, Option, Some, None, Contains, refl, sym, ap, subst, arith, nat_lt, rules, if◌then◌else◌}
+use Rattle.std.proofs.Common.{◌≡◌, ◌≢◌, ◌↔◌, ◌⊎◌, inl, inr, ◌∙◌, ◌+◌, ◌<◌, ◌≤◌, ℕ, Bool, true, false, List, [], ◌∷◌, Option, Some, None, Contains, refl, sym, ap, subst, arith, nat_lt, rules, if◌then◌else◌}
 use Rattle.std.proofs.lemmas.Bool.{cases_eq}
 use Rattle.std.proofs.lemmas.Cmp.{nat_cmp_total}
 use Rattle.std.specs.BTreeMap.{is_at}
@@ -178,3 +178,12 @@ pub no_index : (m : Memory) (f : FactValue) → IsSound m → IsAbsent m.facts f
 no_index m f sound absent above =
     let full : nat_lt m.last greatest_index ≡ false = search rules in
     ap (asserted_beside m f) (index_of-absent m.facts f (base_of m sound) absent) ∙ no_room m f (nat_lt m.last greatest_index) full
+
+last_grown : (m : Memory) (f : FactValue) (room : Bool) → room ≡ true → (if◌then◌else◌ {A = Memory × Option ℕ} room (grown m f, Some (m.last + 1)) (m, None)).0.last ≡ m.last + 1
+last_grown m f true e = refl
+last_grown m f false e = absurd (cc)
+
+pub next_last : (m : Memory) (f : FactValue) → IsSound m → IsAbsent m.facts f → m.last < greatest_index → (asserted_one m f).0.last ≡ m.last + 1
+next_last m f sound absent below =
+    let room : nat_lt m.last greatest_index ≡ true = search rules in
+    ap (λ o. (asserted_beside m f o).0.last) (index_of-absent m.facts f (base_of m sound) absent) ∙ last_grown m f (nat_lt m.last greatest_index) room

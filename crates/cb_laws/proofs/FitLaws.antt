@@ -1,5 +1,5 @@
 -- What fits the slots of a template makes a fact.
-use Rattle.std.proofs.Common.{◌≡◌, ◌⊎◌, inl, inr, ◌∙◌, ◌&&◌, ◌||◌, ℕ, Bool, true, false, not, List, [], ◌∷◌, Option, Some, None, Result, Ok, Err, All, is_some, refl, sym, ap, subst, if◌then◌else◌}
+use Rattle.std.proofs.Common.{◌≡◌, ◌⊎◌, inl, inr, ◌∙◌, ◌&&◌, ◌||◌, ℕ, Bool, true, false, not, List, [], ◌∷◌, Option, Some, None, Ok, Err, All, is_some, refl, sym, ap, subst, if◌then◌else◌}
 use Rattle.std.proofs.lemmas.List.Elements.{All-head, All-tail}
 use Rattle.std.proofs.lemmas.Map.Keys.{IsDistinct-head, IsDistinct-tail}
 use Rattle.std.specs.Cmp.{IsEquivalence}
@@ -13,7 +13,6 @@ use Rattle.cb_facts.specs.Results.{ok_then, with_first}
 use Rattle.cb_facts.specs.Values.{is_multifield, spliced}
 use Rattle.cb_facts.specs.declared.value.Value.{Value}
 use Rattle.cb_facts.specs.declared.value.Value.TheVariants as value
-use Rattle.cb_forms.specs.declared.fault.Fault.{Fault}
 use Rattle.cb_forms.specs.declared.fault.Fault.TheVariants.{FactDoesNotFit, OneValueWanted}
 use Rattle.cb_laws.proofs.SlotLaws.{found_given, given_found}
 use Rattle.cb_laws.specs.SlotValues.{CanTake, FitsSlots, IsGiven, IsLeftOut}

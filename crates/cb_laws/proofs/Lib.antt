@@ -19,5 +19,9 @@ mod OpenLaws
 mod ActLaws
 mod DefaultLaws
 mod FitLaws
+mod FieldLaws
+mod PartLaws
+mod TypeLaws
+mod AttributeLaws
 mod OnlyFitLaws
 mod PrintedLaws

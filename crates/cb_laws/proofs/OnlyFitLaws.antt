@@ -1,7 +1,6 @@
 -- Only what fits the slots of a template makes a fact.
-use Rattle.std.proofs.Common.{◌≡◌, ◌⊎◌, inl, inr, ◌∙◌, ◌&&◌, ℕ, Bool, true, false, not, List, [], ◌∷◌, Option, Some, None, Result, Ok, Err, All, Contains, is_some, refl, sym, ap, subst, if◌then◌else◌}
+use Rattle.std.proofs.Common.{◌≡◌, ◌⊎◌, inl, inr, ◌∙◌, ◌&&◌, ℕ, Bool, true, false, not, List, [], ◌∷◌, Option, Some, None, Result, Ok, Err, All, Contains, is_some, refl, sym, ap, if◌then◌else◌}
 use Rattle.std.proofs.lemmas.List.Elements.{All-cons, All-nil}
-use Rattle.std.proofs.lemmas.Map.Keys.{IsDistinct-cons}
 use Rattle.std.specs.Cmp.{IsEquivalence, first_so, second_so}
 use Rattle.std.specs.Cmp.Lexicographic.{nat_list_eq_equiv}
 use Rattle.std.specs.List.{AllByRecursion, IsDistinct, list_all}
@@ -14,7 +13,7 @@ use Rattle.cb_facts.specs.declared.value.Value.TheVariants as value
 use Rattle.cb_forms.specs.declared.fault.Fault.{Fault}
 use Rattle.cb_laws.proofs.Members.{first_or_other, none_among}
 use Rattle.cb_laws.proofs.SlotLaws.{default_is, given_found, is_built, left_out, one_of}
-use Rattle.cb_laws.specs.SlotValues.{CanTake, FitsSlots, IsGiven, IsLeftOut}
+use Rattle.cb_laws.specs.SlotValues.{CanTake, FitsSlots, IsGiven}
 use Rattle.cb_templates.specs.Building.{Given, are_distinct, built, filled, given_for, given_names, one_value, slot_values, can_take, value_or_default}
 use Rattle.cb_templates.specs.Slots.{GivenValues, SlotShape, slot_named}
 use Rattle.cb_templates.specs.Templates.{Templates, slots_of}

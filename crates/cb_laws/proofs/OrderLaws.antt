@@ -7,7 +7,7 @@ use Rattle.std.specs.Option.{option_flatten, option_or}
 use Rattle.std.specs.Str.{bytes_eq}
 use Rattle.cb_expr_forms.specs.Laws.{AreFaultless}
 use Rattle.cb_forms.specs.Members.{call_of}
-use Rattle.cb_forms.specs.Trees.{Tree, Trees, tree, trees_of}
+use Rattle.cb_forms.specs.Trees.{Tree, Trees, trees_of}
 use Rattle.cb_forms.specs.declared.fault.Fault.{Fault}
 use Rattle.cb_laws.proofs.WrittenLaws.{each_attribute_alone}
 use Rattle.cb_laws.specs.Written.{attribute_name, names_written}

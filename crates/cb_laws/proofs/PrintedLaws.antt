@@ -1,11 +1,11 @@
 -- Texts that values are shown as, read again.
-use Rattle.std.proofs.Common.{arith, ◌≡◌, ◌∙◌, ◌+◌, ◌-◌, ◌*◌, ◌<◌, ◌≤◌, ◌==◌, ◌&&◌, ◌||◌, ◌^◌, Bool, true, false, not, ℕ, ℤ, pos, negsuc, zero, suc, List, [], ◌∷◌, ◌++◌, Result, Ok, Err, ap, codes, refl, sym, subst}
+use Rattle.std.proofs.Common.{arith, ◌≡◌, ◌∙◌, ◌+◌, ◌-◌, ◌*◌, ◌<◌, ◌==◌, ◌&&◌, ◌||◌, ◌^◌, Bool, true, false, not, ℕ, ℤ, pos, negsuc, zero, suc, List, [], ◌∷◌, ◌++◌, Ok, Err, ap, refl, sym, subst}
 use Rattle.std.proofs.lemmas.Bool.{le-leb, ltb-true}
 use Rattle.std.proofs.lemmas.Fmt.{decimal_is_IsNumeral, digits_decimal, digits_value-decimal}
 use Rattle.std.proofs.lemmas.List.{append-nil, append_assoc}
 use Rattle.std.proofs.lemmas.Str.Parse.{FoldsDigits, IsDigitsTest, IsNumeralModel, numerals_by_fold}
 use Rattle.std.specs.Bool.{⊤}
-use Rattle.std.specs.Fmt.{decimal, signed_decimal}
+use Rattle.std.specs.Fmt.{decimal}
 use Rattle.std.specs.Int.{IsInRange}
 use Rattle.std.specs.List.{flat_map, fold, list_all}
 use Rattle.std.specs.Prelude.{if◌then◌else◌, length, nat_le, nat_lt, neg_ℤ}
@@ -13,12 +13,12 @@ use Rattle.cb_facts.specs.Texts.{between_quotes, escaped_byte, quoted_bytes}
 use Rattle.cb_facts.specs.declared.value.Value.TheVariants as value
 use Rattle.cb_forms.proofs.Cited.{reads-one}
 use Rattle.cb_forms.specs.Bytes.{is_blank, is_connective, is_delimiter, is_digit, is_single, ampersand, bar, closing, dollar, minus, opening, plus, question_mark, quote, semicolon, tilde}
-use Rattle.cb_forms.specs.Cutting.{AreCut, TakesAll, joined}
-use Rattle.cb_forms.specs.Items.{ArePartsOf, Reads, atom_reading, items, part_takes, piece_readings, readings_of}
-use Rattle.cb_forms.specs.Pieces.{lexeme_of, piece_takes, string_token}
+use Rattle.cb_forms.specs.Cutting.{AreCut, TakesAll}
+use Rattle.cb_forms.specs.Items.{atom_reading, items, part_takes, piece_readings, readings_of}
+use Rattle.cb_forms.specs.Pieces.{lexeme_of, piece_takes}
 use Rattle.cb_forms.specs.Strings.{escaped_content_of, is_unclosed, is_unclosed_escaped, string_content}
 use Rattle.cb_forms.specs.Trees.{Reading, atom}
-use Rattle.cb_forms.specs.Words.{after_digits, begins_with_digit, digits_value, integer_token, is_digits, is_empty, spells_integer, plain_token, token_of, without_sign}
+use Rattle.cb_forms.specs.Words.{after_digits, digits_value, integer_token, is_digits, is_empty, spells_integer, plain_token, token_of, without_sign}
 use Rattle.cb_forms.specs.declared.fault.Fault.TheVariants.{FormNotClosed, IntegerOutOfRange}
 use Rattle.cb_forms.specs.declared.token.Token.TheVariants as token
 use Rattle.cb_functions.specs.Arithmetic.{fits_64_bits}

@@ -15,12 +15,10 @@ use Rattle.cb_facts.specs.Results.{ok_then, with_first}
 use Rattle.cb_facts.specs.declared.value.Value.{Value}
 use Rattle.cb_facts.specs.declared.value.Value.TheVariants as value
 use Rattle.cb_forms.specs.declared.fault.Fault.{Fault}
-use Rattle.cb_laws.proofs.AssertLaws.{OneMore, none_more, one_more, stays_in_range}
+use Rattle.cb_laws.proofs.AssertLaws.{none_more, one_more, stays_in_range}
 use Rattle.cb_laws.proofs.RetractLaws.{shrinks}
 use Rattle.cb_laws.proofs.SlotLaws.{default_is, is_built, one_of}
-use Rattle.cb_laws.specs.Memories.{IsSound}
 use Rattle.cb_laws.specs.Reached.{AreSlotsOf, AreWellKept, FillSlots, HasItsDefault, HasItsSlots, IsTemplate}
-use Rattle.cb_laws.specs.SlotValues.{Defines}
 use Rattle.cb_templates.specs.Building.{Given, PartValues, built, built_by, field_values, filled, given_for, one_value, slot_values, value_or_default}
 use Rattle.cb_templates.specs.Slots.{SlotShape}
 use Rattle.cb_templates.specs.Templates.{Templates, slots_of}

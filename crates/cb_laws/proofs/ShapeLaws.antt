@@ -1,19 +1,18 @@
 -- The slots and the attributes that are written without a fault are those of the template.
-use Rattle.std.proofs.Common.{◌≡◌, ◌∙◌, ◌++◌, ◌||◌, ℕ, Bool, true, false, List, [], ◌∷◌, Option, Some, None, codes, option_map, refl, sym, ap, ap₂, subst, if◌then◌else◌}
+use Rattle.std.proofs.Common.{◌≡◌, ◌∙◌, ◌++◌, ℕ, Bool, false, List, [], ◌∷◌, Option, Some, None, codes, option_map, refl, sym, ap, subst, if◌then◌else◌}
 use Rattle.std.proofs.lemmas.Map.Keys.{IsDistinct-head, IsDistinct-tail}
 use Rattle.std.specs.Cmp.Lexicographic.{bytes_decides}
 use Rattle.std.specs.List.{AllByRecursion, IsDistinct, cons_option}
-use Rattle.std.specs.Option.{option_flatten, option_map_or}
+use Rattle.std.specs.Option.{option_flatten, option_map_or, option_or}
 use Rattle.std.specs.Str.{bytes_eq}
 use Rattle.cb_forms.specs.Members.{call_of, head_and_rest}
 use Rattle.cb_forms.specs.Trees.{Tree, Trees, no_trees, tree, trees_of}
-use Rattle.cb_forms.specs.declared.fault.Fault.{Fault}
 use Rattle.cb_laws.proofs.FaultListLaws.{neither, none_of_both}
 use Rattle.cb_laws.proofs.WrittenLaws.{each_attribute_alone}
 use Rattle.cb_laws.specs.Written.{AreShapes, attribute_name, name_after_head, names_written, written_slot_name}
 use Rattle.cb_templates.specs.Slots.{SlotShape, names}
 use Rattle.cb_templates.specs.TemplateFaults.{and_slot, attributes_faults, is_among, kind_faults, named_slot_faults, slot_form_faults, slots_form_faults}
-use Rattle.cb_templates.specs.TemplateShapes.{after_head, attribute, default_in, default_said, kind_of, or_else, slot_headed, slot_of_kind, slot_said, slots_said, types_in, types_said}
+use Rattle.cb_templates.specs.TemplateShapes.{after_head, attribute, default_in, default_said, kind_of, slot_headed, slot_of_kind, slot_said, slots_said, types_in, types_said}
 
 -- the slot that a list without a fault is
 pub record Headed (o : Option (List ℕ × Trees)) : Type 0 where
@@ -61,19 +60,19 @@ at_form P (b ∷ before) after t word is h = by (attribute_name b) h (at_form P 
 
 -- the attribute of a name is where it stands, since no two have one name
 module _ (word : List ℕ) where
-  itself : (ts : Trees) (rest : Option Trees) → or_else (after_head word (Some (word, ts))) rest ≡ Some ts
-  itself ts rest = ap (λ b. or_else (if b then Some ts else None) rest) ((bytes_decides word word).1 refl)
+  itself : (ts : Trees) (rest : Option Trees) → option_or (after_head word (Some (word, ts))) rest ≡ Some ts
+  itself ts rest = ap (λ b. option_or (if b then Some ts else None) rest) ((bytes_decides word word).1 refl)
 
   past : (o : Option (List ℕ × Trees)) (ns : List (List ℕ)) (found : Option Trees) → IsDistinct bytes_eq (cons_option (option_map (λ call. call.0) o) ns)
-      → ((P : List ℕ → Type 0) → AllByRecursion P ns → P word) → (or_else (after_head word o) found ≡ found) × IsDistinct bytes_eq ns
+      → ((P : List ℕ → Type 0) → AllByRecursion P ns → P word) → (option_or (after_head word o) found ≡ found) × IsDistinct bytes_eq ns
   past None ns found h at = (refl, h)
   past (Some (n, us)) ns found h at =
       let differs : bytes_eq n word ≡ false = at (λ m. bytes_eq n m ≡ false) (IsDistinct-head bytes_eq n ns h) in
-      (ap (λ b. or_else (if b then Some us else None) found) differs, IsDistinct-tail bytes_eq n ns h)
+      (ap (λ b. option_or (if b then Some us else None) found) differs, IsDistinct-tail bytes_eq n ns h)
 
   found_there : (before after : List Tree) (t : Tree) (ts : Trees) → call_of t ≡ Some (word, ts) → IsDistinct bytes_eq (names_written attribute_name (trees_of (before ++ t ∷ after)))
       → attribute word (trees_of (before ++ t ∷ after)) ≡ Some ts
-  found_there [] after t ts is h = ap (λ o. or_else (after_head word o) (attribute word (trees_of after))) is ∙ itself ts (attribute word (trees_of after))
+  found_there [] after t ts is h = ap (λ o. option_or (after_head word o) (attribute word (trees_of after))) is ∙ itself ts (attribute word (trees_of after))
   found_there (b ∷ before) after t ts is h =
       let name_is : attribute_name t ≡ Some word = ap (option_map (λ call. call.0)) is in
       let one = past (call_of b) (names_written attribute_name (trees_of (before ++ t ∷ after))) (attribute word (trees_of (before ++ t ∷ after))) h (λ P g. at_form P before after t word name_is g) in
@@ -84,11 +83,11 @@ module _ (word : List ℕ) where
   missing (tree t ts) h = by (call_of t) h (missing ts)
     where
       by : (o : Option (List ℕ × Trees)) → is_among (cons_option (option_map (λ call. call.0) o) (names_written attribute_name ts)) word ≡ false
-          → (is_among (names_written attribute_name ts) word ≡ false → attribute word ts ≡ None) → or_else (after_head word o) (attribute word ts) ≡ None
+          → (is_among (names_written attribute_name ts) word ≡ false → attribute word ts ≡ None) → option_or (after_head word o) (attribute word ts) ≡ None
       by None g more = more g
       by (Some (n, us)) g more =
           let two = (neither (bytes_eq n word) (is_among (names_written attribute_name ts) word)).0 g in
-          ap (λ b. or_else (if b then Some us else None) (attribute word ts)) two.0 ∙ more two.1
+          ap (λ b. option_or (if b then Some us else None) (attribute word ts)) two.0 ∙ more two.1
 
 module _ (m : Bool) (before after : List Tree) (t : Tree) (ts : Trees) (none : attributes_faults m [] (trees_of (before ++ t ∷ after)) ≡ []) where
   apart : IsDistinct bytes_eq (names_written attribute_name (trees_of (before ++ t ∷ after)))

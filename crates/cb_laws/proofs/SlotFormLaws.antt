@@ -6,7 +6,7 @@ use Rattle.std.specs.List.{AllByRecursion, IsDistinct}
 use Rattle.std.specs.Str.{bytes_eq}
 use Rattle.cb_facts.specs.Results.{and_then}
 use Rattle.cb_forms.specs.Members.{call_of, head_and_rest}
-use Rattle.cb_forms.specs.Trees.{Tree, Trees, atom, branch, no_trees, tree, trees_of}
+use Rattle.cb_forms.specs.Trees.{Tree, Trees, atom, branch, no_trees, tree}
 use Rattle.cb_forms.specs.declared.fault.Fault.{Fault}
 use Rattle.cb_forms.specs.declared.fault.Fault.TheVariants.{MalformedForm}
 use Rattle.cb_forms.specs.declared.token.Token.TheVariants as token

@@ -15,7 +15,7 @@ use Rattle.cb_forms.specs.declared.fault.Fault.{Fault}
 use Rattle.cb_forms.specs.declared.fault.Fault.TheVariants.{FactDoesNotFit, OneValueWanted}
 use Rattle.cb_laws.proofs.Members.{first_or_other, none_among}
 use Rattle.cb_laws.specs.SlotValues.{IsGiven, IsLeftOut, slot_value}
-use Rattle.cb_templates.specs.Building.{Given, are_distinct, built, built_by, filled, fits, given_for, is_one_value, one_value, slot_values, slots_built, can_take, value_or_default}
+use Rattle.cb_templates.specs.Building.{Given, are_distinct, built, built_by, filled, fits, given_for, one_value, slot_values, can_take, value_or_default}
 use Rattle.cb_templates.specs.Slots.{GivenValues, SlotShape, slot_named}
 use Rattle.cb_templates.specs.Templates.{Templates, slots_of}
 use Rattle.cb_working_memory.proofs.Cited.{contains_here, contains_there}

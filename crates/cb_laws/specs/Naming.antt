@@ -1,9 +1,8 @@
 -- Which facts the arguments of `retract` name.
-use Rattle.std.specs.Prelude.{◌≡◌, ◌==◌, ◌++◌, ℕ, Bool, true, false, List, ◌∷◌, Option, None, codes, pos, negsuc, if◌then◌else◌}
+use Rattle.std.specs.Prelude.{◌≡◌, ◌==◌, ◌++◌, ℕ, Bool, true, false, List, ◌∷◌, None, codes, pos, negsuc, if◌then◌else◌}
 use Rattle.std.specs.List.{list_any}
 use Rattle.std.specs.Str.{bytes_eq}
 use Rattle.cb_facts.specs.FactLists.{fact_at}
-use Rattle.cb_facts.specs.Facts.{FactValue}
 use Rattle.cb_facts.specs.declared.value.Value.{Value}
 use Rattle.cb_facts.specs.declared.value.Value.TheVariants as value
 use Rattle.cb_working_memory.specs.WorkingMemory.{Memory, retracted_all}

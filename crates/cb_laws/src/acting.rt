@@ -1,10 +1,15 @@
 //! What `assert` and `retract` do to the facts once their arguments have values.
 ghost use Rattle.std.specs.List.{list_all};
-ghost use Rattle.std.specs.Prelude.{◌≡◌, ◌∷◌, ℕ, List, [], Option, Some, Ok, Err, false};
+ghost use Rattle.std.specs.Prelude.{◌≡◌, ◌∷◌, ℕ, List, [], Option, Some, None, Ok, Err, false};
+ghost use Rattle.cb_actions.specs.Actions.{carried, carried_values};
+ghost use Rattle.cb_actions.specs.Acts.{after_writing};
 ghost use Rattle.cb_actions.specs.Effects.{asserted, parts_of, retracted};
+ghost use Rattle.cb_actions.specs.Laws.{with_answer};
 ghost use Rattle.cb_actions.specs.Worlds.{World};
+ghost use Rattle.cb_actions.specs.declared.act.Ended.{Ended};
 ghost use Rattle.cb_actions.specs.declared.act.Ended.TheVariants as ended;
 ghost use Rattle.cb_exprs.specs.Shapes.{Shape};
+ghost use Rattle.cb_exprs.specs.Terms.{Terms, assert, retract};
 ghost use Rattle.cb_facts.specs.FactLists.{fact_at};
 ghost use Rattle.cb_facts.specs.Facts.{FactValue};
 ghost use Rattle.cb_facts.specs.declared.value.Value.{Value};
@@ -16,8 +21,9 @@ ghost use Rattle.cb_laws.specs.Naming.{LeavesUnnamed, LeavesUpToMissing};
 ghost use Rattle.cb_templates.specs.Building.{built};
 ghost use Rattle.cb_working_memory.specs.WorkingMemory.{is_retractable};
 
-/// An `assert` that ends without a fault or a limit has asserted its one fact, and its answer is the address under which that fact is
-/// there. If its fact has a fault, that ends it, and nothing changes.
+/// An `assert` that ends without a fault or a limit has asserted its one fact, and its answer is the address under which that
+/// fact is there. If its fact has a fault, that ends it, and nothing changes. However it ends, it writes nothing and changes
+/// the facts alone.
 pub fn an_assertion_answers_its_address()
     ensures asserted { (shape : Shape) (vs : List Value) (s : World) (fact : FactValue)
         (answer : Option Value)
@@ -37,11 +43,15 @@ pub fn an_assertion_answers_its_address()
     ensures fault_ends { (shape : Shape) (vs : List Value) (s : World) (fault : Fault)
         → built s.templates shape.relation (parts_of shape.slots vs) ≡ Err fault
         → (asserted shape vs s).answer ≡ Err (ended.Fault fault) }
+    ensures only { (shape : Shape) (vs : List Value) (s : World) → (asserted shape vs s).state
+        ≡ record s { memory = (asserted shape vs s).state.memory } }
+    ensures quiet { (shape : Shape) (vs : List Value) (s : World)
+        → (asserted shape vs s).written ≡ [] }
 {}
 
-/// A `retract` without a fault leaves exactly the facts that no argument names. With the fault that there is no such fact (CB20) it
-/// leaves those that no argument before that one names. Where a value is of
-/// another type, it ends with CB17, and nothing is retracted.
+/// A `retract` without a fault leaves exactly the facts that no argument names. With the fault that there is no such fact
+/// (CB20) it leaves those that no argument before that one names. Where a value is of another type, it ends with CB17, and
+/// nothing is retracted. However it ends, it writes nothing and changes the facts alone.
 pub fn a_retraction_takes_what_is_named()
     ensures fine { (vs : List Value) (s : World) (answer : Option Value) → IsSound s.memory
         → (retracted vs s).answer ≡ Ok answer
@@ -54,4 +64,26 @@ pub fn a_retraction_takes_what_is_named()
         → (retracted vs s).state ≡ s }
     ensures first { (vs : List Value) (s : World) → list_all is_retractable vs ≡ false
         → (retracted vs s).answer ≡ Err (ended.Fault WrongType) }
+    ensures only { (vs : List Value) (s : World) → (retracted vs s).state
+        ≡ record s { memory = (retracted vs s).state.memory } }
+    ensures quiet { (vs : List Value) (s : World) → (retracted vs s).written ≡ [] }
+{}
+
+/// `assert` and `retract` carry their arguments out first, and do with the values what the laws above say. Where an argument
+/// ends with a fault or at a limit, the command does so too, and nothing is asserted or retracted.
+pub fn a_command_acts_on_the_values_of_its_arguments()
+    ensures assert { (shape : Shape) (ts : Terms) (s : World) (vs : List Value)
+        → (carried_values None [] ts s).answer ≡ Ok vs
+        → carried (assert shape ts) s ≡ after_writing (carried_values None [] ts s).written
+        (asserted shape vs (carried_values None [] ts s).state) }
+    ensures assert_ended { (shape : Shape) (ts : Terms) (s : World) (e : Ended)
+        → (carried_values None [] ts s).answer ≡ Err e
+        → carried (assert shape ts) s ≡ with_answer (carried_values None [] ts s) (Err e) }
+    ensures retract { (ts : Terms) (s : World) (vs : List Value)
+        → (carried_values None [] ts s).answer ≡ Ok vs
+        → carried (retract ts) s ≡ after_writing (carried_values None [] ts s).written
+        (retracted vs (carried_values None [] ts s).state) }
+    ensures retract_ended { (ts : Terms) (s : World) (e : Ended)
+        → (carried_values None [] ts s).answer ≡ Err e
+        → carried (retract ts) s ≡ with_answer (carried_values None [] ts s) (Err e) }
 {}

@@ -6,8 +6,9 @@ ghost use Rattle.cb_facts.specs.Facts.{FactValue};
 ghost use Rattle.cb_laws.specs.Memories.{AreAsserted, IsSound, IsThere};
 ghost use Rattle.cb_working_memory.specs.WorkingMemory.{Memory, asserted_one, greatest_index};
 
-/// After a fact was asserted and an index was left for it, it is there under the index that is answered. That is the index that it
-/// had, if it was there, and then nothing changes; else it is the next. An index is left as long as the greatest was not given.
+/// After a fact was asserted and an index was left for it, it is there under the index that is answered. That is the index
+/// that it had, if it was there, and then nothing changes; else it is the next, which is then the one given last. An index is
+/// left as long as the greatest was not given.
 pub fn what_is_asserted_has_the_index_answered()
     ensures there { (m : Memory) (fact : FactValue) (ix : ℕ) → IsSound m
         → (asserted_one m fact).1 ≡ Some ix
@@ -16,6 +17,8 @@ pub fn what_is_asserted_has_the_index_answered()
         → fact_at m.facts ix ≡ Some fact → asserted_one m fact ≡ (m, Some ix) }
     ensures next { (m : Memory) (fact : FactValue) → IsSound m → IsAbsent m.facts fact
         → m.last < greatest_index → (asserted_one m fact).1 ≡ Some (m.last + 1) }
+    ensures last { (m : Memory) (fact : FactValue) → IsSound m → IsAbsent m.facts fact
+        → m.last < greatest_index → (asserted_one m fact).0.last ≡ m.last + 1 }
     ensures none { (m : Memory) (fact : FactValue) → IsSound m → IsAbsent m.facts fact
         → greatest_index ≤ m.last → asserted_one m fact ≡ (m, None) }
 {}

@@ -4,8 +4,8 @@ ghost use Rattle.cb_forms.specs.Items.{rest};
 ghost use Rattle.cb_session.specs.Transcripts.{complete, so_far, too_long};
 ghost use Rattle.cb_session.specs.declared.limits.Limits.{Limits};
 
-/// As far as it has come, a script is the same as the whole script of the bytes before its open item. If that item has more bytes than an item may have, the
-/// line of the limit follows, unless the script has ended before.
+/// As far as it has come, a script is the same as the whole script of the bytes before its open item. If that item has more
+/// bytes than an item may have, the line of the limit follows, unless the script has ended before.
 pub fn what_is_not_carried_out_is_open()
     ensures fits { (limits : Limits) (p before : List ℕ)
         → p ≡ before ++ rest p → length (rest p) ≤ limits.max_form

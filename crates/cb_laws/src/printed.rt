@@ -9,8 +9,8 @@ ghost use Rattle.cb_forms.specs.declared.token.Token.TheVariants as token;
 ghost use Rattle.cb_functions.specs.Arithmetic.{fits_64_bits};
 ghost use Rattle.cb_laws.specs.Words.{is_word};
 
-/// A string as it is shown, between quotes, reads as one item, the string, whatever its bytes. So does an integer. A symbol does
-/// where its bytes are a word that reads as a symbol: the symbol `3`, as `(sym-cat 3)` makes it, would read as the
+/// A string as it is shown, between quotes, reads as one item, the string, whatever its bytes. So does an integer. A symbol
+/// does where its bytes are a word that reads as a symbol: the symbol `3`, as `(sym-cat 3)` makes it, would read as the
 /// integer.
 pub fn what_is_shown_reads_back()
     ensures string { (bytes : List ℕ)

@@ -6,9 +6,9 @@ ghost use Rattle.cb_session.specs.States.{State};
 ghost use Rattle.cb_session.specs.Transcripts.{complete, executed, so_far};
 ghost use Rattle.cb_session.specs.declared.limits.Limits.{Limits};
 
-/// Whatever the limits, the script and how far it has come: no two facts are equal, their indices rise, and none comes after the
-/// index given last. No two slots of a template have one name. A fact of a relation with a template has the template's slots in order,
-/// a multifield in each multislot and in no other slot; each other fact is ordered.
+/// Whatever the limits, the script and how far it has come: no two facts are equal, their indices rise, and none comes after
+/// the index given last. No two slots of a template have one name. A fact of a relation with a template has the template's
+/// slots in order, a multifield in each multislot and in no other slot; each other fact is ordered.
 pub fn facts_and_templates_are_well_kept()
     ensures item { (s : State) (r : Reading)
         → AreWellKept s.world.memory s.world.templates

@@ -1,16 +1,19 @@
 //! A slot has the values that it is given, or its default.
-ghost use Rattle.std.specs.Prelude.{◌≡◌, ◌∷◌, ℕ, List, [], Some, Ok, true, false, is_some};
-ghost use Rattle.cb_facts.specs.Facts.{FactValue};
-ghost use Rattle.cb_facts.specs.Values.{is_multifield, spliced};
+ghost use Rattle.std.specs.List.{All};
+ghost use Rattle.std.specs.Prelude.{◌≡◌, ◌∷◌, ◌++◌, ℕ, List, [], Some, None, Ok, Err, true, false, is_some, map};
+ghost use Rattle.cb_facts.specs.Facts.{FactValue, ordered_fact};
+ghost use Rattle.cb_facts.specs.Values.{is_multifield, spliced, value_of_field};
+ghost use Rattle.cb_facts.specs.declared.single.Single.{Single};
 ghost use Rattle.cb_facts.specs.declared.value.Value.{Value};
 ghost use Rattle.cb_facts.specs.declared.value.Value.TheVariants as value;
+ghost use Rattle.cb_forms.specs.declared.fault.Fault.TheVariants.{FactDoesNotFit};
 ghost use Rattle.cb_laws.specs.SlotValues.{FitsSlots, IsGiven, IsLeftOut, slot_value};
-ghost use Rattle.cb_templates.specs.Building.{Given, built, slot_values};
+ghost use Rattle.cb_templates.specs.Building.{Given, built, field_values, slot_values};
 ghost use Rattle.cb_templates.specs.Slots.{SlotShape, slot_named};
 ghost use Rattle.cb_templates.specs.Templates.{Templates, slots_of};
 
-/// In a fact of a template a multislot has the fields of the values that it is given, in order, another slot the one value, which
-/// is no multifield, and a slot that is not given its default. The fact is of the relation that was written.
+/// In a fact of a template a multislot has the fields of the values that it is given, in order, another slot the one value,
+/// which is no multifield, and a slot that is not given its default. The fact is of the relation that was written.
 pub fn a_slot_has_what_it_is_given()
     ensures multislot { (templates : Templates) (relation : List ℕ) (slots : List SlotShape)
         (given : Given) (fact : FactValue) (name : List ℕ) (slot : SlotShape) (vs : List Value)
@@ -48,4 +51,25 @@ pub fn what_fits_is_a_fact()
         (given : Given) (fact : FactValue)
         → slots_of templates relation ≡ Some slots
         → built templates relation (slot_values given) ≡ Ok fact → FitsSlots slots given }
+{}
+
+/// A fact of a relation without a template has the fields of the values that it is given, in order: a value that is no
+/// multifield is one field, and the fields of a multifield stand in its place. Slots don't fit such a relation, and fields
+/// alone don't fit a template.
+pub fn an_ordered_fact_has_what_it_is_given()
+    ensures fields { (templates : Templates) (relation : List ℕ) (vs : List Value)
+        → slots_of templates relation ≡ None
+        → built templates relation (field_values vs) ≡ Ok (ordered_fact relation (spliced vs)) }
+    ensures each { (vs : List Value) → All (λ v. is_multifield v ≡ false) vs
+        → map value_of_field (spliced vs) ≡ vs }
+    ensures multifield { (before after : List Value) (singles : List Single)
+        → spliced (before ++ value.Multi singles ∷ after)
+        ≡ spliced before ++ (singles ++ spliced after) }
+    ensures no_slots { (templates : Templates) (relation : List ℕ) (given : Given)
+        → slots_of templates relation ≡ None
+        → built templates relation (slot_values given) ≡ Err FactDoesNotFit }
+    ensures no_fields { (templates : Templates) (relation : List ℕ) (slots : List SlotShape)
+        (vs : List Value)
+        → slots_of templates relation ≡ Some slots
+        → built templates relation (field_values vs) ≡ Err FactDoesNotFit }
 {}

@@ -1,19 +1,37 @@
 //! Templates as they are written: what is accepted, and which fault comes first.
-ghost use Rattle.std.specs.Prelude.{◌≡◌, ◌↔◌, ◌++◌, ◌∷◌, ℕ, Bool, List, [], Some, None, codes, false};
+ghost use Rattle.std.specs.Prelude.{◌≡◌, ◌↔◌, ◌++◌, ◌∷◌, ◌||◌, ◌⊎◌, ℕ, Bool, List, [], Some, None, codes, false, true};
 ghost use Rattle.std.specs.List.{IsDistinct};
 ghost use Rattle.std.specs.Str.{bytes_eq};
 ghost use Rattle.cb_expr_forms.specs.Laws.{AreFaultless};
+ghost use Rattle.cb_facts.specs.Values.{spliced};
+ghost use Rattle.cb_facts.specs.declared.single.Single.{Single};
+ghost use Rattle.cb_facts.specs.declared.value.Value.{Value};
+ghost use Rattle.cb_facts.specs.declared.value.Value.TheVariants as value;
 ghost use Rattle.cb_forms.specs.Members.{call_of};
-ghost use Rattle.cb_forms.specs.Trees.{Tree, Trees, trees_of};
+ghost use Rattle.cb_forms.specs.Trees.{Tree, Trees, no_trees, tree, trees_of};
 ghost use Rattle.cb_forms.specs.declared.fault.Fault.{Fault};
-ghost use Rattle.cb_laws.specs.Written.{AreShapes, attribute_name, names_written, written_slot_name};
+ghost use Rattle.cb_laws.specs.Written.{AreConstants, AreShapes, IsDefaultList, IsSlotForm, IsTemplateForm, IsTypeList, attribute_name, is_of_named, names_written, variable_alone, written_slot_name};
 ghost use Rattle.cb_templates.specs.FaultLists.{first_of};
-ghost use Rattle.cb_templates.specs.Slots.{names};
-ghost use Rattle.cb_templates.specs.TemplateFaults.{attribute_faults, attributes_faults, is_among, slot_form_faults, slots_form_faults};
-ghost use Rattle.cb_templates.specs.TemplateShapes.{default_in, default_said, slot_said, slots_said, types_in, types_said};
+ghost use Rattle.cb_templates.specs.SlotForms.{derived, is_variable};
+ghost use Rattle.cb_templates.specs.Slots.{Types, allows, names};
+ghost use Rattle.cb_templates.specs.TemplateFaults.{attribute_faults, attributes_faults, is_among, slot_form_faults, slots_form_faults, template_faults};
+ghost use Rattle.cb_templates.specs.TemplateShapes.{constant_in, default_in, default_said, slot_said, slots_said, types_in, types_said, value_for};
 
-/// Forms are the slots of a template without a fault exactly where each of them by itself is a slot without a fault and no two
-/// have the same name.
+/// What follows `deftemplate` is a template without a fault exactly where a name that is neither reserved nor in use comes
+/// first and then, after a comment or without one, slots without a fault.
+pub fn a_template_is_accepted_by_its_parts()
+    ensures { (in_use : List ℕ → Bool) (forms : Trees)
+        → (template_faults in_use forms ≡ []) ↔ IsTemplateForm in_use forms }
+{}
+
+/// A form by itself is a slot without a fault exactly where it begins with `slot` or `multislot`, a name follows, its
+/// attributes have no fault, and its default is of its types.
+pub fn a_slot_is_accepted_by_its_parts()
+    ensures { (t : Tree) → (slot_form_faults [] (call_of t) ≡ []) ↔ IsSlotForm t }
+{}
+
+/// Forms are the slots of a template without a fault exactly where each of them by itself is a slot without a fault and no
+/// two have the same name.
 pub fn slots_are_accepted_each_by_itself()
     ensures { (forms : Trees)
         → (slots_form_faults [] forms ≡ [])
@@ -21,8 +39,21 @@ pub fn slots_are_accepted_each_by_itself()
         × IsDistinct bytes_eq (names_written written_slot_name forms)) }
 {}
 
-/// Forms are the attributes of a slot without a fault exactly where each of them by itself is an attribute without a fault and no
-/// two have the same name.
+/// A form by itself is an attribute without a fault exactly where it is `type` with `?VARIABLE` alone or with one or more of
+/// the five words that name types, or `default` with `?NONE` alone, with `?DERIVE` alone or with constants: one in a slot, and
+/// any number in a multislot.
+pub fn an_attribute_is_accepted_by_its_parts()
+    ensures types { (is_multi : Bool) (t : Tree) (ts : Trees) → call_of t ≡ Some (codes "type", ts)
+        → (attribute_faults is_multi [] (call_of t) ≡ []) ↔ IsTypeList ts }
+    ensures default { (is_multi : Bool) (t : Tree) (ts : Trees)
+        → call_of t ≡ Some (codes "default", ts)
+        → (attribute_faults is_multi [] (call_of t) ≡ []) ↔ IsDefaultList is_multi ts }
+    ensures only { (is_multi : Bool) (t : Tree) → attribute_faults is_multi [] (call_of t) ≡ []
+        → (attribute_name t ≡ Some (codes "type")) ⊎ (attribute_name t ≡ Some (codes "default")) }
+{}
+
+/// Forms are the attributes of a slot without a fault exactly where each of them by itself is an attribute without a fault
+/// and no two have the same name.
 pub fn attributes_are_accepted_each_by_itself()
     ensures { (is_multi : Bool) (forms : Trees)
         → (attributes_faults is_multi [] forms ≡ [])
@@ -30,8 +61,8 @@ pub fn attributes_are_accepted_each_by_itself()
         × IsDistinct bytes_eq (names_written attribute_name forms)) }
 {}
 
-/// The attributes of a slot may stand in any order: if none is at fault, swapping two neighbours changes nothing. Which fault is
-/// reported may depend on the order. Whether the default is of the slot's types is another question.
+/// The attributes of a slot may stand in any order: if none is at fault, swapping two neighbours changes nothing. Which fault
+/// is reported may depend on the order. Whether the default is of the slot's types is another question.
 pub fn attributes_have_no_order()
     ensures fine { (is_multi : Bool) (before after : List Tree) (t u : Tree)
         → attributes_faults is_multi [] (trees_of (before ++ t ∷ u ∷ after)) ≡ []
@@ -42,8 +73,8 @@ pub fn attributes_have_no_order()
         ≡ slot_said is_multi (name, trees_of (before ++ u ∷ t ∷ after)) }
 {}
 
-/// Slots without a fault make a template of just these slots: each is what its own form says, and they have the names that are
-/// written, in order.
+/// Slots without a fault make a template of just these slots: each is what its own form says, and they have the names that
+/// are written, in order.
 pub fn slots_are_those_that_are_written()
     ensures each { (forms : Trees) → slots_form_faults [] forms ≡ []
         → AreShapes forms (slots_said forms) }
@@ -51,8 +82,8 @@ pub fn slots_are_those_that_are_written()
         → names (slots_said forms) ≡ names_written written_slot_name forms }
 {}
 
-/// Where no attribute of a slot is at fault, its types are what its `type` says, wherever that stands, and any without one. So it is
-/// with its default.
+/// Where no attribute of a slot is at fault, its types are what its `type` says, wherever that stands, and any without one.
+/// So it is with its default.
 pub fn attributes_say_what_is_written()
     ensures types { (is_multi : Bool) (before after : List Tree) (t : Tree) (ts : Trees)
         → attributes_faults is_multi [] (trees_of (before ++ t ∷ after)) ≡ []
@@ -70,8 +101,32 @@ pub fn attributes_say_what_is_written()
         → default_in is_multi forms ≡ None }
 {}
 
-/// The first fault of some slots is the first of all, whatever stands after them; and after slots without a fault it is that of
-/// the next one, by itself and by the names before it. So it is with attributes.
+/// The types of a slot take what they name: any field with `?VARIABLE`, and else the fields of each type that is written, in
+/// any order and however often.
+pub fn a_slot_takes_the_types_that_it_names()
+    ensures { (ts : Trees) (v : Single) → allows (types_said ts) v
+        ≡ (is_variable (codes "VARIABLE") ts || is_of_named ts v) }
+{}
+
+/// The default of a slot is the constant that is written, and that of a multislot a multifield of the constants, in order.
+/// With `?NONE` it has none; with `?DERIVE`, or where nothing is said of it, it follows from the types.
+pub fn a_default_is_what_is_written()
+    ensures slot { (types : Types) (t : Tree) (v : Value) → constant_in t ≡ Some v
+        → value_for false types (default_said false (tree t no_trees)) ≡ Some v }
+    ensures multislot { (types : Types) (ts : Trees) (vs : List Value) → AreConstants ts vs
+        → value_for true types (default_said true ts) ≡ Some (value.Multi (spliced vs)) }
+    ensures none { (is_multi : Bool) (types : Types)
+        → value_for is_multi types (default_said is_multi (variable_alone (codes "NONE")))
+        ≡ None }
+    ensures derive { (is_multi : Bool) (types : Types)
+        → value_for is_multi types (default_said is_multi (variable_alone (codes "DERIVE")))
+        ≡ Some (derived is_multi types) }
+    ensures nothing { (is_multi : Bool) (types : Types)
+        → value_for is_multi types None ≡ Some (derived is_multi types) }
+{}
+
+/// The first fault of some slots is the first of all, whatever stands after them; and after slots without a fault it is that
+/// of the next one, by itself and by the names before it. So it is with attributes.
 pub fn what_stands_after_a_fault_does_not_matter()
     ensures slots { (before after : List Tree) (fault : Fault)
         → first_of (slots_form_faults [] (trees_of before)) ≡ Some fault

@@ -1,4 +1,4 @@
-use Rattle.cb_laws.proofs.ActLaws.{address_there, fault_ends, fault_stays, one_asserted}
+use Rattle.cb_laws.proofs.ActLaws.{address_there, asserts_only, asserts_quietly, fault_ends, fault_stays, one_asserted}
 use Rattle.cb_laws.proofs.acting.an_assertion_answers_its_address.Goals as goal
 
 pub returns-clause-asserted : goal.returns-clause-asserted
@@ -12,3 +12,9 @@ returns-clause-fault c = fault_stays
 
 pub returns-clause-fault_ends : goal.returns-clause-fault_ends
 returns-clause-fault_ends c = fault_ends
+
+pub returns-clause-only : goal.returns-clause-only
+returns-clause-only c = asserts_only
+
+pub returns-clause-quiet : goal.returns-clause-quiet
+returns-clause-quiet c = asserts_quietly
