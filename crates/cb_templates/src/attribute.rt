@@ -15,9 +15,9 @@ use cb_facts::{Multifield, Names, Refused, Value, splice};
 use cb_forms::{Fault, Form, NoMemory, Token, split_head};
 use std::alloc::Global;
 
-/// What a `default` attribute says.
+/// What a `default` attribute says (`docs/LANGUAGE.md`, "Templates").
 #[derive(Drop)]
-pub(crate) enum SlotDefault {
+pub enum SlotDefault {
     /// `?NONE`: each fact must give the slot.
     Required,
     /// `?DERIVE`: the value follows from the types.

@@ -16,6 +16,7 @@ mod slot_form;
 mod slot_type;
 mod template;
 
+pub use attribute::SlotDefault;
 pub use build::{build_fact, build_slots};
 pub use comment::without_comment;
 pub use parts::{GivenSlot, GivenSlots, Parts, find_given};
@@ -23,4 +24,5 @@ pub use places::Places;
 pub use relations::{Relations, read_template};
 pub use reserved::is_reserved;
 pub use slot::{Slot, find_slot};
+pub use slot_type::SlotType;
 pub use template::Template;

@@ -5,9 +5,9 @@ ghost use Rattle.cb_templates.specs.Slots.{is_of, is_integer_field, is_string_fi
 
 use cb_facts::Single;
 
-/// A type that a slot may name.
+/// A type that a slot may name (`docs/LANGUAGE.md`, "Templates").
 #[derive(Clone, Copy, PartialEq, Eq)]
-pub(crate) enum SlotType {
+pub enum SlotType {
     /// `INTEGER`
     Integer,
     /// `SYMBOL`
