@@ -103,8 +103,8 @@ class Turn:
         return next(part for part in self.parts if part.kind == "definition").path
 
     def wanted(self, root):
-        """The files with their turned texts: all, or the definition alone for a law or an example of its own crate."""
-        here = self.by != NOTHING and self.way[0] in ("law", "example") and self.way[1] == self.definition().split("/")[1]
+        """The files with their turned texts: all, or the definition alone for a law, or for an example of its own crate."""
+        here = self.way[0] == "law" or self.way[0] == "example" and self.way[1] == self.definition().split("/")[1]
         texts = {}
         for part in self.parts:
             if part.kind == "code" and here:
@@ -222,12 +222,12 @@ def last_line(output):
     return lines[-1][:120] if lines else "nothing was written"
 
 
-def by_check(folder, only, pattern, what):
+def by_check(folder, command, pattern, what):
     """Whether the check of the crate refuses what the pattern finds the name of. It is ended when that is seen."""
-    command = ["timeout", str(SECONDS), "nice", "-n", "10", "rt", "check", "--allow-holes", *only]
     lines = []
-    with subprocess.Popen(command, cwd=folder, stdin=subprocess.DEVNULL, stdout=subprocess.PIPE, stderr=subprocess.STDOUT,
-                          text=True, errors="replace", start_new_session=True) as child:
+    with subprocess.Popen(["timeout", str(SECONDS), "nice", "-n", "10", *command], cwd=folder, stdin=subprocess.DEVNULL,
+                          stdout=subprocess.PIPE, stderr=subprocess.STDOUT, text=True, errors="replace",
+                          start_new_session=True) as child:
         for line in child.stdout:
             lines.append(line)
             if found := re.search(pattern, line):
@@ -236,14 +236,30 @@ def by_check(folder, only, pattern, what):
     return False, last_line("".join(lines))
 
 
+def check_from_sources(crate, path):
+    """The command that checks one function of a crate, with the crates below read from their sources and not proved."""
+    kit = Path(called(["rt", "doc"], TOP)[1].decode().strip()).parent
+    uses = {name: words.split() for name, _, words in (line.partition(":") for line in (TOP / "crates.txt").read_text().splitlines())}
+    below = [name for name in uses if name in stands_on(crate) and name != crate]
+    of_kit = {"core", "std", *(word for name in [*below, crate] for word in uses[name] if word not in uses)}
+    command = [str(kit / "bin" / "rattle"), "check", "--crate-name", crate, "src/lib.rt"]
+    for word in sorted(of_kit):
+        command += ["--extern", f"{word}={kit}/rlibs/{word}.rlib"]
+    for name in below:
+        command += ["--lib", f"{name}:{','.join(['core', 'std', *uses[name]])}=../{name}/src/lib.rt"]
+    command += ["-L", f"dependency={kit}/rlibs", "--antt-project", f"{kit}/rattle/logic/antt-project.json"]
+    return [*command, "--logic-built", f"{kit}/logic_built", "--jobs", "1", "--allow-holes", "--only", path]
+
+
 def by_law(folder, name):
     module = next(file.stem for file in (folder / "src").glob("*.rt") if f"fn {name}" in file.read_text())
-    path = f"{module}::{name}"
-    return by_check(folder, ["--only", path], rf"^fn {folder.name}::{module}::({name}): (?:no proof|not proved)", "law")
+    pattern = rf"^fn {folder.name}::{module}::({name}): (?:no proof|not proved|depends on a hole|\d+ holes?)"
+    return by_check(folder, check_from_sources(folder.name, f"{module}::{name}"), pattern, "law")
 
 
 def by_example(folder):
-    return by_check(folder, [], r"proofs/Examples\.antt:\d+:\d+: error: `(\w+)`", "example")
+    command = ["rt", "check", "--allow-holes"]
+    return by_check(folder, command, r"proofs/Examples\.antt:\d+:\d+: error: `(\w+)`", "example")
 
 
 def refused(turn, root):
