@@ -103,8 +103,8 @@ class Turn:
         return next(part for part in self.parts if part.kind == "definition").path
 
     def wanted(self, root):
-        """The files with their turned texts: all, or the definition alone for a law, or for an example of its own crate."""
-        here = self.way[0] == "law" or self.way[0] == "example" and self.way[1] == self.definition().split("/")[1]
+        """The files with their turned texts: all, or the definition alone for a law or an example, which no code decides."""
+        here = self.way[0] in ("law", "example")
         texts = {}
         for part in self.parts:
             if part.kind == "code" and here:
@@ -236,8 +236,8 @@ def by_check(folder, command, pattern, what):
     return False, last_line("".join(lines))
 
 
-def check_from_sources(crate, path):
-    """The command that checks one function of a crate, with the crates below read from their sources and not proved."""
+def check_from_sources(crate, *more):
+    """The command that checks a crate, with the crates below read from their sources and not proved."""
     kit = Path(called(["rt", "doc"], TOP)[1].decode().strip()).parent
     uses = {name: words.split() for name, _, words in (line.partition(":") for line in (TOP / "crates.txt").read_text().splitlines())}
     below = [name for name in uses if name in stands_on(crate) and name != crate]
@@ -248,18 +248,17 @@ def check_from_sources(crate, path):
     for name in below:
         command += ["--lib", f"{name}:{','.join(['core', 'std', *uses[name]])}=../{name}/src/lib.rt"]
     command += ["-L", f"dependency={kit}/rlibs", "--antt-project", f"{kit}/rattle/logic/antt-project.json"]
-    return [*command, "--logic-built", f"{kit}/logic_built", "--jobs", "1", "--allow-holes", "--only", path]
+    return [*command, "--logic-built", f"{kit}/logic_built", "--jobs", "1", "--allow-holes", *more]
 
 
 def by_law(folder, name):
     module = next(file.stem for file in (folder / "src").glob("*.rt") if f"fn {name}" in file.read_text())
     pattern = rf"^fn {folder.name}::{module}::({name}): (?:no proof|not proved|depends on a hole|\d+ holes?)"
-    return by_check(folder, check_from_sources(folder.name, f"{module}::{name}"), pattern, "law")
+    return by_check(folder, check_from_sources(folder.name, "--only", f"{module}::{name}"), pattern, "law")
 
 
 def by_example(folder):
-    command = ["rt", "check", "--allow-holes"]
-    return by_check(folder, command, r"proofs/Examples\.antt:\d+:\d+: error: `(\w+)`", "example")
+    return by_check(folder, check_from_sources(folder.name), r"proofs/Examples\.antt:\d+:\d+: error: `(\w+)`", "example")
 
 
 def refused(turn, root):
