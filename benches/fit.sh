@@ -1,13 +1,14 @@
 #!/bin/sh
 # Measures how long one test of a pattern against a fact takes, by the number of the fact's fields: for constraints for one
 # field each, for one segment, for two segments with a constant between, and where the number of fields can't fit, which is
-# seen without looking at them. And it counts what a test allocates where the pattern fits in no way, which must be nothing.
+# seen without looking at them. It counts what a test allocates where the pattern fits in no way, which must be nothing, and
+# compares the peak memory of two tests in which many beginnings of ways come to nothing.
 # Run it from anywhere, with GNU time as /usr/bin/time, a C compiler and the GNU C library:
 #
 #     benches/fit.sh
 #
-# It proves and builds the program pattern_fits first, and ends with status 1 where a ratio is over what is wanted, or where a
-# test allocates. No test depends on it.
+# It proves and builds the program pattern_fits first, and ends with status 1 where a ratio is over what is wanted or a test
+# allocates. No test depends on it.
 set -eu
 
 BUILT=pattern_fits
@@ -123,7 +124,17 @@ a constant that occurs once, and a predicate	(p $?x a ?y&:(> ?y 2) $?z)	(p 1 a 2
 a constant that occurs once, and a variable	(p $?x a $?x)	(p 1 a 2)
 two constants, of which one occurs	(p $?x a $?y b $?z)	(p 1 a 2)
 eight variables	(p ?a ?b ?c ?d ?e ?f ?g ?h ?h)	(p 1 2 3 4 5 6 7 8 9)
+two segments, each with many ends	(p $?x a $?y b $?z c)	(p a a a a a a b b b b)
+a variable that may stand anywhere, twice	(p $? ?x $? ?x $?)	(p 1 2 3 4 5 6 7 8 9)
+a slot after one that has many ways	(part (sizes $? ?x $?) (weight ?x))	(part (name a) (weight 9) (sizes 1 2 3 4 5))
+fourteen constraints, with two segments	(p a b c d e f g h $?x i ?y $?z j k)	(p a b c d e f g h 1 i 2 3 j)
 END
+}
+
+# The peak memory of a test in which each of three segments has as many ends as the fact has fields, and no way comes of it.
+peak() {
+    echo "(defrule r (p \$? a \$? a \$? a \$? b) =>)(fits (p$(words "$1" a)))" >"$place/script"
+    least_of_five "$program" | cut -d ' ' -f 2
 }
 
 # Counts what $3 tests of the pattern $1 against the fact $2 allocate, beside what reading them does.
@@ -145,4 +156,10 @@ row constraints 'as many constraints as fields' 12000000 'by fields' 15
 row segment 'one segment' 700000 'for all' 2
 row between 'two segments with a constant between' 4000000 'by fields' 15
 row length 'a pattern of two fields' 10000000 'for all' 2
+few=$(peak 10)
+many=$(peak 150)
+echo "$few $many" | awk '{
+    printf "peak memory where 551,300 beginnings come to nothing, against 120: %.2f times (wanted: at most 1.1)\n", $2 / $1
+    exit $2 > 1.1 * $1
+}' || missed=1
 exit "$missed"

@@ -3,10 +3,10 @@
 
 turned/turned.py            turns each definition, runs what has to refuse it, and takes the change back
 turned/turned.py NAME ..    does so with these alone
-turned/turned.py --list     writes the table of docs/TURNED.md
-turned/turned.py --table    writes the table into docs/TURNED.md, with what the last run of each turn saw
-turned/turned.py --check    only checks that each old text stands exactly once, that what has to refuse is there, and that the
-                            table is up to date; runs nothing
+turned/turned.py --list     writes the tables of docs/TURNED.md
+turned/turned.py --table    writes the tables into docs/TURNED.md, with what the last run of each turn saw
+turned/turned.py --check    only checks that each old text stands exactly once, that what has to refuse is there, that each law
+                            has its sentence in turned/laws.txt, and that the tables are up to date; runs nothing
 
 What a run saw is kept in turned/seen.json, with the digest of the turn's file: a turn that was changed since was not seen.
 
@@ -27,6 +27,7 @@ TURNED = TOP / "turned"
 PAGE = TOP / "docs" / "TURNED.md"
 SCRATCH = Path(os.environ.get("TURNED_SCRATCH", "/tmp/clipsbatch-turned"))
 SEEN = TURNED / "seen.json"
+SENTENCES = TURNED / "laws.txt"
 NOTHING = "nothing yet"
 WAYS = {"test": 1, "run": 1, "law": 2, "example": 1}
 SECONDS = int(os.environ.get("TURNED_SECONDS", "1800"))
@@ -302,14 +303,47 @@ def rows(turns):
     return "\n".join(lines)
 
 
+def all_laws():
+    """The crate and the name of each law, in the order of the files."""
+    files = [*sorted(TOP.glob("crates/*/src/laws.rt")), *sorted(TOP.glob("crates/cb_laws/src/*.rt"))]
+    return [(file.parts[-3], name) for file in files for name in re.findall(r"^pub fn (\w+)[(<]", file.read_text(), re.M)]
+
+
+def sentences():
+    """What each law rules out."""
+    found = {}
+    for line in SENTENCES.read_text().splitlines():
+        if line and not line.startswith("#"):
+            law, _, sentence = line.partition(": ")
+            found[tuple(law.split())] = sentence
+    return found
+
+
+def check_laws():
+    """The laws without a sentence, and the sentences without a law."""
+    laws, said = all_laws(), sentences()
+    return [f"no sentence in turned/laws.txt: {' '.join(law)}" for law in laws if law not in said] \
+        + [f"no such law: {' '.join(law)}" for law in said if law not in laws]
+
+
+def law_rows(turns):
+    """A row for each law: a wrong definition that it rules out, and the turned ones that it has to refuse."""
+    said, lines = sentences(), ["| Law | It rules out | Turned |", "|---|---|---|"]
+    for law in all_laws():
+        names = [f"`{turn.name}`" for turn in turns if turn.way == ["law", *law]]
+        lines.append(f"| {law[0]} `{law[1]}` | {cell(said.get(law, ''))} | {', '.join(names)} |")
+    return "\n".join(lines)
+
+
 def last_seen():
     return json.loads(SEEN.read_text()) if SEEN.is_file() else {}
 
 
 def with_table(turns):
-    """The page with the table in the place of its own, which is its last part."""
-    head, _, _ = PAGE.read_text().partition("| Turned |")
-    return head + rows(turns) + "\n"
+    """The page with the tables in the place of its own: that of the laws, and that of the turns, which is its last part."""
+    head, _, rest = PAGE.read_text().partition("| Law |")
+    between = rest.partition("\n\n")[2].partition("| Turned | Definition |")[0]
+    return f"{head}{law_rows(turns)}\n\n{between}{rows(turns)}\n"
 
 
 def run_all(turns):
@@ -337,9 +371,9 @@ def main():
     turns, wrong = all_turns()
     turns = chosen(turns, [word for word in words if not word.startswith("-")])
     if "--list" in options:
-        print(rows(turns))
+        print(f"{law_rows(turns)}\n\n{rows(turns)}")
         return 0
-    wrong += check(turns)
+    wrong += check(turns) + check_laws()
     for line in wrong:
         print(line)
     if wrong:
@@ -349,7 +383,7 @@ def main():
         return 0
     if "--check" in options:
         if len(words) == 1 and PAGE.read_text() != with_table(turns):
-            print("the table of docs/TURNED.md is not up to date: turned/turned.py --table writes it")
+            print("the tables of docs/TURNED.md are not up to date: turned/turned.py --table writes it")
             return 1
         print(f"{len(turns)} turns, each old text once")
         return 0

@@ -87,12 +87,6 @@ is_constant (variable x) = false
 is_constant (predicate e) = false
 is_constant (return_value e) = false
 
-abbrev pub is_of_constants : List Check → Bool
-is_of_constants cs = list_all (λ c. is_constant c.test) cs
-
-abbrev pub are_of_constants : List (List Check) → Bool
-are_of_constants alternatives = list_all is_of_constants alternatives
-
 -- the constraint holds of the value, variables and expressions aside
 abbrev pub may_hold : Demand → Value → Bool
 may_hold nothing v = true

@@ -21,7 +21,7 @@ pub struct Row {
 impl Model for Row {
     ghost use Rattle.std.specs.Coded.{codes};
     ghost use Rattle.std.specs.Prelude.{◌≡◌, List, map};
-    ghost use Rattle.cb_constraints.specs.Internal.{row_code};
+    ghost use Rattle.cb_constraints.specs.Internal.Codes.{row_code};
     ghost use Rattle.cb_constraints.specs.Constraints.{Constraint, constraint_of};
     ghost use Rattle.cb_constraints.specs.Rows.{after_segments, before_segments, fields_wanted, segments_wanted};
 

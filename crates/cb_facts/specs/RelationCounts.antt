@@ -2,7 +2,6 @@
 use Rattle.std.specs.Prelude.{◌≡◌, ◌+◌, ◌-◌, ℕ, Bool, List, if◌then◌else◌}
 use Rattle.std.specs.BTreeMap.{is_at}
 use Rattle.std.specs.Cmp.Lexicographic.{slice_cmp}
-use Rattle.std.specs.List.{sum_by}
 use Rattle.std.specs.Map.{lookup}
 use Rattle.std.specs.Option.{unwrap_or}
 use Rattle.std.specs.Ordering.{nat_cmp}
@@ -31,11 +30,3 @@ HasOneMore old new relation = (q : List ℕ) → count_of new q ≡ count_of old
 -- the relation is counted once less, if it was counted, and each other as often as before
 abbrev pub HasOneLess : Counts → Counts → List ℕ → Type 0
 HasOneLess old new relation = (q : List ℕ) → count_of new q ≡ count_of old q - one_if (bytes_eq relation q)
-
--- of these, so many name the relation
-abbrev pub naming : {X : Type 0} → (X → List ℕ) → List X → List ℕ → ℕ
-naming named xs relation = sum_by (λ x. one_if (bytes_eq (named x) relation)) xs
-
--- the table counts how many of these name each relation
-abbrev pub IsCountOf : {X : Type 0} → (X → List ℕ) → Counts → List X → Type 0
-IsCountOf named counts xs = (relation : List ℕ) → count_of counts relation ≡ naming named xs relation

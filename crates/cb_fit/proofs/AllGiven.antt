@@ -1,10 +1,9 @@
 -- What a way gives values, and what variables have then.
-use Rattle.std.proofs.Common.{◌≡◌, ◌∙◌, Bool, true, false, cond, ℕ, List, [], ◌∷◌, ◌++◌, Option, None, Some, ap, map, refl, subst, sym}
-use Rattle.std.proofs.lemmas.Grind.{flat_map-append}
+use Rattle.std.proofs.Common.{◌≡◌, ◌∙◌, Bool, true, false, cond, ℕ, List, [], ◌∷◌, ◌++◌, Option, None, Some, ap, refl, subst, sym}
 use Rattle.std.proofs.lemmas.List.{append-nil, append_assoc}
 use Rattle.std.specs.List.{flat_map}
 use Rattle.std.specs.Cmp.Lexicographic.{bytes_decides}
-use Rattle.std.specs.Option.{option_and_then, option_map_or}
+use Rattle.std.specs.Option.{option_map_or}
 use Rattle.std.specs.Str.{bytes_eq}
 use Rattle.cb_constraints.specs.Constraints.{Test, constant, variable, predicate, return_value, Check, Demand, nothing, each, either, Constraint}
 use Rattle.cb_constraints.specs.Holding.{after_check, after_checks, after_demand, after_test, one_holds, opposite_if, provided, after_variable, test_holds}
@@ -14,7 +13,6 @@ use Rattle.cb_exprs.proofs.Cited.{value_at-with_value, value_at_set}
 use Rattle.cb_exprs.specs.Bindings.{Bindings, value_at, with_variable, with_variables}
 use Rattle.cb_facts.specs.Facts.{FactContent, FactValue}
 use Rattle.cb_facts.specs.Facts as fact
-use Rattle.cb_facts.specs.Values.{fields_in}
 use Rattle.cb_facts.specs.declared.single.Single.{Single}
 use Rattle.cb_facts.specs.declared.value.Value.{Value}
 use Rattle.cb_functions.specs.Comparison.{same}
@@ -22,8 +20,8 @@ use Rattle.cb_fit.proofs.Givings.{given_more}
 use Rattle.cb_fit.proofs.Segments.{then-some}
 use Rattle.cb_fit.proofs.WithoutVariables.{provided-if}
 use Rattle.cb_fit.specs.Bound.{GivenSoFar, binder, binders, binders_in, binders_in_parts, binders_of, given_all, given_one, newly_bound}
-use Rattle.cb_fit.specs.Related.{Fits, HoldInTurn, PartsFit, RowFits, SlotsFit}
-use Rattle.cb_fit.specs.Ways.{after_segment, segment_value}
+use Rattle.cb_fit.specs.Related.{Fits, HoldInTurn, PartsFit, SlotsFit}
+use Rattle.cb_fit.specs.Ways.{segment_value}
 
 -- each variable with a value still has it
 abbrev Keeps : Bindings → Bindings → Type 0

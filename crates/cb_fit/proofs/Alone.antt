@@ -1,5 +1,5 @@
 -- A value that is no multifield is one field.
-use Rattle.std.proofs.Common.{◌≡◌, ◌+◌, ◌<◌, ◌∷◌, [], List, ℕ, Bool, false, drop, refl, rules}
+use Rattle.std.proofs.Common.{◌≡◌, ◌+◌, ◌<◌, ◌∷◌, [], ℕ, false, drop, refl, rules}
 use Rattle.std.proofs.lemmas.List.{drop_all}
 use Rattle.cb_facts.specs.Values.{fields_in, is_multifield, value_of_field}
 use Rattle.cb_facts.specs.declared.single.Single.{Single}

@@ -23,7 +23,7 @@ use Rattle.cb_facts.specs.declared.single.Single.{Single}
 use Rattle.cb_facts.specs.declared.value.Value.{Value}
 use Rattle.cb_fit.proofs.CutsFix.{cuts-as-many}
 use Rattle.cb_fit.proofs.Listed.{Among, among-cases, among-flat-back, among-map-back, numbers-from}
-use Rattle.cb_fit.proofs.Related.{row-fits, slot-fits, step-back, StepBack, first_taken}
+use Rattle.cb_fit.proofs.Related.{slot-fits, step-back, StepBack, first_taken}
 use Rattle.cb_fit.proofs.Rows.{step}
 use Rattle.cb_fit.specs.Ways.{Taken, WayValue, after_cuts, after_segment, each_followed_by, numbers, slot_at, way_with, ways, ways_of_parts, ways_of_row, ways_of_slot, ways_of_slots}
 

@@ -1,8 +1,7 @@
 -- A constraint for a segment, and those for one field that follow it.
-use Rattle.std.proofs.Common.{arith, ◌≡◌, ◌∙◌, ◌+◌, ◌-◌, ◌==◌, ◌<◌, ◌≤◌, Bool, true, false, List, ℕ, zero, suc, [], ◌∷◌, ◌++◌, Option, None, Some, ap, drop, length, map, refl, replicate, rules, sym, take, slice_range, leb, nat_le}
-use Rattle.std.proofs.lemmas.List.{append-nil, append_assoc, length-drop, map-append}
+use Rattle.std.proofs.Common.{arith, ◌≡◌, ◌∙◌, ◌+◌, ◌-◌, ◌==◌, ◌<◌, ◌≤◌, Bool, true, false, List, ℕ, [], ◌∷◌, ◌++◌, Option, None, Some, ap, drop, length, map, refl, replicate, sym, take, slice_range, leb, nat_le}
+use Rattle.std.proofs.lemmas.List.{append-nil, length-drop, map-append}
 use Rattle.std.proofs.lemmas.Bool.{eqb-false, eqb-true, leb-false, leb-true}
-use Rattle.std.proofs.lemmas.Grind.{flat_map-append}
 use Rattle.std.specs.List.{flat_map}
 use Rattle.std.specs.Option.{option_and_then}
 use Rattle.std.specs.Prelude.{option_map, option_to_list, if◌then◌else◌}
@@ -10,10 +9,10 @@ use Rattle.cb_constraints.specs.Constraints.{Constraint}
 use Rattle.cb_constraints.specs.Rows.{fields_wanted, segments_wanted}
 use Rattle.cb_exprs.specs.Bindings.{Bindings}
 use Rattle.cb_facts.specs.declared.single.Single.{Single}
-use Rattle.cb_fit.proofs.Numbers.{at-both-ends, flat-flat, flat-same, numbers-split}
+use Rattle.cb_fit.proofs.Numbers.{at-both-ends, flat-flat, flat-same}
 use Rattle.cb_fit.proofs.Places.{drop_past, drop_to}
 use Rattle.cb_fit.proofs.Rows.{all-of-ones, cuts-together, nothing-follows, ones-before, ones_then, shorter, step, too-short}
-use Rattle.cb_fit.specs.Internal.{Begun, after_ones, endings, lengths_to_try, takes_length, with_group}
+use Rattle.cb_fit.specs.Internal.{Begun, after_ones, endings, takes_length, with_group}
 use Rattle.cb_fit.specs.Ways.{Taken, after_cuts, after_segment, each_followed_by, numbers, ways_of_row, with_length}
 
 abbrev pub grown_to : Begun → ℕ → ℕ → Bindings → Begun
@@ -76,29 +75,24 @@ longer xs i m h = rw (length-drop i xs) h
 pub leaves-too-many : (c : Constraint) (cs : List Constraint) (fields : List Single) (env : Bindings) (i : ℕ) → segments_wanted cs ≡ 0 → fields_wanted cs < length fields - i → step c cs fields env i ≡ []
 leaves-too-many c cs fields env i e h = nothing-follows (ways_of_row cs (drop i fields)) (with_length c fields env i) (λ g. all-of-ones cs (drop i fields) g e (longer fields i (fields_wanted cs) h))
 
--- the lengths to try are enough
-pub lengths-enough : (c : Constraint) (cs : List Constraint) (fields : List Single) (env : Bindings) (is_last : Bool) (spare : ℕ) → (is_last ≡ true → segments_wanted cs ≡ 0)
+-- the lengths to try are enough: all of them, or those from one on where no segment follows
+pub lengths-enough : (c : Constraint) (cs : List Constraint) (fields : List Single) (env : Bindings) (first spare : ℕ) → first ≤ spare → (0 < first → segments_wanted cs ≡ 0)
     → length fields ≡ fields_wanted cs + spare
-    → flat_map (step c cs fields env) (numbers 0 (length fields + 1)) ≡ flat_map (step c cs fields env) (lengths_to_try is_last spare)
-lengths-enough c cs fields env true spare last e =
-    at-both-ends (step c cs fields env) spare 1 (length fields + 1) (omega arith)
-    (λ i a. leaves-too-many c cs fields env i (last refl) (omega arith))
+    → flat_map (step c cs fields env) (numbers 0 (length fields + 1)) ≡ flat_map (step c cs fields env) (numbers first (spare + 1 - first))
+lengths-enough c cs fields env first spare h last e =
+    at-both-ends (step c cs fields env) first (spare + 1 - first) (length fields + 1) (omega arith)
+    (λ i a. leaves-too-many c cs fields env i (last (omega arith)) (omega arith))
     (λ i a b. leaves-too-few c cs fields env i (omega arith))
-lengths-enough c cs fields env false spare last e =
-    at-both-ends (step c cs fields env) 0 (spare + 1) (length fields + 1) (omega arith)
-    (λ i a. absurd (omega arith))
-    (λ i a b. leaves-too-few c cs fields env i (omega arith))
-    ∙ ap (flat_map (step c cs fields env)) (numbers-split 0 spare 1 (spare + 1) spare refl (omega arith))
 
 -- all that becomes of a beginning
-pub group-step : (c : Constraint) (os rest : List Constraint) (b : Begun) (is_last : Bool) (spare : ℕ)
-    → segments_wanted os ≡ 0 → (is_last ≡ true → segments_wanted (os ++ rest) ≡ 0) → length b.left ≡ fields_wanted (os ++ rest) + spare
-    → flat_map (endings rest) (flat_map (with_group c os b) (lengths_to_try is_last spare)) ≡ endings (c ∷ (os ++ rest)) b
-group-step c os rest b is_last spare o last e =
-    flat-flat (endings rest) (with_group c os b) (lengths_to_try is_last spare)
-    ∙ (flat-same (λ n. flat_map (endings rest) (with_group c os b n)) (λ n. map (after_cuts b.cuts) (step c (os ++ rest) b.left b.env n)) (lengths_to_try is_last spare) (λ n. of-one-length rest os b n (after_segment c (take n b.left) b.env) o)
-    ∙ (map-of-all (after_cuts b.cuts) (step c (os ++ rest) b.left b.env) (lengths_to_try is_last spare)
-    ∙ ap (map (after_cuts b.cuts)) (sym (lengths-enough c (os ++ rest) b.left b.env is_last spare last e))))
+pub group-step : (c : Constraint) (os rest : List Constraint) (b : Begun) (first spare : ℕ)
+    → segments_wanted os ≡ 0 → first ≤ spare → (0 < first → segments_wanted (os ++ rest) ≡ 0) → length b.left ≡ fields_wanted (os ++ rest) + spare
+    → flat_map (endings rest) (flat_map (with_group c os b) (numbers first (spare + 1 - first))) ≡ endings (c ∷ (os ++ rest)) b
+group-step c os rest b first spare o h last e =
+    flat-flat (endings rest) (with_group c os b) (numbers first (spare + 1 - first))
+    ∙ (flat-same (λ n. flat_map (endings rest) (with_group c os b n)) (λ n. map (after_cuts b.cuts) (step c (os ++ rest) b.left b.env n)) (numbers first (spare + 1 - first)) (λ n. of-one-length rest os b n (after_segment c (take n b.left) b.env) o)
+    ∙ (map-of-all (after_cuts b.cuts) (step c (os ++ rest) b.left b.env) (numbers first (spare + 1 - first))
+    ∙ ap (map (after_cuts b.cuts)) (sym (lengths-enough c (os ++ rest) b.left b.env first spare h last e))))
 
 pub as-wanted : (segment : Bool) (n m : ℕ) → n < m → n < (if segment then 0 else 1) + m
 as-wanted true n m h = omega arith
@@ -116,41 +110,18 @@ not_ended fields at cuts env h = ap (λ ts. map (after_cuts cuts) ts) (left-over
     left-over [] env h = absurd (omega arith)
     left-over (f ∷ fs) env h = refl
 
--- the lengths up to a last place, one after another
-pub next_length : (f : ℕ → List Begun) (old kept new : List Begun) (at to : ℕ) → at ≤ to → kept ≡ old ++ flat_map f (numbers 0 (to - at)) → new ≡ kept ++ f (to - at)
-    → new ≡ old ++ flat_map f (numbers 0 (to + 1 - at))
-next_length f old kept new at to h k n =
-    n ∙ (ap (λ xs. xs ++ f (to - at)) k
-    ∙ (append_assoc old (flat_map f (numbers 0 (to - at))) (f (to - at))
-    ∙ ap (λ xs. old ++ xs) (sym (ap (flat_map f) (numbers-split 0 (to - at) 1 (to + 1 - at) (to - at) (omega arith) (omega arith))
-    ∙ (flat_map-append f (numbers 0 (to - at)) ((to - at) ∷ []) ∙ ap (λ xs. flat_map f (numbers 0 (to - at)) ++ xs) (append-nil (f (to - at))))))))
-
-pub last_length : (f : ℕ → List Begun) (old kept new : List Begun) (n : ℕ) → kept ≡ old ++ flat_map f (numbers 0 n) → new ≡ kept ++ f n
-    → new ≡ old ++ flat_map f (lengths_to_try false n)
-last_length f old kept new n k e =
-    e ∙ (ap (λ xs. xs ++ f n) k
-    ∙ (append_assoc old (flat_map f (numbers 0 n)) (f n)
-    ∙ ap (λ xs. old ++ xs) (sym (flat_map-append f (numbers 0 n) (n ∷ []) ∙ ap (λ xs. flat_map f (numbers 0 n) ++ xs) (append-nil (f n))))))
-
-pub last_of_some : (ends : Bool) (f : ℕ → List Begun) (old kept new : List Begun) (n : ℕ) → ends ≡ false → kept ≡ old ++ flat_map f (numbers 0 n) → new ≡ kept ++ f n
-    → new ≡ old ++ flat_map f (lengths_to_try ends n)
-last_of_some true f old kept new n d k e = search rules
-last_of_some false f old kept new n d k e = last_length f old kept new n k e
-
--- a beginning is done with
+-- a choice, which is for all that becomes of the beginning
 pub no-segments : (os rest : List Constraint) → segments_wanted os ≡ 0 → rest ≡ [] → segments_wanted (os ++ rest) ≡ 0
 no-segments os rest e r = ap (λ cs. segments_wanted (os ++ cs)) r ∙ (ap segments_wanted (append-nil os) ∙ e)
 
-pub group_done : (c : Constraint) (os rest : List Constraint) (fields : List Single) (b : Begun) (at last wanted : ℕ) (ends : Bool) (kept new : List Begun)
-    → segments_wanted os ≡ 0 → wanted ≡ fields_wanted (os ++ rest) → (ends ≡ true → rest ≡ []) → wanted ≤ length fields → last ≡ length fields - wanted → at ≤ last
-    → b.left ≡ drop at fields → new ≡ kept ++ flat_map (with_group c os b) (lengths_to_try ends (last - at))
-    → flat_map (endings rest) new ≡ flat_map (endings rest) kept ++ endings (c ∷ (os ++ rest)) b
-group_done c os rest fields b at last wanted ends kept new o w r h l a d n =
-    ap (flat_map (endings rest)) n
-    ∙ (flat_map-append (endings rest) kept (flat_map (with_group c os b) (lengths_to_try ends (last - at)))
-    ∙ ap (λ xs. flat_map (endings rest) kept ++ xs)
-    (group-step c os rest b ends (last - at) o (λ t. no-segments os rest o (r t))
-    (ap length d ∙ (length-drop at fields ∙ (omega arith ∙ ap (λ k. k + (last - at)) w)))))
+pub choice-done : (c : Constraint) (os rest : List Constraint) (fields : List Single) (b : Begun) (at to last wanted : ℕ)
+    → segments_wanted os ≡ 0 → wanted ≡ fields_wanted (os ++ rest) → wanted ≤ length fields → last ≡ length fields - wanted → at ≤ to → to ≤ last
+    → (at < to → rest ≡ []) → b.left ≡ drop at fields
+    → flat_map (endings rest) (flat_map (with_group c os b) (numbers (to - at) (last + 1 - to))) ≡ endings (c ∷ (os ++ rest)) b
+choice-done c os rest fields b at to last wanted o w h l a d r e =
+    ap (λ k. flat_map (endings rest) (flat_map (with_group c os b) (numbers (to - at) k))) (omega arith)
+    ∙ group-step c os rest b (to - at) (last - at) o (omega arith) (λ t. no-segments os rest o (r (omega arith)))
+    (ap length e ∙ (length-drop at fields ∙ (omega arith ∙ ap (λ k. k + (last - at)) w)))
 
 pub group_skipped : (c : Constraint) (cs : List Constraint) (fields : List Single) (b : Begun) (at wanted : ℕ)
     → wanted ≡ fields_wanted cs → length fields - at < wanted → b.left ≡ drop at fields → endings (c ∷ cs) b ≡ []

@@ -2,7 +2,6 @@
 use Rattle.std.proofs.Common.{◌≡◌, ◌∙◌, ◌++◌, ◌∷◌, [], List, ℕ, ap, map, refl, sym}
 use Rattle.std.proofs.lemmas.Grind.{flat_map-append}
 use Rattle.std.proofs.lemmas.List.{append-nil, map-append}
-use Rattle.std.specs.List.{flat_map}
 use Rattle.cb_exprs.specs.Bindings.{Bindings}
 use Rattle.cb_fit.proofs.Rows.{cuts-together, no-cuts}
 use Rattle.cb_fit.specs.Ways.{Taken, after_cuts, each_followed_by}

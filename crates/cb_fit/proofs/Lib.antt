@@ -1,6 +1,7 @@
 mod AllGiven
 mod Alone
 mod ByCuts
+mod Choices
 mod CutsFix
 mod CutsInOrder
 mod Examples
@@ -17,5 +18,6 @@ mod Rows
 mod Segments
 mod Splits
 mod Takes
+mod Weights
 mod Wildcards
 mod WithoutVariables

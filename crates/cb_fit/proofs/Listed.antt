@@ -1,5 +1,5 @@
 -- What is in a list, by recursion.
-use Rattle.std.proofs.Common.{arith, ◌≡◌, ◌⊎◌, ◌+◌, ◌<◌, inl, inr, ℕ, zero, suc, List, [], ◌∷◌, ◌++◌, ap, length, subst, map, refl, sym}
+use Rattle.std.proofs.Common.{arith, ◌≡◌, ◌⊎◌, ◌+◌, ◌<◌, inl, inr, ℕ, zero, suc, List, [], ◌∷◌, ◌++◌, ap, subst, map, refl, sym}
 use Rattle.std.specs.List.{Contains, flat_map}
 use Rattle.cb_fit.specs.Ways.{numbers}
 

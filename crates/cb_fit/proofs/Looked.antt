@@ -1,17 +1,19 @@
 -- What a look at the number of fields and at the constants in front rules out.
-use Rattle.std.proofs.Common.{◌≡◌, ◌∙◌, ◌&&◌, Bool, true, false, List, ℕ, [], ◌∷◌, Option, None, Some, ap, drop, length, refl, sym, take}
-use Rattle.std.proofs.lemmas.List.{take-append-drop}
+use Rattle.std.proofs.Common.{arith, ◌≡◌, ◌∙◌, ◌++◌, ◌==◌, ◌&&◌, Bool, true, false, List, ℕ, [], ◌∷◌, Option, None, Some, ap, drop, length, nat_le, refl, sym, take}
+use Rattle.std.proofs.lemmas.Bool.{eqb-true}
+use Rattle.std.proofs.lemmas.List.{append-nil, take-append-drop}
 use Rattle.std.specs.Option.{option_map_or}
+use Rattle.std.specs.Prelude.{if◌then◌else◌}
 use Rattle.cb_constraints.specs.Constraints.{Constraint}
 use Rattle.cb_constraints.specs.PatternValues.{SlotValue}
-use Rattle.cb_constraints.specs.Rows.{before_segments}
+use Rattle.cb_constraints.specs.Rows.{before_segments, fields_wanted, segments_wanted}
 use Rattle.cb_exprs.specs.Bindings.{Bindings}
 use Rattle.cb_facts.specs.Values.{fields_in}
 use Rattle.cb_facts.specs.declared.single.Single.{Single}
 use Rattle.cb_facts.specs.declared.value.Value.{Value}
 use Rattle.cb_fit.proofs.Groups.{leading-none, wrong-length}
 use Rattle.cb_fit.proofs.Rows.{nothing-follows}
-use Rattle.cb_fit.proofs.Splits.{leading-ones}
+use Rattle.cb_fit.proofs.Splits.{leading-ones, ones-want}
 use Rattle.cb_fit.proofs.Takes.{nothing-taken}
 use Rattle.cb_fit.specs.Internal.{may_take, may_take_row, may_take_slot, may_take_slots, takes_length}
 use Rattle.cb_fit.specs.Ways.{each_followed_by, slot_at, ways_of_row, ways_of_slot, ways_of_slots}
@@ -42,6 +44,19 @@ never_taken cs fs env e = by (takes_length cs (length fs)) refl e
     by : (b : Bool) → takes_length cs (length fs) ≡ b → b && may_take (take (before_segments cs) cs) fs ≡ false → ways_of_row cs fs env ≡ []
     by true t h = front-never cs fs env h
     by false t h = wrong-length cs fs env t
+
+-- a row of constraints for one field that may take the fields has one for each
+pub all-taken : (os cs row : List Constraint) (fs : List Single) → segments_wanted os ≡ 0 → cs ≡ [] → row ≡ os ++ cs → may_take_row row fs ≡ true → length os ≡ length fs
+all-taken os cs row fs o e r h = sym (eqb-true (length fs) (length os) (sym (by-length row is-os) ∙ (both-true (takes_length row (length fs)) (may_take (take (before_segments row) row) fs) h).0))
+  where
+    is-os : row ≡ os
+    is-os = r ∙ (ap (λ xs. os ++ xs) e ∙ append-nil os)
+
+    by-length : (row : List Constraint) → row ≡ os → takes_length row (length fs) ≡ (length fs == length os)
+    by-length row d =
+        ap (λ cs. takes_length cs (length fs)) d
+        ∙ (ap (λ n. if n == 0 then length fs == fields_wanted os else nat_le (fields_wanted os) (length fs)) o
+        ∙ ap (λ n. length fs == n) (ap fields_wanted (sym (append-nil os)) ∙ (ones-want os [] o ∙ omega arith)))
 
 -- nor have the rows of slots, of which one may not take the fields of its slot
 slot-never : (s : SlotValue) (o : Option Value) (env : Bindings) → option_map_or (λ v. may_take_row s.row (fields_in v)) o false ≡ false → option_map_or (λ v. ways_of_row s.row (fields_in v) env) o [] ≡ []

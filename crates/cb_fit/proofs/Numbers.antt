@@ -1,7 +1,7 @@
 -- Lists of numbers in a row, and what comes of each.
-use Rattle.std.proofs.Common.{arith, ◌≡◌, ◌∙◌, ◌+◌, ◌-◌, ◌<◌, ◌≤◌, List, ℕ, zero, suc, [], ◌∷◌, ◌++◌, ap, refl, rules, sym}
+use Rattle.std.proofs.Common.{arith, ◌≡◌, ◌∙◌, ◌+◌, ◌-◌, ◌<◌, ◌≤◌, List, ℕ, zero, suc, [], ◌∷◌, ◌++◌, ap, refl}
 use Rattle.std.proofs.lemmas.Grind.{flat_map-append}
-use Rattle.std.proofs.lemmas.List.{append-nil, append_assoc}
+use Rattle.std.proofs.lemmas.List.{append-nil}
 use Rattle.std.specs.List.{flat_map}
 use Rattle.cb_fit.specs.Ways.{numbers}
 
@@ -38,3 +38,25 @@ flat-flat f g (x ∷ xs) = flat_map-append f (g x) (flat_map g xs) ∙ ap (λ ys
 pub flat-same : {X Y : Type 0} (f g : X → List Y) (xs : List X) → ((x : X) → f x ≡ g x) → flat_map f xs ≡ flat_map g xs
 flat-same f g [] h = refl
 flat-same f g (x ∷ xs) h = ap (λ ys. ys ++ flat_map f xs) (h x) ∙ ap (λ ys. g x ++ ys) (flat-same f g xs h)
+
+-- places from one on, of which so many come first
+pub places-split : {X : Type 0} (f : ℕ → List X) (at from to n count more : ℕ) → at ≤ from → from ≤ to → n ≡ to - from → count ≡ n + more
+    → flat_map f (numbers (from - at) count) ≡ flat_map f (numbers (from - at) n) ++ flat_map f (numbers (to - at) more)
+places-split f at from to n count more a b e d =
+    ap (flat_map f) (numbers-split (from - at) n more count (to - at) d (omega arith)) ∙ flat_map-append f (numbers (from - at) n) (numbers (to - at) more)
+
+-- the first place of which something comes, and those after it
+pub first_place : {X : Type 0} (f : ℕ → List X) (at from to last : ℕ) (x : X) → at ≤ from → from ≤ to → to ≤ last → flat_map f (numbers (from - at) (to - from)) ≡ [] → flat_map f (numbers (to - at) 1) ≡ x ∷ []
+    → flat_map f (numbers (from - at) (last + 1 - from)) ≡ x ∷ flat_map f (numbers (to + 1 - at) (last - to))
+first_place f at from to last x a b c e h =
+    places-split f at from to (to - from) (last + 1 - from) (last + 1 - to) a b refl (omega arith)
+    ∙ (ap (λ xs. xs ++ flat_map f (numbers (to - at) (last + 1 - to))) e
+    ∙ (places-split f at to (to + 1) 1 (last + 1 - to) (last - to) (omega arith) (omega arith) (omega arith) (omega arith)
+    ∙ ap (λ xs. xs ++ flat_map f (numbers (to + 1 - at) (last - to))) h))
+
+-- nothing comes of one more
+pub no_place : {X : Type 0} (f : ℕ → List X) (at from to : ℕ) → at ≤ from → from ≤ to → flat_map f (numbers (from - at) (to - from)) ≡ [] → flat_map f (numbers (to - at) 1) ≡ []
+    → flat_map f (numbers (from - at) (to + 1 - from)) ≡ []
+no_place f at from to a b e h =
+    places-split f at from to (to - from) (to + 1 - from) 1 a b refl (omega arith)
+    ∙ (ap (λ xs. xs ++ flat_map f (numbers (to - at) 1)) e ∙ h)

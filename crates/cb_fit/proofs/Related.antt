@@ -1,10 +1,10 @@
 -- The list of ways has all that the condition alone allows, and nothing else.
-use Rattle.std.proofs.Common.{arith, ◌≡◌, ◌⊎◌, ◌∙◌, ◌+◌, ◌<◌, ◌≤◌, inl, inr, Bool, true, false, ℕ, zero, suc, List, [], ◌∷◌, ◌++◌, Option, None, Some, ap, drop, length, map, refl, subst, sym, take}
+use Rattle.std.proofs.Common.{arith, ◌≡◌, ◌⊎◌, ◌∙◌, ◌+◌, ◌≤◌, inl, inr, Bool, true, false, ℕ, List, [], ◌∷◌, ◌++◌, Option, None, Some, ap, drop, length, map, refl, subst, sym, take}
 use Rattle.std.proofs.Math.Seq.{take-append_seam, drop-append_seam}
 use Rattle.std.proofs.lemmas.List.{length-take-le, take-append-drop, length-append}
 use Rattle.std.specs.List.{Contains, flat_map}
 use Rattle.std.specs.Cmp.Lexicographic.{bytes_decides}
-use Rattle.std.specs.Option.{option_and_then, option_map_or}
+use Rattle.std.specs.Option.{option_map_or}
 use Rattle.std.specs.Prelude.{option_map, option_to_list, if◌then◌else◌}
 use Rattle.std.specs.Str.{bytes_eq}
 use Rattle.cb_constraints.specs.Constraints.{Constraint}
@@ -18,7 +18,6 @@ use Rattle.cb_facts.specs.declared.single.Single.{Single}
 use Rattle.cb_facts.specs.declared.value.Value.{Value}
 use Rattle.cb_fit.proofs.Listed.{Among, among-contained, among-flat, among-flat-back, among-left, among-map, among-map-back, among-numbers, among-cases, contains-among, numbers-from}
 use Rattle.cb_fit.proofs.Rows.{step}
-use Rattle.cb_fit.proofs.Segments.{same-some}
 use Rattle.cb_fit.specs.Related.{Fits, HoldInTurn, PartsFit, RowFits, SlotsFit}
 use Rattle.cb_fit.specs.Ways.{Taken, WayValue, after_cuts, after_segment, each_followed_by, numbers, slot_at, taken_way, way_with, ways, ways_of_parts, ways_of_row, ways_of_slot, ways_of_slots}
 

@@ -1,7 +1,6 @@
 -- Which lengths a constraint can take, by those that follow it.
 use Rattle.std.proofs.Common.{arith, ◌≡◌, ◌≢◌, ◌∙◌, ◌+◌, ◌-◌, ◌<◌, ◌≤◌, Bool, true, false, List, ℕ, zero, suc, [], ◌∷◌, ◌++◌, Option, None, Some, ap, drop, length, map, refl, replicate, rules, sym, take}
-use Rattle.std.proofs.lemmas.List.{append-nil, append_assoc, length-drop, map-append}
-use Rattle.std.specs.List.{flat_map}
+use Rattle.std.proofs.lemmas.List.{append-nil, append_assoc, length-drop}
 use Rattle.std.specs.Option.{option_and_then}
 use Rattle.std.specs.Prelude.{option_map, option_to_list, if◌then◌else◌}
 use Rattle.cb_constraints.specs.Constraints.{Constraint}
@@ -10,9 +9,8 @@ use Rattle.cb_constraints.specs.Rows.{fields_wanted, segments_wanted}
 use Rattle.cb_exprs.specs.Bindings.{Bindings}
 use Rattle.cb_facts.specs.Values.{value_of_field}
 use Rattle.cb_facts.specs.declared.single.Single.{Single}
-use Rattle.cb_facts.specs.declared.value.Value.{Value}
 use Rattle.cb_fit.proofs.Numbers.{at-both-ends, nothing-of-all}
-use Rattle.cb_fit.specs.Ways.{Taken, after_cuts, after_segment, each_followed_by, numbers, segment_value, ways_of_row, with_length}
+use Rattle.cb_fit.specs.Ways.{Taken, after_cuts, each_followed_by, segment_value, ways_of_row, with_length}
 use Rattle.cb_fit.specs.Internal.{after_ones}
 
 -- nothing comes of what nothing can follow

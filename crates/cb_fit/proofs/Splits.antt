@@ -78,9 +78,9 @@ within-all (c ∷ cs) = at-most c.segment (before_segments cs) (length cs) (with
 pub few_leading : (cs : List program.Constraint) (n : ℕ) → n ≡ before_segments (map constraint_of cs) → n ≤ length cs
 few_leading cs n e = rw e (rw (sym (length-map cs constraint_of)) (within-all (map constraint_of cs)))
 
-pub none-after : (xs : List program.Constraint) (b : Bool) → b ≡ (length xs == 0) → b ≡ true → map constraint_of xs ≡ []
-none-after [] b e t = refl
-none-after (x ∷ xs) b e t = absurd (not-zero (length xs) (eqb-true (suc (length xs)) 0 (sym e ∙ t)))
+pub none-left : (xs : List program.Constraint) (b : Bool) → b ≡ (length xs == 0) → b ≡ true → xs ≡ []
+none-left [] b e t = refl
+none-left (x ∷ xs) b e t = absurd (not-zero (length xs) (eqb-true (suc (length xs)) 0 (sym e ∙ t)))
   where
     not-zero : (n : ℕ) → suc n ≡ 0 → ⊥
     not-zero n h = absurd (omega arith)
@@ -99,3 +99,24 @@ group-wants c rest os after wanted e b w o =
     wants : (segment : Bool) (n : ℕ) → segment ≡ true → (if segment then 0 else 1) + n ≡ n
     wants true n h = omega arith
     wants false n h = search rules
+
+-- how many segments there are in all
+pub segments-in-both : (os cs : List Constraint) → segments_wanted os ≡ 0 → segments_wanted (os ++ cs) ≡ segments_wanted cs
+segments-in-both [] cs e = refl
+segments-in-both (o ∷ os) cs e = none o.segment (segments_wanted os) (segments_wanted (os ++ cs)) (segments_wanted cs) e (λ h. segments-in-both os cs h)
+  where
+    none : (segment : Bool) (n all m : ℕ) → (if segment then 1 else 0) + n ≡ 0 → (n ≡ 0 → all ≡ m) → (if segment then 1 else 0) + all ≡ m
+    none true n all m e h = absurd (omega arith)
+    none false n all m e h = ap (λ x. 0 + x) (h (omega arith)) ∙ omega arith
+
+-- one more, where a constraint for a segment comes before constraints for one field and others
+pub group-segments : (c : program.Constraint) (rest os after : List program.Constraint) → rest ≡ os ++ after
+    → before_segments (map constraint_of (c ∷ rest)) ≡ 0 → segments_wanted (map constraint_of os) ≡ 0
+    → segments_wanted (map constraint_of (c ∷ rest)) ≡ suc (segments_wanted (map constraint_of after))
+group-segments c rest os after e b o =
+    one-more c.takes_segment (segments_wanted (map constraint_of rest)) (is-segment c.takes_segment (before_segments (map constraint_of rest)) b)
+    ∙ ap suc (ap (λ cs. segments_wanted (map constraint_of cs)) e ∙ (ap segments_wanted (map-append constraint_of os after) ∙ segments-in-both (map constraint_of os) (map constraint_of after) o))
+  where
+    one-more : (segment : Bool) (n : ℕ) → segment ≡ true → (if segment then 1 else 0) + n ≡ suc n
+    one-more true n h = omega arith
+    one-more false n h = search rules

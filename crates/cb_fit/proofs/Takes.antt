@@ -1,6 +1,5 @@
 -- What a returned place and a returned answer say.
-use Rattle.std.proofs.Common.{◌≡◌, ◌∙◌, ◌++◌, ◌≤◌, ◌&&◌, Bool, true, false, ℕ, List, [], ◌∷◌, Option, None, Some, Result, Ok, Err, OnOk, IfSome, is_some, ap, length, refl, rules, subst, sym}
-use Rattle.std.proofs.lemmas.List.Elements.{All-push}
+use Rattle.std.proofs.Common.{◌≡◌, ◌∙◌, ◌&&◌, Bool, true, false, ℕ, List, [], ◌∷◌, Option, None, Some, Result, Ok, Err, OnOk, IfSome, is_some, ap, refl, rules, subst, sym}
 use Rattle.std.specs.Option.{option_and_then}
 use Rattle.cb_constraints.proofs.Cited.{holds-may}
 use Rattle.cb_constraints.specs.Constraints.{Constraint}
@@ -9,9 +8,8 @@ use Rattle.cb_exprs.specs.Bindings.{Bindings}
 use Rattle.cb_facts.specs.Values.{value_of_field}
 use Rattle.cb_facts.specs.declared.single.Single.{Single}
 use Rattle.cb_facts.specs.declared.value.Value.{Value}
-use Rattle.cb_fit.specs.FieldLists.{IsFirst}
-use Rattle.cb_fit.specs.Internal.{AreWithin, after_ones, may_take}
-use Rattle.cb_fit.specs.declared.beginning.Beginning.{Beginning}
+use Rattle.cb_fit.specs.Internal.FieldLists.{IsFirst}
+use Rattle.cb_fit.specs.Internal.{after_ones, may_take}
 
 pub some-place : (o : Option ℕ) (at n : ℕ) → o ≡ Some at → IfSome o (λ a. a ≡ n) → at ≡ n
 some-place o at n e h = subst (λ p. IfSome p (λ a. a ≡ n)) e h
@@ -60,7 +58,3 @@ may_first c cs v others fields first e = (may-both c cs v others fields first e)
 
 pub may_others : (c : Constraint) (cs : List Constraint) (v : Value) (others fields : List Single) → IsFirst v others fields → may_take (c ∷ cs) fields ≡ true → may_take cs others ≡ true
 may_others c cs v others fields first e = (may-both c cs v others fields first e).1
-
--- one more that is within
-pub within_more : (fields : List Single) (old new : List Beginning) (b : Beginning) → new ≡ old ++ b ∷ [] → AreWithin fields old → b.at ≤ length fields → AreWithin fields new
-within_more fields old new b e w h = subst (AreWithin fields) (sym e) (All-push (λ b. b.at ≤ length fields) old b w h)

@@ -1,7 +1,8 @@
 -- Patterns of one wildcard.
-use Rattle.std.proofs.Common.{arith, ◌≡◌, ◌≢◌, ◌∙◌, Bool, true, false, ℕ, List, [], ◌∷◌, ◌++◌, ap, drop, length, map, refl}
+use Rattle.std.proofs.Common.{arith, ◌≡◌, ◌≢◌, ◌∙◌, ◌+◌, ◌-◌, Bool, true, false, ℕ, List, [], ◌∷◌, ◌++◌, ap, drop, length, map, refl}
 use Rattle.std.proofs.lemmas.List.{drop_all}
 use Rattle.std.specs.Cmp.Lexicographic.{bytes_decides}
+use Rattle.std.specs.List.{flat_map}
 use Rattle.std.specs.Prelude.{if◌then◌else◌}
 use Rattle.std.specs.Str.{bytes_eq}
 use Rattle.cb_constraints.specs.Constraints.{Constraint}
@@ -11,9 +12,9 @@ use Rattle.cb_facts.specs.Facts.{ordered_fact}
 use Rattle.cb_facts.specs.declared.single.Single.{Single}
 use Rattle.cb_fit.proofs.Groups.{lengths-enough}
 use Rattle.cb_fit.proofs.Related.{took}
-use Rattle.cb_fit.proofs.Rows.{one-step}
+use Rattle.cb_fit.proofs.Rows.{one-step, step}
 use Rattle.cb_fit.specs.Laws.{any_fields, of_length, of_one, one_field}
-use Rattle.cb_fit.specs.Ways.{Taken, after_cuts, way_with, ways, ways_of_row}
+use Rattle.cb_fit.specs.Ways.{Taken, after_cuts, numbers, way_with, ways, ways_of_row}
 
 -- the ways of a pattern of one constraint are those of its row
 of-row : (r : List ℕ) (c : Constraint) (fs : List Single) (env : Bindings) (ts : List Taken) → ways_of_row (c ∷ []) fs env ≡ ts
@@ -40,8 +41,12 @@ all-taken n rest env e = ap (λ fs. map (after_cuts (n ∷ [])) (ways_of_row [] 
 
 all-of-row : (fs : List Single) (env : Bindings) → ways_of_row (any_fields ∷ []) fs env ≡ took (length fs ∷ []) env ∷ []
 all-of-row fs env =
-    lengths-enough any_fields [] fs env true (length fs) (λ t. refl) (omega arith)
-    ∙ ap (λ ts. ts ++ []) (all-taken (length fs) (drop (length fs) fs) env (drop_all (length fs) fs (omega arith)))
+    lengths-enough any_fields [] fs env (length fs) (length fs) (omega arith) (λ t. refl) (omega arith)
+    ∙ (ap (λ k. flat_map (step any_fields [] fs env) (numbers (length fs) k)) (one-left (length fs))
+    ∙ ap (λ ts. ts ++ []) (all-taken (length fs) (drop (length fs) fs) env (drop_all (length fs) fs (omega arith))))
+  where
+    one-left : (n : ℕ) → n + 1 - n ≡ 1
+    one-left n = omega arith
 
 pub takes-all : (r : List ℕ) (fs : List Single) (env : Bindings) → ways (of_one r any_fields) (ordered_fact r fs) env ≡ of_length (length fs) ∷ []
 takes-all r fs env = of-row r any_fields fs env (took (length fs ∷ []) env ∷ []) (all-of-row fs env)

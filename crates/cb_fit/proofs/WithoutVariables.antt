@@ -1,6 +1,6 @@
 -- A pattern without its variables and expressions fits where the pattern does, and gives no variable a value.
-use Rattle.std.proofs.Common.{◌≡◌, ◌∙◌, ◌&&◌, ◌||◌, Bool, true, false, ℕ, List, [], ◌∷◌, Option, None, Some, ap, filter, map, not, refl, subst, sym}
-use Rattle.std.specs.List.{list_all, list_any}
+use Rattle.std.proofs.Common.{◌≡◌, ◌∙◌, ◌&&◌, ◌||◌, Bool, true, false, ℕ, List, [], ◌∷◌, None, Some, ap, map, refl}
+use Rattle.std.specs.List.{list_all}
 use Rattle.std.specs.Option.{option_and_then}
 use Rattle.cb_constraints.specs.Constraints.{Test, constant, variable, predicate, return_value, Check, Demand, nothing, each, either, Constraint}
 use Rattle.cb_constraints.specs.Holding.{after_check, after_checks, after_demand, after_test, check_holds, one_holds, opposite_if, provided, after_variable, test_holds}

@@ -1,5 +1,8 @@
--- What a search for ways keeps: how far each has got with a row.
-use Rattle.std.specs.Prelude.{◌≤◌, ◌==◌, ◌&&◌, ℕ, All, Bool, true, false, List, [], ◌∷◌, ◌++◌, Option, Some, None, map, length, take, drop, flat_map, nat_le, option_map, option_to_list, replicate, if◌then◌else◌}
+-- What only the code needs. What a search for ways keeps: how far each has got with a row.
+pub mod Choices
+pub mod FieldLists
+pub mod GivenValues
+use Rattle.std.specs.Prelude.{◌==◌, ◌&&◌, ℕ, Bool, true, false, List, [], ◌∷◌, ◌++◌, Option, Some, None, map, length, take, drop, nat_le, option_map, option_to_list, replicate, if◌then◌else◌}
 use Rattle.std.specs.List.{list_all}
 use Rattle.std.specs.Option.{option_and_then, option_map_or}
 use Rattle.cb_constraints.specs.Constraints.{Constraint}
@@ -10,7 +13,7 @@ use Rattle.cb_exprs.specs.Bindings.{Bindings}
 use Rattle.cb_facts.specs.Values.{fields_in, value_of_field}
 use Rattle.cb_facts.specs.declared.single.Single.{Single}
 use Rattle.cb_facts.specs.declared.value.Value.{Value}
-use Rattle.cb_fit.specs.Ways.{Taken, after_cuts, after_segment, numbers, slot_at, ways_of_row}
+use Rattle.cb_fit.specs.Ways.{Taken, after_cuts, after_segment, slot_at, ways_of_row}
 use Rattle.cb_fit.specs.declared.beginning.Beginning as program
 
 -- the beginning of a way in a row: the lengths of the segments so far, in all rows, the fields of the row that are left, and
@@ -31,9 +34,6 @@ taken_of b = record { cuts = b.cuts.items; env = b.env }
 -- all that it becomes, with these constraints still to come
 abbrev pub endings : List Constraint → Begun → List Taken
 endings cs b = map (after_cuts b.cuts) (ways_of_row cs b.left b.env)
-
-abbrev pub endings_of_all : List Constraint → List Begun → List Taken
-endings_of_all cs bs = flat_map (endings cs) bs
 
 -- what variables have after constraints for one field took one each, from the first on
 abbrev pub after_ones : List Constraint → List Single → Bindings → Option Bindings
@@ -60,11 +60,6 @@ with_group c ones b n =
     })
     (option_and_then (after_ones ones (drop n b.left)) (after_segment c (take n b.left) b.env)))
 
--- the lengths to try where so many fields are spare: all of them, unless no segment follows
-abbrev pub lengths_to_try : Bool → ℕ → List ℕ
-lengths_to_try true spare = spare ∷ []
-lengths_to_try false spare = numbers 0 spare ++ spare ∷ []
-
 -- all constraints are for one field
 abbrev pub are_ones : List Constraint → Bool
 are_ones cs = segments_wanted cs == 0
@@ -84,7 +79,3 @@ may_take_slot s slots = option_map_or (λ v. may_take_row s.row (fields_in v)) (
 -- each row may take the fields of its slot
 abbrev pub may_take_slots : List SlotValue → List (List ℕ × Value) → Bool
 may_take_slots rows slots = list_all (λ s. may_take_slot s slots) rows
-
--- none of the beginnings has gone past the fields
-abbrev pub AreWithin : List Single → List program.Beginning → Type 0
-AreWithin fields bs = All (λ b. b.at ≤ length fields) bs

@@ -1,6 +1,4 @@
 pub mod Bound
-pub mod FieldLists
-pub mod GivenValues
 pub mod Internal
 pub mod Laws
 pub mod Meters

@@ -4,7 +4,6 @@ use Rattle.cb_constraints.specs.Constraints.{Check, Demand, nothing, each, eithe
 use Rattle.cb_constraints.specs.Holding.{is_constant}
 use Rattle.cb_constraints.specs.PatternValues.{Parts, fields, slots, PatternValue, SlotValue}
 use Rattle.cb_exprs.specs.Bindings.{no_bindings}
-use Rattle.cb_exprs.specs.Bindings.{Bindings}
 use Rattle.cb_facts.specs.Facts.{FactValue}
 use Rattle.cb_fit.specs.Related.{Fits}
 

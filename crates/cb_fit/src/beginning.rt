@@ -7,8 +7,8 @@ use smallvec::SmallVec;
 use std::alloc::Global;
 use std::default::MadeWith;
 
-/// The lengths of segments. The first eight take no memory.
-pub(crate) type Cuts = SmallVec<u64, 8>;
+/// The lengths of segments. The first sixteen take no memory.
+pub(crate) type Cuts = SmallVec<u64, 16>;
 
 /// Beginnings of ways. Two of them take no memory.
 pub(crate) type Beginnings = SmallVec<Beginning, 2>;

@@ -10,10 +10,10 @@ ghost use Rattle.cb_fit.specs.Ways.{way_with, ways, ways_of_parts, ways_of_row, 
 use crate::beginning::{Beginning, Beginnings};
 use crate::fields::Fields;
 use crate::given::newly_bound;
-use crate::look::Look;
 use crate::meter::Meter;
 use crate::pattern::Pattern;
-use crate::slots::{may_take_slots, take_slots};
+use crate::search::Search;
+use crate::slots::may_take_slots;
 use crate::way::Way;
 use cb_constraints::{Parts, Row, SlotRow};
 use cb_exprs::Env;
@@ -61,7 +61,7 @@ fn take_parts(
             take_fields(alloc, constants, row, fields, env)
         }
         (Parts::Slots(rows), Content::Slots(slots)) => {
-            begin_slots(alloc, constants, rows, slots, env)
+            take_slots(alloc, constants, rows, slots, env)
         }
         _ => Ok(Beginnings::new(alloc)),
     }
@@ -79,22 +79,24 @@ fn take_fields(
     ensures { IfOk result (λ all. map taken_of all.items
         ≡ ways_of_row row.now fields.now env.now) }
 {
-    let mut all = Beginnings::new(alloc);
-    let look = Look {
+    let search = Search {
         alloc,
         constants,
-        fields: Fields::All(fields),
+        slots: &[],
     };
+    let look = search.look(Fields::All(fields));
+    let mut all = Beginnings::new(alloc);
     if !look.may_take_row(row) {
         return Ok(all);
     }
-    look.take_row(row, Beginning::new(alloc, env)?, &mut all)?;
+    let next = search.begin_fields(row, look, Beginning::new(alloc, env)?, &mut all)?;
+    search.take_all(next, &mut all)?;
     Ok(all)
 }
 
 /// The same of the slots of a template's fact.
 #[tactic(auto, using(crate::proofs::InTurn::from_start_alone, crate::proofs::Looked::slots_never_taken))]
-fn begin_slots(
+fn take_slots(
     alloc: Global,
     constants: &Constants,
     rows: &[SlotRow],
@@ -104,12 +106,17 @@ fn begin_slots(
     ensures { IfOk result (λ all. map taken_of all.items
         ≡ ways_of_slots (map asked_slot rows.now) slots.now env.now) }
 {
+    let search = Search {
+        alloc,
+        constants,
+        slots,
+    };
     let mut all = Beginnings::new(alloc);
     if !may_take_slots(alloc, constants, rows, slots) {
         return Ok(all);
     }
-    all.push(Beginning::new(alloc, env)?)?;
-    let all = take_slots(alloc, constants, rows, slots, all)?;
+    let next = search.begin_rows(rows, Beginning::new(alloc, env)?, &mut all)?;
+    search.take_all(next, &mut all)?;
     Ok(all)
 }
 

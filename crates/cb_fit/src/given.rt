@@ -3,7 +3,7 @@ ghost use Rattle.std.specs.Prelude.{◌≡◌, ◌∷◌, [], IfOk, OnOk, flat_m
 ghost use Rattle.cb_constraints.specs.Constraints.{check_of, constraint_of, demand_of};
 ghost use Rattle.cb_constraints.specs.PartValues.{asked_parts, asked_slot};
 ghost use Rattle.cb_fit.specs.Bound.{binders, binders_in, binders_in_parts, binders_of, given_all, newly_bound};
-ghost use Rattle.cb_fit.specs.GivenValues.{given_of};
+ghost use Rattle.cb_fit.specs.Internal.GivenValues.{given_of};
 
 use cb_constraints::{Check, Constraint, Demand, Parts, SlotRow, Test};
 use cb_exprs::Env;

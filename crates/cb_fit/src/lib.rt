@@ -4,6 +4,7 @@
 #![tactic(auto)]
 
 mod beginning;
+mod choice;
 mod fields;
 mod fitting;
 mod given;
@@ -11,7 +12,8 @@ pub mod laws;
 mod look;
 mod meter;
 mod pattern;
-mod row;
+mod rest;
+mod search;
 mod slots;
 mod way;
 

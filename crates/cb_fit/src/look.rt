@@ -1,12 +1,12 @@
 //! Constraints that take fields.
-ghost use Rattle.std.specs.Prelude.{◌≡◌, ◌++◌, ◌+◌, ◌-◌, ◌≤◌, true, IfOk, IfSome, OnOk, drop, is_some, length, map, slice_range};
+ghost use Rattle.std.specs.Prelude.{◌≡◌, ◌∷◌, [], ◌+◌, ◌-◌, ◌≤◌, true, IfOk, IfSome, MatchOption, drop, is_some, length, map, slice_range};
 ghost use Rattle.cb_constraints.specs.Constraints.{constraint_of};
 ghost use Rattle.cb_constraints.specs.Holding.{Meets};
-ghost use Rattle.cb_fit.specs.FieldLists.{row_fields};
-ghost use Rattle.cb_fit.specs.Internal.{AreWithin, after_ones, begun_of, may_take, with_group};
+ghost use Rattle.cb_fit.specs.Internal.FieldLists.{row_fields};
+ghost use Rattle.cb_fit.specs.Internal.{after_ones, begun_of, may_take, with_group};
 ghost use Rattle.cb_fit.specs.Ways.{after_segment};
 
-use crate::beginning::{Beginning, Beginnings, with_lengths};
+use crate::beginning::{Beginning, with_lengths};
 use crate::fields::Fields;
 use cb_constraints::{Constraint, Demand, Tested, may_hold, meets, meets_beyond_constants};
 use cb_exprs::Env;
@@ -111,38 +111,38 @@ impl Look<'_> {
         )
     }
 
-    /// Keeps a beginning after a constraint took the segment up to a place, and those for one field that follow it one
-    /// field each, if they hold.
-    pub(crate) fn add_group(
+    /// The beginning after a constraint takes the segment up to a place, and those for one field that follow it one field
+    /// each, if they hold.
+    pub(crate) fn take_group(
         self,
         constraint: &Constraint,
         ones: &[Constraint],
         begun: &Beginning,
         to: usize,
-        kept: &mut Beginnings,
-    ) -> Result<(), NoMemory>
+    ) -> Result<Option<Beginning>, NoMemory>
         requires segment { (constraint_of constraint.now).segment ≡ true }
         requires order { begun.now.at ≤ to }
         requires within { to ≤ length (row_fields self.fields) }
-        ensures within { OnOk result (AreWithin (row_fields self.entry.fields) kept.old.items
-            → AreWithin (row_fields self.entry.fields) kept.new.items) }
-        ensures kept { OnOk result (map (begun_of (row_fields self.entry.fields)) kept.new.items
-            ≡ map (begun_of (row_fields self.entry.fields)) kept.old.items
-            ++ with_group (constraint_of constraint.now) (map constraint_of ones.now)
-            (begun_of (row_fields self.entry.fields) begun.now) (to - begun.now.at)) }
+        ensures within { IfOk result (λ b. IfSome b (λ b.
+            b.at ≤ length (row_fields self.entry.fields))) }
+        ensures taken { IfOk result (λ b. MatchOption b
+            (with_group (constraint_of constraint.now) (map constraint_of ones.now)
+            (begun_of (row_fields self.entry.fields) begun.now) (to - begun.now.at) ≡ [])
+            (λ b. with_group (constraint_of constraint.now) (map constraint_of ones.now)
+            (begun_of (row_fields self.entry.fields) begun.now) (to - begun.now.at)
+            ≡ begun_of (row_fields self.entry.fields) b ∷ [])) }
     {
         if !self.may_take(ones, to) {
-            return Ok(());
+            return Ok(None);
         }
         let mut env = begun.env.clone()?;
         if !self.take_segment(constraint, begun.at, to, &mut env)? {
-            return Ok(());
+            return Ok(None);
         }
         let Some(at) = self.take_ones(ones, to, &mut env)? else {
-            return Ok(());
+            return Ok(None);
         };
         let cuts = with_lengths(self.alloc, &begun.cuts, (to - begun.at) as u64, ones.len())?;
-        kept.push(Beginning { cuts, at, env })?;
-        Ok(())
+        Ok(Some(Beginning { cuts, at, env }))
     }
 }

@@ -23,7 +23,7 @@ pub struct Pattern<T> {
 
 impl<T> Model for Pattern<T> {
     ghost use Rattle.std.specs.Coded.{codes};
-    ghost use Rattle.cb_constraints.specs.Internal.{pattern_code};
+    ghost use Rattle.cb_constraints.specs.Internal.Codes.{pattern_code};
     ghost use Rattle.cb_constraints.specs.PatternValues.{PatternValue};
     ghost use Rattle.cb_constraints.specs.PartValues.{asked_parts};
 

@@ -4,7 +4,8 @@ use Rattle.cb_expr_forms.specs.ExprFaults.{is_this_symbol}
 use Rattle.cb_forms.specs.Members.{members}
 use Rattle.cb_forms.specs.Trees.{Tree, tree, tree_of, Trees, no_trees}
 use Rattle.cb_forms.specs.declared.form.Form.{Form}
-use Rattle.cb_rule_forms.specs.Sections.{arrow_place, divided}
+use Rattle.cb_rule_forms.specs.Sections.{divided}
+use Rattle.cb_rule_forms.specs.Internal.SectionPlaces.{arrow_place}
 
 -- there is one at this place, and the forms are divided there
 pub record DividedAt (fs : List Form) (n : ℕ) : Type 0 where

@@ -1,4 +1,5 @@
--- What the program has read of condition elements, and what it knows after them: needed by the code alone.
+-- What only the code needs: what it has read of condition elements, and what it knows after them.
+pub mod SectionPlaces
 use Rattle.std.specs.Prelude.{ℕ, List, [], ◌∷◌, Result}
 use Rattle.std.specs.Option.{option_map}
 use Rattle.cb_constraints.specs.PartValues.{asked_parts}

@@ -1,11 +1,10 @@
 -- What a rule is made of, as it is written.
-use Rattle.std.specs.Prelude.{ℕ, suc, List, Option, Some, None, codes, is_some, option_map, if◌then◌else◌}
+use Rattle.std.specs.Prelude.{ℕ, List, Option, Some, None, codes, is_some, option_map, if◌then◌else◌}
 use Rattle.std.specs.Option.{option_and_then}
 use Rattle.std.specs.Str.{bytes_eq}
 use Rattle.cb_expr_forms.specs.ExprFaults.{is_this_symbol}
 use Rattle.cb_forms.specs.Members.{call_of, head_and_rest, members}
 use Rattle.cb_forms.specs.Trees.{Trees, no_trees, tree}
-use Rattle.cb_rule_forms.specs.declared.sections.Sections as program
 use Rattle.cb_templates.specs.Templates.{without_comment}
 
 -- the name, the members of the declaration after `declare`, if there is one, the elements, and the actions
@@ -19,11 +18,6 @@ pub record Sections : Type 0 where
 abbrev pub divided : Trees → Option (Trees × Trees)
 divided no_trees = None
 divided (tree t ts) = if is_this_symbol (codes "=>") t then Some (no_trees, ts) else option_map (λ p. (tree t p.0, p.1)) (divided ts)
-
--- the place of the first `=>`
-abbrev pub arrow_place : Trees → Option ℕ
-arrow_place no_trees = None
-arrow_place (tree t ts) = if is_this_symbol (codes "=>") t then Some 0 else option_map suc (arrow_place ts)
 
 -- the members of a list that begins with this word
 abbrev pub members_after : List ℕ → Option (List ℕ × Trees) → Option Trees
@@ -56,12 +50,3 @@ sections_after name ts = if bytes_eq name (codes "=>") then None else option_map
 -- the sections of a rule, if it has a name and a `=>` after it
 abbrev pub sections_of : Trees → Option Sections
 sections_of ts = option_and_then (λ p. sections_after p.0 p.1) (head_and_rest ts)
-
--- the sections that the program has
-abbrev pub sections_seen : program.Sections → Sections
-sections_seen s = record {
-  name = s.name.now;
-  declared = option_map (λ fs. members fs.now) s.declared;
-  elements = members s.elements.now;
-  actions = members s.actions.now;
-}

@@ -8,7 +8,7 @@ ghost use Rattle.cb_rule_forms.specs.Internal.{form_value};
 ghost use Rattle.cb_rule_forms.specs.Elements.{elements_faults, elements_of, written_in};
 ghost use Rattle.cb_rule_forms.specs.RuleValues.{element_value, rule_value};
 ghost use Rattle.cb_rule_forms.specs.Rules.{is_pattern, layout_of, left_scope, rule_faults, rule_of, rule_with, sections_faults, sections_rule};
-ghost use Rattle.cb_rule_forms.specs.Sections.{sections_seen};
+ghost use Rattle.cb_rule_forms.specs.Internal.SectionPlaces.{sections_seen};
 
 use crate::actions::read_actions;
 use crate::declaration::read_declaration;

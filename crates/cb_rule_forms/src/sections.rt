@@ -2,7 +2,8 @@
 ghost use Rattle.std.specs.Prelude.{◌≡◌, ◌<◌, None, Some, IfSome, MatchOption, is_some, length};
 ghost use Rattle.cb_forms.specs.Members.{call_of, members};
 ghost use Rattle.cb_forms.specs.Trees.{tree_of};
-ghost use Rattle.cb_rule_forms.specs.Sections.{arrow_place, declared_in, divided, members_after, sections_of, sections_seen, without_declaration};
+ghost use Rattle.cb_rule_forms.specs.Sections.{declared_in, divided, members_after, sections_of, without_declaration};
+ghost use Rattle.cb_rule_forms.specs.Internal.SectionPlaces.{arrow_place, sections_seen};
 
 use cb_expr_forms::is_symbol;
 use cb_forms::{Form, split_head};

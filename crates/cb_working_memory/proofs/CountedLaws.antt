@@ -11,7 +11,8 @@ use Rattle.std.specs.Str.{bytes_eq}
 use Rattle.cb_facts.proofs.Cited.{any_counted, any_of_map}
 use Rattle.cb_facts.specs.FactLists.{IndexedFacts, IsFactBase, fact_at, with_fact, without_fact}
 use Rattle.cb_facts.specs.Facts.{FactValue}
-use Rattle.cb_facts.specs.RelationCounts.{Counts, HasOneLess, HasOneMore, IsCountOf, IsEmpty, count_of, one_if}
+use Rattle.cb_facts.specs.RelationCounts.{Counts, HasOneLess, HasOneMore, IsEmpty, count_of, one_if}
+use Rattle.cb_working_memory.specs.Internal.Namings.{IsCountOf}
 use Rattle.cb_working_memory.specs.Internal.WorkingMemories.{IsLessBy}
 
 abbrev pub AreCounted : Counts → IndexedFacts → Type 0

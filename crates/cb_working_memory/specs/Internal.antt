@@ -1,6 +1,7 @@
 -- What only the code needs.
 pub mod GroupCounts
 pub mod Groups
+pub mod Namings
 pub mod WorkingMemories
 use Rattle.std.specs.Prelude.{ℕ, List}
 use Rattle.std.specs.Coded.{Coded, coded_list, coded×}

@@ -22,7 +22,7 @@ pub(crate) struct CountedFacts {
 impl Model for CountedFacts {
     ghost use Rattle.std.specs.Map.{values_of};
     ghost use Rattle.cb_facts.specs.FactLists.{IndexedFacts, IsFactBase};
-    ghost use Rattle.cb_facts.specs.RelationCounts.{IsCountOf};
+    ghost use Rattle.cb_working_memory.specs.Internal.Namings.{IsCountOf};
 
     ghost Value = { IndexedFacts };
 

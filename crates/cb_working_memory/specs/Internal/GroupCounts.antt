@@ -3,7 +3,8 @@ use Rattle.std.specs.Prelude.{◌≡◌, ◌+◌, ◌-◌, ℕ, List, Option, op
 use Rattle.std.specs.List.{sum_by}
 use Rattle.std.specs.Option.{unwrap_or}
 use Rattle.cb_exprs.specs.FactTerms.{FactTerm}
-use Rattle.cb_facts.specs.RelationCounts.{Counts, count_of, naming}
+use Rattle.cb_facts.specs.RelationCounts.{Counts, count_of}
+use Rattle.cb_working_memory.specs.Internal.Namings.{naming}
 use Rattle.cb_working_memory.specs.Deffacts.{DeffactsTable}
 use Rattle.cb_working_memory.specs.Internal.Groups.{Group}
 

@@ -1,4 +1,4 @@
-use Rattle.std.proofs.Common.{◌≡◌, ◌++◌, replicate, ℕ}
+use Rattle.std.proofs.Common.{◌≡◌, ◌++◌, replicate}
 use Rattle.cb_fit.proofs.beginning.add_ones.Given as goal
 
 abbrev pub invariant-loop : goal.invariant-loop

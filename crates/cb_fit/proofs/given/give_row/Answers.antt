@@ -1,10 +1,9 @@
 use Rattle.std.proofs.Common.{◌≡◌, ◌∙◌, ◌+◌, ◌∷◌, ap, drop, map, rules, sym}
 use Rattle.std.proofs.lemmas.List.{drop_more}
-use Rattle.std.specs.List.{flat_map}
 use Rattle.cb_constraints.specs.Constraints.{constraint_of, demand_of}
 use Rattle.cb_fit.proofs.Givings.{given_more}
 use Rattle.cb_fit.specs.Bound.{binders, binders_in, given_all}
-use Rattle.cb_fit.specs.GivenValues.{given_of}
+use Rattle.cb_fit.specs.Internal.GivenValues.{given_of}
 use Rattle.cb_fit.proofs.given.give_row.Goals as goal
 
 pub loop-constraint-preserved : goal.loop-constraint-preserved

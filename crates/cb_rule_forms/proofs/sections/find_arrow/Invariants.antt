@@ -1,6 +1,6 @@
 use Rattle.std.proofs.Common.{◌≡◌, ◌+◌, drop, option_map}
 use Rattle.cb_forms.specs.Members.{members}
-use Rattle.cb_rule_forms.specs.Sections.{arrow_place}
+use Rattle.cb_rule_forms.specs.Internal.SectionPlaces.{arrow_place}
 use Rattle.cb_rule_forms.proofs.sections.find_arrow.Given as goal
 
 abbrev pub invariant-loop-form : goal.invariant-loop-form

@@ -1,6 +1,6 @@
 use Rattle.std.proofs.Common.{◌≡◌, None, Some, rules}
 use Rattle.cb_forms.specs.Members.{members}
-use Rattle.cb_rule_forms.specs.Sections.{arrow_place}
+use Rattle.cb_rule_forms.specs.Internal.SectionPlaces.{arrow_place}
 use Rattle.cb_rule_forms.proofs.Arrows.{divided_nowhere, divided_there}
 use Rattle.cb_rule_forms.proofs.sections.split_arrow.Goals as goal
 

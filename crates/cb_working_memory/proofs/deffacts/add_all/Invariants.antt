@@ -1,5 +1,6 @@
 use Rattle.std.proofs.Common.{◌≡◌, ◌+◌, ℕ, List, drop}
-use Rattle.cb_facts.specs.RelationCounts.{count_of, naming}
+use Rattle.cb_facts.specs.RelationCounts.{count_of}
+use Rattle.cb_working_memory.specs.Internal.Namings.{naming}
 use Rattle.cb_working_memory.proofs.deffacts.add_all.Given as goal
 
 abbrev pub invariant-loop-fact : goal.invariant-loop-fact

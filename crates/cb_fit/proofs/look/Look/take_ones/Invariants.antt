@@ -1,6 +1,6 @@
 use Rattle.std.proofs.Common.{◌≡◌, ◌+◌, ◌≤◌, drop, length, map, true}
 use Rattle.cb_constraints.specs.Constraints.{constraint_of}
-use Rattle.cb_fit.specs.FieldLists.{row_fields}
+use Rattle.cb_fit.specs.Internal.FieldLists.{row_fields}
 use Rattle.cb_fit.specs.Internal.{after_ones, may_take}
 use Rattle.cb_fit.proofs.look.Look.take_ones.Given as goal
 

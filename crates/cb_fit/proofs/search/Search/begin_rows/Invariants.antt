@@ -1,0 +1,14 @@
+use Rattle.std.proofs.Common.{◌≡◌, ◌∷◌, [], length, map, true}
+use Rattle.cb_constraints.specs.PartValues.{asked_slot}
+use Rattle.cb_fit.specs.Internal.{may_take_slots, taken_of}
+use Rattle.cb_fit.specs.Internal.Choices.{followed_by_rows, segments_in}
+use Rattle.cb_fit.proofs.search.Search.begin_rows.Given as goal
+
+abbrev pub invariant-loop-row : goal.invariant-loop-row
+invariant-loop-row l =
+    (may_take_slots (map asked_slot l.left) l.self.slots.now ≡ true)
+    × (followed_by_rows (map asked_slot l.left) l.self.slots.now (taken_of l.begun ∷ []) ≡ followed_by_rows (map asked_slot l.rows) l.self.slots.now (taken_of l.fn.begun ∷ []))
+    × (segments_in (map asked_slot l.left) ≡ segments_in (map asked_slot l.rows))
+
+abbrev pub decreases-loop-row : goal.decreases-loop-row
+decreases-loop-row l = length l.left

@@ -1,0 +1,222 @@
+//! The search for all ways. It takes up the choice that was opened last, so that shorter segments come first, and keeps no more
+//! than the choices that are open: at most one for each segment. They stand in a vector, since a pattern may have more segments
+//! than a stack has room for calls.
+ghost use Rattle.std.specs.Prelude.{◌≡◌, ◌++◌, ◌∷◌, ◌+◌, ◌<◌, ◌≤◌, ℕ, List, [], true, IfOk, IfSome, IsSomeAnd, OnOk, length, map};
+ghost use Rattle.cb_constraints.specs.Constraints.{constraint_of};
+ghost use Rattle.cb_constraints.specs.Rows.{segments_wanted};
+ghost use Rattle.cb_constraints.specs.PartValues.{asked_slot};
+ghost use Rattle.cb_facts.specs.declared.value.Value.{Value};
+ghost use Rattle.cb_fit.specs.Internal.{begun_of, endings, may_take_row, may_take_slots, taken_of};
+ghost use Rattle.cb_fit.specs.Internal.Choices.{AreOpen, IsOpen, IsOpenIn, IsRest, choice_ways, followed_by_rows, segments_in, tries, tries_after, tries_if, tries_left, ways_after, ways_if, ways_left, weight};
+ghost use Rattle.cb_fit.specs.Internal.FieldLists.{row_fields};
+ghost use Rattle.cb_fit.specs.Ways.{after_cuts, ways_of_row, ways_of_slots};
+
+use crate::beginning::{Beginning, Beginnings};
+use crate::choice::{Choice, Open};
+use crate::fields::Fields;
+use crate::look::Look;
+use crate::rest::Rest;
+use crate::slots::slot_value;
+use cb_constraints::{Row, SlotRow};
+use cb_facts::{Name, Value};
+use cb_forms::NoMemory;
+use cb_functions::Constants;
+use std::alloc::Global;
+
+/// What a search looks with, and the slots of the fact, if it is one of a template.
+#[derive(Clone, Copy)]
+pub(crate) struct Search<'a> {
+    pub(crate) alloc: Global,
+    pub(crate) constants: &'a Constants,
+    pub(crate) slots: &'a [(Name, Value)],
+}
+
+impl<'a> Search<'a> {
+    /// Keeps all that a choice becomes, if there is one.
+    pub(crate) fn take_all(
+        self,
+        first: Option<Choice<'a>>,
+        kept: &mut Beginnings,
+    ) -> Result<(), NoMemory>
+        requires { IfSome first (IsOpenIn self.slots.now) }
+        ensures { OnOk result (map taken_of kept.new.items
+            ≡ map taken_of kept.old.items ++ ways_if self.entry.slots.now first.entry) }
+    {
+        match first {
+            Some(choice) => self.take_choice(choice, kept),
+            None => Ok(()),
+        }
+    }
+
+    /// The same of one that there is.
+    fn take_choice(self, first: Choice<'a>, kept: &mut Beginnings) -> Result<(), NoMemory>
+        requires { IsOpenIn self.slots.now first }
+        ensures { OnOk result (map taken_of kept.new.items
+            ≡ map taken_of kept.old.items ++ choice_ways self.entry.slots.now first.entry) }
+    {
+        let mut choices = Open::new(self.alloc);
+        choices.push(Some(first))?;
+        while let Some(next) = choices.pop() {
+            self.take_next(next, &mut choices, kept)?;
+        }
+        Ok(())
+    }
+
+    /// Takes the segment of a choice up to the first place where it may end, opens the choice of the others, and goes on.
+    fn take_next(
+        self,
+        next: Option<Choice<'a>>,
+        choices: &mut Open<'a>,
+        kept: &mut Beginnings,
+    ) -> Result<(), NoMemory>
+        requires choice { IsSomeAnd next (IsOpenIn self.slots.now) }
+        requires open { AreOpen self.slots.now choices.old.items }
+        ensures open { OnOk result (AreOpen self.entry.slots.now choices.new.items) }
+        ensures ways { OnOk result (map taken_of kept.new.items
+            ++ ways_left self.entry.slots.now choices.new.items ≡ map taken_of kept.old.items
+            ++ (ways_if self.entry.slots.now next.entry ++ ways_left self.entry.slots.now choices.old.items)) }
+        ensures tries { OnOk result (tries_left choices.new.items < tries_if next.entry + tries_left choices.old.items) }
+    {
+        let Some(choice) = next else {
+            return Ok(());
+        };
+        let Some((to, begun)) = choice.take()? else {
+            return Ok(());
+        };
+        let (look, rest, rows) = (choice.look, choice.rest, choice.rows);
+        open_others(choice, to, choices)?;
+        let next = self.go_on(look, rest, rows, begun, kept)?;
+        open_next(next, choices)
+    }
+
+    /// Goes on with what is left of a row, and with the rows of slots that follow: returns the choice that comes next, or keeps
+    /// the beginning where no segment follows.
+    fn go_on(
+        self,
+        look: Look<'a>,
+        rest: Rest<'a>,
+        rows: &'a [SlotRow],
+        begun: Beginning,
+        kept: &mut Beginnings,
+    ) -> Result<Option<Choice<'a>>, NoMemory>
+        requires rest { IsRest rest }
+        requires within { begun.at ≤ length (row_fields look.fields) }
+        requires rows { may_take_slots (map asked_slot rows.now) self.slots.now ≡ true }
+        ensures ways { IfOk result (λ next. map taken_of kept.new.items ++ ways_if self.entry.slots.now next
+            ≡ map taken_of kept.old.items ++ followed_by_rows (map asked_slot rows.now) self.entry.slots.now
+            (endings (map constraint_of rest.entry.constraints.now) (begun_of (row_fields look.entry.fields) begun))) }
+        ensures open { IfOk result (λ next. IfSome next (IsOpenIn self.entry.slots.now)) }
+        ensures tries { IfOk result (λ next. IfSome next (λ c. tries c ≤ weight
+            (segments_wanted (map constraint_of rest.entry.constraints.now) + segments_in (map asked_slot rows.now)))) }
+    {
+        if !rest.constraints.is_empty() {
+            return Ok(Choice::new(look, begun, rest, rows));
+        }
+        if begun.at < look.fields.len() {
+            return Ok(None);
+        }
+        self.begin_rows(rows, begun, kept)
+    }
+
+    /// Begins the rows of slots, which may take their fields, up to the first with a segment: returns the choice of that, or
+    /// keeps the beginning where there is none.
+    pub(crate) fn begin_rows(
+        self,
+        rows: &'a [SlotRow],
+        begun: Beginning,
+        kept: &mut Beginnings,
+    ) -> Result<Option<Choice<'a>>, NoMemory>
+        requires { may_take_slots (map asked_slot rows.now) self.slots.now ≡ true }
+        ensures ways { IfOk result (λ next. map taken_of kept.new.items ++ ways_if self.entry.slots.now next
+            ≡ map taken_of kept.old.items ++ followed_by_rows (map asked_slot rows.now) self.entry.slots.now
+            (taken_of begun ∷ [])) }
+        ensures open { IfOk result (λ next. IfSome next (IsOpenIn self.entry.slots.now)) }
+        ensures tries { IfOk result (λ next. IfSome next (λ c. tries c ≤ weight (segments_in (map asked_slot rows.now)))) }
+    {
+        let mut begun = begun;
+        let mut left = rows;
+        while let Some((row, others)) = left.split_first() {
+            let Some(value) = slot_value(self.slots, row.place) else {
+                return Ok(None);
+            };
+            let look = self.look(Fields::Slot(value));
+            let Some(rest) = look.begin_row(&row.row, &mut begun)? else {
+                return Ok(None);
+            };
+            if !rest.constraints.is_empty() {
+                return Ok(Choice::new(look, begun, rest, others));
+            }
+            left = others;
+        }
+        kept.push(begun)?;
+        Ok(None)
+    }
+
+    /// Begins the row of an ordered fact, which may take its fields, in the same way.
+    pub(crate) fn begin_fields(
+        self,
+        row: &'a Row,
+        look: Look<'a>,
+        begun: Beginning,
+        kept: &mut Beginnings,
+    ) -> Result<Option<Choice<'a>>, NoMemory>
+        requires { may_take_row row.now (row_fields look.fields) ≡ true }
+        ensures ways { IfOk result (λ next. map taken_of kept.new.items ++ ways_if self.entry.slots.now next
+            ≡ map taken_of kept.old.items ++ map (after_cuts begun.cuts.items)
+            (ways_of_row row.now (row_fields look.entry.fields) begun.env)) }
+        ensures open { IfOk result (λ next. IfSome next (IsOpenIn self.entry.slots.now)) }
+    {
+        let mut begun = begun;
+        let Some(rest) = look.begin_row(row, &mut begun)? else {
+            return Ok(None);
+        };
+        self.go_on(look, rest, &[], begun, kept)
+    }
+
+    /// A look at fields.
+    pub(crate) fn look(self, fields: Fields<'a>) -> Look<'a>
+        ensures { result.fields ≡ fields.entry }
+    {
+        Look {
+            alloc: self.alloc,
+            constants: self.constants,
+            fields,
+        }
+    }
+}
+
+/// Opens the choice of the ends after one.
+fn open_others<'a>(choice: Choice<'a>, to: usize, choices: &mut Open<'a>) -> Result<(), NoMemory>
+    requires open { IsOpen choice }
+    requires order { choice.to ≤ to }
+    requires last { to ≤ choice.last }
+    ensures open { OnOk result ((slots : List (List ℕ × Value)) → IsOpenIn slots choice.entry
+        → AreOpen slots choices.old.items → AreOpen slots choices.new.items) }
+    ensures ways { OnOk result ((slots : List (List ℕ × Value))
+        → ways_left slots choices.new.items ≡ ways_after slots choice.entry to ++ ways_left slots choices.old.items) }
+    ensures tries { OnOk result (tries_left choices.new.items
+        ≤ tries_after choice.entry to + tries_left choices.old.items) }
+{
+    if to >= choice.last {
+        return Ok(());
+    }
+    let mut others = choice;
+    others.to = to + 1;
+    choices.push(Some(others))?;
+    Ok(())
+}
+
+/// Opens a choice, if there is one.
+fn open_next<'a>(next: Option<Choice<'a>>, choices: &mut Open<'a>) -> Result<(), NoMemory>
+    ensures open { OnOk result ((slots : List (List ℕ × Value)) → IfSome next.entry (IsOpenIn slots)
+        → AreOpen slots choices.old.items → AreOpen slots choices.new.items) }
+    ensures ways { OnOk result ((slots : List (List ℕ × Value))
+        → ways_left slots choices.new.items ≡ ways_if slots next.entry ++ ways_left slots choices.old.items) }
+    ensures tries { OnOk result (tries_left choices.new.items
+        ≡ tries_if next.entry + tries_left choices.old.items) }
+{
+    if next.is_some() {
+        choices.push(next)?;
+    }
+    Ok(())
+}
