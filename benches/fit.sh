@@ -133,7 +133,7 @@ END
 
 # The peak memory of a test in which each of three segments has as many ends as the fact has fields, and no way comes of it.
 peak() {
-    echo "(defrule r (p \$? a \$? a \$? a \$? b) =>)(fits (p$(words "$1" a)))" >"$place/script"
+    echo "(defrule r (p \$? a \$? a \$? a \$? b \$?) =>)(fits (p$(words "$1" a)))" >"$place/script"
     least_of_five "$program" | cut -d ' ' -f 2
 }
 

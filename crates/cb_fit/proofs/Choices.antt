@@ -1,6 +1,6 @@
 -- Choices: what becomes of them one after another.
 use Rattle.std.proofs.Common.{arith, ◌≡◌, ◌∙◌, ◌++◌, ◌+◌, ◌<◌, ◌≤◌, ◌∷◌, [], List, ℕ, MatchOption, IfSome, Option, None, Some, ap, drop, length, map, refl, subst, sym}
-use Rattle.std.proofs.lemmas.List.{append-nil, append_assoc, drop_all}
+use Rattle.std.proofs.lemmas.List.{append-nil, append_assoc, drop_all, map-append}
 use Rattle.std.specs.Option.{option_map_or}
 use Rattle.cb_constraints.specs.PartValues.{asked_slot}
 use Rattle.cb_constraints.specs.PatternValues.{SlotValue}
@@ -11,7 +11,7 @@ use Rattle.cb_facts.specs.declared.single.Single.{Single}
 use Rattle.cb_facts.specs.declared.value.Value.{Value}
 use Rattle.cb_fit.proofs.InTurn.{then-then}
 use Rattle.cb_fit.specs.Internal.{endings}
-use Rattle.cb_fit.specs.Internal.Choices.{choice_endings, followed_by_rows, tries, tries_if, tries_left, ways_if, ways_left, weight}
+use Rattle.cb_fit.specs.Internal.Choices.{choice_endings, followed_by_rows, tries, tries_if, tries_left, ways_if, ways_left, most_tries}
 use Rattle.cb_fit.specs.Ways.{Taken, after_cuts, each_followed_by, slot_at, ways_of_row, ways_of_slot, ways_of_slots}
 use Rattle.cb_fit.specs.declared.choice.Choice as program
 
@@ -35,8 +35,8 @@ pub of_choice : (o : Option program.Choice) (rows : List program_row.SlotRow) (s
 of_choice None rows slots ts m r = sym (ap (followed_by_rows (map asked_slot rows) slots) m)
 of_choice (Some c) rows slots ts m r = ap (λ rs. followed_by_rows (map asked_slot rs) slots (choice_endings c)) r ∙ ap (followed_by_rows (map asked_slot rows) slots) m
 
-pub as_many_tries : (o : Option program.Choice) (n m : ℕ) → n ≡ m → IfSome o (λ c. tries c ≤ weight n) → IfSome o (λ c. tries c ≤ weight m)
-as_many_tries o n m e h = subst (λ k. IfSome o (λ c. tries c ≤ weight k)) e h
+pub as_many_tries : (o : Option program.Choice) (n m : ℕ) → n ≡ m → IfSome o (λ c. tries c ≤ most_tries n) → IfSome o (λ c. tries c ≤ most_tries m)
+as_many_tries o n m e h = subst (λ k. IfSome o (λ c. tries c ≤ most_tries k)) e h
 
 -- the first of the rows of slots, and those after it
 pub first-row : (s : SlotValue) (ss : List SlotValue) (slots : List (List ℕ × Value)) (v : Value) (t : Taken) (ts : List Taken) → slot_at s.place slots ≡ Some v
@@ -54,13 +54,20 @@ all-ended fields at cuts env e =
     ∙ ap (λ xs. record { cuts = xs; env = env } ∷ []) (append-nil cuts)
 
 -- after one end of a segment: what becomes of it, then what becomes of the others, and then the other choices
-pub next-taken : (k0 k1 one others both wn old mid new : List Taken) → k1 ++ wn ≡ k0 ++ one → mid ≡ others ++ old → new ≡ wn ++ mid → both ≡ one ++ others → k1 ++ new ≡ k0 ++ (both ++ old)
-next-taken k0 k1 one others both wn old mid new g m n b =
+next-both : {X : Type 0} (k0 k1 one others both wn old mid new : List X) → k1 ++ wn ≡ k0 ++ one → mid ≡ others ++ old → new ≡ wn ++ mid → both ≡ one ++ others → k1 ++ new ≡ k0 ++ (both ++ old)
+next-both k0 k1 one others both wn old mid new g m n b =
     ap (λ xs. k1 ++ xs) (n ∙ ap (λ xs. wn ++ xs) m)
     ∙ (sym (append_assoc k1 wn (others ++ old))
     ∙ (ap (λ xs. xs ++ (others ++ old)) g
     ∙ (append_assoc k0 one (others ++ old)
     ∙ ap (λ xs. k0 ++ xs) (sym (append_assoc one others old) ∙ ap (λ xs. xs ++ old) (sym b)))))
+
+pub next-taken : {X : Type 0} (f : Taken → X) (k0 k1 : List X) (one others both wn old mid new : List Taken) → k1 ++ map f wn ≡ k0 ++ map f one → mid ≡ others ++ old → new ≡ wn ++ mid → both ≡ one ++ others
+    → k1 ++ map f new ≡ k0 ++ map f (both ++ old)
+next-taken f k0 k1 one others both wn old mid new g m n b =
+    next-both k0 k1 (map f one) (map f others) (map f both) (map f wn) (map f old) (map f mid) (map f new) g
+    (ap (map f) m ∙ map-append f others old) (ap (map f) n ∙ map-append f wn mid) (ap (map f) b ∙ map-append f one others)
+    ∙ ap (λ xs. k0 ++ xs) (sym (map-append f both old))
 
 -- the last of some choices, taken up
 pub last-ways : (slots : List (List ℕ × Value)) (all rest : List (Option program.Choice)) (c : Option program.Choice) → all ≡ rest ++ c ∷ [] → ways_if slots c ++ ways_left slots rest ≡ ways_left slots all

@@ -18,6 +18,7 @@ mod Rows
 mod Segments
 mod Splits
 mod Takes
-mod Weights
+mod Trailing
+mod Tries
 mod Wildcards
 mod WithoutVariables

@@ -1,6 +1,6 @@
 -- What a look at the number of fields and at the constants in front rules out.
-use Rattle.std.proofs.Common.{arith, ◌≡◌, ◌∙◌, ◌++◌, ◌==◌, ◌&&◌, Bool, true, false, List, ℕ, [], ◌∷◌, Option, None, Some, ap, drop, length, nat_le, refl, sym, take}
-use Rattle.std.proofs.lemmas.Bool.{eqb-true}
+use Rattle.std.proofs.Common.{arith, ◌≡◌, ◌∙◌, ◌++◌, ◌==◌, ◌&&◌, ◌||◌, ◌≤◌, Bool, true, false, List, ℕ, [], ◌∷◌, Option, None, Some, ap, drop, length, nat_le, refl, sym, take}
+use Rattle.std.proofs.lemmas.Bool.{eqb-true, leb-true}
 use Rattle.std.proofs.lemmas.List.{append-nil, take-append-drop}
 use Rattle.std.specs.Option.{option_map_or}
 use Rattle.std.specs.Prelude.{if◌then◌else◌}
@@ -15,39 +15,56 @@ use Rattle.cb_fit.proofs.Groups.{leading-none, wrong-length}
 use Rattle.cb_fit.proofs.Rows.{nothing-follows}
 use Rattle.cb_fit.proofs.Splits.{leading-ones, ones-want}
 use Rattle.cb_fit.proofs.Takes.{nothing-taken}
-use Rattle.cb_fit.specs.Internal.{may_take, may_take_row, may_take_slot, may_take_slots, takes_length}
+use Rattle.cb_fit.proofs.Trailing.{back-never}
+use Rattle.cb_fit.specs.Internal.{are_ones, may_take, may_take_back, may_take_front, may_take_row, may_take_slot, may_take_slots, takes_length}
 use Rattle.cb_fit.specs.Ways.{each_followed_by, slot_at, ways_of_row, ways_of_slot, ways_of_slots}
 
--- the two looks of a row
+-- the looks of a row, one after another
 pub never_long : (cs : List Constraint) (fs : List Single) → takes_length cs (length fs) ≡ false → may_take_row cs fs ≡ false
-never_long cs fs e = ap (λ b. b && may_take (take (before_segments cs) cs) fs) e
+never_long cs fs e = ap (λ b. b && (may_take_front cs fs && (are_ones cs || may_take_back cs fs))) e
 
-pub by_its_front : (cs os : List Constraint) (fs : List Single) → takes_length cs (length fs) ≡ true → os ≡ take (before_segments cs) cs → may_take_row cs fs ≡ may_take os fs
-by_its_front cs os fs e o = ap (λ b. b && may_take (take (before_segments cs) cs) fs) e ∙ ap (λ xs. may_take xs fs) (sym o)
+pub never_front : (cs : List Constraint) (fs : List Single) → takes_length cs (length fs) ≡ true → may_take_front cs fs ≡ false → may_take_row cs fs ≡ false
+never_front cs fs e f = ap (λ b. b && (may_take_front cs fs && (are_ones cs || may_take_back cs fs))) e ∙ ap (λ b. b && (are_ones cs || may_take_back cs fs)) f
+
+pub by_its_back : (cs : List Constraint) (fs : List Single) → takes_length cs (length fs) ≡ true → may_take_front cs fs ≡ true → may_take_row cs fs ≡ (are_ones cs || may_take_back cs fs)
+by_its_back cs fs e f = ap (λ b. b && (may_take_front cs fs && (are_ones cs || may_take_back cs fs))) e ∙ ap (λ b. b && (are_ones cs || may_take_back cs fs)) f
 
 both-true : (a b : Bool) → a && b ≡ true → (a ≡ true) × (b ≡ true)
 both-true true b e = (refl, e)
 both-true false b e = let never : false ≡ true = e in cc
 
+abbrev looks : List Constraint → List Single → Bool
+looks cs fs = may_take_front cs fs && (are_ones cs || may_take_back cs fs)
+
 pub front_may : (cs : List Constraint) (fs : List Single) → may_take_row cs fs ≡ true → may_take (take (before_segments cs) cs) fs ≡ true
-front_may cs fs e = (both-true (takes_length cs (length fs)) (may_take (take (before_segments cs) cs) fs) e).1
+front_may cs fs e = (both-true (may_take_front cs fs) (are_ones cs || may_take_back cs fs) (both-true (takes_length cs (length fs)) (looks cs fs) e).1).0
 
 front-never : (cs : List Constraint) (fs : List Single) (env : Bindings) → may_take (take (before_segments cs) cs) fs ≡ false → ways_of_row cs fs env ≡ []
 front-never cs fs env e =
     ap (λ xs. ways_of_row xs fs env) (sym (take-append-drop (before_segments cs) cs))
     ∙ leading-none (take (before_segments cs) cs) (drop (before_segments cs) cs) fs env (leading-ones cs) (nothing-taken (take (before_segments cs) cs) fs env e)
 
+-- as many fields as a row can take are enough for its constraints for one field
+pub enough-fields : (cs : List Constraint) (n : ℕ) → takes_length cs n ≡ true → fields_wanted cs ≤ n
+enough-fields cs n e = by (are_ones cs) e
+  where
+    by : (ones : Bool) → (if ones then n == fields_wanted cs else nat_le (fields_wanted cs) n) ≡ true → fields_wanted cs ≤ n
+    by true h = omega (arith, eqb-true n (fields_wanted cs) h)
+    by false h = leb-true (fields_wanted cs) n h
+
 -- a row that may not take the fields has no ways
 pub never_taken : (cs : List Constraint) (fs : List Single) (env : Bindings) → may_take_row cs fs ≡ false → ways_of_row cs fs env ≡ []
-never_taken cs fs env e = by (takes_length cs (length fs)) refl e
+never_taken cs fs env e = by (takes_length cs (length fs)) (may_take_front cs fs) (are_ones cs) refl refl e
   where
-    by : (b : Bool) → takes_length cs (length fs) ≡ b → b && may_take (take (before_segments cs) cs) fs ≡ false → ways_of_row cs fs env ≡ []
-    by true t h = front-never cs fs env h
-    by false t h = wrong-length cs fs env t
+    by : (b f o : Bool) → takes_length cs (length fs) ≡ b → may_take_front cs fs ≡ f → b && (f && (o || may_take_back cs fs)) ≡ false → ways_of_row cs fs env ≡ []
+    by false f o t d h = wrong-length cs fs env t
+    by true false o t d h = front-never cs fs env d
+    by true true false t d h = back-never cs fs env (enough-fields cs (length fs) t) h
+    by true true true t d h = let never : true ≡ false = h in cc
 
 -- a row of constraints for one field that may take the fields has one for each
 pub all-taken : (os cs row : List Constraint) (fs : List Single) → segments_wanted os ≡ 0 → cs ≡ [] → row ≡ os ++ cs → may_take_row row fs ≡ true → length os ≡ length fs
-all-taken os cs row fs o e r h = sym (eqb-true (length fs) (length os) (sym (by-length row is-os) ∙ (both-true (takes_length row (length fs)) (may_take (take (before_segments row) row) fs) h).0))
+all-taken os cs row fs o e r h = sym (eqb-true (length fs) (length os) (sym (by-length row is-os) ∙ (both-true (takes_length row (length fs)) (looks row fs) h).0))
   where
     is-os : row ≡ os
     is-os = r ∙ (ap (λ xs. os ++ xs) e ∙ append-nil os)

@@ -1,5 +1,5 @@
 -- What a returned place and a returned answer say.
-use Rattle.std.proofs.Common.{◌≡◌, ◌∙◌, ◌&&◌, Bool, true, false, ℕ, List, [], ◌∷◌, Option, None, Some, Result, Ok, Err, OnOk, IfSome, is_some, ap, refl, rules, subst, sym}
+use Rattle.std.proofs.Common.{◌≡◌, ◌∙◌, ◌&&◌, Bool, true, false, ℕ, List, [], ◌∷◌, Option, None, Some, Result, Ok, Err, IfOk, OnOk, IfSome, is_some, ap, refl, rules, subst, sym}
 use Rattle.std.specs.Option.{option_and_then}
 use Rattle.cb_constraints.proofs.Cited.{holds-may}
 use Rattle.cb_constraints.specs.Constraints.{Constraint}
@@ -24,6 +24,10 @@ is-met false env after e h = search rules
 pub on-ok : {A E P Q : Type 0} (r : Result A E) → (P → Q) → OnOk r P → OnOk r Q
 on-ok (Ok x) f h = f h
 on-ok (Err e) f h = h
+
+pub ok-same : {A E X : Type 0} (r : Result A E) (f : A → X) {x y : X} → x ≡ y → IfOk r (λ a. f a ≡ x) → IfOk r (λ a. f a ≡ y)
+ok-same (Ok a) f e h = h ∙ e
+ok-same (Err b) f e h = h
 
 pub none-met : (o : Option ℕ) (env : Bindings) (after : Option Bindings) → o ≡ None → Meets (is_some o) env after → after ≡ None
 none-met o env after e h = subst (λ p. Meets (is_some p) env after) e h

@@ -2,13 +2,13 @@
 pub mod Choices
 pub mod FieldLists
 pub mod GivenValues
-use Rattle.std.specs.Prelude.{◌==◌, ◌&&◌, ℕ, Bool, true, false, List, [], ◌∷◌, ◌++◌, Option, Some, None, map, length, take, drop, nat_le, option_map, option_to_list, replicate, if◌then◌else◌}
+use Rattle.std.specs.Prelude.{◌==◌, ◌&&◌, ◌||◌, ◌-◌, ℕ, Bool, true, false, List, [], ◌∷◌, ◌++◌, Option, Some, None, map, length, take, drop, nat_le, option_map, option_to_list, replicate, if◌then◌else◌}
 use Rattle.std.specs.List.{list_all}
 use Rattle.std.specs.Option.{option_and_then, option_map_or}
 use Rattle.cb_constraints.specs.Constraints.{Constraint}
 use Rattle.cb_constraints.specs.Holding.{after_demand, may_hold}
 use Rattle.cb_constraints.specs.PatternValues.{SlotValue}
-use Rattle.cb_constraints.specs.Rows.{before_segments, fields_wanted, segments_wanted}
+use Rattle.cb_constraints.specs.Rows.{after_segments, before_segments, fields_wanted, segments_wanted}
 use Rattle.cb_exprs.specs.Bindings.{Bindings}
 use Rattle.cb_facts.specs.Values.{fields_in, value_of_field}
 use Rattle.cb_facts.specs.declared.single.Single.{Single}
@@ -68,9 +68,21 @@ are_ones cs = segments_wanted cs == 0
 abbrev pub takes_length : List Constraint → ℕ → Bool
 takes_length cs n = if are_ones cs then n == fields_wanted cs else nat_le (fields_wanted cs) n
 
--- a row may take these fields, by their number and by the constants that it asks for before its first segment
+-- the constraints before the first that takes a segment may take the first fields
+abbrev pub may_take_front : List Constraint → List Single → Bool
+may_take_front cs fs = may_take (take (before_segments cs) cs) fs
+
+-- the constraints after the last that takes a segment, or all where none does
+abbrev pub after_last : List Constraint → List Constraint
+after_last cs = drop (length cs - after_segments cs) cs
+
+-- they may take the last fields
+abbrev pub may_take_back : List Constraint → List Single → Bool
+may_take_back cs fs = may_take (after_last cs) (drop (length fs - after_segments cs) fs)
+
+-- a row may take these fields, by their number and by the constants that it asks for before its first segment and after its last
 abbrev pub may_take_row : List Constraint → List Single → Bool
-may_take_row cs fs = takes_length cs (length fs) && may_take (take (before_segments cs) cs) fs
+may_take_row cs fs = takes_length cs (length fs) && (may_take_front cs fs && (are_ones cs || may_take_back cs fs))
 
 -- a row may take the fields of its slot
 abbrev pub may_take_slot : SlotValue → List (List ℕ × Value) → Bool

@@ -1,17 +1,13 @@
-//! The beginnings of ways.
+//! The beginning of a way.
 ghost use Rattle.std.specs.Prelude.{◌≡◌, ◌++◌, [], ◌∷◌, IfOk, OnOk, replicate};
 
 use cb_exprs::Env;
 use cb_forms::NoMemory;
 use smallvec::SmallVec;
 use std::alloc::Global;
-use std::default::MadeWith;
 
 /// The lengths of segments. The first sixteen take no memory.
 pub(crate) type Cuts = SmallVec<u64, 16>;
-
-/// Beginnings of ways. Two of them take no memory.
-pub(crate) type Beginnings = SmallVec<Beginning, 2>;
 
 /// The beginning of a way, in the row that is looked at.
 #[derive(Drop)]
@@ -34,16 +30,6 @@ impl Beginning {
             at: 0,
             env: env.clone()?,
         })
-    }
-}
-
-impl MadeWith<Global> for Beginning {
-    fn made_with(alloc: Global) -> Beginning {
-        Beginning {
-            cuts: Cuts::new(alloc),
-            at: 0,
-            env: Env::new(alloc),
-        }
     }
 }
 

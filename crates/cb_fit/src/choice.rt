@@ -4,18 +4,18 @@ ghost use Rattle.cb_constraints.specs.Constraints.{constraint_of};
 ghost use Rattle.cb_constraints.specs.Rows.{segments_wanted};
 ghost use Rattle.cb_constraints.specs.PartValues.{asked_slot};
 ghost use Rattle.cb_fit.specs.Internal.{begun_of, endings};
-ghost use Rattle.cb_fit.specs.Internal.Choices.{IsOpen, IsRest, choice_endings, group_from, segments_in, tries, weight};
+ghost use Rattle.cb_fit.specs.Internal.Choices.{IsChoice, IsRest, choice_endings, group_from, segments_in, tries, most_tries};
 ghost use Rattle.cb_fit.specs.Internal.FieldLists.{row_fields};
 
 use crate::beginning::Beginning;
 use crate::look::Look;
 use crate::rest::{Rest, split_ones};
-use cb_constraints::{Constraint, SlotRow};
+use cb_constraints::{Constraint, SlotRow, count_leading};
 use cb_forms::NoMemory;
 use smallvec::SmallVec;
 
 /// Choices that are open. Eight of them take no memory. Each is an `Option`, since a free place of the vector holds one too.
-pub(crate) type Open<'a> = SmallVec<Option<Choice<'a>>, 8>;
+pub(crate) type OpenChoices<'a> = SmallVec<Option<Choice<'a>>, 8>;
 
 /// A segment that may end at a place, or at each of those after it up to the last.
 #[derive(Drop)]
@@ -55,12 +55,12 @@ impl<'a> Choice<'a> {
             (λ c. choice_endings c ≡ endings (map constraint_of rest.entry.constraints.now)
             (begun_of (row_fields look.entry.fields) begun)) }
         ensures rows { IfSome result (λ c. c.rows.now ≡ rows.now) }
-        ensures open { IfSome result IsOpen }
-        ensures tries { IfSome result (λ c. tries c ≤ weight
+        ensures open { IfSome result IsChoice }
+        ensures tries { IfSome result (λ c. tries c ≤ most_tries
             (segments_wanted (map constraint_of rest.entry.constraints.now) + segments_in (map asked_slot rows.now))) }
     {
         let (constraint, following) = rest.constraints.split_first()?;
-        let (ones, after) = split_ones(following);
+        let (ones, after) = split_ones(following, count_leading(following));
         let len = look.fields.len();
         if len - begun.at < rest.wanted {
             return None;
@@ -85,10 +85,11 @@ impl<'a> Choice<'a> {
     /// The first place where the segment may end so that it and the constraints for one field that follow it hold, and the
     /// beginning with them.
     pub(crate) fn take(&self) -> Result<Option<(usize, Beginning)>, NoMemory>
-        requires { IsOpen self.now }
+        requires { IsChoice self.now }
         ensures order { IfOk result (λ end. IfSome end (λ p. self.now.to ≤ p.0)) }
         ensures last { IfOk result (λ end. IfSome end (λ p. p.0 ≤ self.now.last)) }
         ensures within { IfOk result (λ end. IfSome end (λ p. p.1.at ≤ length (row_fields self.now.look.fields))) }
+        ensures place { IfOk result (λ end. IfSome end (λ p. p.1.at ≡ p.0 + length self.now.ones.now)) }
         ensures taken { IfOk result (λ end. MatchOption end
             (group_from self.now self.now.to (self.now.last + 1 - self.now.to) ≡ [])
             (λ p. group_from self.now self.now.to (self.now.last + 1 - self.now.to)
@@ -108,10 +109,11 @@ impl<'a> Choice<'a> {
 
     /// The beginning with a segment that ends at a place, and with the constraints for one field that follow it, if they hold.
     fn take_up_to(&self, to: usize) -> Result<Option<Beginning>, NoMemory>
-        requires open { IsOpen self.now }
+        requires open { IsChoice self.now }
         requires order { self.now.to ≤ to }
         requires last { to ≤ self.now.last }
         ensures within { IfOk result (λ b. IfSome b (λ b. b.at ≤ length (row_fields self.now.look.fields))) }
+        ensures place { IfOk result (λ b. IfSome b (λ b. b.at ≡ to + length self.now.ones.now)) }
         ensures taken { IfOk result (λ b. MatchOption b (group_from self.now to 1 ≡ [])
             (λ b. group_from self.now to 1 ≡ begun_of (row_fields self.now.look.fields) b ∷ [])) }
     {
@@ -126,6 +128,7 @@ fn first_end(after: &[Constraint], at: usize, last: usize) -> usize
     ensures begun { at ≤ result }
     ensures order { result ≤ last }
     ensures alone { at < result → after.now ≡ [] }
+    ensures ended { after.now ≡ [] → result ≡ last }
 {
     if after.is_empty() { last } else { at }
 }

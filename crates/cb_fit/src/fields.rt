@@ -1,5 +1,5 @@
 //! The fields that a row of constraints is for.
-ghost use Rattle.std.specs.Prelude.{◌≡◌, false, ◌∷◌, ◌+◌, ◌≤◌, [], drop, length, slice_range, IfOk, MatchOption};
+ghost use Rattle.std.specs.Prelude.{◌≡◌, false, ◌∷◌, ◌+◌, ◌<◌, ◌^◌, ◌≤◌, [], drop, length, slice_range, IfOk, IfSome, MatchOption};
 ghost use Rattle.cb_constraints.specs.Holding.{tested_value};
 ghost use Rattle.cb_facts.specs.Values.{fields_in, is_multifield, value_of_field};
 ghost use Rattle.cb_facts.specs.declared.single.Single.{Single};
@@ -33,7 +33,9 @@ impl<'a> Fields<'a> {
 
     /// The field at a place, or `None` after the last.
     pub(crate) fn get(self, at: usize) -> Option<Tested<'a>>
-        ensures { MatchOption result (drop at (row_fields self.entry) ≡ [])
+        ensures within { IfSome result (λ tested. at < length (row_fields self.entry)) }
+        ensures room { IfSome result (λ tested. at + 1 < 2 ^ 64) }
+        ensures first { MatchOption result (drop at (row_fields self.entry) ≡ [])
             (λ tested. IsFirst (tested_value tested) (drop (at + 1) (row_fields self.entry)) (drop at (row_fields self.entry))) }
     {
         match self {
@@ -67,7 +69,9 @@ fn count(value: &Value) -> usize
 
 /// The field of a value at a place, or `None` after the last.
 fn get_in<'a>(value: &'a Value, at: usize) -> Option<Tested<'a>>
-    ensures { MatchOption result (drop at (fields_in value.now) ≡ [])
+    ensures within { IfSome result (λ tested. at < length (fields_in value.now)) }
+    ensures room { IfSome result (λ tested. at + 1 < 2 ^ 64) }
+    ensures first { MatchOption result (drop at (fields_in value.now) ≡ [])
         (λ tested. IsFirst (tested_value tested) (drop (at + 1) (fields_in value.now)) (drop at (fields_in value.now))) }
 {
     match value {
@@ -80,7 +84,9 @@ fn get_in<'a>(value: &'a Value, at: usize) -> Option<Tested<'a>>
 #[tactic(auto, using(crate::proofs::Alone::whole, crate::proofs::Alone::after_whole))]
 fn whole_at<'a>(value: &'a Value, at: usize) -> Option<Tested<'a>>
     requires { is_multifield value.now ≡ false }
-    ensures { MatchOption result (drop at (fields_in value.now) ≡ [])
+    ensures within { IfSome result (λ tested. at < length (fields_in value.now)) }
+    ensures room { IfSome result (λ tested. at + 1 < 2 ^ 64) }
+    ensures first { MatchOption result (drop at (fields_in value.now) ≡ [])
         (λ tested. IsFirst (tested_value tested) (drop (at + 1) (fields_in value.now)) (drop at (fields_in value.now))) }
 {
     if at > 0 {

@@ -1,15 +1,14 @@
 //! All ways in which a pattern fits a fact.
-ghost use Rattle.std.specs.Prelude.{◌≡◌, IfOk, OnOk, map};
+ghost use Rattle.std.specs.Prelude.{◌≡◌, IfOk, map};
 ghost use Rattle.cb_constraints.specs.PartValues.{asked_parts, asked_slot};
 ghost use Rattle.cb_facts.specs.Facts.{content_of};
-ghost use Rattle.cb_fit.specs.Internal.{taken_of};
+ghost use Rattle.cb_fit.specs.Internal.Choices.{as_ways};
 ghost use Rattle.cb_fit.specs.Meters.{one_more};
 ghost use Rattle.cb_fit.specs.WayValues.{way_of};
 ghost use Rattle.cb_fit.specs.Ways.{way_with, ways, ways_of_parts, ways_of_row, ways_of_slots};
 
-use crate::beginning::{Beginning, Beginnings};
+use crate::beginning::Beginning;
 use crate::fields::Fields;
-use crate::given::newly_bound;
 use crate::meter::Meter;
 use crate::pattern::Pattern;
 use crate::search::Search;
@@ -17,7 +16,7 @@ use crate::slots::may_take_slots;
 use crate::way::Way;
 use cb_constraints::{Parts, Row, SlotRow};
 use cb_exprs::Env;
-use cb_facts::{Content, Fact, Multifield, Name, Value};
+use cb_facts::{Content, Fact, Multifield};
 use cb_forms::NoMemory;
 use cb_functions::Constants;
 use std::alloc::Global;
@@ -41,102 +40,79 @@ pub fn fit<T>(
     if pattern.relation().as_slice() != fact.relation() {
         return Ok(Vec::new(alloc));
     }
-    let all = take_parts(alloc, constants, parts, fact.content(), env)?;
-    to_ways(alloc, parts, env, all)
+    search_parts(alloc, constants, parts, fact.content(), env)
 }
 
-/// All beginnings with what a pattern asks of the content of a fact.
-fn take_parts(
+/// All ways to take what a pattern asks of the content of a fact.
+fn search_parts(
     alloc: Global,
     constants: &Constants,
     parts: &Parts,
     content: &Content,
     env: &Env,
-) -> Result<Beginnings, NoMemory>
-    ensures { IfOk result (λ all. map taken_of all.items
-        ≡ ways_of_parts (asked_parts parts.now) (content_of content.now) env.now) }
+) -> Result<Vec<Way>, NoMemory>
+    ensures { IfOk result (λ all. map way_of all.items
+        ≡ map (way_with (asked_parts parts.now) env.now)
+        (ways_of_parts (asked_parts parts.now) (content_of content.now) env.now)) }
 {
     match (parts, content) {
         (Parts::Fields(row), Content::Fields(fields)) => {
-            take_fields(alloc, constants, row, fields, env)
+            let search = Search {
+                alloc,
+                constants,
+                parts,
+                before: env,
+                slots: &[],
+            };
+            search_fields(search, row, fields)
         }
         (Parts::Slots(rows), Content::Slots(slots)) => {
-            take_slots(alloc, constants, rows, slots, env)
+            let search = Search {
+                alloc,
+                constants,
+                parts,
+                before: env,
+                slots,
+            };
+            search_slots(search, rows)
         }
-        _ => Ok(Beginnings::new(alloc)),
+        _ => Ok(Vec::new(alloc)),
     }
 }
 
 /// The same of the fields of an ordered fact.
 #[tactic(auto, using(crate::proofs::InTurn::from_start, crate::proofs::Looked::never_taken))]
-fn take_fields(
-    alloc: Global,
-    constants: &Constants,
-    row: &Row,
-    fields: &Multifield,
-    env: &Env,
-) -> Result<Beginnings, NoMemory>
-    ensures { IfOk result (λ all. map taken_of all.items
-        ≡ ways_of_row row.now fields.now env.now) }
+fn search_fields<'a>(
+    search: Search<'a>,
+    row: &'a Row,
+    fields: &'a Multifield,
+) -> Result<Vec<Way>, NoMemory>
+    ensures { IfOk result (λ all. map way_of all.items
+        ≡ as_ways search.entry (ways_of_row row.now fields.now search.entry.before.now)) }
 {
-    let search = Search {
-        alloc,
-        constants,
-        slots: &[],
-    };
     let look = search.look(Fields::All(fields));
-    let mut all = Beginnings::new(alloc);
+    let mut all = Vec::new(search.alloc);
     if !look.may_take_row(row) {
         return Ok(all);
     }
-    let next = search.begin_fields(row, look, Beginning::new(alloc, env)?, &mut all)?;
-    search.take_all(next, &mut all)?;
+    let begun = Beginning::new(search.alloc, search.before)?;
+    let next = search.begin_fields(row, look, begun, &mut all)?;
+    search.run(next, &mut all)?;
     Ok(all)
 }
 
 /// The same of the slots of a template's fact.
 #[tactic(auto, using(crate::proofs::InTurn::from_start_alone, crate::proofs::Looked::slots_never_taken))]
-fn take_slots(
-    alloc: Global,
-    constants: &Constants,
-    rows: &[SlotRow],
-    slots: &[(Name, Value)],
-    env: &Env,
-) -> Result<Beginnings, NoMemory>
-    ensures { IfOk result (λ all. map taken_of all.items
-        ≡ ways_of_slots (map asked_slot rows.now) slots.now env.now) }
+fn search_slots<'a>(search: Search<'a>, rows: &'a [SlotRow]) -> Result<Vec<Way>, NoMemory>
+    ensures { IfOk result (λ all. map way_of all.items
+        ≡ as_ways search.entry (ways_of_slots (map asked_slot rows.now) search.entry.slots.now search.entry.before.now)) }
 {
-    let search = Search {
-        alloc,
-        constants,
-        slots,
-    };
-    let mut all = Beginnings::new(alloc);
-    if !may_take_slots(alloc, constants, rows, slots) {
+    let mut all = Vec::new(search.alloc);
+    if !may_take_slots(search.alloc, search.constants, rows, search.slots) {
         return Ok(all);
     }
-    let next = search.begin_rows(rows, Beginning::new(alloc, env)?, &mut all)?;
-    search.take_all(next, &mut all)?;
+    let begun = Beginning::new(search.alloc, search.before)?;
+    let next = search.begin_rows(rows, begun, &mut all)?;
+    search.run(next, &mut all)?;
     Ok(all)
-}
-
-/// The ways that these are.
-fn to_ways(
-    alloc: Global,
-    parts: &Parts,
-    before: &Env,
-    all: Beginnings,
-) -> Result<Vec<Way>, NoMemory>
-    ensures { IfOk result (λ ways. map way_of ways.items
-        ≡ map (way_with (asked_parts parts.now) before.now) (map taken_of all.items)) }
-{
-    let mut ways = Vec::new(alloc);
-    for one in all {
-        let bound = newly_bound(alloc, parts, before, &one.env)?;
-        ways.push(Way {
-            cuts: one.cuts.into_vec()?,
-            bound,
-        })?;
-    }
-    Ok(ways)
 }

@@ -10,6 +10,7 @@ mod fitting;
 mod given;
 pub mod laws;
 mod look;
+mod may_take;
 mod meter;
 mod pattern;
 mod rest;

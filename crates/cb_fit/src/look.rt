@@ -8,7 +8,7 @@ ghost use Rattle.cb_fit.specs.Ways.{after_segment};
 
 use crate::beginning::{Beginning, with_lengths};
 use crate::fields::Fields;
-use cb_constraints::{Constraint, Demand, Tested, may_hold, meets, meets_beyond_constants};
+use cb_constraints::{Constraint, Demand, Tested, meets, meets_beyond_constants};
 use cb_exprs::Env;
 use cb_forms::NoMemory;
 use cb_functions::Constants;
@@ -23,26 +23,6 @@ pub(crate) struct Look<'a> {
 }
 
 impl Look<'_> {
-    /// Whether constraints for one field may take one each, from a place on: what they ask by constants alone. It takes no
-    /// memory, so it is asked before any variable of these constraints takes a value.
-    pub(crate) fn may_take(self, constraints: &[Constraint], from: usize) -> bool
-        requires { from ≤ length (row_fields self.fields) }
-        ensures { result ≡ may_take (map constraint_of constraints.now)
-            (drop from (row_fields self.entry.fields)) }
-    {
-        let mut at = from;
-        for constraint in constraints {
-            let Some(tested) = self.fields.get(at) else {
-                return false;
-            };
-            if at >= self.fields.len() || !may_hold(&constraint.demand, tested) {
-                return false;
-            }
-            at += 1;
-        }
-        true
-    }
-
     /// Constraints for one field, which may take one each (`may_take`), do so from a place on, if they hold. Returns the place
     /// after them.
     #[tactic(auto, using(crate::proofs::Takes::may_first, crate::proofs::Takes::may_others))]
@@ -66,9 +46,6 @@ impl Look<'_> {
             let Some(tested) = self.fields.get(at) else {
                 return Ok(None);
             };
-            if at >= self.fields.len() {
-                return Ok(None);
-            }
             if !meets_beyond_constants(
                 self.alloc,
                 self.constants,
@@ -125,6 +102,7 @@ impl Look<'_> {
         requires within { to ≤ length (row_fields self.fields) }
         ensures within { IfOk result (λ b. IfSome b (λ b.
             b.at ≤ length (row_fields self.entry.fields))) }
+        ensures place { IfOk result (λ b. IfSome b (λ b. b.at ≡ to + length ones.now)) }
         ensures taken { IfOk result (λ b. MatchOption b
             (with_group (constraint_of constraint.now) (map constraint_of ones.now)
             (begun_of (row_fields self.entry.fields) begun.now) (to - begun.now.at) ≡ [])

@@ -2,14 +2,14 @@
 ghost use Rattle.std.specs.Prelude.{◌≡◌, ◌++◌, ◌≤◌, [], IfOk, IfSome, MatchOption, length, map, take, true};
 ghost use Rattle.cb_constraints.specs.Constraints.{constraint_of};
 ghost use Rattle.cb_constraints.specs.Rows.{before_segments, segments_wanted};
-ghost use Rattle.cb_fit.specs.Internal.{begun_of, endings, may_take_row, takes_length};
+ghost use Rattle.cb_fit.specs.Internal.{begun_of, endings, may_take_row};
 ghost use Rattle.cb_fit.specs.Internal.Choices.{IsRest};
 ghost use Rattle.cb_fit.specs.Internal.FieldLists.{row_fields};
 ghost use Rattle.cb_fit.specs.Ways.{after_cuts, ways_of_row};
 
 use crate::beginning::{Beginning, add_ones};
 use crate::look::Look;
-use cb_constraints::{Constraint, Row, count_leading};
+use cb_constraints::{Constraint, Row};
 use cb_forms::NoMemory;
 
 /// The constraints of a row from one for a segment on, or none.
@@ -21,19 +21,6 @@ pub(crate) struct Rest<'a> {
 }
 
 impl Look<'_> {
-    /// Whether a row may take the fields, by their number and by what its constraints before the first segment ask by constants
-    /// alone. It takes no memory.
-    #[tactic(auto, using(crate::proofs::Looked::never_long, crate::proofs::Looked::by_its_front))]
-    pub(crate) fn may_take_row(self, row: &Row) -> bool
-        ensures { result ≡ may_take_row row.now (row_fields self.entry.fields) }
-    {
-        if !takes_length(row, self.fields.len()) {
-            return false;
-        }
-        let (leading, _) = split_ones(row.constraints());
-        self.may_take(leading, 0)
-    }
-
     /// Begins a row, which may take the fields: its constraints before the first segment take one field each, if they hold.
     /// Returns the others.
     pub(crate) fn begin_row<'r>(
@@ -56,7 +43,7 @@ impl Look<'_> {
         ensures ended { IfOk result (λ rest. IfSome rest (λ r. r.constraints.now ≡ []
             → begun.new.at ≡ length (row_fields self.entry.fields))) }
     {
-        let (leading, constraints) = split_ones(row.constraints());
+        let (leading, constraints) = split_ones(row.constraints(), row.leading());
         let Some(at) = self.take_ones(leading, 0, &mut begun.env)? else {
             return Ok(None);
         };
@@ -69,19 +56,13 @@ impl Look<'_> {
     }
 }
 
-/// Whether a row can take so many fields.
-fn takes_length(row: &Row, count: usize) -> bool
-    ensures { result ≡ takes_length row.now count }
-{
-    if row.segments() == 0 {
-        return count == row.fields();
-    }
-    row.fields() <= count
-}
-
-/// The constraints before the first that takes a segment, and the others.
+/// The constraints before the first that takes a segment, which are so many, and the others.
 #[tactic(auto, using(crate::proofs::Splits::taken_front, crate::proofs::Splits::taken_ones, crate::proofs::Splits::dropped_segment, crate::proofs::Splits::few_leading))]
-pub(crate) fn split_ones(constraints: &[Constraint]) -> (&[Constraint], &[Constraint])
+pub(crate) fn split_ones(
+    constraints: &[Constraint],
+    leading: usize,
+) -> (&[Constraint], &[Constraint])
+    requires { leading ≡ before_segments (map constraint_of constraints.now) }
     ensures all { result.0.now ++ result.1.now ≡ constraints.now }
     ensures front { map constraint_of result.0.now
         ≡ take (before_segments (map constraint_of constraints.now))
@@ -89,5 +70,5 @@ pub(crate) fn split_ones(constraints: &[Constraint]) -> (&[Constraint], &[Constr
     ensures ones { segments_wanted (map constraint_of result.0.now) ≡ 0 }
     ensures segment { before_segments (map constraint_of result.1.now) ≡ 0 }
 {
-    constraints.split_at(count_leading(constraints))
+    constraints.split_at(leading)
 }

@@ -1,80 +1,85 @@
-//! The search for all ways. It takes up the choice that was opened last, so that shorter segments come first, and keeps no more
-//! than the choices that are open: at most one for each segment. They stand in a vector, since a pattern may have more segments
-//! than a stack has room for calls.
+//! The search for all ways. It takes up the choice that was opened last, so that shorter segments come first, and beside the ways
+//! that it found it keeps no more than the choices that are open: at most one for each segment. They stand in a vector, since a
+//! pattern may have more segments than a stack has room for calls.
 ghost use Rattle.std.specs.Prelude.{◌≡◌, ◌++◌, ◌∷◌, ◌+◌, ◌<◌, ◌≤◌, ℕ, List, [], true, IfOk, IfSome, IsSomeAnd, OnOk, length, map};
 ghost use Rattle.cb_constraints.specs.Constraints.{constraint_of};
 ghost use Rattle.cb_constraints.specs.Rows.{segments_wanted};
 ghost use Rattle.cb_constraints.specs.PartValues.{asked_slot};
 ghost use Rattle.cb_facts.specs.declared.value.Value.{Value};
 ghost use Rattle.cb_fit.specs.Internal.{begun_of, endings, may_take_row, may_take_slots, taken_of};
-ghost use Rattle.cb_fit.specs.Internal.Choices.{AreOpen, IsOpen, IsOpenIn, IsRest, choice_ways, followed_by_rows, segments_in, tries, tries_after, tries_if, tries_left, ways_after, ways_if, ways_left, weight};
+ghost use Rattle.cb_fit.specs.Internal.Choices.{AreOpen, IsChoice, IsOpen, IsRest, as_ways, choice_ways, followed_by_rows, segments_in, tries, tries_after, tries_if, tries_left, ways_after, ways_if, ways_left, most_tries};
 ghost use Rattle.cb_fit.specs.Internal.FieldLists.{row_fields};
+ghost use Rattle.cb_fit.specs.WayValues.{way_of};
 ghost use Rattle.cb_fit.specs.Ways.{after_cuts, ways_of_row, ways_of_slots};
 
-use crate::beginning::{Beginning, Beginnings};
-use crate::choice::{Choice, Open};
+use crate::beginning::Beginning;
+use crate::choice::{Choice, OpenChoices};
 use crate::fields::Fields;
+use crate::given::newly_bound;
 use crate::look::Look;
 use crate::rest::Rest;
 use crate::slots::slot_value;
-use cb_constraints::{Row, SlotRow};
+use crate::way::Way;
+use cb_constraints::{Parts, Row, SlotRow};
+use cb_exprs::Env;
 use cb_facts::{Name, Value};
 use cb_forms::NoMemory;
 use cb_functions::Constants;
 use std::alloc::Global;
 
-/// What a search looks with, and the slots of the fact, if it is one of a template.
+/// What a search looks with.
 #[derive(Clone, Copy)]
 pub(crate) struct Search<'a> {
     pub(crate) alloc: Global,
     pub(crate) constants: &'a Constants,
+    /// What the pattern asks.
+    pub(crate) parts: &'a Parts,
+    /// What variables have before.
+    pub(crate) before: &'a Env,
+    /// The slots of the fact, if it is one of a template.
     pub(crate) slots: &'a [(Name, Value)],
 }
 
 impl<'a> Search<'a> {
-    /// Keeps all that a choice becomes, if there is one.
-    pub(crate) fn take_all(
-        self,
-        first: Option<Choice<'a>>,
-        kept: &mut Beginnings,
-    ) -> Result<(), NoMemory>
-        requires { IfSome first (IsOpenIn self.slots.now) }
-        ensures { OnOk result (map taken_of kept.new.items
-            ≡ map taken_of kept.old.items ++ ways_if self.entry.slots.now first.entry) }
+    /// Keeps all ways that a choice becomes, if there is one.
+    pub(crate) fn run(self, first: Option<Choice<'a>>, kept: &mut Vec<Way>) -> Result<(), NoMemory>
+        requires { IfSome first (IsOpen self.slots.now) }
+        ensures { OnOk result (map way_of kept.new.items
+            ≡ map way_of kept.old.items ++ as_ways self.entry (ways_if self.entry.slots.now first.entry)) }
     {
         match first {
-            Some(choice) => self.take_choice(choice, kept),
+            Some(choice) => self.run_from(choice, kept),
             None => Ok(()),
         }
     }
 
     /// The same of one that there is.
-    fn take_choice(self, first: Choice<'a>, kept: &mut Beginnings) -> Result<(), NoMemory>
-        requires { IsOpenIn self.slots.now first }
-        ensures { OnOk result (map taken_of kept.new.items
-            ≡ map taken_of kept.old.items ++ choice_ways self.entry.slots.now first.entry) }
+    fn run_from(self, first: Choice<'a>, kept: &mut Vec<Way>) -> Result<(), NoMemory>
+        requires { IsOpen self.slots.now first }
+        ensures { OnOk result (map way_of kept.new.items
+            ≡ map way_of kept.old.items ++ as_ways self.entry (choice_ways self.entry.slots.now first.entry)) }
     {
-        let mut choices = Open::new(self.alloc);
+        let mut choices = OpenChoices::new(self.alloc);
         choices.push(Some(first))?;
         while let Some(next) = choices.pop() {
-            self.take_next(next, &mut choices, kept)?;
+            self.step(next, &mut choices, kept)?;
         }
         Ok(())
     }
 
     /// Takes the segment of a choice up to the first place where it may end, opens the choice of the others, and goes on.
-    fn take_next(
+    fn step(
         self,
         next: Option<Choice<'a>>,
-        choices: &mut Open<'a>,
-        kept: &mut Beginnings,
+        choices: &mut OpenChoices<'a>,
+        kept: &mut Vec<Way>,
     ) -> Result<(), NoMemory>
-        requires choice { IsSomeAnd next (IsOpenIn self.slots.now) }
+        requires choice { IsSomeAnd next (IsOpen self.slots.now) }
         requires open { AreOpen self.slots.now choices.old.items }
         ensures open { OnOk result (AreOpen self.entry.slots.now choices.new.items) }
-        ensures ways { OnOk result (map taken_of kept.new.items
-            ++ ways_left self.entry.slots.now choices.new.items ≡ map taken_of kept.old.items
-            ++ (ways_if self.entry.slots.now next.entry ++ ways_left self.entry.slots.now choices.old.items)) }
+        ensures ways { OnOk result (map way_of kept.new.items
+            ++ as_ways self.entry (ways_left self.entry.slots.now choices.new.items) ≡ map way_of kept.old.items
+            ++ as_ways self.entry (ways_if self.entry.slots.now next.entry ++ ways_left self.entry.slots.now choices.old.items)) }
         ensures tries { OnOk result (tries_left choices.new.items < tries_if next.entry + tries_left choices.old.items) }
     {
         let Some(choice) = next else {
@@ -90,48 +95,46 @@ impl<'a> Search<'a> {
     }
 
     /// Goes on with what is left of a row, and with the rows of slots that follow: returns the choice that comes next, or keeps
-    /// the beginning where no segment follows.
+    /// the way where no segment follows.
     fn go_on(
         self,
         look: Look<'a>,
         rest: Rest<'a>,
         rows: &'a [SlotRow],
         begun: Beginning,
-        kept: &mut Beginnings,
+        kept: &mut Vec<Way>,
     ) -> Result<Option<Choice<'a>>, NoMemory>
         requires rest { IsRest rest }
         requires within { begun.at ≤ length (row_fields look.fields) }
+        requires ended { rest.constraints.now ≡ [] → begun.at ≡ length (row_fields look.fields) }
         requires rows { may_take_slots (map asked_slot rows.now) self.slots.now ≡ true }
-        ensures ways { IfOk result (λ next. map taken_of kept.new.items ++ ways_if self.entry.slots.now next
-            ≡ map taken_of kept.old.items ++ followed_by_rows (map asked_slot rows.now) self.entry.slots.now
-            (endings (map constraint_of rest.entry.constraints.now) (begun_of (row_fields look.entry.fields) begun))) }
-        ensures open { IfOk result (λ next. IfSome next (IsOpenIn self.entry.slots.now)) }
-        ensures tries { IfOk result (λ next. IfSome next (λ c. tries c ≤ weight
+        ensures ways { IfOk result (λ next. map way_of kept.new.items ++ as_ways self.entry (ways_if self.entry.slots.now next)
+            ≡ map way_of kept.old.items ++ as_ways self.entry (followed_by_rows (map asked_slot rows.now) self.entry.slots.now
+            (endings (map constraint_of rest.entry.constraints.now) (begun_of (row_fields look.entry.fields) begun)))) }
+        ensures open { IfOk result (λ next. IfSome next (IsOpen self.entry.slots.now)) }
+        ensures tries { IfOk result (λ next. IfSome next (λ c. tries c ≤ most_tries
             (segments_wanted (map constraint_of rest.entry.constraints.now) + segments_in (map asked_slot rows.now)))) }
     {
         if !rest.constraints.is_empty() {
             return Ok(Choice::new(look, begun, rest, rows));
         }
-        if begun.at < look.fields.len() {
-            return Ok(None);
-        }
         self.begin_rows(rows, begun, kept)
     }
 
     /// Begins the rows of slots, which may take their fields, up to the first with a segment: returns the choice of that, or
-    /// keeps the beginning where there is none.
+    /// keeps the way where there is none.
     pub(crate) fn begin_rows(
         self,
         rows: &'a [SlotRow],
         begun: Beginning,
-        kept: &mut Beginnings,
+        kept: &mut Vec<Way>,
     ) -> Result<Option<Choice<'a>>, NoMemory>
         requires { may_take_slots (map asked_slot rows.now) self.slots.now ≡ true }
-        ensures ways { IfOk result (λ next. map taken_of kept.new.items ++ ways_if self.entry.slots.now next
-            ≡ map taken_of kept.old.items ++ followed_by_rows (map asked_slot rows.now) self.entry.slots.now
-            (taken_of begun ∷ [])) }
-        ensures open { IfOk result (λ next. IfSome next (IsOpenIn self.entry.slots.now)) }
-        ensures tries { IfOk result (λ next. IfSome next (λ c. tries c ≤ weight (segments_in (map asked_slot rows.now)))) }
+        ensures ways { IfOk result (λ next. map way_of kept.new.items ++ as_ways self.entry (ways_if self.entry.slots.now next)
+            ≡ map way_of kept.old.items ++ as_ways self.entry (followed_by_rows (map asked_slot rows.now) self.entry.slots.now
+            (taken_of begun ∷ []))) }
+        ensures open { IfOk result (λ next. IfSome next (IsOpen self.entry.slots.now)) }
+        ensures tries { IfOk result (λ next. IfSome next (λ c. tries c ≤ most_tries (segments_in (map asked_slot rows.now)))) }
     {
         let mut begun = begun;
         let mut left = rows;
@@ -148,8 +151,21 @@ impl<'a> Search<'a> {
             }
             left = others;
         }
-        kept.push(begun)?;
+        self.keep(begun, kept)?;
         Ok(None)
+    }
+
+    /// Keeps the way that a beginning has become.
+    fn keep(self, begun: Beginning, kept: &mut Vec<Way>) -> Result<(), NoMemory>
+        ensures { OnOk result (map way_of kept.new.items
+            ≡ map way_of kept.old.items ++ as_ways self.entry (taken_of begun ∷ [])) }
+    {
+        let bound = newly_bound(self.alloc, self.parts, self.before, &begun.env)?;
+        kept.push(Way {
+            cuts: begun.cuts.into_vec()?,
+            bound,
+        })?;
+        Ok(())
     }
 
     /// Begins the row of an ordered fact, which may take its fields, in the same way.
@@ -158,13 +174,13 @@ impl<'a> Search<'a> {
         row: &'a Row,
         look: Look<'a>,
         begun: Beginning,
-        kept: &mut Beginnings,
+        kept: &mut Vec<Way>,
     ) -> Result<Option<Choice<'a>>, NoMemory>
         requires { may_take_row row.now (row_fields look.fields) ≡ true }
-        ensures ways { IfOk result (λ next. map taken_of kept.new.items ++ ways_if self.entry.slots.now next
-            ≡ map taken_of kept.old.items ++ map (after_cuts begun.cuts.items)
-            (ways_of_row row.now (row_fields look.entry.fields) begun.env)) }
-        ensures open { IfOk result (λ next. IfSome next (IsOpenIn self.entry.slots.now)) }
+        ensures ways { IfOk result (λ next. map way_of kept.new.items ++ as_ways self.entry (ways_if self.entry.slots.now next)
+            ≡ map way_of kept.old.items ++ as_ways self.entry (map (after_cuts begun.cuts.items)
+            (ways_of_row row.now (row_fields look.entry.fields) begun.env))) }
+        ensures open { IfOk result (λ next. IfSome next (IsOpen self.entry.slots.now)) }
     {
         let mut begun = begun;
         let Some(rest) = look.begin_row(row, &mut begun)? else {
@@ -186,11 +202,15 @@ impl<'a> Search<'a> {
 }
 
 /// Opens the choice of the ends after one.
-fn open_others<'a>(choice: Choice<'a>, to: usize, choices: &mut Open<'a>) -> Result<(), NoMemory>
-    requires open { IsOpen choice }
+fn open_others<'a>(
+    choice: Choice<'a>,
+    to: usize,
+    choices: &mut OpenChoices<'a>,
+) -> Result<(), NoMemory>
+    requires open { IsChoice choice }
     requires order { choice.to ≤ to }
     requires last { to ≤ choice.last }
-    ensures open { OnOk result ((slots : List (List ℕ × Value)) → IsOpenIn slots choice.entry
+    ensures open { OnOk result ((slots : List (List ℕ × Value)) → IsOpen slots choice.entry
         → AreOpen slots choices.old.items → AreOpen slots choices.new.items) }
     ensures ways { OnOk result ((slots : List (List ℕ × Value))
         → ways_left slots choices.new.items ≡ ways_after slots choice.entry to ++ ways_left slots choices.old.items) }
@@ -207,8 +227,8 @@ fn open_others<'a>(choice: Choice<'a>, to: usize, choices: &mut Open<'a>) -> Res
 }
 
 /// Opens a choice, if there is one.
-fn open_next<'a>(next: Option<Choice<'a>>, choices: &mut Open<'a>) -> Result<(), NoMemory>
-    ensures open { OnOk result ((slots : List (List ℕ × Value)) → IfSome next.entry (IsOpenIn slots)
+fn open_next<'a>(next: Option<Choice<'a>>, choices: &mut OpenChoices<'a>) -> Result<(), NoMemory>
+    ensures open { OnOk result ((slots : List (List ℕ × Value)) → IfSome next.entry (IsOpen slots)
         → AreOpen slots choices.old.items → AreOpen slots choices.new.items) }
     ensures ways { OnOk result ((slots : List (List ℕ × Value))
         → ways_left slots choices.new.items ≡ ways_if slots next.entry ++ ways_left slots choices.old.items) }

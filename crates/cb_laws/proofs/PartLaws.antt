@@ -2,17 +2,21 @@
 use Rattle.std.proofs.Common.{◌≡◌, ◌↔◌, ◌∙◌, ◌++◌, ℕ, Bool, true, false, not, List, [], Option, Some, None, codes, refl, ap, subst, if◌then◌else◌}
 use Rattle.std.specs.Cmp.Lexicographic.{bytes_decides}
 use Rattle.std.specs.Str.{bytes_eq}
+use Rattle.cb_facts.specs.declared.value.Value.{Value}
 use Rattle.cb_forms.specs.Members.{call_of, head_and_rest}
 use Rattle.cb_forms.specs.Trees.{Tree, Trees}
 use Rattle.cb_forms.specs.declared.fault.Fault.{Fault}
-use Rattle.cb_forms.specs.declared.fault.Fault.TheVariants.{MalformedForm, TemplateInUse}
+use Rattle.cb_forms.specs.declared.fault.Fault.TheVariants.{MalformedForm, TemplateInUse, ValueNotAllowed}
 use Rattle.cb_laws.proofs.FaultListLaws.{none_of_both}
 use Rattle.cb_laws.specs.Written.{IsSlotForm, IsTemplateForm, slot_word}
 use Rattle.cb_templates.specs.FaultLists.{unless}
 use Rattle.cb_templates.specs.Reserved.{is_reserved}
+use Rattle.cb_templates.specs.Slots.{Types, allows_all}
 use Rattle.cb_templates.specs.TemplateFaults.{attributes_faults, kept_faults, kind_faults, named_slot_faults, named_template_faults, slot_form_faults, slots_form_faults, template_faults}
 use Rattle.cb_templates.specs.TemplateShapes.{default_in, kind_of, types_in}
 use Rattle.cb_templates.specs.Templates.{without_comment}
+use Rattle.cb_templates.specs.declared.attribute.SlotDefault.{SlotDefault}
+use Rattle.cb_templates.specs.declared.attribute.SlotDefault.TheVariants.{Derived, Fixed, Required}
 
 -- a condition that has to fail, and what follows it
 pub fails_first : (b : Bool) (f : Fault) (fs : List Fault) → (unless (not b) f ++ fs ≡ []) ↔ ((b ≡ false) × (fs ≡ []))
@@ -36,6 +40,20 @@ kind_of_word : (m : Bool) → kind_of (slot_word m) ≡ Some m
 kind_of_word false = refl
 kind_of_word true = refl
 
+-- a default without a fault, by its constants
+kept_fine : (types : Types) (d : Option SlotDefault) → (kept_faults types d ≡ []) ↔ ((v : Value) → d ≡ Some (Fixed v) → allows_all types v ≡ true)
+kept_fine types None = (λ h v is. absurd (cc), λ h. refl)
+kept_fine types (Some Required) = (λ h v is. absurd (cc), λ h. refl)
+kept_fine types (Some Derived) = (λ h v is. absurd (cc), λ h. refl)
+kept_fine types (Some (Fixed v)) = (λ h w is. subst (λ u. allows_all types u ≡ true) (same w is) (allowed (allows_all types v) h), λ h. ap (λ b. unless b ValueNotAllowed) (h v refl))
+  where
+    same : (w : Value) → Some (Fixed v) ≡ Some (Fixed w) → v ≡ w
+    same w e = cc
+
+    allowed : (b : Bool) → unless b ValueNotAllowed ≡ [] → b ≡ true
+    allowed true h = refl
+    allowed false h = absurd (cc)
+
 slot_parts : (t : Tree) → slot_form_faults [] (call_of t) ≡ [] → IsSlotForm t
 slot_parts t h = by (call_of t) refl h
   where
@@ -43,7 +61,7 @@ slot_parts t h = by (call_of t) refl h
     named m ts head None e is = absurd (cc)
     named m ts head (Some (name, us)) e is =
         let both = (none_of_both (attributes_faults m [] us) (kept_faults (types_in us) (default_in m us))).0 is in
-        record { is_multi = m; written = ts; name = name; attributes = us; head = head; named = e; faultless = both.0; default = both.1 }
+        record { is_multi = m; written = ts; name = name; attributes = us; head = head; named = e; faultless = both.0; default = (kept_fine (types_in us) (default_in m us)).0 both.1 }
 
     kind : (head : List ℕ) (ts : Trees) → call_of t ≡ Some (head, ts) → (k : Option Bool) → kind_of head ≡ k → kind_faults k [] ts ≡ [] → IsSlotForm t
     kind head ts c None e is = absurd (cc)
@@ -58,7 +76,7 @@ parts_slot t it =
     ap (slot_form_faults []) it.head
     ∙ ap (λ k. kind_faults k [] it.written) (kind_of_word it.is_multi)
     ∙ ap (named_slot_faults it.is_multi []) it.named
-    ∙ (none_of_both (attributes_faults it.is_multi [] it.attributes) (kept_faults (types_in it.attributes) (default_in it.is_multi it.attributes))).1 (it.faultless, it.default)
+    ∙ (none_of_both (attributes_faults it.is_multi [] it.attributes) (kept_faults (types_in it.attributes) (default_in it.is_multi it.attributes))).1 (it.faultless, (kept_fine (types_in it.attributes) (default_in it.is_multi it.attributes)).1 it.default)
 
 pub slot_by_parts : (t : Tree) → (slot_form_faults [] (call_of t) ≡ []) ↔ IsSlotForm t
 slot_by_parts t = (slot_parts t, parts_slot t)

@@ -10,10 +10,11 @@ use Rattle.cb_forms.specs.Members.{call_of, head_and_rest, symbol_of}
 use Rattle.cb_forms.specs.Trees.{Tree, Trees, atom, no_trees, tree}
 use Rattle.cb_forms.specs.declared.token.Token.TheVariants as token
 use Rattle.cb_templates.specs.Reserved.{is_reserved}
-use Rattle.cb_templates.specs.Slots.{SlotShape}
-use Rattle.cb_templates.specs.TemplateFaults.{attributes_faults, kept_faults, slots_form_faults}
+use Rattle.cb_templates.specs.Slots.{SlotShape, allows_all}
+use Rattle.cb_templates.specs.TemplateFaults.{attributes_faults, slots_form_faults}
 use Rattle.cb_templates.specs.TemplateShapes.{constant_in, default_in, slot_headed, types_in}
 use Rattle.cb_templates.specs.Templates.{without_comment}
+use Rattle.cb_templates.specs.declared.attribute.SlotDefault.TheVariants.{Fixed}
 
 -- the names that forms have, in order
 abbrev pub names_written : (Tree → Option (List ℕ)) → Trees → List (List ℕ)
@@ -44,8 +45,8 @@ abbrev pub slot_word : Bool → List ℕ
 slot_word false = codes "slot"
 slot_word true = codes "multislot"
 
--- A form is a slot: a list that begins with `slot` or `multislot`, then a name, then attributes without a fault, whose default is of
--- the slot's types.
+-- A form is a slot: a list that begins with `slot` or `multislot`, then a name, then attributes without a fault; and if the default
+-- is a constant or several, all fields of it are of the slot's types.
 pub record IsSlotForm (t : Tree) : Type 0 where
   pub is_multi : Bool
   pub written : Trees
@@ -54,7 +55,7 @@ pub record IsSlotForm (t : Tree) : Type 0 where
   pub head : call_of t ≡ Some (slot_word is_multi, written)
   pub named : head_and_rest written ≡ Some (name, attributes)
   pub faultless : attributes_faults is_multi [] attributes ≡ []
-  pub default : kept_faults (types_in attributes) (default_in is_multi attributes) ≡ []
+  pub default : (v : Value) → default_in is_multi attributes ≡ Some (Fixed v) → allows_all (types_in attributes) v ≡ true
 
 -- What follows `deftemplate` is a template: a name that is neither reserved nor in use, and then, after a comment or without one, slots
 -- without a fault.

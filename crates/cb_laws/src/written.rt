@@ -25,7 +25,7 @@ pub fn a_template_is_accepted_by_its_parts()
 {}
 
 /// A form by itself is a slot without a fault exactly where it begins with `slot` or `multislot`, a name follows, its
-/// attributes have no fault, and its default is of its types.
+/// attributes have no fault, and each constant of its default is of its types.
 pub fn a_slot_is_accepted_by_its_parts()
     ensures { (t : Tree) → (slot_form_faults [] (call_of t) ≡ []) ↔ IsSlotForm t }
 {}

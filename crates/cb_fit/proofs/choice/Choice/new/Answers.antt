@@ -5,7 +5,7 @@ use Rattle.cb_constraints.specs.PartValues.{asked_slot}
 use Rattle.cb_constraints.specs.Rows.{before_segments, fields_wanted, segments_wanted}
 use Rattle.cb_fit.proofs.Groups.{choice-done, group_skipped}
 use Rattle.cb_fit.proofs.Splits.{group-segments, group-wants, is-segment, ones-want}
-use Rattle.cb_fit.proofs.Weights.{enough_weight, few_ends, suc-first}
+use Rattle.cb_fit.proofs.Tries.{enough_tries, few_ends, suc-first}
 use Rattle.cb_fit.specs.Internal.{begun_of, endings}
 use Rattle.cb_fit.specs.Internal.Choices.{segments_in}
 use Rattle.cb_fit.specs.Internal.FieldLists.{row_fields}
@@ -62,12 +62,16 @@ returns-clause-open c =
       begun = c.first_end-to.ensures.begun;
       order = c.first_end-to.ensures.order;
       within = omega (arith, c.len-len.ensures);
+      alone = λ e. c.first_end-to.ensures.ended e;
+      ended = λ e.
+          let all : c.args.rest.wanted ≡ length c.split_ones.result.0.now + 0 = wants ∙ ap (λ cs. length c.split_ones.result.0.now + fields_wanted (map constraint_of cs)) e in
+          omega (arith, all, c.len-len.ensures);
     }
 
 pub returns-clause-tries : goal.returns-clause-tries
 returns-clause-tries c =
     let split : c.args.rest.constraints.now ≡ c.in_ok-constraint.constraint.now ∷ c.in_ok-constraint.following.now = search rules in
-    enough_weight (c.len-len.result - c.args.rest.wanted + 1 - c.first_end-to.result) (segments_wanted (map constraint_of c.split_ones.result.1.now) + segments_in (map asked_slot c.args.rows.now))
+    enough_tries (c.len-len.result - c.args.rest.wanted + 1 - c.first_end-to.result) (segments_wanted (map constraint_of c.split_ones.result.1.now) + segments_in (map asked_slot c.args.rows.now))
     (segments_wanted (map constraint_of c.args.rest.constraints.now) + segments_in (map asked_slot c.args.rows.now))
     (few_ends c.len-len.result c.args.rest.wanted c.first_end-to.result c.len-len.type_inv)
     (ap (λ n. n + segments_in (map asked_slot c.args.rows.now))

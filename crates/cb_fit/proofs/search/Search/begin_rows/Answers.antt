@@ -7,8 +7,9 @@ use Rattle.cb_fit.proofs.Choices.{all-ended, as_many_tries, first-row, of_choice
 use Rattle.cb_fit.proofs.Looked.{other_slots_may}
 use Rattle.cb_fit.proofs.Splits.{none-left}
 use Rattle.cb_fit.specs.Internal.{begun_of, endings, may_take_slots, taken_of}
-use Rattle.cb_fit.specs.Internal.Choices.{followed_by_rows, segments_in}
+use Rattle.cb_fit.specs.Internal.Choices.{as_ways, followed_by_rows, segments_in}
 use Rattle.cb_fit.specs.Internal.FieldLists.{row_fields}
+use Rattle.cb_fit.specs.WayValues.{way_of}
 use Rattle.cb_fit.specs.Ways.{after_cuts, slot_at, ways_of_row}
 use Rattle.cb_fit.proofs.search.Search.begin_rows.Goals as goal
 
@@ -21,7 +22,7 @@ returns-then-not-is_empty-clause-ways c =
     ap (λ rows. followed_by_rows (map asked_slot rows) c.args.self.slots.now (taken_of c.loop-row.begun ∷ [])) split
     ∙ first-row (asked_slot c.in-Some.row.now) (map asked_slot c.in-Some.others.now) c.args.self.slots.now c.in-Some-slot_value.value.now (taken_of c.loop-row.begun) (endings (map constraint_of c.in-Some-2.rest.constraints.now) (begun_of (row_fields c.look-look.result.fields) c.begin_row.new.begun)) value
     (ap (λ fs. map (after_cuts c.loop-row.begun.cuts.items) (ways_of_row c.in-Some.row.now.row fs c.loop-row.begun.env)) (sym (ap row_fields c.look-look.ensures)) ∙ ways) in
-    ap (λ xs. map taken_of c.args.kept.now.items ++ xs)
+    ap (λ xs. map way_of c.args.kept.now.items ++ as_ways c.args.self xs)
     (of_choice c.new.result c.in-Some.others.now c.args.self.slots.now (endings (map constraint_of c.in-Some-2.rest.constraints.now) (begun_of (row_fields c.look-look.result.fields) c.begin_row.new.begun)) c.new.ensures.ways c.new.ensures.rows ∙ (sym row ∙ c.loop-row.invariant.1))
 
 pub returns-then-not-is_empty-clause-tries : goal.returns-then-not-is_empty-clause-tries

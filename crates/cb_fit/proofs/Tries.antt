@@ -1,11 +1,11 @@
 -- How many tries choices need.
 use Rattle.std.proofs.Common.{arith, ◌≡◌, ◌+◌, ◌-◌, ◌*◌, ◌^◌, ◌≤◌, ◌<◌, ℕ, suc}
 use Rattle.std.proofs.Math.Nat.{mul-le-mul_right}
-use Rattle.cb_fit.specs.Internal.Choices.{weight}
+use Rattle.cb_fit.specs.Internal.Choices.{most_tries}
 
 -- a choice of one segment more needs no more than that
-pub enough_weight : (n k m : ℕ) → n ≤ 2 ^ 64 → m ≡ suc k → n * suc (weight k) ≤ weight m
-enough_weight n k m h e = rw e (mul-le-mul_right (suc (weight k)) h)
+pub enough_tries : (n k m : ℕ) → n ≤ 2 ^ 64 → m ≡ suc k → n * suc (most_tries k) ≤ most_tries m
+enough_tries n k m h e = rw e (mul-le-mul_right (suc (most_tries k)) h)
 
 -- a place is a number of 64 bits, so a segment has no more ends than that
 pub few_ends : (len wanted to : ℕ) → len < 2 ^ 64 → len - wanted + 1 - to ≤ 2 ^ 64

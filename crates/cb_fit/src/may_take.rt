@@ -1,0 +1,84 @@
+//! Whether a row may take fields, by their number and by what it asks by constants alone. It takes no memory, so it is asked before
+//! any variable takes a value.
+ghost use Rattle.std.specs.Prelude.{◌≡◌, ◌≤◌, drop, length, map, take, true};
+ghost use Rattle.cb_constraints.specs.Constraints.{constraint_of};
+ghost use Rattle.cb_fit.specs.Internal.FieldLists.{row_fields};
+ghost use Rattle.cb_fit.specs.Internal.{after_last, may_take, may_take_back, may_take_front, may_take_row, takes_length};
+
+use crate::look::Look;
+use crate::rest::split_ones;
+use cb_constraints::{Constraint, Row, may_hold};
+
+impl Look<'_> {
+    /// Whether a row may take the fields: as many as these, and by what its constraints before the first segment and those
+    /// after the last ask.
+    #[tactic(auto, using(crate::proofs::Looked::never_long, crate::proofs::Looked::never_front, crate::proofs::Looked::by_its_back))]
+    pub(crate) fn may_take_row(self, row: &Row) -> bool
+        ensures { result ≡ may_take_row row.now (row_fields self.entry.fields) }
+    {
+        if !takes_length(row, self.fields.len()) {
+            return false;
+        }
+        if !self.may_take_front(row) {
+            return false;
+        }
+        row.segments() == 0 || self.may_take_back(row)
+    }
+
+    /// Whether the constraints before the first segment may take the first fields.
+    fn may_take_front(self, row: &Row) -> bool
+        ensures { result ≡ may_take_front row.now (row_fields self.entry.fields) }
+    {
+        let (leading, _) = split_ones(row.constraints(), row.leading());
+        self.may_take(leading, 0)
+    }
+
+    /// Whether those after the last segment may take the last fields.
+    #[tactic(auto, using(crate::proofs::Trailing::few_fields))]
+    fn may_take_back(self, row: &Row) -> bool
+        requires { takes_length row.now (length (row_fields self.fields)) ≡ true }
+        ensures { result ≡ may_take_back row.now (row_fields self.entry.fields) }
+    {
+        let from = self.fields.len() - row.trailing();
+        self.may_take(trailing(row), from)
+    }
+
+    /// Whether constraints for one field may take one each, from a place on.
+    pub(crate) fn may_take(self, constraints: &[Constraint], from: usize) -> bool
+        requires { from ≤ length (row_fields self.fields) }
+        ensures { result ≡ may_take (map constraint_of constraints.now)
+            (drop from (row_fields self.entry.fields)) }
+    {
+        let mut at = from;
+        for constraint in constraints {
+            let Some(tested) = self.fields.get(at) else {
+                return false;
+            };
+            if !may_hold(&constraint.demand, tested) {
+                return false;
+            }
+            at += 1;
+        }
+        true
+    }
+}
+
+/// Whether a row can take so many fields.
+fn takes_length(row: &Row, count: usize) -> bool
+    ensures { result ≡ takes_length row.now count }
+{
+    if row.segments() == 0 {
+        return count == row.fields();
+    }
+    row.fields() <= count
+}
+
+/// The constraints after the last that takes a segment, or all where none does.
+#[tactic(auto, using(crate::proofs::Trailing::few_trailing, crate::proofs::Trailing::dropped_back))]
+fn trailing(row: &Row) -> &[Constraint]
+    ensures { map constraint_of result.now ≡ after_last row.now }
+{
+    let constraints = row.constraints();
+    let (_, trailing) = constraints.split_at(constraints.len() - row.trailing());
+    trailing
+}
