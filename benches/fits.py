@@ -19,7 +19,9 @@ SLOTS = (("name", False), ("sizes", True), ("kind", False), ("rest", True))
 WORDS = ("a", "b", "c", "1", "2", '"a"')
 NAMES = ("x", "y", "z")
 TESTS = ("(eq {0} a)", "(neq {0} {1})", "(integerp {0})", "(> {0} 1)", "(not (symbolp {0}))", "(= (length$ {0}) 1)",
-         "(eq (nth$ 1 {0}) {1})", "(member$ a {0})", "(or (eq {0} b) (eq {1} 1))", "(+ {0} 1)")
+         "(eq (nth$ 1 {0}) {1})", "(member$ a {0})", "(or (eq {0} b) (eq {1} 1))", "(+ {0} 1)",
+         "(and (neq {0} a) (> {0} 1) (<> {0} {1}))", "(or (eq {0} a) (integerp {1}) (evenp {0}))", "(< 0 {0} 3)", "(neq {0} a {1} b)",
+         "(eq {0} {1} {0} {1} {0})")
 VALUES = ("(+ {0} 1)", "(nth$ 1 {0})", "(create$ {0} a)", "(* {0} {1})", "(- 3 {0})", "(sym-cat {0} b)")
 
 

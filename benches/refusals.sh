@@ -91,6 +91,9 @@ pattern_scripts() {
 (deftemplate part (slot name) (multislot sizes))(defrule a "text" (declare (salience (* 2 5))) ?f <- (part (sizes $? ?s&:(> ?s 2) $?) (name ?n&~red|blue)) (q ~?f ?n) => (retract ?f) (println ?n))(fits (part (name bolt) (sizes 1 8 9)))(fits (part (name red)))(fits (part (size 1)))
 (defrule a (p ?x&red|"blue"|=(sym-cat g ?x)|:(eq ?x 7) ~?x&:(neq ?x (create$ 1 ?x))) =>)(fits (p red 1))(fits (p "blue" red))(fits (p 7 7))(fits (p green 1.5))(fits
 (defrule a (p) => (bind ?y (+ 1 2)) (if (> ?y 2) then (assert (q ?y "z") (r)) else (while FALSE)))(fits (p))(defrule a (p ?x) => ?y)(fits (p 1))(defrule a (declare (salience a)) =>)
+(defrule a (p ?a ?b ?c ?d ?e ?f ?g ?h ?i $?x ?a $?y) =>)(fits (p 1 2 3 4 5 6 7 8 9 1 2 1))(fits (p 1 2 3 4 5 6 7 8 9 2 3))
+(defrule a (p $? a $? b $? c $? d $? e $? f $? g $? h $? i $?) =>)(fits (p a b c d e f g h i i))(fits (p a b c d e f g h x x))
+(defrule a (p 1 2 3 4 5 6 7 8 9 10 11 12 13 14 15 16 17 $?x a $?x ?y&:(neq ?y 1 2 3 4)) =>)(fits (p 1 2 3 4 5 6 7 8 9 10 11 12 13 14 15 16 17 b a b 5))(fits (p 1 2 3 4 5 6 7 8 9 10 11 12 13 14 15 16 17 b a c 5))
 END
     # Many ways.
     echo '(defrule a (p $?a $?b $?c) =>)(fits (p 1 2 3 4 5))'

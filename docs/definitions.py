@@ -2,12 +2,14 @@
 """Makes the index of docs/DEFINITIONS.md from the comments in crates/*/specs.
 
     docs/definitions.py            writes the index anew
-    docs/definitions.py --check    says whether the page is up to date; exit status 0 if so, else 1
+    docs/definitions.py --check    says whether the page is up to date, and no two definitions have one name; exit status 0
+                                   if so, else 1
 
 A definition has a row: its name, what it says, and its place. What it says is the comment before it in its file; where it
 has none, the sentence for it in docs/definitions.txt (lines `crate File name: sentence`); else its type.
 What only the code needs stands in the module `Internal` of a crate, and has an index of its own.
 """
+import collections
 import re
 import sys
 from pathlib import Path
@@ -142,6 +144,12 @@ def misread(by_hand):
     return sorted(file for file in files | set(order) if order.count(file) != (file in files))
 
 
+def named_twice():
+    """The names that more than one definition has."""
+    counts = collections.Counter(d.name for d in all_definitions())
+    return sorted(name for name, count in counts.items() if count > 1)
+
+
 def main():
     page = PAGE.read_text(encoding="utf-8")
     by_hand = with_line_counts(page.split(BEGIN)[0])
@@ -150,10 +158,12 @@ def main():
         print(f"docs/definitions.txt names what isn't there: {name}")
     for file in misread(by_hand):
         print(f"the reading order should have this once: {file}")
+    for name in named_twice():
+        print(f"two definitions have this name: {name}")
     if sys.argv[1:] == ["--check"]:
         up_to_date = wanted == page and not misread(by_hand)
         print("docs/DEFINITIONS.md is up to date" if up_to_date else "docs/DEFINITIONS.md: run docs/definitions.py")
-        sys.exit(0 if up_to_date and not stale() else 1)
+        sys.exit(0 if up_to_date and not stale() and not named_twice() else 1)
     PAGE.write_text(wanted, encoding="utf-8")
 
 

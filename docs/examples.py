@@ -8,8 +8,8 @@ Both also say where the table of patterns and the stored run of `pattern_fits` d
 
 A script of a page is a block of the kind `clips`, and its transcript is the next block of the kind `text`; a block of the
 kind `clips rules` is not for clipsbatch yet. In the table of functions each call is a line of one script, and what it shows
-a line of the transcript. In the man page the script is what `echo` writes. The exit status is told from the transcript: 4 where its last line is a limit's, 1 where one line
-is a fault's, else 0.
+a line of the transcript. In the man page the script is what `echo` writes. The exit status follows from the transcript: 4
+where its last line is a limit's, 1 where one line is a fault's, else 0.
 """
 import re
 import sys

@@ -3,7 +3,7 @@ use Rattle.std.proofs.Common.{◌≡◌, ◌<◌, ◌+◌, ℕ, false, List, [],
 use Rattle.std.proofs.lemmas.Grind.{flat_map-append}
 use Rattle.std.proofs.lemmas.List.{append-nil, take_more, take-append-drop}
 use Rattle.std.specs.List.{flat_map}
-use Rattle.cb_actions.specs.Acts.{Effect, Act, after_writing, follow}
+use Rattle.cb_actions.specs.Acts.{Effect, Act, after_writing, follow, give}
 use Rattle.cb_actions.specs.Went.{Answers, Quietly, Went, break_extent, extent_at}
 use Rattle.cb_actions.specs.declared.act.Break.{Break}
 use Rattle.cb_actions.specs.declared.act.Break.TheVariants as break
@@ -30,6 +30,14 @@ follow-err {S} {A} {B} m e next f =
 pub record Begins (a b : List ℕ) : Type 0 where
   pub more : List ℕ
   pub is : b ≡ a ++ more
+
+-- an act whose answer is handed on is the act
+pub follow_give : {S A : Type 0} (m : Effect S A) → follow m.state m.written m.answer (λ a. give a) ≡ m
+follow_give {S} {A} m = by m.answer refl
+  where
+    by : (r : Result A Ended) → m.answer ≡ r → follow m.state m.written r (λ a. give a) ≡ record { state = m.state; written = m.written; answer = r }
+    by (Ok a) is = ap (λ bytes. record { state = m.state; written = bytes; answer = Ok a }) (append-nil m.written)
+    by (Err e) is = refl
 
 pub follow_begins : {S A B : Type 0} (s : S) (w : List ℕ) (r : Result A Ended) (next : A → Act S B) → Begins w (follow s w r next).written
 follow_begins s w (Ok a) next = record { more = (next a s).written; is = refl }

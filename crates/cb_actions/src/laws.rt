@@ -13,7 +13,7 @@ ghost use Rattle.cb_actions.specs.declared.act.Limit.TheVariants.{Turns};
 ghost use Rattle.cb_eval.specs.Evaluation.{value_of};
 ghost use Rattle.cb_exprs.specs.FactTerms.{FactTerm};
 ghost use Rattle.cb_exprs.specs.GlobalTerms.{GlobalTerm};
-ghost use Rattle.cb_exprs.specs.Terms.{Term, Terms, actions, choose, print, println, printout, repeat, term, terms};
+ghost use Rattle.cb_exprs.specs.Terms.{Term, Terms, actions, choose, no_terms, print, println, printout, repeat, term, terms};
 ghost use Rattle.cb_exprs.specs.declared.channel.Channel.{Channel};
 ghost use Rattle.cb_facts.specs.declared.value.Value.{Value};
 ghost use Rattle.cb_forms.specs.Laws.{BeginsWith};
@@ -53,13 +53,20 @@ pub fn a_loop_goes_round()
 {}
 
 /// Of actions, one after another, what the first writes comes first. Where it ends with a fault or at a limit, the others are
-/// not done, and what it has done and written stands.
+/// not done, and what it has done and written stands; else they are done from the state that it leaves, and the answer is
+/// theirs. An action alone is what it is by itself.
 pub fn the_first_action_comes_first()
     ensures written { (t : Term) (ts : Terms) (s : World)
         → BeginsWith (carried t s).written (carried (actions (term t ts)) s).written }
     ensures ended { (t : Term) (ts : Terms) (s : World) (e : Ended)
         → (carried t s).answer ≡ Err e
         → carried (actions (term t ts)) s ≡ carried t s }
+    ensures answered { (t u : Term) (ts : Terms) (s : World) (answer : Option Value)
+        → (carried t s).answer ≡ Ok answer
+        → carried (actions (term t (term u ts))) s ≡ after_writing (carried t s).written
+        (carried (actions (term u ts)) (carried t s).state) }
+    ensures alone { (t : Term) (s : World)
+        → carried (actions (term t no_terms)) s ≡ carried t s }
 {}
 
 /// An `if` does what its test does and then, from the state that the test leaves, what its first branch does where the test's

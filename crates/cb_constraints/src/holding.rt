@@ -3,7 +3,7 @@ ghost use Rattle.std.specs.Prelude.{◌≡◌, IfOk, map, true};
 ghost use Rattle.std.specs.List.{list_all, list_any};
 ghost use Rattle.cb_constraints.specs.Constraints.{check_of, demand_of, asked_test};
 ghost use Rattle.cb_constraints.specs.Holding.{Meets, after_check, after_checks, after_demand, check_holds, constant_holds, constants_hold, is_constant, may_hold, one_holds, after_variable, test_holds, tested_value, value_if_any};
-ghost use Rattle.cb_constraints.specs.Internal.Constants.{are_of_constants, is_of_constants};
+ghost use Rattle.cb_constraints.specs.Internal.{are_of_constants, is_of_constants};
 ghost use Rattle.cb_eval.specs.Evaluation.{value_of};
 ghost use Rattle.cb_exprs.specs.Terms.{term_of};
 

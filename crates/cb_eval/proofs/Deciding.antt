@@ -35,7 +35,7 @@ not_all_true : (before after : List Value) (v : Value) → is_true v ≡ false �
 not_all_true [] after v e = ap (λ t. t && list_all is_true after) e
 not_all_true (w ∷ before) after v e = ap (λ t. is_true w && t) (not_all_true before after v e) ∙ and_false (is_true w)
 
-are_taken : (before after : List Value) (v : Value) → takes (AtLeast 1) (length (before ++ v ∷ after)) ≡ true
+pub are_taken : (before after : List Value) (v : Value) → takes (AtLeast 1) (length (before ++ v ∷ after)) ≡ true
 are_taken [] after v = grind (arith, nat_tests)
 are_taken (w ∷ before) after v = grind (arith, nat_tests)
 

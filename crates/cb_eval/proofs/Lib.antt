@@ -1,2 +1,3 @@
+mod Connectives
 mod Deciding
-mod Pairs
+mod Left

@@ -1,2 +1,3 @@
 pub mod Evaluation
+pub mod Internal
 pub mod Laws

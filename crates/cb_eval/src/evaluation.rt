@@ -1,7 +1,9 @@
 //! The value of an expression.
-ghost use Rattle.std.specs.Prelude.{[], option_copied};
+ghost use Rattle.std.specs.Prelude.{◌≡◌, [], option_copied, true};
 ghost use Rattle.std.specs.Option.{ok_or};
 ghost use Rattle.cb_eval.specs.Evaluation.{value_of, values_of};
+ghost use Rattle.cb_eval.specs.Internal.{may_be_decided};
+ghost use Rattle.cb_eval.specs.Laws.{all_values};
 ghost use Rattle.cb_exprs.specs.Terms.{term_of, terms_of};
 ghost use Rattle.cb_facts.specs.Results.{Returns, and_then};
 ghost use Rattle.cb_functions.specs.Applied.{applied};
@@ -18,7 +20,7 @@ use std::alloc::Global;
 /// The arguments of a call are evaluated from left to right, and those after one that decides it (see
 /// `cb_functions::decides`) are not. The faults are CB11 for a variable without a value, CB12 for a global variable without
 /// one, and those of `cb_functions::apply`. An expression with an effect has no value here: it is CB14. Growth is refused
-/// as `NoMemory`; a constant, a variable and a call of one argument or two take no memory of their own.
+/// as `NoMemory`; a constant, a variable, `and`, `or` and a call of up to four arguments take no memory of their own.
 ///
 /// It calls itself as deep as the expression is nested.
 #[cycle(evaluation)]
@@ -55,29 +57,90 @@ fn call(
     ensures { Returns result
         (and_then (values_of function [] (terms_of args.now) env.now) (applied function)) }
 {
-    // Most calls have one argument or two, and need no vector.
-    if let [only] = args {
-        let value = eval(alloc, constants, only, env)?;
-        return apply(alloc, constants, function, &[value]);
+    if may_be_decided(function) {
+        return call_until_decided(alloc, constants, function, args, env);
     }
-    if let [first, second] = args {
-        let first = eval(alloc, constants, first, env)?;
-        if decides(function, &first) {
-            return apply(alloc, constants, function, &[first]);
-        }
-        let second = eval(alloc, constants, second, env)?;
-        return apply(alloc, constants, function, &[first, second]);
-    }
-    let mut values = Vec::new(alloc);
+    call_with_all(alloc, constants, function, args, env)
+}
+
+/// The value of a call that an argument may decide. Of those that don't decide it only the last is kept, as the others change
+/// nothing.
+#[cycle(evaluation)]
+fn call_until_decided(
+    alloc: Global,
+    constants: &Constants,
+    function: Function,
+    args: &[Expr],
+    env: &Env,
+) -> Result<Value, Refused>
+    requires { may_be_decided function ≡ true }
+    ensures { Returns result
+        (and_then (values_of function [] (terms_of args.now) env.now) (applied function)) }
+{
+    let mut last = None;
     for arg in args {
         let value = eval(alloc, constants, arg, env)?;
-        let is_decided = decides(function, &value);
-        values.push(value)?;
-        if is_decided {
-            return apply(alloc, constants, function, values.as_slice());
+        if decides(function, &value) {
+            return apply(alloc, constants, function, &[value]);
+        }
+        last = Some(value);
+    }
+    match last {
+        Some(value) => apply(alloc, constants, function, &[value]),
+        None => apply(alloc, constants, function, &[]),
+    }
+}
+
+/// What a function returns for the values of all these arguments. Up to four need no vector.
+#[cycle(evaluation)]
+fn call_with_all(
+    alloc: Global,
+    constants: &Constants,
+    function: Function,
+    args: &[Expr],
+    env: &Env,
+) -> Result<Value, Refused>
+    ensures { Returns result
+        (and_then (all_values (terms_of args.now) env.now) (applied function)) }
+{
+    match args {
+        [only] => {
+            let value = eval(alloc, constants, only, env)?;
+            apply(alloc, constants, function, &[value])
+        }
+        [first, second] => {
+            let first = eval(alloc, constants, first, env)?;
+            let second = eval(alloc, constants, second, env)?;
+            apply(alloc, constants, function, &[first, second])
+        }
+        [first, second, third] => {
+            let first = eval(alloc, constants, first, env)?;
+            let second = eval(alloc, constants, second, env)?;
+            let third = eval(alloc, constants, third, env)?;
+            apply(alloc, constants, function, &[first, second, third])
+        }
+        [first, second, third, fourth] => {
+            let first = eval(alloc, constants, first, env)?;
+            let second = eval(alloc, constants, second, env)?;
+            let third = eval(alloc, constants, third, env)?;
+            let fourth = eval(alloc, constants, fourth, env)?;
+            apply(alloc, constants, function, &[first, second, third, fourth])
+        }
+        _ => {
+            let mut values = Vec::new(alloc);
+            for arg in args {
+                values.push(eval(alloc, constants, arg, env)?)?;
+            }
+            apply(alloc, constants, function, values.as_slice())
         }
     }
-    apply(alloc, constants, function, values.as_slice())
+}
+
+/// Whether an argument may decide what a call of this function returns (see `cb_functions::decides`).
+fn may_be_decided(function: Function) -> bool
+    ensures { result ≡ may_be_decided function }
+{
+    matches!(function, Function::And | Function::Or)
 }
 
 /// A copy of the value that was found, or this fault.

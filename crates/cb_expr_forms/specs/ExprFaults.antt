@@ -136,7 +136,3 @@ abbrev mutual
   pub values_faults : Scope → Types → Trees → List Fault
   values_faults s types no_trees = []
   values_faults s types (tree t ts) = (equals_faults t ts ++ (faults_of s t ++ type_faults types (expr_of s.templates t))) ++ values_faults s types ts
-
--- what is wrong with one of them, before those that follow it
-abbrev pub value_faults : Scope → Types → Tree → Trees → List Fault
-value_faults s types t following = equals_faults t following ++ (faults_of s t ++ type_faults types (expr_of s.templates t))

@@ -2,7 +2,7 @@
 pub mod Sizes
 use Rattle.std.specs.Prelude.{◌≡◌, ◌≤◌, ◌<◌, ◌+◌, ℕ, Bool, List, [], ◌++◌, Option, Some, None}
 use Rattle.cb_expr_forms.specs.Actions.{action_of, after_else, as_one_value, before_else}
-use Rattle.cb_expr_forms.specs.ExprFaults.{call_faults, token_faults, faults_of, all_faults, list_faults, facts_faults, fact_faults, content_faults, slot_faults, given_slot_faults, slots_faults, value_faults, values_faults}
+use Rattle.cb_expr_forms.specs.ExprFaults.{call_faults, token_faults, equals_faults, faults_of, all_faults, list_faults, facts_faults, fact_faults, content_faults, slot_faults, given_slot_faults, slots_faults, type_faults, values_faults}
 use Rattle.cb_expr_forms.specs.ExprForms.{call_expr, expr_of, exprs_of, list_expr, assertions, fact_of, fact_with, given_slot, slot_expr, slot_exprs, slot_name, slot_names}
 use Rattle.cb_templates.specs.FaultLists.{first_of}
 use Rattle.cb_expr_forms.specs.Scopes.{Scope}
@@ -20,7 +20,7 @@ use Rattle.cb_forms.specs.Members.{members}
 use Rattle.cb_forms.specs.Trees.{Tree, Trees, no_trees, tree_of}
 use Rattle.cb_forms.specs.declared.fault.Fault.{Fault}
 use Rattle.cb_forms.specs.declared.token.Token.TheVariants as token
-use Rattle.cb_templates.specs.Slots.{SlotShape}
+use Rattle.cb_templates.specs.Slots.{SlotShape, Types}
 use Rattle.cb_templates.specs.Templates.{Templates, slots_of}
 use Rattle.cb_words.specs.declared.function.Function.TheVariants as function
 use Rattle.cb_words.specs.declared.head.Action.{Action}
@@ -130,6 +130,10 @@ slot_of (slot_form.Several slot ts) = slot.now.name
 abbrev pub filling_expr : Templates → SlotForm → Term
 filling_expr templates (slot_form.One slot t) = expr_of templates (tree_of t.now)
 filling_expr templates (slot_form.Several slot ts) = call function.Create (terms (exprs_of templates (members ts.now)))
+
+-- what is wrong with a value, before those that follow it
+abbrev pub value_faults : Scope → Types → Tree → Trees → List Fault
+value_faults s types t following = equals_faults t following ++ (faults_of s t ++ type_faults types (expr_of s.templates t))
 
 abbrev pub filling_faults : Scope → SlotForm → List Fault
 filling_faults s (slot_form.One slot t) = value_faults s slot.now.types (tree_of t.now) no_trees

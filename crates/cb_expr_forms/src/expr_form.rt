@@ -2,10 +2,10 @@
 ghost use Rattle.std.specs.Prelude.{◌≡◌, ℕ, List, [], map};
 ghost use Rattle.std.specs.Option.{option_and_then};
 ghost use Rattle.cb_expr_forms.specs.Actions.{as_one_value};
-ghost use Rattle.cb_expr_forms.specs.ExprFaults.{all_faults, are_filled, fact_faults, facts_faults, faults_of, list_faults, slots_faults, token_faults, type_faults, value_faults, values_faults};
+ghost use Rattle.cb_expr_forms.specs.ExprFaults.{all_faults, are_filled, fact_faults, facts_faults, faults_of, list_faults, slots_faults, token_faults, type_faults, values_faults};
 ghost use Rattle.cb_expr_forms.specs.ExprForms.{assertions, expr_of, exprs_of, fact_of, list_expr, slot_exprs, slot_names, token_expr};
 ghost use Rattle.cb_templates.specs.FaultLists.{ReadsAs};
-ghost use Rattle.cb_expr_forms.specs.Internal.{filling_expr, filling_faults, if_expr, if_faults, plan_expr, plan_faults, while_expr, while_faults};
+ghost use Rattle.cb_expr_forms.specs.Internal.{filling_expr, filling_faults, if_expr, if_faults, plan_expr, plan_faults, value_faults, while_expr, while_faults};
 ghost use Rattle.cb_exprs.specs.Terms.{Term, term_of};
 ghost use Rattle.cb_forms.specs.Members.{members};
 ghost use Rattle.cb_forms.specs.Trees.{tree_of};

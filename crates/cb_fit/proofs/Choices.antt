@@ -10,9 +10,10 @@ use Rattle.cb_facts.specs.Values.{fields_in}
 use Rattle.cb_facts.specs.declared.single.Single.{Single}
 use Rattle.cb_facts.specs.declared.value.Value.{Value}
 use Rattle.cb_fit.proofs.InTurn.{then-then}
-use Rattle.cb_fit.specs.Internal.{endings}
+use Rattle.cb_fit.specs.Internal.{endings, taken_of}
 use Rattle.cb_fit.specs.Internal.Choices.{choice_endings, followed_by_rows, tries, tries_if, tries_left, ways_if, ways_left, most_tries}
 use Rattle.cb_fit.specs.Ways.{Taken, after_cuts, each_followed_by, slot_at, ways_of_row, ways_of_slot, ways_of_slots}
+use Rattle.cb_fit.specs.declared.beginning.Beginning.{Beginning}
 use Rattle.cb_fit.specs.declared.choice.Choice as program
 
 -- the last of some choices is taken up first
@@ -46,6 +47,14 @@ first-row s ss slots v t ts e h =
     ∙ ap (each_followed_by (ways_of_slots ss slots))
     (append-nil (map (after_cuts t.cuts) (ways_of_slot s slots t.env))
     ∙ (ap (λ o. map (after_cuts t.cuts) (option_map_or (λ w. ways_of_row s.row (fields_in w) t.env) o [])) e ∙ h))
+
+-- the same of those that are left
+pub begun_row : (left others : List program_row.SlotRow) (row : program_row.SlotRow) (slots : List (List ℕ × Value)) (v : Value) (fields : List Single) (begun : Beginning) (ts : List Taken)
+    → left ≡ row ∷ others → slot_at row.place slots ≡ Some v → fields ≡ fields_in v → map (after_cuts begun.cuts.items) (ways_of_row row.row fields begun.env) ≡ ts
+    → followed_by_rows (map asked_slot left) slots (taken_of begun ∷ []) ≡ followed_by_rows (map asked_slot others) slots ts
+begun_row left others row slots v fields begun ts split value is ways =
+    ap (λ rows. followed_by_rows (map asked_slot rows) slots (taken_of begun ∷ [])) split
+    ∙ first-row (asked_slot row) (map asked_slot others) slots v (taken_of begun) ts value (ap (λ fs. map (after_cuts begun.cuts.items) (ways_of_row row.row fs begun.env)) (sym is) ∙ ways)
 
 -- a row that takes all fields
 pub all-ended : (fields : List Single) (at : ℕ) (cuts : List ℕ) (env : Bindings) → at ≡ length fields → endings [] (record { cuts = cuts; left = drop at fields; env = env }) ≡ record { cuts = cuts; env = env } ∷ []

@@ -12,6 +12,7 @@ mod Listed
 mod Looked
 mod LooseDemands
 mod Numbers
+mod Parted
 mod Places
 mod Related
 mod Rows

@@ -51,13 +51,15 @@ impl<'a> Choice<'a> {
         requires rest { IsRest rest }
         requires within { begun.at ≤ length (row_fields look.fields) }
         ensures ways { MatchOption result
-            (endings (map constraint_of rest.entry.constraints.now) (begun_of (row_fields look.entry.fields) begun) ≡ [])
+            (endings (map constraint_of rest.entry.constraints.now)
+            (begun_of (row_fields look.entry.fields) begun) ≡ [])
             (λ c. choice_endings c ≡ endings (map constraint_of rest.entry.constraints.now)
             (begun_of (row_fields look.entry.fields) begun)) }
         ensures rows { IfSome result (λ c. c.rows.now ≡ rows.now) }
         ensures open { IfSome result IsChoice }
         ensures tries { IfSome result (λ c. tries c ≤ most_tries
-            (segments_wanted (map constraint_of rest.entry.constraints.now) + segments_in (map asked_slot rows.now))) }
+            (segments_wanted (map constraint_of rest.entry.constraints.now)
+            + segments_in (map asked_slot rows.now))) }
     {
         let (constraint, following) = rest.constraints.split_first()?;
         let (ones, after) = split_ones(following, count_leading(following));
@@ -88,8 +90,10 @@ impl<'a> Choice<'a> {
         requires { IsChoice self.now }
         ensures order { IfOk result (λ end. IfSome end (λ p. self.now.to ≤ p.0)) }
         ensures last { IfOk result (λ end. IfSome end (λ p. p.0 ≤ self.now.last)) }
-        ensures within { IfOk result (λ end. IfSome end (λ p. p.1.at ≤ length (row_fields self.now.look.fields))) }
-        ensures place { IfOk result (λ end. IfSome end (λ p. p.1.at ≡ p.0 + length self.now.ones.now)) }
+        ensures within { IfOk result (λ end. IfSome end (λ p. p.1.at
+            ≤ length (row_fields self.now.look.fields))) }
+        ensures place { IfOk result (λ end. IfSome end (λ p. p.1.at
+            ≡ p.0 + length self.now.ones.now)) }
         ensures taken { IfOk result (λ end. MatchOption end
             (group_from self.now self.now.to (self.now.last + 1 - self.now.to) ≡ [])
             (λ p. group_from self.now self.now.to (self.now.last + 1 - self.now.to)
@@ -112,7 +116,8 @@ impl<'a> Choice<'a> {
         requires open { IsChoice self.now }
         requires order { self.now.to ≤ to }
         requires last { to ≤ self.now.last }
-        ensures within { IfOk result (λ b. IfSome b (λ b. b.at ≤ length (row_fields self.now.look.fields))) }
+        ensures within { IfOk result (λ b. IfSome b (λ b. b.at
+            ≤ length (row_fields self.now.look.fields))) }
         ensures place { IfOk result (λ b. IfSome b (λ b. b.at ≡ to + length self.now.ones.now)) }
         ensures taken { IfOk result (λ b. MatchOption b (group_from self.now to 1 ≡ [])
             (λ b. group_from self.now to 1 ≡ begun_of (row_fields self.now.look.fields) b ∷ [])) }

@@ -36,7 +36,8 @@ impl<'a> Fields<'a> {
         ensures within { IfSome result (λ tested. at < length (row_fields self.entry)) }
         ensures room { IfSome result (λ tested. at + 1 < 2 ^ 64) }
         ensures first { MatchOption result (drop at (row_fields self.entry) ≡ [])
-            (λ tested. IsFirst (tested_value tested) (drop (at + 1) (row_fields self.entry)) (drop at (row_fields self.entry))) }
+            (λ tested. IsFirst (tested_value tested)
+            (drop (at + 1) (row_fields self.entry)) (drop at (row_fields self.entry))) }
     {
         match self {
             Fields::All(fields) => Some(Tested::Field(fields.as_slice().get(at)?)),
@@ -72,7 +73,8 @@ fn get_in<'a>(value: &'a Value, at: usize) -> Option<Tested<'a>>
     ensures within { IfSome result (λ tested. at < length (fields_in value.now)) }
     ensures room { IfSome result (λ tested. at + 1 < 2 ^ 64) }
     ensures first { MatchOption result (drop at (fields_in value.now) ≡ [])
-        (λ tested. IsFirst (tested_value tested) (drop (at + 1) (fields_in value.now)) (drop at (fields_in value.now))) }
+        (λ tested. IsFirst (tested_value tested)
+        (drop (at + 1) (fields_in value.now)) (drop at (fields_in value.now))) }
 {
     match value {
         Value::Multi(fields) => Some(Tested::Field(fields.as_slice().get(at)?)),
@@ -87,7 +89,8 @@ fn whole_at<'a>(value: &'a Value, at: usize) -> Option<Tested<'a>>
     ensures within { IfSome result (λ tested. at < length (fields_in value.now)) }
     ensures room { IfSome result (λ tested. at + 1 < 2 ^ 64) }
     ensures first { MatchOption result (drop at (fields_in value.now) ≡ [])
-        (λ tested. IsFirst (tested_value tested) (drop (at + 1) (fields_in value.now)) (drop at (fields_in value.now))) }
+        (λ tested. IsFirst (tested_value tested)
+        (drop (at + 1) (fields_in value.now)) (drop at (fields_in value.now))) }
 {
     if at > 0 {
         return None;

@@ -105,7 +105,8 @@ fn search_fields<'a>(
 #[tactic(auto, using(crate::proofs::InTurn::from_start_alone, crate::proofs::Looked::slots_never_taken))]
 fn search_slots<'a>(search: Search<'a>, rows: &'a [SlotRow]) -> Result<Vec<Way>, NoMemory>
     ensures { IfOk result (λ all. map way_of all.items
-        ≡ as_ways search.entry (ways_of_slots (map asked_slot rows.now) search.entry.slots.now search.entry.before.now)) }
+        ≡ as_ways search.entry (ways_of_slots (map asked_slot rows.now)
+        search.entry.slots.now search.entry.before.now)) }
 {
     let mut all = Vec::new(search.alloc);
     if !may_take_slots(search.alloc, search.constants, rows, search.slots) {

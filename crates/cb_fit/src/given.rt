@@ -56,7 +56,8 @@ fn give_slots(slots: &[SlotRow], after: &Env, given: &mut Given) -> Result<(), N
 #[tactic(auto, using(crate::proofs::Givings::given_more))]
 fn give_row(constraints: &[Constraint], after: &Env, given: &mut Given) -> Result<(), NoMemory>
     ensures { OnOk result (given_of given.new
-        ≡ given_all (binders_in (map constraint_of constraints.now)) after.now (given_of given.old)) }
+        ≡ given_all (binders_in (map constraint_of constraints.now)) after.now
+        (given_of given.old)) }
 {
     for constraint in constraints {
         give_demand(&constraint.demand, after, given)?;

@@ -39,7 +39,8 @@ impl Look<'_> {
         ensures within { IfOk result (λ end. IfSome end (λ at.
             at ≤ length (row_fields self.entry.fields))) }
         ensures holds { IfOk result (λ end. Meets (is_some end) env.new (after_ones
-            (map constraint_of constraints.now) (drop from (row_fields self.entry.fields)) env.old)) }
+            (map constraint_of constraints.now)
+            (drop from (row_fields self.entry.fields)) env.old)) }
     {
         let mut at = from;
         for constraint in constraints {

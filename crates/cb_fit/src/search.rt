@@ -7,7 +7,7 @@ ghost use Rattle.cb_constraints.specs.Rows.{segments_wanted};
 ghost use Rattle.cb_constraints.specs.PartValues.{asked_slot};
 ghost use Rattle.cb_facts.specs.declared.value.Value.{Value};
 ghost use Rattle.cb_fit.specs.Internal.{begun_of, endings, may_take_row, may_take_slots, taken_of};
-ghost use Rattle.cb_fit.specs.Internal.Choices.{AreOpen, IsChoice, IsOpen, IsRest, as_ways, choice_ways, followed_by_rows, segments_in, tries, tries_after, tries_if, tries_left, ways_after, ways_if, ways_left, most_tries};
+ghost use Rattle.cb_fit.specs.Internal.Choices.{AreOpen, IsChoice, IsOpen, IsRest, as_ways, choice_ways, followed_by_rows, kept_with, segments_in, tries, tries_after, tries_if, tries_left, ways_after, ways_if, ways_left, most_tries};
 ghost use Rattle.cb_fit.specs.Internal.FieldLists.{row_fields};
 ghost use Rattle.cb_fit.specs.WayValues.{way_of};
 ghost use Rattle.cb_fit.specs.Ways.{after_cuts, ways_of_row, ways_of_slots};
@@ -45,7 +45,7 @@ impl<'a> Search<'a> {
     pub(crate) fn run(self, first: Option<Choice<'a>>, kept: &mut Vec<Way>) -> Result<(), NoMemory>
         requires { IfSome first (IsOpen self.slots.now) }
         ensures { OnOk result (map way_of kept.new.items
-            ≡ map way_of kept.old.items ++ as_ways self.entry (ways_if self.entry.slots.now first.entry)) }
+            ≡ kept_with self.entry kept.old.items first.entry) }
     {
         match first {
             Some(choice) => self.run_from(choice, kept),
@@ -56,8 +56,8 @@ impl<'a> Search<'a> {
     /// The same of one that there is.
     fn run_from(self, first: Choice<'a>, kept: &mut Vec<Way>) -> Result<(), NoMemory>
         requires { IsOpen self.slots.now first }
-        ensures { OnOk result (map way_of kept.new.items
-            ≡ map way_of kept.old.items ++ as_ways self.entry (choice_ways self.entry.slots.now first.entry)) }
+        ensures { OnOk result (map way_of kept.new.items ≡ map way_of kept.old.items
+            ++ as_ways self.entry (choice_ways self.entry.slots.now first.entry)) }
     {
         let mut choices = OpenChoices::new(self.alloc);
         choices.push(Some(first))?;
@@ -78,9 +78,12 @@ impl<'a> Search<'a> {
         requires open { AreOpen self.slots.now choices.old.items }
         ensures open { OnOk result (AreOpen self.entry.slots.now choices.new.items) }
         ensures ways { OnOk result (map way_of kept.new.items
-            ++ as_ways self.entry (ways_left self.entry.slots.now choices.new.items) ≡ map way_of kept.old.items
-            ++ as_ways self.entry (ways_if self.entry.slots.now next.entry ++ ways_left self.entry.slots.now choices.old.items)) }
-        ensures tries { OnOk result (tries_left choices.new.items < tries_if next.entry + tries_left choices.old.items) }
+            ++ as_ways self.entry (ways_left self.entry.slots.now choices.new.items)
+            ≡ map way_of kept.old.items
+            ++ as_ways self.entry (ways_if self.entry.slots.now next.entry
+            ++ ways_left self.entry.slots.now choices.old.items)) }
+        ensures tries { OnOk result (tries_left choices.new.items
+            < tries_if next.entry + tries_left choices.old.items) }
     {
         let Some(choice) = next else {
             return Ok(());
@@ -108,12 +111,15 @@ impl<'a> Search<'a> {
         requires within { begun.at ≤ length (row_fields look.fields) }
         requires ended { rest.constraints.now ≡ [] → begun.at ≡ length (row_fields look.fields) }
         requires rows { may_take_slots (map asked_slot rows.now) self.slots.now ≡ true }
-        ensures ways { IfOk result (λ next. map way_of kept.new.items ++ as_ways self.entry (ways_if self.entry.slots.now next)
-            ≡ map way_of kept.old.items ++ as_ways self.entry (followed_by_rows (map asked_slot rows.now) self.entry.slots.now
-            (endings (map constraint_of rest.entry.constraints.now) (begun_of (row_fields look.entry.fields) begun)))) }
+        ensures ways { IfOk result (λ next. kept_with self.entry kept.new.items next
+            ≡ map way_of kept.old.items
+            ++ as_ways self.entry (followed_by_rows (map asked_slot rows.now) self.entry.slots.now
+            (endings (map constraint_of rest.entry.constraints.now)
+            (begun_of (row_fields look.entry.fields) begun)))) }
         ensures open { IfOk result (λ next. IfSome next (IsOpen self.entry.slots.now)) }
         ensures tries { IfOk result (λ next. IfSome next (λ c. tries c ≤ most_tries
-            (segments_wanted (map constraint_of rest.entry.constraints.now) + segments_in (map asked_slot rows.now)))) }
+            (segments_wanted (map constraint_of rest.entry.constraints.now)
+            + segments_in (map asked_slot rows.now)))) }
     {
         if !rest.constraints.is_empty() {
             return Ok(Choice::new(look, begun, rest, rows));
@@ -130,11 +136,13 @@ impl<'a> Search<'a> {
         kept: &mut Vec<Way>,
     ) -> Result<Option<Choice<'a>>, NoMemory>
         requires { may_take_slots (map asked_slot rows.now) self.slots.now ≡ true }
-        ensures ways { IfOk result (λ next. map way_of kept.new.items ++ as_ways self.entry (ways_if self.entry.slots.now next)
-            ≡ map way_of kept.old.items ++ as_ways self.entry (followed_by_rows (map asked_slot rows.now) self.entry.slots.now
+        ensures ways { IfOk result (λ next. kept_with self.entry kept.new.items next
+            ≡ map way_of kept.old.items
+            ++ as_ways self.entry (followed_by_rows (map asked_slot rows.now) self.entry.slots.now
             (taken_of begun ∷ []))) }
         ensures open { IfOk result (λ next. IfSome next (IsOpen self.entry.slots.now)) }
-        ensures tries { IfOk result (λ next. IfSome next (λ c. tries c ≤ most_tries (segments_in (map asked_slot rows.now)))) }
+        ensures tries { IfOk result (λ next. IfSome next (λ c. tries c
+            ≤ most_tries (segments_in (map asked_slot rows.now)))) }
     {
         let mut begun = begun;
         let mut left = rows;
@@ -177,7 +185,7 @@ impl<'a> Search<'a> {
         kept: &mut Vec<Way>,
     ) -> Result<Option<Choice<'a>>, NoMemory>
         requires { may_take_row row.now (row_fields look.fields) ≡ true }
-        ensures ways { IfOk result (λ next. map way_of kept.new.items ++ as_ways self.entry (ways_if self.entry.slots.now next)
+        ensures ways { IfOk result (λ next. kept_with self.entry kept.new.items next
             ≡ map way_of kept.old.items ++ as_ways self.entry (map (after_cuts begun.cuts.items)
             (ways_of_row row.now (row_fields look.entry.fields) begun.env))) }
         ensures open { IfOk result (λ next. IfSome next (IsOpen self.entry.slots.now)) }
@@ -213,7 +221,8 @@ fn open_others<'a>(
     ensures open { OnOk result ((slots : List (List ℕ × Value)) → IsOpen slots choice.entry
         → AreOpen slots choices.old.items → AreOpen slots choices.new.items) }
     ensures ways { OnOk result ((slots : List (List ℕ × Value))
-        → ways_left slots choices.new.items ≡ ways_after slots choice.entry to ++ ways_left slots choices.old.items) }
+        → ways_left slots choices.new.items
+        ≡ ways_after slots choice.entry to ++ ways_left slots choices.old.items) }
     ensures tries { OnOk result (tries_left choices.new.items
         ≤ tries_after choice.entry to + tries_left choices.old.items) }
 {
@@ -231,7 +240,8 @@ fn open_next<'a>(next: Option<Choice<'a>>, choices: &mut OpenChoices<'a>) -> Res
     ensures open { OnOk result ((slots : List (List ℕ × Value)) → IfSome next.entry (IsOpen slots)
         → AreOpen slots choices.old.items → AreOpen slots choices.new.items) }
     ensures ways { OnOk result ((slots : List (List ℕ × Value))
-        → ways_left slots choices.new.items ≡ ways_if slots next.entry ++ ways_left slots choices.old.items) }
+        → ways_left slots choices.new.items
+        ≡ ways_if slots next.entry ++ ways_left slots choices.old.items) }
     ensures tries { OnOk result (tries_left choices.new.items
         ≡ tries_if next.entry + tries_left choices.old.items) }
 {

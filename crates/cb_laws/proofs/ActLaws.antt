@@ -1,5 +1,5 @@
 -- What `assert` and `retract` do to the facts once their arguments have values.
-use Rattle.std.proofs.Common.{◌≡◌, ◌∙◌, ℕ, Bool, true, false, List, [], ◌∷◌, Option, Some, None, Result, Ok, Err, refl, sym, ap, subst, if◌then◌else◌}
+use Rattle.std.proofs.Common.{◌≡◌, ◌∙◌, ◌⊎◌, inl, inr, ℕ, Bool, true, false, List, [], ◌∷◌, Option, Some, None, Result, Ok, Err, refl, sym, ap, subst, if◌then◌else◌}
 use Rattle.std.specs.List.{list_all}
 use Rattle.cb_actions.specs.Actions.{carried, carried_values}
 use Rattle.cb_actions.specs.Acts.{after_writing, follow, give_or_fault, stop, ◌>>=◌}
@@ -8,6 +8,7 @@ use Rattle.cb_actions.specs.Laws.{with_answer}
 use Rattle.cb_actions.specs.Worlds.{World}
 use Rattle.cb_actions.specs.declared.act.Ended.{Ended}
 use Rattle.cb_actions.specs.declared.act.Ended.TheVariants as ended
+use Rattle.cb_actions.specs.declared.act.Limit.TheVariants.{Indices}
 use Rattle.cb_exprs.specs.Shapes.{Shape}
 use Rattle.cb_exprs.specs.Terms.{Terms, assert, retract}
 use Rattle.cb_facts.specs.FactLists.{fact_at}
@@ -56,6 +57,24 @@ address_there shape vs s fact answer sound made h =
 pub one_asserted : (shape : Shape) (vs : List Value) (s : World) (fact : FactValue) (answer : Option Value) → built s.templates shape.relation (parts_of shape.slots vs) ≡ Ok fact
     → (asserted shape vs s).answer ≡ Ok answer → AreAsserted s.memory (fact ∷ []) (asserted shape vs s).state.memory
 one_asserted shape vs s fact answer made h = let it = answered shape vs s fact answer made h in (it.ix, it.index_is, sym it.memory_is)
+
+by_address : (o : Memory × Option ℕ) (s : World) (ix : ℕ) → o.1 ≡ Some ix → (addressed o s).answer ≡ Ok (Some (value.Fact ix))
+by_address (m, Some i) s ix is =
+    let same : i ≡ ix = cc in
+    ap (λ n. Ok (Some (value.Fact n))) same
+by_address (m, None) s ix is = absurd (cc)
+
+by_limit : (o : Memory × Option ℕ) (s : World) → o.1 ≡ None → (addressed o s).answer ≡ Err (ended.Limit Indices)
+by_limit (m, Some i) s is = absurd (cc)
+by_limit (m, None) s is = refl
+
+pub address_answered : (shape : Shape) (vs : List Value) (s : World) (fact : FactValue) (ix : ℕ) → built s.templates shape.relation (parts_of shape.slots vs) ≡ Ok fact
+    → (asserted_one s.memory fact).1 ≡ Some ix → (asserted shape vs s).answer ≡ Ok (Some (value.Fact ix))
+address_answered shape vs s fact ix made is = ap (λ r. ((give_or_fault r >>= fact_added) s).answer) made ∙ by_address (asserted_one s.memory fact) s ix is
+
+pub limit_answered : (shape : Shape) (vs : List Value) (s : World) (fact : FactValue) → built s.templates shape.relation (parts_of shape.slots vs) ≡ Ok fact
+    → (asserted_one s.memory fact).1 ≡ None → (asserted shape vs s).answer ≡ Err (ended.Limit Indices)
+limit_answered shape vs s fact made is = ap (λ r. ((give_or_fault r >>= fact_added) s).answer) made ∙ by_limit (asserted_one s.memory fact) s is
 
 pub fault_stays : (shape : Shape) (vs : List Value) (s : World) (f : Fault) → built s.templates shape.relation (parts_of shape.slots vs) ≡ Err f → (asserted shape vs s).state ≡ s
 fault_stays shape vs s f h = ap (λ r. ((give_or_fault r >>= fact_added) s).state) h
@@ -107,6 +126,15 @@ module _ (vs : List Value) (s : World) where
   quiet_by true (m, true) = refl
   quiet_by true (m, false) = refl
   quiet_by false o = refl
+
+  ends_by : (t : Bool) (o : Memory × Bool) → t ≡ true
+      → ((if t then taken o s else stop (ended.Fault WrongType) s).answer ≡ Ok None) ⊎ ((if t then taken o s else stop (ended.Fault WrongType) s).answer ≡ Err (ended.Fault NoSuchFact))
+  ends_by true (m, true) is = inl refl
+  ends_by true (m, false) is = inr refl
+  ends_by false o is = absurd (cc)
+
+  pub retract_answers : list_all is_retractable vs ≡ true → ((retracted vs s).answer ≡ Ok None) ⊎ ((retracted vs s).answer ≡ Err (ended.Fault NoSuchFact))
+  retract_answers is = ends_by (list_all is_retractable vs) (retracted_all s.memory vs) is
 
   pub retracts_only : (retracted vs s).state ≡ record s { memory = (retracted vs s).state.memory }
   retracts_only = only_by (list_all is_retractable vs) (retracted_all s.memory vs)

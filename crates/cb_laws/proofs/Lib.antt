@@ -1,6 +1,7 @@
 mod EntryLaws
 mod Members
 mod MemoryBasics
+mod NameFirst
 mod AssertLaws
 mod RetractLaws
 mod SlotLaws

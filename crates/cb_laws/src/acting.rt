@@ -1,6 +1,6 @@
 //! What `assert` and `retract` do to the facts once their arguments have values.
 ghost use Rattle.std.specs.List.{list_all};
-ghost use Rattle.std.specs.Prelude.{◌≡◌, ◌∷◌, ℕ, List, [], Option, Some, None, Ok, Err, false};
+ghost use Rattle.std.specs.Prelude.{◌≡◌, ◌⊎◌, ◌∷◌, ℕ, List, [], Option, Some, None, Ok, Err, false, true};
 ghost use Rattle.cb_actions.specs.Actions.{carried, carried_values};
 ghost use Rattle.cb_actions.specs.Acts.{after_writing};
 ghost use Rattle.cb_actions.specs.Effects.{asserted, parts_of, retracted};
@@ -8,6 +8,7 @@ ghost use Rattle.cb_actions.specs.Laws.{with_answer};
 ghost use Rattle.cb_actions.specs.Worlds.{World};
 ghost use Rattle.cb_actions.specs.declared.act.Ended.{Ended};
 ghost use Rattle.cb_actions.specs.declared.act.Ended.TheVariants as ended;
+ghost use Rattle.cb_actions.specs.declared.act.Limit.TheVariants.{Indices};
 ghost use Rattle.cb_exprs.specs.Shapes.{Shape};
 ghost use Rattle.cb_exprs.specs.Terms.{Terms, assert, retract};
 ghost use Rattle.cb_facts.specs.FactLists.{fact_at};
@@ -19,11 +20,11 @@ ghost use Rattle.cb_forms.specs.declared.fault.Fault.TheVariants.{NoSuchFact, Wr
 ghost use Rattle.cb_laws.specs.Memories.{AreAsserted, IsSound};
 ghost use Rattle.cb_laws.specs.Naming.{LeavesUnnamed, LeavesUpToMissing};
 ghost use Rattle.cb_templates.specs.Building.{built};
-ghost use Rattle.cb_working_memory.specs.WorkingMemory.{is_retractable};
+ghost use Rattle.cb_working_memory.specs.WorkingMemory.{asserted_one, is_retractable};
 
-/// An `assert` that ends without a fault or a limit has asserted its one fact, and its answer is the address under which that
-/// fact is there. If its fact has a fault, that ends it, and nothing changes. However it ends, it writes nothing and changes
-/// the facts alone.
+/// An `assert` asserts its one fact, and its answer is the address under which that fact is there. Only where the fact has a
+/// fault or no index is left does it end without one: with the fault, and nothing changes, or at the limit of indices. However
+/// it ends, it writes nothing and changes the facts alone.
 pub fn an_assertion_answers_its_address()
     ensures asserted { (shape : Shape) (vs : List Value) (s : World) (fact : FactValue)
         (answer : Option Value)
@@ -37,6 +38,14 @@ pub fn an_assertion_answers_its_address()
         → built s.templates shape.relation (parts_of shape.slots vs) ≡ Ok fact
         → (asserted shape vs s).answer ≡ Ok answer
         → AreAsserted s.memory (fact ∷ []) (asserted shape vs s).state.memory }
+    ensures answered { (shape : Shape) (vs : List Value) (s : World) (fact : FactValue) (ix : ℕ)
+        → built s.templates shape.relation (parts_of shape.slots vs) ≡ Ok fact
+        → (asserted_one s.memory fact).1 ≡ Some ix
+        → (asserted shape vs s).answer ≡ Ok (Some (value.Fact ix)) }
+    ensures limit { (shape : Shape) (vs : List Value) (s : World) (fact : FactValue)
+        → built s.templates shape.relation (parts_of shape.slots vs) ≡ Ok fact
+        → (asserted_one s.memory fact).1 ≡ None
+        → (asserted shape vs s).answer ≡ Err (ended.Limit Indices) }
     ensures fault { (shape : Shape) (vs : List Value) (s : World) (fault : Fault)
         → built s.templates shape.relation (parts_of shape.slots vs) ≡ Err fault
         → (asserted shape vs s).state ≡ s }
@@ -51,7 +60,7 @@ pub fn an_assertion_answers_its_address()
 
 /// A `retract` without a fault leaves exactly the facts that no argument names. With the fault that there is no such fact
 /// (CB20) it leaves those that no argument before that one names. Where a value is of another type, it ends with CB17, and
-/// nothing is retracted. However it ends, it writes nothing and changes the facts alone.
+/// nothing is retracted; there is no other way to end. However it ends, it writes nothing and changes the facts alone.
 pub fn a_retraction_takes_what_is_named()
     ensures fine { (vs : List Value) (s : World) (answer : Option Value) → IsSound s.memory
         → (retracted vs s).answer ≡ Ok answer
@@ -64,6 +73,9 @@ pub fn a_retraction_takes_what_is_named()
         → (retracted vs s).state ≡ s }
     ensures first { (vs : List Value) (s : World) → list_all is_retractable vs ≡ false
         → (retracted vs s).answer ≡ Err (ended.Fault WrongType) }
+    ensures ends { (vs : List Value) (s : World) → list_all is_retractable vs ≡ true
+        → ((retracted vs s).answer ≡ Ok None)
+        ⊎ ((retracted vs s).answer ≡ Err (ended.Fault NoSuchFact)) }
     ensures only { (vs : List Value) (s : World) → (retracted vs s).state
         ≡ record s { memory = (retracted vs s).state.memory } }
     ensures quiet { (vs : List Value) (s : World) → (retracted vs s).written ≡ [] }

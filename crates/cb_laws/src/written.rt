@@ -7,15 +7,18 @@ ghost use Rattle.cb_facts.specs.Values.{spliced};
 ghost use Rattle.cb_facts.specs.declared.single.Single.{Single};
 ghost use Rattle.cb_facts.specs.declared.value.Value.{Value};
 ghost use Rattle.cb_facts.specs.declared.value.Value.TheVariants as value;
-ghost use Rattle.cb_forms.specs.Members.{call_of};
+ghost use Rattle.cb_forms.specs.Members.{call_of, head_and_rest};
 ghost use Rattle.cb_forms.specs.Trees.{Tree, Trees, no_trees, tree, trees_of};
 ghost use Rattle.cb_forms.specs.declared.fault.Fault.{Fault};
-ghost use Rattle.cb_laws.specs.Written.{AreConstants, AreShapes, IsDefaultList, IsSlotForm, IsTemplateForm, IsTypeList, attribute_name, is_of_named, names_written, variable_alone, written_slot_name};
+ghost use Rattle.cb_forms.specs.declared.fault.Fault.TheVariants.{MalformedForm, TemplateInUse};
+ghost use Rattle.cb_laws.specs.Written.{AreConstants, AreShapes, IsDefaultList, IsSlotForm, IsTemplateForm, IsTypeList, attribute_name, is_of_named, names_written, slot_word, variable_alone, written_slot_name};
 ghost use Rattle.cb_templates.specs.FaultLists.{first_of};
+ghost use Rattle.cb_templates.specs.Reserved.{is_reserved};
 ghost use Rattle.cb_templates.specs.SlotForms.{derived, is_variable};
 ghost use Rattle.cb_templates.specs.Slots.{Types, allows, names};
-ghost use Rattle.cb_templates.specs.TemplateFaults.{attribute_faults, attributes_faults, is_among, slot_form_faults, slots_form_faults, template_faults};
+ghost use Rattle.cb_templates.specs.TemplateFaults.{attribute_faults, attributes_faults, is_among, kept_faults, slot_form_faults, slots_form_faults, template_faults};
 ghost use Rattle.cb_templates.specs.TemplateShapes.{constant_in, default_in, default_said, slot_said, slots_said, types_in, types_said, value_for};
+ghost use Rattle.cb_templates.specs.Templates.{without_comment};
 
 /// What follows `deftemplate` is a template without a fault exactly where a name that is neither reserved nor in use comes
 /// first and then, after a comment or without one, slots without a fault.
@@ -144,4 +147,48 @@ pub fn what_stands_after_a_fault_does_not_matter()
     ensures attributes { (is_multi : Bool) (before after : List Tree) (fault : Fault)
         → first_of (attributes_faults is_multi [] (trees_of before)) ≡ Some fault
         → first_of (attributes_faults is_multi [] (trees_of (before ++ after))) ≡ Some fault }
+{}
+
+/// What is wrong with a template's name comes before what is wrong with its slots: that there is none or that it is reserved
+/// comes first, and then that it is in use.
+pub fn the_name_of_a_template_comes_first()
+    ensures missing { (in_use : List ℕ → Bool) (forms : Trees) → head_and_rest forms ≡ None
+        → first_of (template_faults in_use forms) ≡ Some MalformedForm }
+    ensures reserved { (in_use : List ℕ → Bool) (forms written : Trees) (name : List ℕ)
+        → head_and_rest forms ≡ Some (name, written) → is_reserved name ≡ true
+        → first_of (template_faults in_use forms) ≡ Some MalformedForm }
+    ensures in_use { (in_use : List ℕ → Bool) (forms written : Trees) (name : List ℕ)
+        → head_and_rest forms ≡ Some (name, written)
+        → is_reserved name ≡ false → in_use name ≡ true
+        → first_of (template_faults in_use forms) ≡ Some TemplateInUse }
+    ensures slots { (in_use : List ℕ → Bool) (forms written : Trees) (name : List ℕ)
+        → head_and_rest forms ≡ Some (name, written)
+        → is_reserved name ≡ false → in_use name ≡ false
+        → template_faults in_use forms ≡ slots_form_faults [] (without_comment written) }
+{}
+
+/// What is wrong with a slot's name comes before what is wrong with its attributes, and only after that comes a default that
+/// is not of the slot's types.
+pub fn the_name_of_a_slot_comes_first()
+    ensures missing { (before : List (List ℕ)) (is_multi : Bool) (t : Tree) (written : Trees)
+        → call_of t ≡ Some (slot_word is_multi, written) → head_and_rest written ≡ None
+        → first_of (slot_form_faults before (call_of t)) ≡ Some MalformedForm }
+    ensures taken { (before : List (List ℕ)) (is_multi : Bool) (t : Tree)
+        (written attributes : Trees) (name : List ℕ)
+        → call_of t ≡ Some (slot_word is_multi, written)
+        → head_and_rest written ≡ Some (name, attributes) → is_among before name ≡ true
+        → first_of (slot_form_faults before (call_of t)) ≡ Some MalformedForm }
+    ensures attributes { (before : List (List ℕ)) (is_multi : Bool) (t : Tree)
+        (written attributes : Trees) (name : List ℕ) (fault : Fault)
+        → call_of t ≡ Some (slot_word is_multi, written)
+        → head_and_rest written ≡ Some (name, attributes) → is_among before name ≡ false
+        → first_of (attributes_faults is_multi [] attributes) ≡ Some fault
+        → first_of (slot_form_faults before (call_of t)) ≡ Some fault }
+    ensures default { (before : List (List ℕ)) (is_multi : Bool) (t : Tree)
+        (written attributes : Trees) (name : List ℕ)
+        → call_of t ≡ Some (slot_word is_multi, written)
+        → head_and_rest written ≡ Some (name, attributes) → is_among before name ≡ false
+        → attributes_faults is_multi [] attributes ≡ []
+        → slot_form_faults before (call_of t)
+        ≡ kept_faults (types_in attributes) (default_in is_multi attributes) }
 {}

@@ -122,7 +122,8 @@ impl Mentions for Check {
 /// The variable that a check is, without `~`.
 fn plain_variable(check: &Check) -> Option<&Name>
     ensures { MatchOption result
-        (check_mentions (check_of check.now) ≡ map needed (test_variables (asked_test check.now.test)))
+        (check_mentions (check_of check.now)
+        ≡ map needed (test_variables (asked_test check.now.test)))
         (λ x. check_mentions (check_of check.now) ≡ place x.now ∷ []) }
 {
     if check.is_negated {

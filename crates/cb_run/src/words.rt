@@ -23,7 +23,7 @@ pub fn read_words<'a>(alloc: Global, words: &'a [&'a str]) -> Result<Limits, Err
     ensures max_turns { IfOk result
         (λ l. l.max_turns ≡ limit_of (codes "max-turns") 10000000 (map (λ w. w.now) words.entry.now)) }
 
-    // Words that the command takes are refused for want of memory alone.
+    // Words that the command takes are refused only where memory runs out.
     ensures refused { IfErr result (λ e. takes limits_app (map (λ w. w.now) words.entry.now) ≡ true
         → kind_of e ≡ ErrorKind.OutOfMemory) }
 

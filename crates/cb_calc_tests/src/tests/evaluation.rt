@@ -30,7 +30,7 @@ fn with_more(alloc: Global, env: &Env) -> Result<Env, NoMemory> {
 }
 
 /// Expressions, and their values.
-const VALUES: [(&str, &str); 19] = [
+const VALUES: [(&str, &str); 28] = [
     ("red", "red"),
     ("\"a b\"", "\"a b\""),
     ("?x", "7"),
@@ -54,6 +54,16 @@ const VALUES: [(&str, &str); 19] = [
     ),
     ("(and TRUE 1)", "TRUE"),
     ("(or FALSE FALSE FALSE)", "FALSE"),
+    ("(and 1 red 2)", "TRUE"),
+    ("(or FALSE FALSE ?x FALSE)", "TRUE"),
+    // From two arguments to five, in order.
+    ("(- 10 1)", "9"),
+    ("(- 10 1 2 3)", "4"),
+    ("(- 10 1 2 3 5)", "-1"),
+    ("(< 1 2 3 4)", "TRUE"),
+    ("(< 1 2 3 3)", "FALSE"),
+    ("(neq red blue green red)", "FALSE"),
+    ("(str-cat a b c d e)", "\"abcde\""),
 ];
 
 fn shown(alloc: Global, constants: &Constants, env: &Env, text: &str) -> Result<Vec<u8>, Refused> {
@@ -102,7 +112,7 @@ fn more_values_are_not_seen_below(rt: HostRuntime) -> Result<(), Refused> {
 }
 
 /// Expressions, and the numbers of their faults: the first counts, from left to right, and types come after all values.
-const FAULTS: [(&str, u8); 13] = [
+const FAULTS: [(&str, u8); 19] = [
     ("?y", 11),
     ("?gone", 11),
     ("?g", 11),
@@ -115,6 +125,12 @@ const FAULTS: [(&str, u8); 13] = [
     ("(and TRUE (div 1 0))", 19),
     ("(or FALSE FALSE (div 1 0) TRUE)", 19),
     ("(create$ 1 (+ red 1) (div 1 0))", 17),
+    ("(+ (div 1 0) ?y)", 19),
+    ("(+ ?y (div 1 0) (+ red 1))", 11),
+    ("(+ 1 2 (div 1 0))", 19),
+    ("(+ red 2 3 (div 1 0))", 19),
+    ("(+ 1 2 ?y (div 1 0))", 11),
+    ("(+ 1 2 3 4 (div 1 0) ?y)", 19),
     ("(print 1)", 14),
 ];
 

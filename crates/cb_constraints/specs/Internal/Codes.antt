@@ -4,16 +4,9 @@ use Rattle.std.proofs.Common.{inl, inr}
 use Rattle.std.specs.Coded.{Coded, code_by, coded_bool, coded_ℕ, coded_list, coded_option, coded×, coded⊎}
 use Rattle.cb_constraints.specs.Constraints.{Test, constant, variable, predicate, return_value, Check, Demand, nothing, each, either, Constraint}
 use Rattle.cb_constraints.specs.PatternValues.{Parts, fields, slots, PatternValue, SlotValue}
-use Rattle.cb_exprs.specs.Internal.Codes.{Piece, terms_code}
-use Rattle.cb_exprs.specs.Terms.{Term, actions, Terms, no_terms, term}
+use Rattle.cb_exprs.specs.Internal.Codes.{Piece, term_code}
+use Rattle.cb_exprs.specs.Terms.{Term}
 use Rattle.cb_facts.specs.declared.value.Value.{Value}
-
-abbrev first_of : Terms → Term
-first_of no_terms = actions no_terms
-first_of (term t ts) = t
-
-abbrev term_code : Coded Piece → Coded Term
-term_code piece = code_by Terms (terms_code piece) (λ t. term t no_terms) first_of (λ _. refl)
 
 abbrev TestCases : Type 0
 TestCases = Value ⊎ (List ℕ ⊎ (Term ⊎ Term))

@@ -49,36 +49,36 @@ abbrev mutual
   pieces_of_all (term t ts) rest = term_pieces t (pieces_of_all ts (one_more ∷ rest))
 
 -- the terms and the lists of terms that are put together so far, the last first
-pub record Built : Type 0 where
+pub record Assembled : Type 0 where
   pub ones : List Term
   pub lists : List Terms
 
-abbrev with_one : Term → List Term → List Terms → Built
-with_one t ones lists = record { ones = t ∷ ones; lists = lists }
+abbrev with_term : Term → List Term → List Terms → Assembled
+with_term t ones lists = record { ones = t ∷ ones; lists = lists }
 
 -- a piece takes its parts, which are the last that were put together
-abbrev built : Piece → List Term → List Terms → Built
-built (a_constant v) ones lists = with_one (constant v) ones lists
-built (a_variable x) ones lists = with_one (variable x) ones lists
-built (a_global x) ones lists = with_one (global x) ones lists
-built (a_call f) ones (ts ∷ lists) = with_one (call f ts) ones lists
-built (an_assert shape) ones (ts ∷ lists) = with_one (assert shape ts) ones lists
-built a_retract ones (ts ∷ lists) = with_one (retract ts) ones lists
-built (a_bind x) (t ∷ ones) lists = with_one (bind x t) ones lists
-built (a_bind_global x) (t ∷ ones) lists = with_one (bind_global x t) ones lists
-built a_choose (w ∷ u ∷ t ∷ ones) lists = with_one (choose t u w) ones lists
-built a_repeat (u ∷ t ∷ ones) lists = with_one (repeat t u) ones lists
-built an_actions ones (ts ∷ lists) = with_one (actions ts) ones lists
-built (a_printout on) ones (ts ∷ lists) = with_one (printout on ts) ones lists
-built a_print ones (ts ∷ lists) = with_one (print ts) ones lists
-built a_println ones (ts ∷ lists) = with_one (println ts) ones lists
-built no_more ones lists = record { ones = ones; lists = no_terms ∷ lists }
-built one_more (t ∷ ones) (ts ∷ lists) = record { ones = ones; lists = term t ts ∷ lists }
-built p ones lists = record { ones = ones; lists = lists }
+abbrev with_piece : Piece → List Term → List Terms → Assembled
+with_piece (a_constant v) ones lists = with_term (constant v) ones lists
+with_piece (a_variable x) ones lists = with_term (variable x) ones lists
+with_piece (a_global x) ones lists = with_term (global x) ones lists
+with_piece (a_call f) ones (ts ∷ lists) = with_term (call f ts) ones lists
+with_piece (an_assert shape) ones (ts ∷ lists) = with_term (assert shape ts) ones lists
+with_piece a_retract ones (ts ∷ lists) = with_term (retract ts) ones lists
+with_piece (a_bind x) (t ∷ ones) lists = with_term (bind x t) ones lists
+with_piece (a_bind_global x) (t ∷ ones) lists = with_term (bind_global x t) ones lists
+with_piece a_choose (w ∷ u ∷ t ∷ ones) lists = with_term (choose t u w) ones lists
+with_piece a_repeat (u ∷ t ∷ ones) lists = with_term (repeat t u) ones lists
+with_piece an_actions ones (ts ∷ lists) = with_term (actions ts) ones lists
+with_piece (a_printout on) ones (ts ∷ lists) = with_term (printout on ts) ones lists
+with_piece a_print ones (ts ∷ lists) = with_term (print ts) ones lists
+with_piece a_println ones (ts ∷ lists) = with_term (println ts) ones lists
+with_piece no_more ones lists = record { ones = ones; lists = no_terms ∷ lists }
+with_piece one_more (t ∷ ones) (ts ∷ lists) = record { ones = ones; lists = term t ts ∷ lists }
+with_piece p ones lists = record { ones = ones; lists = lists }
 
-abbrev put_together : List Piece → List Term → List Terms → Built
+abbrev put_together : List Piece → List Term → List Terms → Assembled
 put_together [] ones lists = record { ones = ones; lists = lists }
-put_together (p ∷ ps) ones lists = put_together ps (built p ones lists).ones (built p ones lists).lists
+put_together (p ∷ ps) ones lists = put_together ps (with_piece p ones lists).ones (with_piece p ones lists).lists
 
 mutual
   one_is : (t : Term) (rest : List Piece) (ones : List Term) (lists : List Terms) → put_together (term_pieces t rest) ones lists ≡ put_together rest (t ∷ ones) lists
@@ -103,15 +103,22 @@ mutual
   all_are no_terms rest ones lists = refl
   all_are (term t ts) rest ones lists = one_is t (pieces_of_all ts (one_more ∷ rest)) ones lists ∙ all_are ts (one_more ∷ rest) (t ∷ ones) lists
 
-abbrev first_of : List Terms → Terms
-first_of [] = no_terms
-first_of (ts ∷ lists) = ts
+abbrev last_list : List Terms → Terms
+last_list [] = no_terms
+last_list (ts ∷ lists) = ts
 
 abbrev from_pieces : List Piece → Terms
-from_pieces ps = first_of (put_together ps [] []).lists
+from_pieces ps = last_list (put_together ps [] []).lists
 
 pub from_pieces-pieces : (ts : Terms) → from_pieces (pieces_of_all ts []) ≡ ts
-from_pieces-pieces ts = ap (λ b. first_of b.lists) (all_are ts [] [] [])
+from_pieces-pieces ts = ap (λ b. last_list b.lists) (all_are ts [] [] [])
 
 abbrev pub terms_code : Coded Piece → Coded Terms
 terms_code code = code_by (List Piece) (coded_list code) (λ ts. pieces_of_all ts []) from_pieces from_pieces-pieces
+
+abbrev term_first : Terms → Term
+term_first no_terms = actions no_terms
+term_first (term t ts) = t
+
+abbrev pub term_code : Coded Piece → Coded Term
+term_code piece = code_by Terms (terms_code piece) (λ t. term t no_terms) term_first (λ _. refl)

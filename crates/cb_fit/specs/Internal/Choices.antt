@@ -7,10 +7,12 @@ use Rattle.cb_constraints.specs.Rows.{before_segments, fields_wanted, segments_w
 use Rattle.cb_facts.specs.declared.value.Value.{Value}
 use Rattle.cb_fit.specs.Internal.{Begun, begun_of, endings, may_take_slots, with_group}
 use Rattle.cb_fit.specs.Internal.FieldLists.{row_fields}
+use Rattle.cb_fit.specs.WayValues.{way_of}
 use Rattle.cb_fit.specs.Ways.{Taken, WayValue, each_followed_by, numbers, way_with, ways_of_slots}
 use Rattle.cb_fit.specs.declared.choice.Choice as program
 use Rattle.cb_fit.specs.declared.rest.Rest as program_rest
 use Rattle.cb_fit.specs.declared.search.Search as program_search
+use Rattle.cb_fit.specs.declared.way.Way as program_way
 
 -- what is left of a row begins with a constraint for a segment, and wants so many fields
 abbrev pub IsRest : program_rest.Rest → Type 0
@@ -41,6 +43,10 @@ choice_ways slots c = followed_by_rows (map asked_slot c.rows.now) slots (choice
 abbrev pub ways_if : List (List ℕ × Value) → Option program.Choice → List Taken
 ways_if slots None = []
 ways_if slots (Some c) = choice_ways slots c
+
+-- the ways that are kept, and those that a choice becomes, if there is one
+abbrev pub kept_with : program_search.Search → List program_way.Way → Option program.Choice → List WayValue
+kept_with s kept next = map way_of kept ++ as_ways s (ways_if s.slots.now next)
 
 -- all that becomes of a choice where its segment ends after a place
 abbrev pub ways_after : List (List ℕ × Value) → program.Choice → ℕ → List Taken

@@ -1,7 +1,7 @@
 //! The scripts of `docs/CLIPS.md`, of `README.md` and of the man page, made by `docs/examples.py`.
 use super::rows::{Example, WITH_A_FAULT, WITHOUT_FAULT};
 
-pub(super) const CLIPS: [Example; 23] = [
+pub(super) const CLIPS: [Example; 25] = [
     Example {
         name: "Input and output: 1",
         script: b"(+ 1 2)
@@ -230,6 +230,21 @@ For a total of 1 fact.
         outcome: WITH_A_FAULT,
     },
     Example {
+        name: "Facts and templates: 5",
+        script: b"(bind ?f (assert (color red)))
+(retract 1)
+(reset)
+(assert (color blue))
+(facts)
+",
+        written: b"<Fact-1>
+<Fact-1>
+f-1     (color blue)
+For a total of 1 fact.
+",
+        outcome: WITHOUT_FAULT,
+    },
+    Example {
         name: "Globals, variables and reset: 1",
         script: b"(defglobal ?*a* = 1 ?*b* = (div 1 0) ?*c* = 3)
 ?*a*
@@ -269,6 +284,22 @@ For a total of 1 fact.
         written: b"1
 [CB07] wrong arguments
 1
+",
+        outcome: WITH_A_FAULT,
+    },
+    Example {
+        name: "Functions: 1",
+        script: b"(length$ abc)
+(min 4)
+(and TRUE)
+(or FALSE FALSE)
+(member$ (create$ b c) (create$ a b c))
+",
+        written: b"[CB17] wrong type
+4
+TRUE
+FALSE
+[CB17] wrong type
 ",
         outcome: WITH_A_FAULT,
     },

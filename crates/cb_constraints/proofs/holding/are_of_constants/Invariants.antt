@@ -1,6 +1,6 @@
 use Rattle.std.proofs.Common.{◌≡◌, drop, map}
 use Rattle.cb_constraints.specs.Constraints.{check_of}
-use Rattle.cb_constraints.specs.Internal.Constants.{are_of_constants}
+use Rattle.cb_constraints.specs.Internal.{are_of_constants}
 use Rattle.cb_constraints.proofs.holding.are_of_constants.Given as goal
 
 abbrev pub invariant-loop-alternative : goal.invariant-loop-alternative

@@ -1,6 +1,6 @@
 use Rattle.std.proofs.Common.{◌≡◌, drop, map}
 use Rattle.cb_constraints.specs.Constraints.{check_of}
-use Rattle.cb_constraints.specs.Internal.Constants.{is_of_constants}
+use Rattle.cb_constraints.specs.Internal.{is_of_constants}
 use Rattle.cb_constraints.proofs.holding.is_of_constants.Given as goal
 
 abbrev pub invariant-loop-check : goal.invariant-loop-check

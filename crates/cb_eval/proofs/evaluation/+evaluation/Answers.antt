@@ -1,18 +1,23 @@
-use Rattle.std.proofs.Common.{◌∙◌, ap, subst, sym}
-use Rattle.cb_eval.proofs.Pairs.{one_item, two_items, two_values, value_alone}
+use Rattle.std.proofs.Common.{◌≡◌, ◌∙◌, ◌+◌, ap, drop, false, option_to_list, subst, sym}
+use Rattle.cb_eval.proofs.Connectives.{of_all, passes}
+use Rattle.cb_eval.proofs.Left.{next_term}
+use Rattle.cb_eval.specs.Evaluation.{values_of}
+use Rattle.cb_exprs.specs.Terms.{term, term_of, terms_of}
 use Rattle.cb_facts.specs.Results.{Returns, and_then}
 use Rattle.cb_functions.specs.Applied.{applied}
+use Rattle.cb_functions.specs.Logic.{decides}
 use Rattle.cb_eval.proofs.evaluation.+evaluation.Goals as goal
 
-pub call-returns-in-len1 : goal.call-returns-in-len1
-call-returns-in-len1 t c =
-    let are = one_item c.args.args.now c.only-item.result c.in-len1.len_at_least c.in-len1.len_below c.only-item.is in
-    let values = value_alone c.args.function c.args.args.now c.only-item.result c.in_ok-value.value c.args.env.now are c.in_ok-value.ensures in
-    subst (Returns c.apply.result) (sym (ap (λ r. and_then r (applied c.args.function)) values)) c.apply.ensures
+pub call-returns : goal.call-returns
+call-returns t c =
+    subst (Returns c.call_with_all.result) (sym (ap (λ r. and_then r (applied c.args.function)) (of_all c.args.function (terms_of c.args.args.now) c.args.env.now (sym c.may_be_decided.ensures ∙ c.if-may_be_decided.false)))) c.call_with_all.ensures
 
-pub call-returns-in-len2 : goal.call-returns-in-len2
-call-returns-in-len2 t c =
-    let are = two_items c.args.args.now c.first-item.result c.second-item.result c.in-len2.len_at_least c.in-len2.len_below c.first-item.is c.second-item.is in
-    let values = two_values c.args.function c.args.args.now c.first-item.result c.second-item.result c.in_ok-first.first c.in_ok-second.second c.args.env.now are
-    c.in_ok-first.ensures (sym c.decides.ensures ∙ c.if-decides.false) c.in_ok-second.ensures in
-    subst (Returns c.apply-in-len2.result) (sym (ap (λ r. and_then r (applied c.args.function)) values)) c.apply-in-len2.ensures
+pub call_until_decided-loop-arg-preserved : goal.call_until_decided-loop-arg-preserved
+call_until_decided-loop-arg-preserved t c =
+    let no : decides c.args.function c.in_ok-value.value ≡ false = sym c.decides.ensures ∙ c.if-decides.false in
+    let split : terms_of (drop c.loop-arg.arg-index c.args.args.now) ≡ term (term_of c.arg-item.result) (terms_of (drop (c.loop-arg.arg-index + 1) c.args.args.now)) =
+    next_term c.args.args.now c.loop-arg.arg-index c.arg-item.result c.arg-item.is c.loop-arg-test.true in (
+      no,
+      sym (passes c.args.function c.loop-arg.last c.requires c.loop-arg.invariant.0 (term_of c.arg-item.result) (terms_of (drop (c.loop-arg.arg-index + 1) c.args.args.now)) c.args.env.now c.in_ok-value.value c.in_ok-value.ensures no)
+          ∙ (ap (λ ts. and_then (values_of c.args.function (option_to_list c.loop-arg.last) ts c.args.env.now) (applied c.args.function)) (sym split) ∙ c.loop-arg.invariant.1),
+    )

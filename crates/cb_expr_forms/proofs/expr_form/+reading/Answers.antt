@@ -1,10 +1,10 @@
 use Rattle.std.proofs.Common.{◌≡◌, ◌<◌, ◌+◌, ◌*◌, ◌∙◌, ◌++◌, [], ℕ, List, Result, Err, Vec, Global, arith, ap, get_or, map, rules, subst, sym}
 use Rattle.std.specs.Option.{option_and_then}
 use Rattle.cb_expr_forms.specs.Actions.{as_one_value}
-use Rattle.cb_expr_forms.specs.ExprFaults.{all_faults, slots_faults, token_faults, value_faults, values_faults}
+use Rattle.cb_expr_forms.specs.ExprFaults.{all_faults, slots_faults, token_faults, values_faults}
 use Rattle.cb_expr_forms.specs.ExprForms.{exprs_of, expr_of, slot_exprs, slot_names}
 use Rattle.cb_templates.specs.FaultLists.{ReadsAs, first_of}
-use Rattle.cb_expr_forms.specs.Internal.{IsSlotFault, filling_expr, filling_faults, if_expr, if_faults, plan_expr, plan_faults}
+use Rattle.cb_expr_forms.specs.Internal.{IsSlotFault, filling_expr, filling_faults, if_expr, if_faults, plan_expr, plan_faults, value_faults}
 use Rattle.cb_expr_forms.specs.Internal.Sizes.{tree_size}
 use Rattle.cb_expr_forms.specs.declared.action_form.ActionForm.{ActionForm}
 use Rattle.cb_expr_forms.proofs.Faulty.{fails, fails_told, item_fits, next_slot}

@@ -1,4 +1,4 @@
-use Rattle.cb_laws.proofs.ActLaws.{fine_left, missing_left, retracts_only, retracts_quietly, wrong_first, wrong_stays}
+use Rattle.cb_laws.proofs.ActLaws.{fine_left, missing_left, retract_answers, retracts_only, retracts_quietly, wrong_first, wrong_stays}
 use Rattle.cb_laws.proofs.acting.a_retraction_takes_what_is_named.Goals as goal
 
 pub returns-clause-fine : goal.returns-clause-fine
@@ -12,6 +12,9 @@ returns-clause-wrong_type c = wrong_stays
 
 pub returns-clause-first : goal.returns-clause-first
 returns-clause-first c = wrong_first
+
+pub returns-clause-ends : goal.returns-clause-ends
+returns-clause-ends c = retract_answers
 
 pub returns-clause-only : goal.returns-clause-only
 returns-clause-only c = retracts_only

@@ -4,7 +4,8 @@ use Rattle.cb_constraints.specs.Constraints.{constraint_of}
 use Rattle.cb_constraints.specs.PartValues.{asked_slot}
 use Rattle.cb_constraints.specs.Rows.{before_segments, fields_wanted, segments_wanted}
 use Rattle.cb_fit.proofs.Groups.{choice-done, group_skipped}
-use Rattle.cb_fit.proofs.Splits.{group-segments, group-wants, is-segment, ones-want}
+use Rattle.cb_fit.proofs.Parted.{parted}
+use Rattle.cb_fit.proofs.Splits.{group-segments, is-segment}
 use Rattle.cb_fit.proofs.Tries.{enough_tries, few_ends, suc-first}
 use Rattle.cb_fit.specs.Internal.{begun_of, endings}
 use Rattle.cb_fit.specs.Internal.Choices.{segments_in}
@@ -14,57 +15,41 @@ use Rattle.cb_fit.proofs.choice.Choice.new.Goals as goal
 pub returns-then-len-begun-clause-ways : goal.returns-then-len-begun-clause-ways
 returns-then-len-begun-clause-ways c =
     let split : c.args.rest.constraints.now ≡ c.in_ok-constraint.constraint.now ∷ c.in_ok-constraint.following.now = search rules in
-    let row-is : map constraint_of c.args.rest.constraints.now ≡ constraint_of c.in_ok-constraint.constraint.now ∷ (map constraint_of c.split_ones.result.0.now ++ map constraint_of c.split_ones.result.1.now) =
-    ap (map constraint_of) split ∙ ap (λ cs. constraint_of c.in_ok-constraint.constraint.now ∷ cs) (ap (map constraint_of) (sym c.split_ones.ensures.all) ∙ map-append constraint_of c.split_ones.result.0.now c.split_ones.result.1.now) in
-    let wants : c.args.rest.wanted ≡ length c.split_ones.result.0.now + fields_wanted (map constraint_of c.split_ones.result.1.now) =
-    group-wants c.in_ok-constraint.constraint.now c.in_ok-constraint.following.now c.split_ones.result.0.now c.split_ones.result.1.now c.args.rest.wanted (sym c.split_ones.ensures.all)
-    (ap (λ cs. before_segments (map constraint_of cs)) (sym split) ∙ c.requires.rest.0) (c.requires.rest.1 ∙ ap (λ cs. fields_wanted (map constraint_of cs)) split) c.split_ones.ensures.ones in
-    let wants-both : c.args.rest.wanted ≡ fields_wanted (map constraint_of c.split_ones.result.0.now ++ map constraint_of c.split_ones.result.1.now) =
-    wants ∙ sym (ones-want (map constraint_of c.split_ones.result.0.now) (map constraint_of c.split_ones.result.1.now) c.split_ones.ensures.ones ∙ ap (λ n. n + fields_wanted (map constraint_of c.split_ones.result.1.now)) (length-map c.split_ones.result.0.now constraint_of)) in
+    let p = parted c.args.rest c.in_ok-constraint.constraint.now c.in_ok-constraint.following.now c.split_ones.result.0.now c.split_ones.result.1.now c.requires.rest split c.split_ones.ensures.all c.split_ones.ensures.ones in
     let few : length (row_fields c.args.look.fields) - c.args.begun.at < c.args.rest.wanted = search rules in
-    ap (λ cs. endings cs (begun_of (row_fields c.args.look.fields) c.args.begun)) row-is
-    ∙ group_skipped (constraint_of c.in_ok-constraint.constraint.now) (map constraint_of c.split_ones.result.0.now ++ map constraint_of c.split_ones.result.1.now) (row_fields c.args.look.fields) (begun_of (row_fields c.args.look.fields) c.args.begun) c.args.begun.at c.args.rest.wanted wants-both few refl
+    ap (λ cs. endings cs (begun_of (row_fields c.args.look.fields) c.args.begun)) p.row
+    ∙ group_skipped (constraint_of c.in_ok-constraint.constraint.now) (map constraint_of c.split_ones.result.0.now ++ map constraint_of c.split_ones.result.1.now) (row_fields c.args.look.fields) (begun_of (row_fields c.args.look.fields) c.args.begun) c.args.begun.at c.args.rest.wanted p.wants_both few refl
 
 pub overflow_sub-result : goal.overflow_sub-result
 overflow_sub-result c =
     let split : c.args.rest.constraints.now ≡ c.in_ok-constraint.constraint.now ∷ c.in_ok-constraint.following.now = search rules in
-    let wants : c.args.rest.wanted ≡ length c.split_ones.result.0.now + fields_wanted (map constraint_of c.split_ones.result.1.now) =
-    group-wants c.in_ok-constraint.constraint.now c.in_ok-constraint.following.now c.split_ones.result.0.now c.split_ones.result.1.now c.args.rest.wanted (sym c.split_ones.ensures.all)
-    (ap (λ cs. before_segments (map constraint_of cs)) (sym split) ∙ c.requires.rest.0) (c.requires.rest.1 ∙ ap (λ cs. fields_wanted (map constraint_of cs)) split) c.split_ones.ensures.ones in
-    omega (arith, wants)
+    let p = parted c.args.rest c.in_ok-constraint.constraint.now c.in_ok-constraint.following.now c.split_ones.result.0.now c.split_ones.result.1.now c.requires.rest split c.split_ones.ensures.all c.split_ones.ensures.ones in
+    omega (arith, p.wants)
 
 pub returns-clause-ways : goal.returns-clause-ways
 returns-clause-ways c =
     let split : c.args.rest.constraints.now ≡ c.in_ok-constraint.constraint.now ∷ c.in_ok-constraint.following.now = search rules in
-    let row-is : map constraint_of c.args.rest.constraints.now ≡ constraint_of c.in_ok-constraint.constraint.now ∷ (map constraint_of c.split_ones.result.0.now ++ map constraint_of c.split_ones.result.1.now) =
-    ap (map constraint_of) split ∙ ap (λ cs. constraint_of c.in_ok-constraint.constraint.now ∷ cs) (ap (map constraint_of) (sym c.split_ones.ensures.all) ∙ map-append constraint_of c.split_ones.result.0.now c.split_ones.result.1.now) in
-    let wants : c.args.rest.wanted ≡ length c.split_ones.result.0.now + fields_wanted (map constraint_of c.split_ones.result.1.now) =
-    group-wants c.in_ok-constraint.constraint.now c.in_ok-constraint.following.now c.split_ones.result.0.now c.split_ones.result.1.now c.args.rest.wanted (sym c.split_ones.ensures.all)
-    (ap (λ cs. before_segments (map constraint_of cs)) (sym split) ∙ c.requires.rest.0) (c.requires.rest.1 ∙ ap (λ cs. fields_wanted (map constraint_of cs)) split) c.split_ones.ensures.ones in
-    let wants-both : c.args.rest.wanted ≡ fields_wanted (map constraint_of c.split_ones.result.0.now ++ map constraint_of c.split_ones.result.1.now) =
-    wants ∙ sym (ones-want (map constraint_of c.split_ones.result.0.now) (map constraint_of c.split_ones.result.1.now) c.split_ones.ensures.ones ∙ ap (λ n. n + fields_wanted (map constraint_of c.split_ones.result.1.now)) (length-map c.split_ones.result.0.now constraint_of)) in
+    let p = parted c.args.rest c.in_ok-constraint.constraint.now c.in_ok-constraint.following.now c.split_ones.result.0.now c.split_ones.result.1.now c.requires.rest split c.split_ones.ensures.all c.split_ones.ensures.ones in
     let enough : c.args.rest.wanted ≤ length (row_fields c.args.look.fields) = search rules in
     choice-done (constraint_of c.in_ok-constraint.constraint.now) (map constraint_of c.split_ones.result.0.now) (map constraint_of c.split_ones.result.1.now) (row_fields c.args.look.fields) (begun_of (row_fields c.args.look.fields) c.args.begun) c.args.begun.at c.first_end-to.result (c.len-len.result - c.args.rest.wanted) c.args.rest.wanted
-    c.split_ones.ensures.ones wants-both enough (ap (λ n. n - c.args.rest.wanted) c.len-len.ensures) c.first_end-to.ensures.begun c.first_end-to.ensures.order
+    c.split_ones.ensures.ones p.wants_both enough (ap (λ n. n - c.args.rest.wanted) c.len-len.ensures) c.first_end-to.ensures.begun c.first_end-to.ensures.order
     (λ h. ap (map constraint_of) (c.first_end-to.ensures.alone h)) refl
-    ∙ sym (ap (λ cs. endings cs (begun_of (row_fields c.args.look.fields) c.args.begun)) row-is)
+    ∙ sym (ap (λ cs. endings cs (begun_of (row_fields c.args.look.fields) c.args.begun)) p.row)
 
 pub returns-clause-open : goal.returns-clause-open
 returns-clause-open c =
     let split : c.args.rest.constraints.now ≡ c.in_ok-constraint.constraint.now ∷ c.in_ok-constraint.following.now = search rules in
-    let wants : c.args.rest.wanted ≡ length c.split_ones.result.0.now + fields_wanted (map constraint_of c.split_ones.result.1.now) =
-    group-wants c.in_ok-constraint.constraint.now c.in_ok-constraint.following.now c.split_ones.result.0.now c.split_ones.result.1.now c.args.rest.wanted (sym c.split_ones.ensures.all)
-    (ap (λ cs. before_segments (map constraint_of cs)) (sym split) ∙ c.requires.rest.0) (c.requires.rest.1 ∙ ap (λ cs. fields_wanted (map constraint_of cs)) split) c.split_ones.ensures.ones in
+    let p = parted c.args.rest c.in_ok-constraint.constraint.now c.in_ok-constraint.following.now c.split_ones.result.0.now c.split_ones.result.1.now c.requires.rest split c.split_ones.ensures.all c.split_ones.ensures.ones in
     record {
       segment = is-segment c.in_ok-constraint.constraint.now.takes_segment (before_segments (map constraint_of c.in_ok-constraint.following.now)) (ap (λ cs. before_segments (map constraint_of cs)) (sym split) ∙ c.requires.rest.0);
       ones = c.split_ones.ensures.ones;
-      rest = (c.split_ones.ensures.segment, omega (arith, wants));
+      rest = (c.split_ones.ensures.segment, omega (arith, p.wants));
       begun = c.first_end-to.ensures.begun;
       order = c.first_end-to.ensures.order;
       within = omega (arith, c.len-len.ensures);
       alone = λ e. c.first_end-to.ensures.ended e;
       ended = λ e.
-          let all : c.args.rest.wanted ≡ length c.split_ones.result.0.now + 0 = wants ∙ ap (λ cs. length c.split_ones.result.0.now + fields_wanted (map constraint_of cs)) e in
+          let all : c.args.rest.wanted ≡ length c.split_ones.result.0.now + 0 = p.wants ∙ ap (λ cs. length c.split_ones.result.0.now + fields_wanted (map constraint_of cs)) e in
           omega (arith, all, c.len-len.ensures);
     }
 

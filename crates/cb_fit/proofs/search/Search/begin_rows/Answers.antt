@@ -3,7 +3,7 @@ use Rattle.cb_constraints.specs.Constraints.{Constraint, constraint_of}
 use Rattle.cb_constraints.specs.PartValues.{asked_slot}
 use Rattle.cb_constraints.specs.PatternValues.{SlotValue}
 use Rattle.cb_constraints.specs.Rows.{segments_wanted}
-use Rattle.cb_fit.proofs.Choices.{all-ended, as_many_tries, first-row, of_choice}
+use Rattle.cb_fit.proofs.Choices.{all-ended, as_many_tries, begun_row, of_choice}
 use Rattle.cb_fit.proofs.Looked.{other_slots_may}
 use Rattle.cb_fit.proofs.Splits.{none-left}
 use Rattle.cb_fit.specs.Internal.{begun_of, endings, may_take_slots, taken_of}
@@ -18,10 +18,8 @@ returns-then-not-is_empty-clause-ways c =
     let split : c.loop-row.left.now ≡ c.in-Some.row.now ∷ c.in-Some.others.now = search rules in
     let value : slot_at c.in-Some.row.now.place c.args.self.slots.now ≡ Some c.in-Some-slot_value.value.now = search rules in
     let ways : map (after_cuts c.loop-row.begun.cuts.items) (ways_of_row c.in-Some.row.now.row (row_fields c.look-look.result.fields) c.loop-row.begun.env) ≡ endings (map constraint_of c.in-Some-2.rest.constraints.now) (begun_of (row_fields c.look-look.result.fields) c.begin_row.new.begun) = search rules in
-    let row : followed_by_rows (map asked_slot c.loop-row.left.now) c.args.self.slots.now (taken_of c.loop-row.begun ∷ []) ≡ followed_by_rows (map asked_slot c.in-Some.others.now) c.args.self.slots.now (endings (map constraint_of c.in-Some-2.rest.constraints.now) (begun_of (row_fields c.look-look.result.fields) c.begin_row.new.begun)) =
-    ap (λ rows. followed_by_rows (map asked_slot rows) c.args.self.slots.now (taken_of c.loop-row.begun ∷ [])) split
-    ∙ first-row (asked_slot c.in-Some.row.now) (map asked_slot c.in-Some.others.now) c.args.self.slots.now c.in-Some-slot_value.value.now (taken_of c.loop-row.begun) (endings (map constraint_of c.in-Some-2.rest.constraints.now) (begun_of (row_fields c.look-look.result.fields) c.begin_row.new.begun)) value
-    (ap (λ fs. map (after_cuts c.loop-row.begun.cuts.items) (ways_of_row c.in-Some.row.now.row fs c.loop-row.begun.env)) (sym (ap row_fields c.look-look.ensures)) ∙ ways) in
+    let row = begun_row c.loop-row.left.now c.in-Some.others.now c.in-Some.row.now c.args.self.slots.now c.in-Some-slot_value.value.now (row_fields c.look-look.result.fields) c.loop-row.begun
+    (endings (map constraint_of c.in-Some-2.rest.constraints.now) (begun_of (row_fields c.look-look.result.fields) c.begin_row.new.begun)) split value (ap row_fields c.look-look.ensures) ways in
     ap (λ xs. map way_of c.args.kept.now.items ++ as_ways c.args.self xs)
     (of_choice c.new.result c.in-Some.others.now c.args.self.slots.now (endings (map constraint_of c.in-Some-2.rest.constraints.now) (begun_of (row_fields c.look-look.result.fields) c.begin_row.new.begun)) c.new.ensures.ways c.new.ensures.rows ∙ (sym row ∙ c.loop-row.invariant.1))
 
@@ -38,10 +36,8 @@ loop-row-preserved c =
     let split : c.loop-row.left.now ≡ c.in-Some.row.now ∷ c.in-Some.others.now = search rules in
     let value : slot_at c.in-Some.row.now.place c.args.self.slots.now ≡ Some c.in-Some-slot_value.value.now = search rules in
     let ways : map (after_cuts c.loop-row.begun.cuts.items) (ways_of_row c.in-Some.row.now.row (row_fields c.look-look.result.fields) c.loop-row.begun.env) ≡ endings (map constraint_of c.in-Some-2.rest.constraints.now) (begun_of (row_fields c.look-look.result.fields) c.begin_row.new.begun) = search rules in
-    let row : followed_by_rows (map asked_slot c.loop-row.left.now) c.args.self.slots.now (taken_of c.loop-row.begun ∷ []) ≡ followed_by_rows (map asked_slot c.in-Some.others.now) c.args.self.slots.now (endings (map constraint_of c.in-Some-2.rest.constraints.now) (begun_of (row_fields c.look-look.result.fields) c.begin_row.new.begun)) =
-    ap (λ rows. followed_by_rows (map asked_slot rows) c.args.self.slots.now (taken_of c.loop-row.begun ∷ [])) split
-    ∙ first-row (asked_slot c.in-Some.row.now) (map asked_slot c.in-Some.others.now) c.args.self.slots.now c.in-Some-slot_value.value.now (taken_of c.loop-row.begun) (endings (map constraint_of c.in-Some-2.rest.constraints.now) (begun_of (row_fields c.look-look.result.fields) c.begin_row.new.begun)) value
-    (ap (λ fs. map (after_cuts c.loop-row.begun.cuts.items) (ways_of_row c.in-Some.row.now.row fs c.loop-row.begun.env)) (sym (ap row_fields c.look-look.ensures)) ∙ ways) in
+    let row = begun_row c.loop-row.left.now c.in-Some.others.now c.in-Some.row.now c.args.self.slots.now c.in-Some-slot_value.value.now (row_fields c.look-look.result.fields) c.loop-row.begun
+    (endings (map constraint_of c.in-Some-2.rest.constraints.now) (begun_of (row_fields c.look-look.result.fields) c.begin_row.new.begun)) split value (ap row_fields c.look-look.ensures) ways in
     let none : c.in-Some-2.rest.constraints.now ≡ [] = none-left c.in-Some-2.rest.constraints.now c.is_empty.result c.is_empty.ensures c.if-not-is_empty.false in
     let ended : c.begin_row.new.begun.at ≡ length (row_fields c.look-look.result.fields) = search rules in
     let segments : segments_wanted (map constraint_of c.in-Some-2.rest.constraints.now) ≡ segments_wanted c.in-Some.row.now.row = search rules in
