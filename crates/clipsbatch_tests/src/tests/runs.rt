@@ -1,25 +1,19 @@
-//! Whole runs over memory: however the script comes, and with each read and each write failing in turn.
-ghost use Rattle.std.specs.Prelude.{◌<◌, ◌≤◌};
-ghost use Rattle.cb_io.specs.Output.{IsReady};
+//! Each row however its script comes, and with each write and each read failing in turn.
+ghost use Rattle.std.specs.Prelude.{◌<◌};
 
 use super::calc_rows::CALC_ROWS;
-use super::clips::CLIPS;
-use super::examples::EXAMPLES;
 use super::fault_rows::FAULT_ROWS;
 use super::first_rows::FIRST_ROWS;
-use super::functions::FUNCTIONS;
-use super::language::LANGUAGE;
-use super::orders::ORDERS;
+use super::one_run::{Want, goes, goes_in_blocks, want_of};
 use super::pieces::{TwoPieces, Whole, joined, steps_in, written_by};
-use super::rows::{AT_A_LIMIT, Example, Row};
+use super::rows::{AT_A_LIMIT, Row};
 use super::template_rows::TEMPLATE_ROWS;
-use cb_forms::{MemSink, MemSource, NoMemory, Out, Source};
-use cb_run::{Cause, Outcome, run};
-use cb_session::Limits;
+use cb_forms::{MemSink, MemSource, NoMemory};
+use cb_run::{Cause, Outcome};
 use std::alloc::Global;
 
 /// All rows but those that compute.
-const ROWS: [&[Row]; 3] = [&FIRST_ROWS, &TEMPLATE_ROWS, &FAULT_ROWS];
+pub(super) const ROWS: [&[Row]; 3] = [&FIRST_ROWS, &TEMPLATE_ROWS, &FAULT_ROWS];
 
 /// What is done with each row.
 #[derive(Clone, Copy)]
@@ -37,88 +31,10 @@ const WRITE_FAULT: Outcome = Outcome {
     cause: Cause::WriteFault,
 };
 
-const NO_MEMORY: Outcome = Outcome {
-    status: 3,
-    cause: Cause::NoMemory,
-};
-
 const READ_FAULT: Outcome = Outcome {
     status: 3,
     cause: Cause::ReadFault,
 };
-
-/// This number, if an item may have so many bytes.
-fn form_limit(max_form: usize) -> usize
-    ensures least { 1 ≤ result }
-    ensures greatest { result ≤ 16777216 }
-{
-    if max_form == 0 || max_form > 16_777_216 {
-        return 1;
-    }
-    max_form
-}
-
-/// This number, if loops may take so many turns.
-fn turn_limit(max_turns: u64) -> u64
-    ensures { result ≤ 1000000000000 }
-{
-    max_turns.min(1_000_000_000_000)
-}
-
-fn limits(max_form: usize, max_turns: u64) -> Limits {
-    let max_form = form_limit(max_form);
-    let max_turns = turn_limit(max_turns);
-    Limits {
-        max_form,
-        max_firings: 1000,
-        max_turns,
-    }
-}
-
-/// What comes of a run over this source: what it should write, and how it should end.
-#[derive(Clone, Copy)]
-struct Want<'a> {
-    max_form: usize,
-    max_turns: u64,
-    written: &'a [u8],
-    outcome: Outcome,
-}
-
-/// How a run over these ends.
-fn outcome_of<S: Source>(
-    alloc: Global,
-    source: &mut S,
-    out: &mut Out<MemSink>,
-    want: Want<'_>,
-) -> Outcome
-    requires { IsReady out.old }
-{
-    run(alloc, source, out, limits(want.max_form, want.max_turns))
-}
-
-/// Whether a run that ended so and wrote this is as it should be.
-fn is_as_wanted(outcome: Outcome, written: &[u8], want: Want<'_>) -> bool {
-    outcome == want.outcome && written == want.written
-}
-
-/// Whether a run over these ends goes so.
-fn goes<S: Source>(alloc: Global, source: &mut S, sink: MemSink, want: Want<'_>) -> bool {
-    let mut out = Out::new(sink);
-    let outcome = outcome_of(alloc, source, &mut out, want);
-    is_as_wanted(outcome, out.sink().bytes(), want)
-}
-
-/// Whether it goes so with so many bytes a read, and with all that is written taken at once.
-fn goes_in_blocks(
-    alloc: Global,
-    script: &[u8],
-    block: usize,
-    want: Want<'_>,
-) -> Result<bool, NoMemory> {
-    let sink = MemSink::new(alloc, 1000, 1000, None)?;
-    let mut source = MemSource::new(script, block.max(1), None);
-    Ok(goes(alloc, &mut source, sink, want))
-}
 
 /// Whether it goes so cut in two, with seven bytes a write.
 fn goes_in_two(
@@ -135,12 +51,7 @@ fn goes_in_two(
 /// Whether the script goes so however it comes: in blocks of every length, or cut in two at each byte.
 fn comes_in_pieces(alloc: Global, row: &Row, whole: &Whole) -> Result<bool, NoMemory> {
     let script = whole.script.as_slice();
-    let want = Want {
-        max_form: row.max_form,
-        max_turns: row.max_turns,
-        written: whole.written.as_slice(),
-        outcome: row.outcome,
-    };
+    let want = want_of(row, whole);
     for place in 0..=script.len() {
         let block = place.saturating_add(1);
         if !goes_in_blocks(alloc, script, block, want)?
@@ -245,12 +156,7 @@ fn ends_before_a_read(
     requires { 0 < block }
 {
     let script = whole.script.as_slice();
-    let want = Want {
-        max_form: row.max_form,
-        max_turns: row.max_turns,
-        written: whole.written.as_slice(),
-        outcome: row.outcome,
-    };
+    let want = want_of(row, whole);
     let sink = MemSink::new(alloc, 1000, 1000, None)?;
     let reads = (script.len().div_ceil(block) as u64).saturating_add(1);
     let mut source = MemSource::new(script, block, Some(reads.saturating_add(1)));
@@ -323,62 +229,6 @@ fn stops_at_a_failed_read(rt: HostRuntime) -> Result<(), NoMemory> {
     Ok(())
 }
 
-/// Whether an example goes so with a byte a read, some bytes, and as many as a read asks for.
-fn shows(alloc: Global, example: &Example) -> Result<bool, NoMemory> {
-    let want = Want {
-        max_form: 2000,
-        max_turns: 1000,
-        written: example.written,
-        outcome: example.outcome,
-    };
-    for block in [1, 80, 4096] {
-        if !goes_in_blocks(alloc, example.script, block, want)? {
-            return Ok(false);
-        }
-    }
-    Ok(true)
-}
-
-/// The name of the first of these examples that doesn't go so.
-fn first_untrue(alloc: Global, examples: &[Example]) -> Result<Option<&'static str>, NoMemory> {
-    for example in examples {
-        if !shows(alloc, example)? {
-            return Ok(Some(example.name));
-        }
-    }
-    Ok(None)
-}
-
-#[test]
-fn carries_the_scripts_of_examples_out(rt: HostRuntime) -> Result<(), NoMemory> {
-    assert_eq!(rt; first_untrue(rt.alloc(), &EXAMPLES)?, None);
-    Ok(())
-}
-
-#[test]
-fn carries_the_scripts_for_users_of_clips_out(rt: HostRuntime) -> Result<(), NoMemory> {
-    assert_eq!(rt; first_untrue(rt.alloc(), &CLIPS)?, None);
-    Ok(())
-}
-
-#[test]
-fn keeps_to_the_order_of_the_language(rt: HostRuntime) -> Result<(), NoMemory> {
-    assert_eq!(rt; first_untrue(rt.alloc(), &ORDERS)?, None);
-    Ok(())
-}
-
-#[test]
-fn carries_the_scripts_of_the_language_out(rt: HostRuntime) -> Result<(), NoMemory> {
-    assert_eq!(rt; first_untrue(rt.alloc(), &LANGUAGE)?, None);
-    Ok(())
-}
-
-#[test]
-fn carries_the_scripts_that_compute_out(rt: HostRuntime) -> Result<(), NoMemory> {
-    assert_eq!(rt; first_untrue(rt.alloc(), &FUNCTIONS)?, None);
-    Ok(())
-}
-
 /// Whether a word that is too long with its fourth byte ends the run before it reads on.
 fn hands_on_before_it_reads_on(alloc: Global) -> Result<bool, NoMemory> {
     let mut source = TwoPieces::new(b"abcd", b" (assert (a))");
@@ -396,76 +246,4 @@ fn hands_on_before_it_reads_on(alloc: Global) -> Result<bool, NoMemory> {
 fn hands_each_read_on_before_the_next(rt: HostRuntime) -> Result<(), NoMemory> {
     assert!(rt; hands_on_before_it_reads_on(rt.alloc())?);
     Ok(())
-}
-
-/// How a run ended for which memory may be refused.
-#[derive(Clone, Copy, PartialEq, Eq)]
-enum End {
-    AsWanted,
-    Refused,
-    Otherwise,
-}
-
-/// How a run over this script ended: where memory was refused, what it wrote has to be a beginning of what it should write.
-fn end_of_run(alloc: Global, script: &[u8], sink: MemSink, want: Want<'_>) -> End {
-    let mut out = Out::new(sink);
-    let mut source = MemSource::new(script, 7, None);
-    let outcome = outcome_of(alloc, &mut source, &mut out, want);
-    end_by(outcome, out.sink().bytes(), want)
-}
-
-/// What a run that ended so and wrote this is.
-fn end_by(outcome: Outcome, written: &[u8], want: Want<'_>) -> End {
-    if is_as_wanted(outcome, written, want) {
-        End::AsWanted
-    } else if outcome == NO_MEMORY && want.written.starts_with(written) {
-        End::Refused
-    } else {
-        End::Otherwise
-    }
-}
-
-/// How a run over the script of a row ended. What the test itself needs may be refused, too.
-fn end_of_row(alloc: Global, row: &Row) -> Result<End, NoMemory> {
-    let whole = joined(alloc, row)?;
-    let want = Want {
-        max_form: row.max_form,
-        max_turns: row.max_turns,
-        written: whole.written.as_slice(),
-        outcome: row.outcome,
-    };
-    let sink = MemSink::new(alloc, 1000, 1000, None)?;
-    Ok(end_of_run(alloc, whole.script.as_slice(), sink, want))
-}
-
-/// How many of these rows had memory refused, or `None` where a run ended otherwise.
-fn refused_of(alloc: Global, rows: &[Row]) -> Option<usize> {
-    let mut refused = 0usize;
-    for row in rows {
-        match end_of_row(alloc, row) {
-            Ok(End::AsWanted) => {}
-            Ok(End::Otherwise) => return None,
-            Ok(End::Refused) | Err(NoMemory) => refused = refused.saturating_add(1),
-        }
-    }
-    Some(refused)
-}
-
-/// Whether all rows but one at most go as they should, and that one has memory refused.
-fn one_is_refused_at_most(alloc: Global) -> bool {
-    let mut all = 0usize;
-    for rows in ROWS {
-        match refused_of(alloc, rows) {
-            Some(refused) => all = all.saturating_add(refused),
-            None => return false,
-        }
-    }
-    refused_of(alloc, &CALC_ROWS).is_some_and(|refused| all.saturating_add(refused) <= 1)
-}
-
-// `rt try --test --fail-alloc N` refuses the Nth growth of each test, and the other tests of these scripts fail then. Here
-// one script is the worse for it, and the others go on.
-#[test]
-fn a_refused_growth_gives_a_true_beginning(rt: HostRuntime) {
-    assert!(rt; one_is_refused_at_most(rt.alloc()));
 }
