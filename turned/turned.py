@@ -1,7 +1,8 @@
 #!/usr/bin/env python3
 """Definitions made wrong, each of which a test, a stored run, a law or an example has to refuse.
 
-turned/turned.py            turns each definition, runs what has to refuse it, and takes the change back
+turned/turned.py            turns each definition, runs what has to refuse it, and takes the change back; before, each test and
+                            each run has to pass as it stands
 turned/turned.py NAME ..    does so with these alone
 turned/turned.py --list     writes the tables of docs/TURNED.md
 turned/turned.py --table    writes the tables into docs/TURNED.md, with what the last run of each turn saw
@@ -274,8 +275,21 @@ def refused(turn, root):
     return by_example(folder)
 
 
-def tried(turn, root):
+def passes_unturned(turn, root, known):
+    """Whether the test or the run passes as it stands: if it fails anyway, what it refuses shows nothing. What a law or an
+    example says is looked for by its name, and the gate proves it as it stands."""
+    way = tuple(turn.way[:2])
+    if way[0] in ("law", "example"):
+        return True
+    if way not in known:
+        known[way] = not refused(turn, root)[0]
+    return known[way]
+
+
+def tried(turn, root, known):
     """Turns the definition, runs what has to refuse it, and takes the change back."""
+    if not passes_unturned(turn, root, known):
+        return False, "it fails as it stands"
     texts = turn.wanted(root)
     before = {path: (root / path).read_text() for path in texts}
     try:
@@ -348,13 +362,14 @@ def with_table(turns):
 
 def run_all(turns):
     """Tries each turn; returns how many were not refused."""
-    root, seen, counts = copied(), last_seen(), {"refused": 0, "not refused": 0, NOTHING: 0}
+    root, seen, known = copied(), last_seen(), {}
+    counts = {"refused": 0, "not refused": 0, NOTHING: 0}
     for turn in turns:
         if turn.by == NOTHING:
             counts[NOTHING] += 1
             print(f"{turn.name}: NOT REFUSED ({NOTHING})", flush=True)
             continue
-        is_refused, words = tried(turn, root)
+        is_refused, words = tried(turn, root, known)
         counts["refused" if is_refused else "not refused"] += 1
         seen[turn.name] = {"turn": turn.digest, "saw": words if is_refused else f"not refused: {words}"}
         SEEN.write_text(json.dumps(dict(sorted(seen.items())), indent=1) + "\n")
