@@ -1,9 +1,9 @@
 -- What `assert` and `retract` do to the facts once their arguments have values.
-use Rattle.std.proofs.Common.{◌≡◌, ◌∙◌, ◌⊎◌, inl, inr, ℕ, Bool, true, false, List, [], ◌∷◌, Option, Some, None, Result, Ok, Err, refl, sym, ap, subst, if◌then◌else◌}
+use Rattle.std.proofs.Common.{◌≡◌, ◌∙◌, ◌⊎◌, inl, inr, ℕ, ℤ, Bool, true, false, List, [], ◌∷◌, Option, Some, None, Result, Ok, Err, map, refl, sym, ap, subst, if◌then◌else◌}
 use Rattle.std.specs.List.{list_all}
 use Rattle.cb_actions.specs.Actions.{carried, carried_values}
 use Rattle.cb_actions.specs.Acts.{after_writing, follow, give_or_fault, stop, ◌>>=◌}
-use Rattle.cb_actions.specs.Effects.{fact_added, addressed, asserted, parts_of, retracted, taken}
+use Rattle.cb_actions.specs.Effects.{each_given, fact_added, addressed, asserted, parts_of, retracted, taken}
 use Rattle.cb_actions.specs.Laws.{with_answer}
 use Rattle.cb_actions.specs.Worlds.{World}
 use Rattle.cb_actions.specs.declared.act.Ended.{Ended}
@@ -20,8 +20,8 @@ use Rattle.cb_forms.specs.declared.fault.Fault.TheVariants.{NoSuchFact, WrongTyp
 use Rattle.cb_laws.proofs.AssertLaws.{has_index}
 use Rattle.cb_laws.proofs.RetractLaws.{fault, fine}
 use Rattle.cb_laws.specs.Memories.{AreAsserted, IsSound}
-use Rattle.cb_laws.specs.Naming.{LeavesUnnamed, LeavesUpToMissing}
-use Rattle.cb_templates.specs.Building.{built}
+use Rattle.cb_laws.specs.Naming.{LeavesUnnamed, LeavesUpToMissing, names_fact}
+use Rattle.cb_templates.specs.Building.{built, field_values, slot_values}
 use Rattle.cb_working_memory.specs.WorkingMemory.{Memory, asserted_one, is_retractable, retracted_all}
 
 -- the address that is answered, and the memory then
@@ -180,3 +180,25 @@ module _ (ts : Terms) (s : World) where
 
   pub retract_ends : (e : Ended) → (carried_values None [] ts s).answer ≡ Err e → carried (retract ts) s ≡ with_answer (carried_values None [] ts s) (Err e)
   retract_ends e h = ap (λ r. follow (carried_values None [] ts s).state (carried_values None [] ts s).written r retracted) h
+
+-- what names a fact, and every integer, may be retracted
+pub named_taken : (ix : ℕ) (v : Value) → names_fact ix v ≡ true → is_retractable v ≡ true
+named_taken ix (value.Fact i) h = refl
+named_taken ix (value.Int n) h = refl
+named_taken ix (value.Symbol name) h = h
+named_taken ix (value.Str bytes) h = absurd (cc)
+named_taken ix (value.Multi fields) h = absurd (cc)
+
+pub index_taken : (n : ℤ) → is_retractable (value.Int n) ≡ true
+index_taken n = refl
+
+-- the values of a fact's expressions
+pub fields_given : (vs : List Value) → parts_of None vs ≡ field_values vs
+fields_given vs = refl
+
+each_is_given : (given : List (List ℕ × Value)) → each_given (map (λ g. g.0) given) (map (λ g. g.1) given) ≡ map (λ g. (g.0, g.1 ∷ [])) given
+each_is_given [] = refl
+each_is_given (g ∷ given) = ap (λ them. (g.0, g.1 ∷ []) ∷ them) (each_is_given given)
+
+pub slots_given : (given : List (List ℕ × Value)) → parts_of (Some (map (λ g. g.0) given)) (map (λ g. g.1) given) ≡ slot_values (map (λ g. (g.0, g.1 ∷ [])) given)
+slots_given given = ap slot_values (each_is_given given)

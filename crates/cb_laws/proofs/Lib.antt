@@ -9,6 +9,7 @@ mod DefinedLaws
 mod SlotFormLaws
 mod FaultListLaws
 mod WrittenLaws
+mod NextLaws
 mod OrderLaws
 mod ShapeLaws
 mod ReachedLaws
@@ -17,6 +18,7 @@ mod ExpressionLaws
 mod ScriptLaws
 mod OpenTexts
 mod OpenLaws
+mod OneOpen
 mod ActLaws
 mod DefaultLaws
 mod FitLaws
@@ -25,4 +27,5 @@ mod PartLaws
 mod TypeLaws
 mod AttributeLaws
 mod OnlyFitLaws
+mod ItemLaws
 mod PrintedLaws

@@ -1,6 +1,6 @@
 //! What `assert` and `retract` do to the facts once their arguments have values.
 ghost use Rattle.std.specs.List.{list_all};
-ghost use Rattle.std.specs.Prelude.{◌≡◌, ◌⊎◌, ◌∷◌, ℕ, List, [], Option, Some, None, Ok, Err, false, true};
+ghost use Rattle.std.specs.Prelude.{◌≡◌, ◌⊎◌, ◌∷◌, ℕ, ℤ, List, [], Option, Some, None, Ok, Err, false, true, map};
 ghost use Rattle.cb_actions.specs.Actions.{carried, carried_values};
 ghost use Rattle.cb_actions.specs.Acts.{after_writing};
 ghost use Rattle.cb_actions.specs.Effects.{asserted, parts_of, retracted};
@@ -18,8 +18,8 @@ ghost use Rattle.cb_facts.specs.declared.value.Value.TheVariants as value;
 ghost use Rattle.cb_forms.specs.declared.fault.Fault.{Fault};
 ghost use Rattle.cb_forms.specs.declared.fault.Fault.TheVariants.{NoSuchFact, WrongType};
 ghost use Rattle.cb_laws.specs.Memories.{AreAsserted, IsSound};
-ghost use Rattle.cb_laws.specs.Naming.{LeavesUnnamed, LeavesUpToMissing};
-ghost use Rattle.cb_templates.specs.Building.{built};
+ghost use Rattle.cb_laws.specs.Naming.{LeavesUnnamed, LeavesUpToMissing, names_fact};
+ghost use Rattle.cb_templates.specs.Building.{built, field_values, slot_values};
 ghost use Rattle.cb_working_memory.specs.WorkingMemory.{asserted_one, is_retractable};
 
 /// An `assert` asserts its one fact, and its answer is the address under which that fact is there. Only where the fact has a
@@ -59,8 +59,9 @@ pub fn an_assertion_answers_its_address()
 {}
 
 /// A `retract` without a fault leaves exactly the facts that no argument names. With the fault that there is no such fact
-/// (CB20) it leaves those that no argument before that one names. Where a value is of another type, it ends with CB17, and
-/// nothing is retracted; there is no other way to end. However it ends, it writes nothing and changes the facts alone.
+/// (CB20) it leaves those that no argument before that one names. Where a value is neither an address, nor an
+/// index, nor `*`, it ends with CB17, and nothing is retracted; there is no other way to end. However it ends, it writes
+/// nothing and changes the facts alone.
 pub fn a_retraction_takes_what_is_named()
     ensures fine { (vs : List Value) (s : World) (answer : Option Value) → IsSound s.memory
         → (retracted vs s).answer ≡ Ok answer
@@ -73,6 +74,8 @@ pub fn a_retraction_takes_what_is_named()
         → (retracted vs s).state ≡ s }
     ensures first { (vs : List Value) (s : World) → list_all is_retractable vs ≡ false
         → (retracted vs s).answer ≡ Err (ended.Fault WrongType) }
+    ensures named { (ix : ℕ) (v : Value) → names_fact ix v ≡ true → is_retractable v ≡ true }
+    ensures index { (n : ℤ) → is_retractable (value.Int n) ≡ true }
     ensures ends { (vs : List Value) (s : World) → list_all is_retractable vs ≡ true
         → ((retracted vs s).answer ≡ Ok None)
         ⊎ ((retracted vs s).answer ≡ Err (ended.Fault NoSuchFact)) }
@@ -98,4 +101,12 @@ pub fn a_command_acts_on_the_values_of_its_arguments()
     ensures retract_ended { (ts : Terms) (s : World) (e : Ended)
         → (carried_values None [] ts s).answer ≡ Err e
         → carried (retract ts) s ≡ with_answer (carried_values None [] ts s) (Err e) }
+{}
+
+/// The values of a fact's expressions go to its fields, or to its slots, in the order in which they are written.
+pub fn each_value_goes_where_it_is_written()
+    ensures fields { (vs : List Value) → parts_of None vs ≡ field_values vs }
+    ensures slots { (given : List (List ℕ × Value))
+        → parts_of (Some (map (λ g. g.0) given)) (map (λ g. g.1) given)
+        ≡ slot_values (map (λ g. (g.0, g.1 ∷ [])) given) }
 {}

@@ -6,6 +6,7 @@
 pub mod acting;
 pub mod asserting;
 pub mod equality;
+pub mod items;
 pub mod open_item;
 pub mod printed;
 pub mod reached;

@@ -7,7 +7,7 @@ ghost use Rattle.cb_facts.specs.Values.{spliced};
 ghost use Rattle.cb_facts.specs.declared.single.Single.{Single};
 ghost use Rattle.cb_facts.specs.declared.value.Value.{Value};
 ghost use Rattle.cb_facts.specs.declared.value.Value.TheVariants as value;
-ghost use Rattle.cb_forms.specs.Members.{call_of, head_and_rest};
+ghost use Rattle.cb_forms.specs.Members.{call_of, head_and_rest, symbol_of};
 ghost use Rattle.cb_forms.specs.Trees.{Tree, Trees, no_trees, tree, trees_of};
 ghost use Rattle.cb_forms.specs.declared.fault.Fault.{Fault};
 ghost use Rattle.cb_forms.specs.declared.fault.Fault.TheVariants.{MalformedForm, TemplateInUse};
@@ -16,7 +16,7 @@ ghost use Rattle.cb_templates.specs.FaultLists.{first_of};
 ghost use Rattle.cb_templates.specs.Reserved.{is_reserved};
 ghost use Rattle.cb_templates.specs.SlotForms.{derived, is_variable};
 ghost use Rattle.cb_templates.specs.Slots.{Types, allows, names};
-ghost use Rattle.cb_templates.specs.TemplateFaults.{attribute_faults, attributes_faults, is_among, kept_faults, slot_form_faults, slots_form_faults, template_faults};
+ghost use Rattle.cb_templates.specs.TemplateFaults.{attribute_faults, attributes_faults, constant_faults, constants_faults, is_among, kept_faults, slot_form_faults, slots_form_faults, template_faults, type_name_faults, types_faults};
 ghost use Rattle.cb_templates.specs.TemplateShapes.{constant_in, default_in, default_said, slot_said, slots_said, types_in, types_said, value_for};
 ghost use Rattle.cb_templates.specs.Templates.{without_comment};
 
@@ -129,7 +129,8 @@ pub fn a_default_is_what_is_written()
 {}
 
 /// The first fault of some slots is the first of all, whatever stands after them; and after slots without a fault it is that
-/// of the next one, by itself and by the names before it. So it is with attributes.
+/// of the next one, by itself and by the names before it. So it is with attributes, and with the types of a slot and the
+/// constants of its default, each by itself.
 pub fn what_stands_after_a_fault_does_not_matter()
     ensures slots { (before after : List Tree) (fault : Fault)
         → first_of (slots_form_faults [] (trees_of before)) ≡ Some fault
@@ -147,6 +148,13 @@ pub fn what_stands_after_a_fault_does_not_matter()
     ensures attributes { (is_multi : Bool) (before after : List Tree) (fault : Fault)
         → first_of (attributes_faults is_multi [] (trees_of before)) ≡ Some fault
         → first_of (attributes_faults is_multi [] (trees_of (before ++ after))) ≡ Some fault }
+    ensures next_type { (before after : List Tree) (t : Tree) (fault : Fault)
+        → types_faults (trees_of before) ≡ []
+        → first_of (type_name_faults (symbol_of t)) ≡ Some fault
+        → first_of (types_faults (trees_of (before ++ t ∷ after))) ≡ Some fault }
+    ensures next_constant { (before after : List Tree) (t : Tree) (fault : Fault)
+        → constants_faults (trees_of before) ≡ [] → first_of (constant_faults t) ≡ Some fault
+        → first_of (constants_faults (trees_of (before ++ t ∷ after))) ≡ Some fault }
 {}
 
 /// What is wrong with a template's name comes before what is wrong with its slots: that there is none or that it is reserved

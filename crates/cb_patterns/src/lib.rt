@@ -6,4 +6,4 @@
 
 pub use cb_constraints::laws as constraint_laws;
 pub use cb_fit::{Meter, Pattern, Way, fit, laws as fit_laws};
-pub use cb_rule_forms::{Ce, Rule};
+pub use cb_rule_forms::{Ce, Rule, laws as rule_laws};

@@ -6,6 +6,7 @@
 mod actions;
 mod declaration;
 mod element;
+pub mod laws;
 mod mentions;
 mod relations;
 mod rule;

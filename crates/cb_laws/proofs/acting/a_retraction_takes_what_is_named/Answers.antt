@@ -1,4 +1,4 @@
-use Rattle.cb_laws.proofs.ActLaws.{fine_left, missing_left, retract_answers, retracts_only, retracts_quietly, wrong_first, wrong_stays}
+use Rattle.cb_laws.proofs.ActLaws.{fine_left, index_taken, missing_left, named_taken, retract_answers, retracts_only, retracts_quietly, wrong_first, wrong_stays}
 use Rattle.cb_laws.proofs.acting.a_retraction_takes_what_is_named.Goals as goal
 
 pub returns-clause-fine : goal.returns-clause-fine
@@ -21,3 +21,9 @@ returns-clause-only c = retracts_only
 
 pub returns-clause-quiet : goal.returns-clause-quiet
 returns-clause-quiet c = retracts_quietly
+
+pub returns-clause-named : goal.returns-clause-named
+returns-clause-named c = named_taken
+
+pub returns-clause-index : goal.returns-clause-index
+returns-clause-index c = index_taken
