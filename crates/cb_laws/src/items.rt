@@ -26,9 +26,9 @@ ghost use Rattle.cb_words.specs.Words.{head_of};
 ghost use Rattle.cb_words.specs.declared.head.Action.{Action};
 ghost use Rattle.cb_words.specs.declared.head.Head.TheVariants as head;
 
-/// An item that asks for an expression does to the facts, the templates and the values just what the expression does, and to
-/// nothing else anything. It writes what the expression writes, and then the line of its value, if it has one, or the line of
-/// the fault or the limit with which it ends.
+/// An item that asks for an expression leaves the facts, the templates and the values as the expression leaves them. What
+/// each `deffacts` keeps and the initial expressions of the globals stay. The item writes what the expression writes, and
+/// then the line of its value, if it has one, or the line of the fault or the limit with which it ends.
 pub fn an_expression_is_carried_out()
     ensures world { (s : State) (r : Reading) (t : Term) → requested s r ≡ Ok (request.act t)
         → (executed s r).state.world ≡ (carried t s.world).state }
@@ -47,8 +47,8 @@ pub fn an_expression_is_carried_out()
         → (executed s r).written ≡ (carried t s.world).written ++ limit_line limit }
 {}
 
-/// A call with an effect, such as an `assert`, asks for itself as an expression if it has no fault, and else the item has the
-/// first fault of the call and does nothing.
+/// An item that is a call with an effect, such as an `assert`, asks for that call if it has no fault. Otherwise it asks for
+/// nothing, and its fault is the first fault of the call.
 pub fn a_call_without_a_fault_is_carried_out()
     ensures right { (s : State) (name : List ℕ) (a : Action) (ts : Trees)
         → head_of name ≡ Some (head.Action a)
@@ -63,8 +63,8 @@ pub fn a_call_without_a_fault_is_carried_out()
         → requested s (Ok (list_of name ts)) ≡ Err f }
 {}
 
-/// An `assert` asserts the facts that follow it, one after another. An ordered fact has what its fields say, in their order. A
-/// fact of a template gives each slot that is written what stands after the slot's name.
+/// An `assert` asserts the facts that follow it, one after another. The fields of an ordered fact are what is written, in that
+/// order. A fact of a template gives each slot that is written what stands after the slot's name.
 pub fn an_assert_asserts_what_is_written()
     ensures facts { (templates : Templates) (forms : List Tree)
         → expr_of templates (list_of (codes "assert") (trees_of forms))
@@ -86,8 +86,8 @@ pub fn an_assert_asserts_what_is_written()
         )) given) }
 {}
 
-/// A `deftemplate` without a fault defines its template and does nothing else. With a fault it writes the line of the first
-/// and defines nothing.
+/// An item that is a `deftemplate` without a fault defines its template and does nothing else. One with a fault defines
+/// nothing, and writes the line of its first fault.
 pub fn a_deftemplate_defines_its_template()
     ensures defined { (s : State) (forms : Trees)
         → template_faults (is_in_use s.world.memory s.deffacts) forms ≡ []
