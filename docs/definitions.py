@@ -5,8 +5,8 @@
     docs/definitions.py --check    says whether the page is up to date, and no two definitions have one name; exit status 0
                                    if so, else 1
 
-A definition has a row: its name, what it says, and its place. What it says is the comment before it in its file; where it
-has none, the sentence for it in docs/definitions.txt (lines `crate File name: sentence`); else its type.
+A definition has a row: its name, what it says, and its place. What it says is the sentence for it in docs/definitions.txt
+(lines `crate File name: sentence`); where it has none there, the comment before it in its file; else its type.
 What only the code needs stands in the module `Internal` of a crate, and has an index of its own.
 """
 import collections
@@ -73,10 +73,10 @@ def read_notes():
 
 
 def says(definition, sentences):
-    if definition.comment:
-        return as_sentence(definition.comment)
     if definition.key() in sentences:
         return sentences[definition.key()]
+    if definition.comment:
+        return as_sentence(definition.comment)
     return f"`{definition.type}`" if definition.type else ""
 
 

@@ -14,8 +14,8 @@ use cb_forms::{Out, Sink};
 use cb_working_memory::DeffactsTable;
 
 impl World {
-    /// Asserts the facts of each `deffacts`, in order, up to the first that ends with a fault or at a limit. There is no
-    /// answer.
+    /// Asserts the facts of each `deffacts`, in order, up to the first that ends with a fault or at a limit. Returns no
+    /// value.
     pub fn assert_deffacts<K: Sink>(
         &mut self,
         deffacts: &DeffactsTable,

@@ -10,8 +10,8 @@ use cb_exprs::{Env, GlobalExpr};
 use cb_facts::{Refused, Value};
 
 impl World {
-    /// Gives global variables the values of their expressions, each evaluated with the values of those before it. There is
-    /// no answer.
+    /// Gives global variables the values of their expressions, each evaluated with the values of those before it. Returns
+    /// no value.
     ///
     /// At a fault all have their old values.
     pub fn define_globals(&mut self, globals: &[GlobalExpr]) -> Result<Option<Value>, Break>
@@ -44,8 +44,8 @@ impl World {
         Ok(())
     }
 
-    /// Gives global variables the values of their expressions, each evaluated with the values of those before it. There is
-    /// no answer.
+    /// Gives global variables the values of their expressions, each evaluated with the values of those before it. Returns
+    /// no value.
     ///
     /// At a fault those before it have their new values, and the others their old ones.
     pub fn evaluate_anew(&mut self, globals: &[GlobalExpr]) -> Result<Option<Value>, Break>

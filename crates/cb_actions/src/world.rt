@@ -89,7 +89,7 @@ impl World {
         &self.env
     }
 
-    /// Takes a template for the one that its relation had, if it had one.
+    /// Defines a template, replacing the one that the relation had, if it had one. Returns no value.
     pub fn define_template(
         &mut self,
         relation: Name,

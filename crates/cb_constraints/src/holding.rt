@@ -86,7 +86,7 @@ fn meets_each(
     Ok(true)
 }
 
-/// Whether one of them holds. A variable without `~` may take the value.
+/// Whether a check holds; a check for a constant is known to hold. A variable without `~` may take the value.
 #[tactic(auto, using(crate::proofs::MayHold::constant_is_met))]
 fn meets_one(
     alloc: Global,

@@ -7,7 +7,7 @@ ghost use Rattle.cb_functions.specs.Comparison.{same};
 use cb_facts::{Single, Value, value_of};
 use cb_forms::NoMemory;
 
-/// The value in the place of a constraint. It is lent, and no field is copied to be tested.
+/// The value in the place of a constraint. It is borrowed, so testing copies no field.
 #[derive(Clone, Copy)]
 pub enum Tested<'a> {
     /// A field.

@@ -22,7 +22,7 @@ use cb_forms::{Fault, Form, Token};
 use cb_templates::{Slot, Template};
 use cb_words::Function;
 
-/// The expression that a form is in this scope, or its first fault (`docs/LANGUAGE.md`, "Faults").
+/// The expression that a form is in this scope, or its first fault (`docs/LANGUAGE.md`, "Expressions").
 #[cycle(reading)]
 pub fn read_expr(names: &mut Names, scope: &Scope<'_>, form: &Form) -> Result<Expr, Refused>
     ensures { ReadsAs term_of result (faults_of scope.now (tree_of form.now))
@@ -194,7 +194,7 @@ fn read_facts(names: &mut Names, scope: &Scope<'_>, forms: &[Form]) -> Result<Ve
     Ok(facts)
 }
 
-/// The fact that a form is in this scope, or its first fault (`docs/LANGUAGE.md`, "Faults").
+/// The fact that a form is in this scope, or its first fault (`docs/LANGUAGE.md`, "Facts").
 #[cycle(reading)]
 pub fn read_fact(names: &mut Names, scope: &Scope<'_>, form: &Form) -> Result<FactExpr, Refused>
     ensures { ReadsAs (λ f. f) result (fact_faults scope.now (tree_of form.now))

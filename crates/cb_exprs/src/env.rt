@@ -9,7 +9,8 @@ use cb_forms::NoMemory;
 use std::alloc::{AllocError, Global};
 use std::marker::Model;
 
-/// The values that variables and global variables have. A variable and a global variable of one name are two.
+/// The values that variables and global variables have. A variable and a global variable of the same name are
+/// distinct.
 ///
 /// The first eight variables that take a value stand in the value itself, and are looked through; all others are found in
 /// logarithmic time, whatever the names are. A clone copies those eight and shares all others until one of the two changes:
@@ -69,9 +70,9 @@ impl Env {
         self.variables.set(name, value)
     }
 
-    /// These values in which variables have these values more, one given after another: of two values of one variable the
-    /// later one counts. It shares with these what it does not change, and the first eight variables that are given a value
-    /// in it take no memory. Growth is refused as `NoMemory`.
+    /// A copy in which these variables are set, in order; of two values for one variable the later counts. It shares with
+    /// the original what it does not change, and the first eight variables that are given a value in it take no memory.
+    /// Growth is refused as `NoMemory`.
     pub fn with(&self, bindings: Vec<(Name, Value)>) -> Result<Env, NoMemory>
         ensures ok { IfOk result (λ env. env ≡ with_variables bindings.items self.now) }
     {

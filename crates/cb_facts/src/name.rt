@@ -26,8 +26,7 @@ struct Hashed {
 /// The bytes of a symbol, a string, a relation or a variable. Nothing checks them as UTF-8.
 ///
 /// A clone shares the bytes. It takes no memory, and is refused only where the count of its sharers is full. Two names
-/// compare by their bytes in order, as Rust compares slices. Names that differ are found to do so by a number each, whatever
-/// their bytes are, but for those few that have the same number.
+/// compare by their bytes in order, as Rust compares slices. `==` compares hashes first.
 ///
 /// Contracts see its list of bytes.
 #[derive(Drop)]

@@ -16,7 +16,7 @@ pub enum Value {
     Symbol(Name),
     /// A string, by its content.
     Str(Name),
-    /// A number of 64 bits with a sign.
+    /// A signed 64-bit integer.
     Int(i64),
     /// A fact's address, by the fact's index.
     Fact(u64),

@@ -4,9 +4,10 @@ ghost use Rattle.cb_fit.specs.Meters.{one_more};
 
 use std::marker::Model;
 
-/// How often patterns were tested. Who is to test no pattern has no value of the type `T` to make a meter of.
+/// How often patterns were tested. Code that must not test patterns gets no `T`, so it can't make a meter. A meter can't be
+/// copied.
 ///
-/// It has no copy. Contracts see the count.
+/// Contracts see the count.
 #[derive(Drop)]
 pub struct Meter<T> {
     mark: T,

@@ -11,7 +11,7 @@ use std::marker::{Model, PhantomData};
 /// A pattern: the relation of the facts that it is for, and what it asks of them (`docs/LANGUAGE.md`, "Patterns").
 ///
 /// What it asks can't be read from it: only `fit` tests it, with a meter of the same type, which goes up by one each time.
-/// So who has no meter tests no pattern, and what a meter says is how often patterns were tested.
+/// So code without a meter can't test a pattern, and what a meter says is how often patterns were tested.
 ///
 /// Contracts see the relation and the parts.
 #[derive(Drop)]

@@ -53,7 +53,7 @@ impl<'a> Search<'a> {
         }
     }
 
-    /// The same of one that there is.
+    /// Keeps all ways that this choice becomes.
     fn run_from(self, first: Choice<'a>, kept: &mut Vec<Way>) -> Result<(), NoMemory>
         requires { IsOpen self.slots.now first }
         ensures { OnOk result (map way_of kept.new.items ≡ map way_of kept.old.items

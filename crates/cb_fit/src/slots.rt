@@ -11,8 +11,8 @@ use cb_facts::{Name, Value};
 use cb_functions::Constants;
 use std::alloc::Global;
 
-/// Whether each row may take the fields of its slot, by their number and by what it asks by constants alone before its first
-/// segment. It takes no memory.
+/// Whether each row may take the fields of its slot, by their number and by the constants before the first segment and after
+/// the last. It takes no memory.
 pub(crate) fn may_take_slots(
     alloc: Global,
     constants: &Constants,
@@ -29,7 +29,7 @@ pub(crate) fn may_take_slots(
     true
 }
 
-/// Whether one does.
+/// Whether a row may take the fields of its slot.
 fn may_take_slot(
     alloc: Global,
     constants: &Constants,

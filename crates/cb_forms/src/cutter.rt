@@ -67,8 +67,8 @@ impl Cutter {
 
     /// Takes the next byte, and gives the items that end with it or before it.
     ///
-    /// `TooLong` comes from the first byte on with which an item has more bytes than the limit; then the text is given
-    /// up, and every later step answers it too. Growth is refused as `NoMemory`, and then so is every later call.
+    /// `TooLong` comes from the first byte on with which an item has more bytes than the limit; then the cutter stops,
+    /// and every later step returns it too. Growth is refused as `NoMemory`, and then so is every later call.
     pub fn step(&mut self, byte: u8) -> Result<Cut, NoMemory>
         ensures limit { self.new.limit ≡ self.old.limit }
         ensures stepped { OnOk result (self.new.stepped ≡ self.old.stepped ++ byte ∷ []) }
@@ -175,7 +175,7 @@ impl Cutter {
         self.part.bytes.as_slice()
     }
 
-    /// Whether a call has answered `NoMemory`.
+    /// Whether a call has returned `NoMemory`.
     pub fn failed(&self) -> bool
         ensures { result ≡ self.now.failed }
     {

@@ -13,7 +13,7 @@ pub enum Fault {
     UnmatchedParenthesis,
     /// CB03: a list is nested in 200 others.
     NestingTooDeep,
-    /// CB04: a number does not fit 64 bits with a sign.
+    /// CB04: a number does not fit in a signed 64-bit integer.
     IntegerOutOfRange,
     /// CB05: a word is a number with a point or an exponent.
     FloatNotSupported,
@@ -41,7 +41,7 @@ pub enum Fault {
     BadSalience,
     /// CB17: a value is of a type that its place does not take.
     WrongType,
-    /// CB18: a result does not fit 64 bits with a sign.
+    /// CB18: a result does not fit in a signed 64-bit integer.
     IntegerOverflow,
     /// CB19: a divisor is zero.
     DivisionByZero,

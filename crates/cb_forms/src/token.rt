@@ -11,7 +11,7 @@ pub enum Token {
     Symbol(ByteString),
     /// A string's content, its escapes resolved.
     Str(ByteString),
-    /// A number of 64 bits with a sign.
+    /// A signed 64-bit integer.
     Int(i64),
     /// `?n`, by its name n.
     Var(ByteString),

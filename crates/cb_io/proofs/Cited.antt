@@ -41,7 +41,7 @@ module _ {K : Type 0} (writes : K → PastWrites) where
   pub puts_as : (o o1 : OutState K) (e e' : Extent) (w w' : List ℕ) → e' ≡ e → w' ≡ w → Puts writes o o1 e w → Puts writes o o1 e' w'
   puts_as = by.puts_as writes
 
-  -- no fault was answered after a call that put all
+  -- no `WriteFault` was returned after a call that put all
   pub puts_fine : (o o1 : OutState K) (w : List ℕ) → Puts writes o o1 all_put w → o1.fault ≡ false
   puts_fine = by.puts_fine writes
 

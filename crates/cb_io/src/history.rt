@@ -10,7 +10,7 @@ use std::marker::{Model, PhantomData};
 /// A type keeps one where its contract speaks of what happened so far, as the bytes that it was told
 /// or how many calls failed. Being a list and not a number, it never overflows.
 ///
-/// By itself a trace says nothing: no memory backs it, so it holds whatever its owner noted. The
+/// By itself a history says nothing: no memory backs it, so it holds whatever its owner noted. The
 /// owner ties it to what is real, by a `Model` whose `invariant` relates it to the real fields, or by
 /// clauses that fix it in each method.
 #[derive(Drop)]

@@ -8,7 +8,7 @@ use std::marker::Model;
 /// How many bytes wait at most.
 const BLOCK: usize = 4096;
 
-/// Passes bytes on to a sink in order, and after a first fault writes no byte more.
+/// Passes bytes on to a sink in order, and after a write has failed, writes nothing more.
 ///
 /// What was put may wait until a later `put` or a `flush` writes it: those bytes are pending, 4096 at
 /// most. No call takes memory.
@@ -35,7 +35,7 @@ impl<K: Sink> Model for Out<K> {
 }
 
 impl<K: Sink> Out<K> {
-    /// Writes to this sink. Nothing is pending, and no fault was answered.
+    /// Writes to this sink. Nothing is pending, and no `WriteFault` was returned.
     pub fn new(sink: K) -> Out<K>
         ensures { result ≡ record { sink = sink; pending = []; fault = false } }
     {
@@ -58,13 +58,13 @@ impl<K: Sink> Out<K> {
     /// which may be all of it or nothing.
     ///
     /// A `WriteFault` comes where the sink failed during this call, and at each call after one that
-    /// answered a fault. The sink then has a beginning of what was put, and gets no byte more.
+    /// returned it. The sink then has a beginning of what was put, and gets no byte more.
     pub fn put(&mut self, bytes: &[u8]) -> Result<(), WriteFault>
         ensures puts { self.old.fault ≡ false
             → Puts K.writes self.old self.new (write_extent result) bytes.now }
         ensures err_after { OnErr result (self.new.fault ≡ true) }
 
-        // After a fault.
+        // After a `WriteFault`.
         ensures stuck { self.old.fault ≡ true → IsErr result }
         ensures still { self.old.fault ≡ true → self.new ≡ self.old }
 
@@ -88,14 +88,14 @@ impl<K: Sink> Out<K> {
     /// Writes all that is pending.
     ///
     /// A `WriteFault` comes where the sink failed during this call, and at each call after one that
-    /// answered a fault. The sink then has a beginning of what was put, and gets no byte more.
+    /// returned it. The sink then has a beginning of what was put, and gets no byte more.
     pub fn flush(&mut self) -> Result<(), WriteFault>
         ensures puts { self.old.fault ≡ false
             → Puts K.writes self.old self.new (write_extent result) [] }
         ensures ok_pending { OnOk result (self.new.pending ≡ []) }
         ensures err_after { OnErr result (self.new.fault ≡ true) }
 
-        // After a fault.
+        // After a `WriteFault`.
         ensures stuck { self.old.fault ≡ true → IsErr result }
         ensures still { self.old.fault ≡ true → self.new ≡ self.old }
 
@@ -120,7 +120,7 @@ fn keep(block: &mut [u8; BLOCK], used: usize, bytes: &[u8])
     block[used..used + bytes.len()].copy_from_slice(bytes);
 }
 
-/// Answers a fault again that was answered before.
+/// Returns `WriteFault` again if it was returned before.
 fn check(fault: bool) -> Result<(), WriteFault>
     ensures ok { OnOk result (fault ≡ false) }
     ensures err { OnErr result (fault ≡ true) }

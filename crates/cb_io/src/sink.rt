@@ -14,10 +14,10 @@ pub trait Sink {
     // the bytes that its writes took, and how many of them failed; to take nothing of a slice that isn't empty is a failure
     ghost writes: { Self → PastWrites };
 
-    /// Takes a beginning of the slice, and answers how many bytes that is: often fewer than all.
+    /// Takes a beginning of the slice, and returns how many bytes that is: often fewer than all.
     ///
-    /// A `WriteFault` comes whenever the sink likes. It moves no byte and raises the count of failures
-    /// by one, as the answer 0 does for a slice that isn't empty; no other answer changes that count. A
+    /// A `WriteFault` may be returned at any time. It moves no byte and raises the count of failures
+    /// by one, as the result 0 does for a slice that isn't empty; no other result changes that count. A
     /// later write may succeed.
     fn write(&mut self, bytes: &[u8]) -> Result<usize, WriteFault>
         ensures within { IfOk result (λ n. n ≤ length bytes.now) }

@@ -18,13 +18,13 @@ pub trait Source {
     // the bytes that its reads gave, how many of them reported the end, and how many failed
     ghost reads: { Self → PastReads };
 
-    /// Reads the next bytes into the buffer's front, and answers how many: at most the buffer's length,
-    /// and often fewer. What stands in the buffer after them is left open.
+    /// Reads into the front of `buf` and returns how many bytes, at most `buf.len()`. The rest of the
+    /// buffer is unspecified.
     ///
     /// 0 for a buffer that isn't empty is the end of the bytes.
     ///
-    /// A `ReadFault` comes whenever the source likes. It moves no byte and raises the count of failures
-    /// by one, and no other answer changes that count; a later read may succeed.
+    /// A `ReadFault` may be returned at any time. It moves no byte and raises the count of failures
+    /// by one, and no other result changes that count; a later read may succeed.
     fn read(&mut self, buf: &mut [u8]) -> Result<usize, ReadFault>
         ensures within { IfOk result (λ n. n ≤ length buf.old) }
         ensures gave { IfOk result (λ n. Gave (left self.old) (left self.new) (take n buf.new)) }

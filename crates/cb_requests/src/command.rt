@@ -34,7 +34,7 @@ pub enum Command {
     Clear,
 }
 
-/// The command that an item is, by what there is, or its first fault (`docs/LANGUAGE.md`, "Faults").
+/// The command that an item is, by what there is, or its first fault (`docs/LANGUAGE.md`, "The order of the faults").
 pub fn read_command(names: &mut Names, known: &Known<'_>, item: &Item) -> Result<Command, Refused>
     ensures { Settles request_by result (request_of known.now.relations.now known.now.env.now
         (is_in_use known.now.memory.now known.now.deffacts.now) (reading_of item.now)) }

@@ -7,7 +7,7 @@ use cb_facts::Name;
 use cb_templates::Relations;
 use cb_working_memory::{DeffactsTable, WorkingMemory};
 
-/// What there is where an item is read: an item is a request or a fault by these.
+/// The state that reading an item depends on.
 #[derive(Drop)]
 pub struct Known<'a> {
     /// The templates.

@@ -135,7 +135,7 @@ fn read_addressed(
     })
 }
 
-/// The fault of a list that begins with a word kept for other elements.
+/// The fault of a list that begins with a reserved word.
 fn word_fault(word: &[u8]) -> Fault
     ensures { result ≡ word_fault word.now }
 {
@@ -145,7 +145,7 @@ fn word_fault(word: &[u8]) -> Fault
     Fault::NotInProfile
 }
 
-/// The pattern that a list is, by its word and what follows, or its first fault; a kept word has this one.
+/// The pattern that a list is, by its word and what follows, or its first fault; a reserved word has this one.
 fn read_called(
     names: &mut Names,
     scope: &Scope<'_>,

@@ -30,7 +30,8 @@ pub(crate) fn know_branch(known: &mut NameList, elements: &[ElementForm]) -> Res
     know_all(known, elements)
 }
 
-/// The same of parts, one after another.
+/// Adds the variables that parts bind, one part after another, to those that have a value, or gives the first fault of a
+/// variable.
 fn know_all<T: Mentions>(known: &mut NameList, parts: &[T]) -> Result<(), Refused>
     ensures { Knows known.old (flat_map T.mentions parts.now) known.new result }
 {
@@ -49,7 +50,7 @@ impl Mentions for ElementForm {
     }
 }
 
-/// The same of the variable that takes an address.
+/// Adds the variable that takes a fact's address to those that have a value. Where it is one of them, the fault is CB08.
 fn know_address(known: &mut NameList, address: Option<&Name>) -> Result<(), Refused>
     ensures { Knows known.old (address_mentions (option_map (λ x. x.now) address.entry))
         known.new result }
@@ -64,7 +65,8 @@ fn know_address(known: &mut NameList, address: Option<&Name>) -> Result<(), Refu
     Ok(())
 }
 
-/// The same of what a pattern asks.
+/// Adds the variables that a row of fields or the slots of a pattern bind to those that have a value, or gives the first
+/// fault of a variable.
 fn know_parts(known: &mut NameList, parts: &Parts) -> Result<(), Refused>
     ensures { Knows known.old (parts_mentions (asked_parts parts.now)) known.new result }
 {
@@ -74,7 +76,7 @@ fn know_parts(known: &mut NameList, parts: &Parts) -> Result<(), Refused>
     }
 }
 
-/// The same of a row of constraints.
+/// Adds the variables that a row of constraints binds to those that have a value, or gives the first fault of a variable.
 fn know_row(known: &mut NameList, row: &Row) -> Result<(), Refused>
     ensures { Knows known.old (row_mentions row.now) known.new result }
 {
@@ -135,7 +137,8 @@ fn plain_variable(check: &Check) -> Option<&Name>
     }
 }
 
-/// The same of alternatives, before which a variable may be set apart.
+/// Adds the variable that stands before alternatives, if there is one, to those that have a value. Where a variable of the
+/// alternatives has none, the fault is CB11.
 fn know_either(
     known: &mut NameList,
     apart: Option<&Name>,

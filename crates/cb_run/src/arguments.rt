@@ -12,8 +12,8 @@ use std::alloc::Global;
 use std::env::{self, Env};
 use std::io::{self, Eprint, Print};
 
-/// Carries out the script as the program's words ask, and reports on standard error what there is to report; its exit
-/// status.
+/// Runs the script with the options on the command line and returns the exit status. What there is to report goes to
+/// standard error.
 pub fn run_program<R: AllocGlobal + Env + Print + Eprint, S: Source, K: Sink>(
     rt: &R,
     source: &mut S,

@@ -12,7 +12,7 @@ use clap::Error;
 use clap::error::ErrorKind;
 use std::alloc::Global;
 
-/// Reads the limits from the program's words, its name first, and then carries out the script as `run` does.
+/// Runs the script with the options on the command line, the program's name first, and returns how the run went.
 ///
 /// An error comes as in `read_words`. Then nothing was read of the script, and nothing written.
 pub fn carry_out<'a, S: Source, K: Sink>(

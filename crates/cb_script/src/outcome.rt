@@ -63,7 +63,7 @@ impl Outcome {
         Outcome { status: 3, cause }
     }
 
-    /// What the program says of a run that failed, without the line's end: nothing where the script has ended.
+    /// The line on standard error, without its line feed; empty if the script ended.
     pub fn line(&self) -> &'static str
         ensures { result.now ≡ line_of self.now.cause }
     {

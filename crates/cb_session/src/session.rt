@@ -19,8 +19,8 @@ use std::marker::Model;
 
 /// Carries out a script item by item, while its bytes come, and writes its transcript.
 ///
-/// Contracts see the limits, the bytes fed, the status that was answered where the script has ended, and the stop that was
-/// answered where it could not be carried out further.
+/// Contracts see the limits, the bytes fed, the status that was returned where the script has ended, and the stop that was
+/// returned where it could not be carried out further.
 #[derive(Drop)]
 pub struct Session {
     limits: Limits,
@@ -62,7 +62,7 @@ impl Session {
     /// the items write is written.
     ///
     /// `Ended` comes where the script has ended, with its status: then nothing more is carried out, and every later call
-    /// answers that status. A `Stop` comes where memory or the sink fails, and every later call answers it.
+    /// returns that status. A `Stop` comes where memory or the sink fails, and every later call returns it.
     pub fn feed<K: Sink>(&mut self, bytes: &[u8], out: &mut Out<K>) -> Result<Flow, Stop>
         requires { self.old.stop ≡ None → IsReady out.old }
         // The script goes on.
@@ -183,7 +183,7 @@ impl Session {
     }
 
     /// Ends the script, after its last byte: carries out the item that is open there, and gives the status. Later calls
-    /// answer that status and write nothing.
+    /// return that status and write nothing.
     ///
     /// A `Stop` comes as in `feed`.
     pub fn finish<K: Sink>(&mut self, out: &mut Out<K>) -> Result<Status, Stop>
@@ -276,7 +276,7 @@ impl Session {
         }
     }
 
-    /// Whether a call has answered a `Stop`.
+    /// Whether a call has returned a `Stop`.
     pub fn failed(&self) -> bool
         ensures { result ≡ is_some self.now.stop }
     {
@@ -334,7 +334,7 @@ fn flush<K: Sink>(out: &mut Out<K>) -> Result<(), Stop>
     }
 }
 
-/// The stop, after all that was put is written; a write fault where that fails.
+/// The stop, after all that was put is written; `WriteFault` if writing fails.
 fn halt<K: Sink>(stop: Stop, out: &mut Out<K>) -> Stop
     requires { stop ≡ Stop.NoMemory → out.old.fault ≡ false }
     ensures puts { (o : OutState K) (bytes : List ℕ)

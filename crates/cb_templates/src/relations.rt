@@ -47,8 +47,8 @@ impl Relations {
         }
     }
 
-    /// Defines the template that a `deftemplate` form is, by the members after its head, and takes it for the one that the
-    /// relation had, if it had one. Whatever it refuses, as `read_template` does, nothing has changed.
+    /// Defines the template that a `deftemplate` form is, by the members after its head, replacing the one that the relation
+    /// had, if it had one. Whatever it refuses, as `read_template` does, nothing has changed.
     pub fn define_template(
         &mut self,
         names: &mut Names,
@@ -65,8 +65,8 @@ impl Relations {
         Ok(())
     }
 
-    /// Takes a template for the one that its relation had, if it had one. Growth is refused as `NoMemory`, and then nothing
-    /// has changed.
+    /// Defines a template, replacing the one that the relation had, if it had one. Growth is refused as `NoMemory`, and then
+    /// nothing has changed.
     pub fn insert(&mut self, relation: Name, template: Template) -> Result<(), NoMemory>
         ensures ok { OnOk result (self.new ≡ with_template self.old (relation, template)) }
         ensures err { OnErr result (self.new ≡ self.old) }

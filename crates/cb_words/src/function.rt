@@ -80,14 +80,14 @@ pub enum Function {
 /// How many arguments a function takes.
 #[derive(Clone, Copy, Debug, PartialEq, Eq)]
 pub enum Arity {
-    /// So many.
+    /// Exactly this many.
     Exactly(usize),
-    /// So many or more.
+    /// This many or more.
     AtLeast(usize),
 }
 
 impl Arity {
-    /// Whether so many arguments may be given.
+    /// Whether a call may have this many arguments.
     pub fn takes(self, count: usize) -> bool
         ensures { result ≡ takes self count }
     {

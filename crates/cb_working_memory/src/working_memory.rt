@@ -54,7 +54,7 @@ impl WorkingMemory {
         self.facts.facts()
     }
 
-    /// Asserts a fact. Its index is the answer, or `None` where no index is left: then nothing has changed.
+    /// Asserts a fact and returns its index, or `None` if none is left; then nothing has changed.
     pub fn assert_one(&mut self, fact: Fact) -> Result<Option<u64>, NoMemory>
         ensures { IfOk result (λ ix. asserted_one self.old fact ≡ (self.new, ix)) }
     {

@@ -1,4 +1,4 @@
-//! The errors of bytes: how they read, and that a refused growth becomes one. And that a trace takes no bytes.
+//! The errors of bytes: how they read, and that a refused growth becomes one. And that a history takes no bytes.
 use cb_io::{History, NoMemory, ReadFault, WriteFault};
 use std::alloc::{AllocError, Global};
 

@@ -36,7 +36,7 @@ fn put_all(out: &mut Out<MemSink>) -> Result<(), WriteFault> {
     out.flush()
 }
 
-/// Whether a fault is answered exactly where bytes are missing, by a later flush too, and the sink has these bytes.
+/// Whether a `WriteFault` is returned exactly where bytes are missing, by a later flush too, and the sink has these bytes.
 fn ends_with(out: &mut Out<MemSink>, want: &[u8]) -> bool {
     let is_whole = want.len() == 8;
     put_all(out).is_ok() == is_whole

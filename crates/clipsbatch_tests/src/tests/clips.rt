@@ -1,7 +1,7 @@
 //! The scripts of `docs/CLIPS.md`, of `README.md` and of the man page, made by `docs/examples.py`.
 use super::rows::{Example, WITH_A_FAULT, WITHOUT_FAULT};
 
-pub(super) const CLIPS: [Example; 25] = [
+pub(super) const CLIPS: [Example; 27] = [
     Example {
         name: "Input and output: 1",
         script: b"(+ 1 2)
@@ -56,15 +56,19 @@ blue
 (modify 1 (a 2))
 (bogus)
 (deftemplate t (slot n (default (+ 1 2))))
+(defglobal MAIN ?*a* = 1)
 (if TRUE then (reset))
 (assert (sum =(+ 1 2)))
 (printout werror \"w\" crlf)
+(printout (sym-cat t) \"x\" crlf)
 (member$ (create$ b c) (create$ a b c))
 ",
         written: b"[CB05] floats are not supported
 [CB14] not in this profile
 [CB14] not in this profile
 [CB06] unknown function
+[CB14] not in this profile
+[CB08] malformed form
 [CB14] not in this profile
 [CB14] not in this profile
 [CB14] not in this profile
@@ -143,6 +147,15 @@ For a total of 1 fact.
     },
     Example {
         name: "When things are checked: 5",
+        script: b"(printout nil (bind ?x 1))
+?x
+",
+        written: b"1
+",
+        outcome: WITHOUT_FAULT,
+    },
+    Example {
+        name: "When things are checked: 6",
         script: b"(assert (a) (b) (c) (d))
 (retract 1 99 2)
 (facts)
@@ -166,7 +179,7 @@ For a total of 3 facts.
         outcome: WITH_A_FAULT,
     },
     Example {
-        name: "When things are checked: 6",
+        name: "When things are checked: 7",
         script: b"(create$ 1 (printout t \"x\"))
 (if (printout t \"y\") then 1 else 2)
 ",
@@ -231,16 +244,18 @@ For a total of 1 fact.
     },
     Example {
         name: "Facts and templates: 5",
-        script: b"(bind ?f (assert (color red)))
-(retract 1)
+        script: b"(defglobal ?*kept* = none ?*f* = none)
+(defglobal ?*kept* = ?*f*)
+(bind ?*f* (assert (color red)))
 (reset)
+?*kept*
 (assert (color blue))
+(retract ?*kept*)
 (facts)
 ",
         written: b"<Fact-1>
 <Fact-1>
-f-1     (color blue)
-For a total of 1 fact.
+<Fact-1>
 ",
         outcome: WITHOUT_FAULT,
     },
@@ -277,6 +292,20 @@ For a total of 1 fact.
     },
     Example {
         name: "Globals, variables and reset: 3",
+        script: b"(bind ?12 1)
+?12
+(bind ?f:slot 2)
+?f:slot
+",
+        written: b"1
+1
+2
+2
+",
+        outcome: WITHOUT_FAULT,
+    },
+    Example {
+        name: "Globals, variables and reset: 4",
         script: b"(bind ?x 1)
 (bind ?x)
 ?x

@@ -76,7 +76,7 @@ fn stops_at_write(
     Ok(goes(alloc, &mut source, sink, want))
 }
 
-/// Whether each write of one byte that fails in turn stops the run: by a fault, and by want of room.
+/// Whether each write of one byte that fails in turn stops the run: by a `WriteFault`, and by want of room.
 fn stops_at_each_write(alloc: Global, row: &Row, whole: &Whole) -> Result<bool, NoMemory> {
     let script = whole.script.as_slice();
     for taken in 0..whole.written.len() {
