@@ -54,9 +54,9 @@ abbrev mutual
 abbrev pub word_fault : List ℕ → Fault
 word_fault word = if bytes_eq word (codes "declare") then MalformedForm else NotInProfile
 
--- what is wrong with a list as a pattern, by its word and what follows, where a kept word has this fault
+-- what is wrong with a list as a pattern, by its word and what follows, where a reserved word has this fault
 abbrev pub called_pattern_faults : Scope → Fault → List ℕ → Trees → List Fault
-called_pattern_faults s kept word ts = unless (not (is_reserved word)) kept ++ pattern_faults s word ts
+called_pattern_faults s reserved word ts = unless (not (is_reserved word)) reserved ++ pattern_faults s word ts
 
 abbrev pub alone_faults : Scope → Option (List ℕ × Trees) → List Fault
 alone_faults s None = MalformedForm ∷ []

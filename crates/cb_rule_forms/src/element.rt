@@ -149,16 +149,16 @@ fn word_fault(word: &[u8]) -> Fault
 fn read_called(
     names: &mut Names,
     scope: &Scope<'_>,
-    kept: Fault,
+    reserved: Fault,
     word: &[u8],
     forms: &[Form],
 ) -> Result<(Name, PatternParts), Refused>
     ensures { ReadsAs pattern_value result
-        (called_pattern_faults scope.now kept word.now (members forms.now))
+        (called_pattern_faults scope.now reserved word.now (members forms.now))
         (pattern_of scope.now.templates word.now (members forms.now)) }
 {
     if is_reserved(word) {
-        return Err(Refused::Fault(kept));
+        return Err(Refused::Fault(reserved));
     }
     read_pattern(names, scope, word, forms)
 }

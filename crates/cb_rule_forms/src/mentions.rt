@@ -19,24 +19,24 @@ trait Mentions {
     ghost mentions: { Self → List Mention };
 
     /// Adds the variables that it binds to those that have a value, or gives the first fault of a variable.
-    fn know(&self, known: &mut NameList) -> Result<(), Refused>
+    fn bind(&self, known: &mut NameList) -> Result<(), Refused>
         ensures { Knows known.old (mentions self.now) known.new result };
 }
 
 /// Adds the variables that a branch binds to those that have a value, or gives the first fault of a variable.
-pub(crate) fn know_branch(known: &mut NameList, elements: &[ElementForm]) -> Result<(), Refused>
+pub(crate) fn bind_branch(known: &mut NameList, elements: &[ElementForm]) -> Result<(), Refused>
     ensures { Knows known.old (branch_mentions (map form_value elements.now)) known.new result }
 {
-    know_all(known, elements)
+    bind_all(known, elements)
 }
 
 /// Adds the variables that parts bind, one part after another, to those that have a value, or gives the first fault of a
 /// variable.
-fn know_all<T: Mentions>(known: &mut NameList, parts: &[T]) -> Result<(), Refused>
+fn bind_all<T: Mentions>(known: &mut NameList, parts: &[T]) -> Result<(), Refused>
     ensures { Knows known.old (flat_map T.mentions parts.now) known.new result }
 {
     for part in parts {
-        part.know(known)?;
+        part.bind(known)?;
     }
     Ok(())
 }
@@ -44,14 +44,14 @@ fn know_all<T: Mentions>(known: &mut NameList, parts: &[T]) -> Result<(), Refuse
 impl Mentions for ElementForm {
     ghost mentions = { λ element. element_mentions (form_value element) };
 
-    fn know(&self, known: &mut NameList) -> Result<(), Refused> {
-        know_address(known, self.address.as_ref())?;
-        know_parts(known, &self.parts)
+    fn bind(&self, known: &mut NameList) -> Result<(), Refused> {
+        bind_address(known, self.address.as_ref())?;
+        bind_parts(known, &self.parts)
     }
 }
 
 /// Adds the variable that takes a fact's address to those that have a value. Where it is one of them, the fault is CB08.
-fn know_address(known: &mut NameList, address: Option<&Name>) -> Result<(), Refused>
+fn bind_address(known: &mut NameList, address: Option<&Name>) -> Result<(), Refused>
     ensures { Knows known.old (address_mentions (option_map (λ x. x.now) address.entry))
         known.new result }
 {
@@ -67,39 +67,39 @@ fn know_address(known: &mut NameList, address: Option<&Name>) -> Result<(), Refu
 
 /// Adds the variables that a row of fields or the slots of a pattern bind to those that have a value, or gives the first
 /// fault of a variable.
-fn know_parts(known: &mut NameList, parts: &Parts) -> Result<(), Refused>
+fn bind_parts(known: &mut NameList, parts: &Parts) -> Result<(), Refused>
     ensures { Knows known.old (parts_mentions (asked_parts parts.now)) known.new result }
 {
     match parts {
-        Parts::Fields(row) => know_row(known, row),
-        Parts::Slots(slots) => know_all(known, slots.as_slice()),
+        Parts::Fields(row) => bind_row(known, row),
+        Parts::Slots(slots) => bind_all(known, slots.as_slice()),
     }
 }
 
 /// Adds the variables that a row of constraints binds to those that have a value, or gives the first fault of a variable.
-fn know_row(known: &mut NameList, row: &Row) -> Result<(), Refused>
+fn bind_row(known: &mut NameList, row: &Row) -> Result<(), Refused>
     ensures { Knows known.old (row_mentions row.now) known.new result }
 {
-    know_all(known, row.constraints())
+    bind_all(known, row.constraints())
 }
 
 impl Mentions for SlotRow {
     ghost mentions = { λ slot. row_mentions slot.row };
 
-    fn know(&self, known: &mut NameList) -> Result<(), Refused> {
-        know_row(known, &self.row)
+    fn bind(&self, known: &mut NameList) -> Result<(), Refused> {
+        bind_row(known, &self.row)
     }
 }
 
 impl Mentions for Constraint {
     ghost mentions = { λ constraint. demand_mentions (demand_of constraint.demand) };
 
-    fn know(&self, known: &mut NameList) -> Result<(), Refused> {
+    fn bind(&self, known: &mut NameList) -> Result<(), Refused> {
         match &self.demand {
             Demand::Nothing => Ok(()),
-            Demand::Each(checks) => know_all(known, checks.as_slice()),
+            Demand::Each(checks) => bind_all(known, checks.as_slice()),
             Demand::Either(apart, alternatives) => {
-                know_either(known, apart.as_ref(), alternatives.as_slice())
+                bind_either(known, apart.as_ref(), alternatives.as_slice())
             }
         }
     }
@@ -108,7 +108,7 @@ impl Mentions for Constraint {
 impl Mentions for Check {
     ghost mentions = { λ check. check_mentions (check_of check) };
 
-    fn know(&self, known: &mut NameList) -> Result<(), Refused> {
+    fn bind(&self, known: &mut NameList) -> Result<(), Refused> {
         match plain_variable(self) {
             Some(name) => Ok(add_name(known, name)?),
             None => {
@@ -139,7 +139,7 @@ fn plain_variable(check: &Check) -> Option<&Name>
 
 /// Adds the variable that stands before alternatives, if there is one, to those that have a value. Where a variable of the
 /// alternatives has none, the fault is CB11.
-fn know_either(
+fn bind_either(
     known: &mut NameList,
     apart: Option<&Name>,
     alternatives: &[Vec<Check>],
@@ -149,7 +149,7 @@ fn know_either(
         (map (λ cs. map check_of cs.items) alternatives.now)))
         known.new result }
 {
-    know_apart(known, apart)?;
+    bind_apart(known, apart)?;
     if !knows_alternatives(known, alternatives) {
         return Err(Refused::Fault(Fault::UnboundVariable));
     }
@@ -157,7 +157,7 @@ fn know_either(
 }
 
 /// Adds a variable that is set apart.
-fn know_apart(known: &mut NameList, apart: Option<&Name>) -> Result<(), NoMemory>
+fn bind_apart(known: &mut NameList, apart: Option<&Name>) -> Result<(), NoMemory>
     ensures { OnOk result (known.new
         ≡ known_after known.old (apart_mentions (option_map (λ x. x.now) apart.entry))) }
 {

@@ -13,7 +13,7 @@ ghost use Rattle.cb_rule_forms.specs.Internal.SectionPlaces.{sections_seen};
 use crate::actions::read_actions;
 use crate::declaration::read_declaration;
 use crate::element::{ElementForm, read_elements};
-use crate::mentions::know_branch;
+use crate::mentions::bind_branch;
 use crate::relations::find_relations;
 use crate::sections::{Sections, split_sections};
 use cb_expr_forms::{NameList, Scope, Side};
@@ -92,7 +92,7 @@ fn read_sections<T>(
     let salience = read_salience(names, constants, relations, env, sections.declared)?;
     let elements = read_left_side(names, relations, env, sections.elements)?;
     let mut known = NameList::new(names.alloc());
-    know_branch(&mut known, elements.as_slice())?;
+    bind_branch(&mut known, elements.as_slice())?;
     let actions = read_actions(names, relations, env, known, sections.actions)?;
     Ok(build_rule(names, sections.name, salience, elements, actions)?)
 }

@@ -5,7 +5,7 @@ use Rattle.cb_templates.specs.FaultLists.{first_of}
 use Rattle.cb_expr_forms.specs.Scopes.{is_known}
 use Rattle.cb_rule_forms.specs.Mentions.{known_after, mention_faults, test_variables}
 use Rattle.cb_rule_forms.proofs.MentionLaws.{needed_after, needed_all, needed_some}
-use Rattle.cb_rule_forms.proofs.mentions.CheckMentions.know.Goals as goal
+use Rattle.cb_rule_forms.proofs.mentions.CheckMentions.bind.Goals as goal
 
 pub returns-then-not-knows_test : goal.returns-then-not-knows_test
 returns-then-not-knows_test c =
