@@ -26,11 +26,11 @@
 
 ; What this cluster adds.
 (printout t crlf "This cluster:" crlf)
-(assert (service (name web) (needs db cache))
-        (service (needs db) (name mail) (port 25)))
+(assert (service (name web) (needs db cache)))
+(bind ?mail (assert (service (needs db) (name mail) (port 25))))
 (assert (setting (of web) (key "max clients") (value 200)))
 (assert (service (name cache) (port 6379)))
 
 ; Mail moves to another host, and its service is removed.
-(retract 6)
+(retract ?mail)
 (facts)

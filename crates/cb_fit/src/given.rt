@@ -39,7 +39,7 @@ pub(crate) fn newly_bound(
     Ok(given.bound)
 }
 
-/// Adds the variables that rows of slots bind, if they have no value yet, with those that they have afterwards.
+/// Adds the variables that rows of slots bind, if they have no value yet, with the values that they have afterwards.
 #[tactic(auto, using(crate::proofs::Givings::given_more))]
 fn give_slots(slots: &[SlotRow], after: &Env, given: &mut Given) -> Result<(), NoMemory>
     ensures { OnOk result (given_of given.new
@@ -52,7 +52,7 @@ fn give_slots(slots: &[SlotRow], after: &Env, given: &mut Given) -> Result<(), N
     Ok(())
 }
 
-/// Adds the variables that constraints bind, if they have no value yet, with those that they have afterwards.
+/// Adds the variables that constraints bind, if they have no value yet, with the values that they have afterwards.
 #[tactic(auto, using(crate::proofs::Givings::given_more))]
 fn give_row(constraints: &[Constraint], after: &Env, given: &mut Given) -> Result<(), NoMemory>
     ensures { OnOk result (given_of given.new
@@ -65,7 +65,7 @@ fn give_row(constraints: &[Constraint], after: &Env, given: &mut Given) -> Resul
     Ok(())
 }
 
-/// Adds the variables that a constraint binds, if they have no value yet, with those that they have afterwards.
+/// Adds the variables that a constraint binds, if they have no value yet, with the values that they have afterwards.
 fn give_demand(demand: &Demand, after: &Env, given: &mut Given) -> Result<(), NoMemory>
     ensures { OnOk result (given_of given.new
         ≡ given_all (binders (demand_of demand.now)) after.now (given_of given.old)) }
@@ -77,7 +77,7 @@ fn give_demand(demand: &Demand, after: &Env, given: &mut Given) -> Result<(), No
     }
 }
 
-/// Adds the variables that checks joined by `&` bind, if they have no value yet, with those that they have afterwards.
+/// Adds the variables that checks joined by `&` bind, if they have no value yet, with the values that they have afterwards.
 fn give_checks(checks: &[Check], after: &Env, given: &mut Given) -> Result<(), NoMemory>
     ensures { OnOk result (given_of given.new
         ≡ given_all (binders_of (map check_of checks.now)) after.now (given_of given.old)) }
@@ -92,7 +92,7 @@ fn give_checks(checks: &[Check], after: &Env, given: &mut Given) -> Result<(), N
     Ok(())
 }
 
-/// Adds a variable, if it has no value yet, with the one that it has afterwards.
+/// Adds a variable, if it has no value yet, with the value that it has afterwards.
 fn give(name: &Name, after: &Env, given: &mut Given) -> Result<(), NoMemory>
     ensures { OnOk result (given_of given.new
         ≡ given_all (name.now ∷ []) after.now (given_of given.old)) }

@@ -32,13 +32,13 @@ pub(super) const EXAMPLES: [Example; 4] = [
 
 ; What this cluster adds.
 (printout t crlf \"This cluster:\" crlf)
-(assert (service (name web) (needs db cache))
-        (service (needs db) (name mail) (port 25)))
+(assert (service (name web) (needs db cache)))
+(bind ?mail (assert (service (needs db) (name mail) (port 25))))
 (assert (setting (of web) (key \"max clients\") (value 200)))
 (assert (service (name cache) (port 6379)))
 
 ; Mail moves to another host, and its service is removed.
-(retract 6)
+(retract ?mail)
 (facts)
 ",
         written: b"Each cluster:
@@ -49,6 +49,7 @@ f-4     (must-run web)
 For a total of 4 facts.
 
 This cluster:
+<Fact-5>
 <Fact-6>
 <Fact-7>
 <Fact-8>
