@@ -61,13 +61,16 @@ pub fn a_return_value_is_compared()
 {}
 
 /// `~` turns a test that holds into one that doesn't, and the other way round; one that faults doesn't hold.
-pub fn the_opposite_holds_where_a_test_does_not()
+pub fn a_tilde_turns_a_test()
     ensures holds { (t : Test) (v : Value) (env : Bindings) → test_holds t v env ≡ false
         → after_demand (only (opposite t)) v env ≡ Some env }
     ensures fails { (t : Test) (v : Value) (env : Bindings) → test_holds t v env ≡ true
         → after_demand (only (opposite t)) v env ≡ None }
     ensures faults { (e : Term) (v : Value) (env : Bindings) (f : Fault) → value_of e env ≡ Err f
         → after_demand (only (opposite (predicate e))) v env ≡ Some env }
+    ensures faults_returned { (e : Term) (v : Value) (env : Bindings) (f : Fault)
+        → value_of e env ≡ Err f
+        → after_demand (only (opposite (return_value e))) v env ≡ Some env }
 {}
 
 /// Of checks joined by `&` the first comes first, and the others see what variables have after it.

@@ -24,6 +24,9 @@ use std::alloc::Global;
 /// All ways in which a pattern fits a fact, where variables have these values, in the order of the lengths of their segments
 /// (`docs/LANGUAGE.md`, "Patterns"). It tests the pattern once, so the meter goes up by one.
 ///
+/// A slot's value is taken by the place that the slot has in the template by which the pattern was read; so a fact of a
+/// template is to be of that one.
+///
 /// Growth is refused as `NoMemory`; the meter has gone up then too.
 pub fn fit<T>(
     alloc: Global,
