@@ -1,8 +1,9 @@
 #!/bin/sh
-# Measures how long one test of a pattern against a fact takes, by the number of the fact's fields: for constraints for one
-# field each, for one segment, for two segments with a constant between, and where the number of fields can't fit, which is
-# seen without looking at them. It counts what a test allocates where the pattern fits in no way, which must be nothing, and
-# compares the peak memory of two tests in which many beginnings of ways come to nothing.
+# Measures how the time of one test of a pattern against a fact grows with the number of the fact's fields: for constraints for
+# one field each, for one segment, for two segments with a constant between, where the number of fields can't fit, which is seen
+# without looking at them, and for as many variables, to which the test or an earlier pattern gives their values. It counts what
+# a test allocates where the pattern fits in no way, which must be nothing, and compares the peak memory of two tests in which
+# many beginnings of ways come to nothing.
 # Run it from anywhere, with GNU time as /usr/bin/time, a C compiler and the GNU C library:
 #
 #     benches/fit.sh
@@ -19,9 +20,16 @@ words() {
     awk -v n="$1" -v word="$2" 'BEGIN { while (n-- > 0) printf " %s", word }'
 }
 
+# So many variables, each after a blank.
+variables() {
+    awk -v n="$1" 'BEGIN { for (i = 1; i <= n; i++) printf " ?v%d", i }'
+}
+
 # The script that tests a pattern of this kind $3 times against a fact of $2 fields.
 script() {
     fields=$(words "$2" a)
+    earlier=
+    taken=
     case $1 in
     constraints) pattern=$fields ;;
     segment) pattern=' $?x' ;;
@@ -31,8 +39,14 @@ script() {
         fields="$(words "$half" a) -$(words $(($2 - 1 - half)) a)"
         ;;
     length) pattern=' a a' ;;
+    variables) pattern=$(variables "$2") ;;
+    bound)
+        pattern=$(variables "$2")
+        earlier=" (q$pattern)"
+        taken=" (then (q$fields))"
+        ;;
     esac
-    echo "(defrule r (p$pattern) =>) (again $3 (p$fields))"
+    echo "(defrule r$earlier (p$pattern) =>)$taken (again $3 (p$fields))"
 }
 
 # The processor seconds of a run of the script in the folder, which must report no fault.
@@ -50,19 +64,21 @@ test_time() {
     echo "$with $without $3" | awk '{ print 1000000 * ($1 - $2) / $3 }'
 }
 
-# The times of a test for the pattern of kind $1, which $2 says: of $3 tests, and with `by fields` of the fewer the more fields
-# there are. For 1000 fields a test may take $5 times the time for 100.
+# How many times the time of a test for the pattern of kind $1, which $2 says, grows from each number of fields in $3 to the
+# next: of $4 tests, and with `by fields` of the fewer the more fields there are. The last may be $6.
 row() {
     times=
-    for k in 1 10 100 1000; do
-        n=$3
-        [ "$4" = 'for all' ] || n=$(($3 / (k + 8)))
+    for k in $3; do
+        n=$4
+        [ "$5" = 'for all' ] || n=$(($4 / (k + 8)))
         times="$times $(test_time "$1" "$k" "$n")"
     done
-    echo "$times" | awk -v what="$2" -v most="$5" '{
-        printf "%-38s %.2f, %.2f, %.2f, %.2f microseconds for 1, 10, 100, 1000 fields; 1000 to 100: %.1f (wanted: at most %s)\n",
-            what ":", $1, $2, $3, $4, $4 / $3, most
-        exit $4 > most * $3
+    echo "$times" | awk -v what="$2" -v sizes="$3" -v most="$6" '{
+        gsub(" ", " to ", sizes)
+        printf "%-42s", what ":"
+        for (i = 2; i <= NF; i++) printf "%s %.1f", (i > 2 ? "," : ""), $i / $(i - 1)
+        printf " times the time, from %s fields (wanted of the last: at most %s)\n", sizes, most
+        exit $NF > most * $(NF - 1)
     }' || missed=1
 }
 
@@ -157,10 +173,12 @@ while IFS='	' read -r what pattern fact; do
     printf '%-46s %s allocations in 1000 tests (wanted: 0)\n' "$what:" "$count"
     [ "$count" -eq 0 ] && grep -q '^none$' "$place/transcript" || missed=1
 done <"$place/unfitting"
-row constraints 'as many constraints as fields' 12000000 'by fields' 15
-row segment 'one segment' 700000 'for all' 2
-row between 'two segments with a constant between' 4000000 'by fields' 15
-row length 'a pattern of two fields' 10000000 'for all' 2
+row constraints 'as many constraints as fields' '1 10 100 1000' 12000000 'by fields' 15
+row segment 'one segment' '1 10 100 1000' 700000 'for all' 2
+row between 'two segments with a constant between' '1 10 100 1000' 4000000 'by fields' 15
+row length 'a pattern of two fields' '1 10 100 1000' 10000000 'for all' 2
+row variables 'as many variables as fields' '8 80 800' 4000000 'by fields' 30
+row bound 'as many, with values from another pattern' '8 80 800' 4000000 'by fields' 30
 few=$(peak 10)
 many=$(peak 150)
 echo "$few $many" | awk '{

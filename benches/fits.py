@@ -2,8 +2,9 @@
 """fits.py PROGRAM MODEL [--rules N] [--seed S]
 
 Compares the ways that the program `pattern_fits` finds with those of another reading of the language: random rules, each
-with facts that its first pattern may fit. MODEL is a folder with the Python package `clipsref`, whose `read_rule` and `fit`
-are asked; it doesn't stand in this repository. Prints the first item where the two differ, or how much was compared.
+with facts that its first pattern may fit, and its second where it has one. MODEL is a folder with the Python package
+`clipsref`, whose `read_rule` and `fit` are asked; it doesn't stand in this repository. Prints the first item where the two
+differ, or how much was compared.
 """
 import argparse
 import collections
@@ -13,7 +14,9 @@ import subprocess
 import sys
 
 STAGE = 4
+NO_SUCH_FACT = 20
 NO_SUCH_RULE = 21
+ADDRESS = ("f", 1)
 TEMPLATE = "(deftemplate part (slot name) (multislot sizes) (slot kind (default b)) (multislot rest))"
 SLOTS = (("name", False), ("sizes", True), ("kind", False), ("rest", True))
 WORDS = ("a", "b", "c", "1", "2", '"a"')
@@ -80,9 +83,9 @@ class Patterns:
     def row(self):
         return [self.constraint(True) for _ in range(self.rng.choice((0, 1, 2, 2, 3, 3, 4, 5)))]
 
-    def pattern(self):
+    def pattern(self, known):
         rng = self.rng
-        self.known = []
+        self.known = list(known)
         if rng.random() < 0.6:
             return "p", [("", self.row())]
         slots = rng.sample(SLOTS, rng.randrange(1, 5))
@@ -134,13 +137,17 @@ def write_items(rng, rules):
     yield TEMPLATE
     patterns = Patterns(rng)
     for number in range(rules):
-        relation, rows = patterns.pattern()
-        text = pattern_text(relation, rows)
-        if rng.random() < 0.2:
-            text += " " + pattern_text(*patterns.pattern())
-        yield "(defrule r%d %s =>)" % (number, text)
-        for _ in range(4):
-            yield "(fits %s)" % fact_text(rng, relation, rows)
+        address = ["f"] if rng.random() < 0.1 else []
+        elements = [patterns.pattern(address)]
+        if rng.random() < 0.3:
+            elements.append(patterns.pattern(patterns.known))
+        text = " ".join(pattern_text(*element) for element in elements)
+        yield "(defrule r%d %s%s =>)" % (number, "?f <- " if address else "", text)
+        for place, element in enumerate(elements):
+            if place > 0:
+                yield "(then %s)" % fact_text(rng, *elements[0])
+            for _ in range(4):
+                yield "(fits %s)" % fact_text(rng, *element)
     yield "(probes)"
 
 
@@ -153,6 +160,7 @@ class Model:
         self.expressions, self.faults, self.patterns = expressions, faults, patterns
         self.tokens, self.values = tokens, values
         self.relations, self.rule, self.tests = {}, None, 0
+        self.place, self.before = 0, {}
         self.seen = collections.Counter()
 
     def answer(self, text):
@@ -173,10 +181,13 @@ class Model:
         if head == b"defrule":
             self.rule = None
             self.rule = self.patterns.read_rule(members, self.relations, {}, STAGE)
+            self.place, self.before = 0, {}
             self.seen["rules"] += 1
             return ["%s %d" % (self.rule.name.decode(), self.rule.salience)]
         if head == b"fits":
             return self.ways(self.read_fact(members[0]))
+        if head == b"then":
+            return self.go_on(self.read_fact(members[0]))
         return [str(self.tests)]
 
     def read_fact(self, form):
@@ -187,15 +198,31 @@ class Model:
         given = {name: [e[1] for e in parts] for name, parts in content}
         return self.values.build_template(relation, self.relations[relation], given)
 
-    def ways(self, fact):
-        if self.rule is None or not self.rule.branches[0]:
+    def fit(self, fact):
+        """What variables have before the pattern's own constraints, and the ways, each with what they have after."""
+        if self.rule is None or self.place >= len(self.rule.branches[0]):
             raise self.faults.Fault(NO_SUCH_RULE)
+        _, address, pattern = self.rule.branches[0][self.place]
+        known = dict(self.before)
+        if address is not None:
+            known[address] = ADDRESS
         self.tests += 1
-        ways = self.patterns.fit(self.rule.branches[0][0][2], fact, {})
+        return known, self.patterns.fit(pattern, fact, known)
+
+    def go_on(self, fact):
+        _, ways = self.fit(fact)
+        if not ways:
+            raise self.faults.Fault(NO_SUCH_FACT)
+        self.place, self.before = self.place + 1, ways[0][1]
+        self.seen["second patterns"] += 1
+        return []
+
+    def ways(self, fact):
+        known, ways = self.fit(fact)
         self.seen["none" if not ways else "one" if len(ways) == 1 else "several"] += 1
         if not ways:
             return ["none"]
-        return [self.way(cuts, bound) for cuts, bound in ways]
+        return [self.way(cuts, {name: value for name, value in bound.items() if name not in known}) for cuts, bound in ways]
 
     def way(self, cuts, bound):
         values = (b" %s=%s" % (name, self.values.quoted_text(value)) for name, value in bound.items())

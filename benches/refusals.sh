@@ -94,6 +94,7 @@ pattern_scripts() {
 (defrule a (p ?a ?b ?c ?d ?e ?f ?g ?h ?i $?x ?a $?y) =>)(fits (p 1 2 3 4 5 6 7 8 9 1 2 1))(fits (p 1 2 3 4 5 6 7 8 9 2 3))
 (defrule a (p $? a $? b $? c $? d $? e $? f $? g $? h $? i $?) =>)(fits (p a b c d e f g h i i))(fits (p a b c d e f g h x x))
 (defrule a (p 1 2 3 4 5 6 7 8 9 10 11 12 13 14 15 16 17 $?x a $?x ?y&:(neq ?y 1 2 3 4)) =>)(fits (p 1 2 3 4 5 6 7 8 9 10 11 12 13 14 15 16 17 b a b 5))(fits (p 1 2 3 4 5 6 7 8 9 10 11 12 13 14 15 16 17 b a c 5))
+(defrule a ?f <- (p ?a ?b ?c ?d ?e ?g ?h ?i ?j) (q ?j&~?f $?x ?a) =>)(then (p 1 2 3 4 5 6 7 8))(then (p 1 2 3 4 5 6 7 8 9))(fits (q 9 x 1))(then (q 9 1))(fits (q 9 1))
 END
     # Many ways.
     echo '(defrule a (p $?a $?b $?c) =>)(fits (p 1 2 3 4 5))'

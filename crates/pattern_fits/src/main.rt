@@ -8,7 +8,8 @@
 //! |---|---|
 //! | `(deftemplate ..)` | nothing |
 //! | `(defrule ..)` | the name of the rule and its salience |
-//! | `(fits (relation ..))` | a line for each way in which the first pattern of the rule before it fits the fact of these constants: the lengths of the segments, `\|`, and the variables with the values that they take; `none` where there is no way |
+//! | `(fits (relation ..))` | a line for each way in which the pattern fits the fact of these constants, whose address is `<Fact-1>`: the lengths of the segments, `\|`, and the variables with the values that they take; `none` where there is no way. The pattern is the first of the rule before it |
+//! | `(then (relation ..))` | nothing, but the items after it are about the rule's next pattern, with the values that variables have by the first of these ways; CB20 where there is none |
 //! | `(again N (relation ..))` | nothing, but finds these ways N times |
 //! | `(probes)` | how often a pattern was tested against a fact so far |
 //!

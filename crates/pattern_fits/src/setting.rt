@@ -2,10 +2,10 @@
 use crate::facts::read_fact;
 use crate::lines::{add_fault, add_number_line, add_rule, add_ways};
 use cb_exprs::Env;
-use cb_facts::{Fact, Names, Refused};
+use cb_facts::{Fact, Names, Refused, Value};
 use cb_forms::{Fault, Form, Item, NoMemory, Token};
 use cb_functions::Constants;
-use cb_patterns::{Ce, Meter, Pattern, Rule, Way, fit};
+use cb_patterns::{Ce, Meter, Rule, Way, fit};
 use cb_templates::Relations;
 use std::alloc::Global;
 
@@ -13,7 +13,8 @@ use std::alloc::Global;
 #[derive(Drop)]
 pub(crate) struct Mark;
 
-/// What items refer to: the templates, the last rule, and how often patterns were tested.
+/// What items refer to: the templates, the last rule, which of its patterns is tested, what variables have before that, and how
+/// often patterns were tested.
 #[derive(Drop)]
 pub(crate) struct Setting {
     names: Names,
@@ -21,6 +22,8 @@ pub(crate) struct Setting {
     relations: Relations,
     env: Env,
     rule: Option<Rule<Mark>>,
+    place: usize,
+    before: Env,
     meter: Meter<Mark>,
 }
 
@@ -33,6 +36,8 @@ impl Setting {
             relations: Relations::new(alloc),
             env: Env::new(alloc),
             rule: None,
+            place: 0,
+            before: Env::new(alloc),
             meter: Meter::new(Mark),
         })
     }
@@ -63,6 +68,9 @@ impl Setting {
         if head == b"fits".as_slice() {
             return self.list_ways(members, out);
         }
+        if head == b"then".as_slice() {
+            return self.go_on(members);
+        }
         if head == b"again".as_slice() {
             return self.fit_again(members);
         }
@@ -89,6 +97,8 @@ impl Setting {
         )?;
         add_rule(out, &rule)?;
         self.rule = Some(rule);
+        self.place = 0;
+        self.before = self.env.clone()?;
         Ok(())
     }
 
@@ -97,7 +107,8 @@ impl Setting {
             return Err(Refused::Fault(Fault::WrongArguments));
         };
         let fact = read_fact(&mut self.names, &self.relations, form)?;
-        let ways = self.ways(&fact)?;
+        let known = self.known()?;
+        let ways = self.ways(&fact, &known)?;
         Ok(add_ways(out, ways.as_slice())?)
     }
 
@@ -106,33 +117,67 @@ impl Setting {
             return Err(Refused::Fault(Fault::WrongArguments));
         };
         let fact = read_fact(&mut self.names, &self.relations, form)?;
+        let known = self.known()?;
         for _ in 0..*times {
-            let _ = self.ways(&fact)?;
+            let _ = self.ways(&fact, &known)?;
         }
         Ok(())
     }
 
-    /// All ways in which the first pattern of the last rule fits a fact.
-    fn ways(&mut self, fact: &Fact) -> Result<Vec<Way>, Refused> {
-        let Some(pattern) = self.rule.as_ref().and_then(first_pattern) else {
+    /// Goes on to the next pattern, with what variables have by the first way in which this one fits a fact.
+    fn go_on(&mut self, members: &[Form]) -> Result<(), Refused> {
+        let [form] = members else {
+            return Err(Refused::Fault(Fault::WrongArguments));
+        };
+        let fact = read_fact(&mut self.names, &self.relations, form)?;
+        let known = self.known()?;
+        let ways = self.ways(&fact, &known)?;
+        let Some(way) = ways.into_iter().next() else {
+            return Err(Refused::Fault(Fault::NoSuchFact));
+        };
+        self.before = known.with(way.bound)?;
+        self.place = self.place.saturating_add(1);
+        Ok(())
+    }
+
+    /// All ways in which the pattern fits a fact, where variables have these values.
+    fn ways(&mut self, fact: &Fact, known: &Env) -> Result<Vec<Way>, Refused> {
+        let Some(element) = element_of(self.rule.as_ref(), self.place) else {
             return Err(Refused::Fault(Fault::NoSuchRule));
         };
+        let Ce::Pattern {
+            address: _,
+            pattern,
+        } = element;
         Ok(fit(
             self.names.alloc(),
             &self.constants,
             pattern,
             fact,
-            &self.env,
+            known,
             &mut self.meter,
         )?)
     }
+
+    /// What variables have before the pattern's own constraints: that for the address of the fact, if there is one, has
+    /// `<Fact-1>`.
+    fn known(&self) -> Result<Env, NoMemory> {
+        let mut known = self.before.clone()?;
+        let Some(element) = element_of(self.rule.as_ref(), self.place) else {
+            return Ok(known);
+        };
+        let Ce::Pattern {
+            address,
+            pattern: _,
+        } = element;
+        if let Some(name) = address {
+            known.set(name, Value::Fact(1))?;
+        }
+        Ok(known)
+    }
 }
 
-fn first_pattern(rule: &Rule<Mark>) -> Option<&Pattern<Mark>> {
-    let branch = rule.branches.first()?;
-    let Ce::Pattern {
-        address: _,
-        pattern,
-    } = branch.first()?;
-    Some(pattern)
+/// The element of a rule at a place, from 0.
+fn element_of(rule: Option<&Rule<Mark>>, place: usize) -> Option<&Ce<Mark>> {
+    rule?.branches.first()?.get(place)
 }
