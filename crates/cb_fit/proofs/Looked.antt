@@ -1,13 +1,17 @@
--- What a look at the number of fields and at the constants in front rules out.
-use Rattle.std.proofs.Common.{arith, ◌≡◌, ◌∙◌, ◌++◌, ◌==◌, ◌&&◌, ◌||◌, ◌≤◌, Bool, true, false, List, ℕ, [], ◌∷◌, Option, None, Some, ap, drop, length, nat_le, refl, sym, take}
+-- What a look at the number of fields and at the constants rules out.
+use Rattle.std.proofs.Common.{arith, ◌≡◌, ◌∙◌, ◌++◌, ◌==◌, ◌&&◌, ◌||◌, ◌≤◌, Bool, true, false, List, ℕ, [], ◌∷◌, Option, None, Some, ap, drop, length, map, nat_le, refl, sym, take}
 use Rattle.std.proofs.lemmas.Bool.{eqb-true, leb-true}
 use Rattle.std.proofs.lemmas.List.{append-nil, take-append-drop}
 use Rattle.std.specs.Option.{option_map_or}
+use Rattle.std.specs.Str.{bytes_eq}
 use Rattle.std.specs.Prelude.{if◌then◌else◌}
 use Rattle.cb_constraints.specs.Constraints.{Constraint}
-use Rattle.cb_constraints.specs.PatternValues.{SlotValue}
+use Rattle.cb_constraints.specs.PatternValues.{Parts, PatternValue, SlotValue}
+use Rattle.cb_constraints.specs.PatternValues as pattern
 use Rattle.cb_constraints.specs.Rows.{before_segments, fields_wanted, segments_wanted}
 use Rattle.cb_exprs.specs.Bindings.{Bindings}
+use Rattle.cb_facts.specs.Facts.{FactContent, FactValue}
+use Rattle.cb_facts.specs.Facts as fact
 use Rattle.cb_facts.specs.Values.{fields_in}
 use Rattle.cb_facts.specs.declared.single.Single.{Single}
 use Rattle.cb_facts.specs.declared.value.Value.{Value}
@@ -16,8 +20,8 @@ use Rattle.cb_fit.proofs.Rows.{nothing-follows}
 use Rattle.cb_fit.proofs.Splits.{leading-ones, ones-want}
 use Rattle.cb_fit.proofs.Takes.{nothing-taken}
 use Rattle.cb_fit.proofs.Trailing.{back-never}
-use Rattle.cb_fit.specs.Internal.{are_ones, may_take, may_take_back, may_take_front, may_take_row, may_take_slot, may_take_slots, takes_length}
-use Rattle.cb_fit.specs.Ways.{each_followed_by, slot_at, ways_of_row, ways_of_slot, ways_of_slots}
+use Rattle.cb_fit.specs.Internal.{are_ones, may_take, may_take_back, may_take_front, may_take_row, may_take_slot, may_take_slots, slot_takes_length, slots_take_lengths, take_lengths, takes_length}
+use Rattle.cb_fit.specs.Ways.{each_followed_by, slot_at, way_with, ways, ways_of_parts, ways_of_row, ways_of_slot, ways_of_slots}
 
 -- the looks of a row, one after another
 pub never_long : (cs : List Constraint) (fs : List Single) → takes_length cs (length fs) ≡ false → may_take_row cs fs ≡ false
@@ -88,6 +92,36 @@ slots_never_taken (s ∷ ss) slots env e = by (may_take_slot s slots) refl e (λ
         → ways_of_slots (s ∷ ss) slots env ≡ []
     by true t h others = nothing-follows (ways_of_slots ss slots) (ways_of_slot s slots env) (others h)
     by false t h others = ap (each_followed_by (ways_of_slots ss slots)) (slot-never s (slot_at s.place slots) env t)
+
+-- a slot with fields too few or too many may not be taken
+slot-wrong_length : (s : SlotValue) (o : Option Value) → option_map_or (λ v. takes_length s.row (length (fields_in v))) o false ≡ false → option_map_or (λ v. may_take_row s.row (fields_in v)) o false ≡ false
+slot-wrong_length s None e = refl
+slot-wrong_length s (Some v) e = never_long s.row (fields_in v) e
+
+slots-wrong_lengths : (ss : List SlotValue) (slots : List (List ℕ × Value)) → slots_take_lengths ss slots ≡ false → may_take_slots ss slots ≡ false
+slots-wrong_lengths [] slots e = let never : true ≡ false = e in cc
+slots-wrong_lengths (s ∷ ss) slots e = by (slot_takes_length s slots) (may_take_slot s slots) refl refl e (slots-wrong_lengths ss slots)
+  where
+    by : (l b : Bool) → slot_takes_length s slots ≡ l → may_take_slot s slots ≡ b → l && slots_take_lengths ss slots ≡ false → (slots_take_lengths ss slots ≡ false → may_take_slots ss slots ≡ false)
+        → b && may_take_slots ss slots ≡ false
+    by l false t m h others = refl
+    by true true t m h others = others h
+    by false true t m h others = let never : true ≡ false = sym m ∙ slot-wrong_length s (slot_at s.place slots) t in cc
+
+-- a fact with fields too few or too many is taken in no way
+parts-never_taken : (p : Parts) (c : FactContent) (env : Bindings) → take_lengths p c ≡ false → ways_of_parts p c env ≡ []
+parts-never_taken (pattern.fields row) (fact.fields fs) env e = never_taken row fs env (never_long row fs e)
+parts-never_taken (pattern.fields row) (fact.slots ss) env e = refl
+parts-never_taken (pattern.slots rows) (fact.fields fs) env e = refl
+parts-never_taken (pattern.slots rows) (fact.slots ss) env e = slots_never_taken rows ss env (slots-wrong_lengths rows ss e)
+
+-- and so the pattern fits it in none
+pub lengths_never_fit : (p : PatternValue) (f : FactValue) (env : Bindings) → take_lengths p.parts f.content ≡ false → ways p f env ≡ []
+lengths_never_fit p f env e = by (bytes_eq p.relation f.relation)
+  where
+    by : (b : Bool) → (if b then map (way_with p.parts env) (ways_of_parts p.parts f.content env) else []) ≡ []
+    by true = ap (map (way_with p.parts env)) (parts-never_taken p.parts f.content env e)
+    by false = refl
 
 -- the rows that may take their fields, one by one
 pub first_slot_may : (s : SlotValue) (ss : List SlotValue) (slots : List (List ℕ × Value)) → may_take_slots (s ∷ ss) slots ≡ true → may_take_slot s slots ≡ true

@@ -7,9 +7,12 @@ use Rattle.std.specs.List.{list_all}
 use Rattle.std.specs.Option.{option_and_then, option_map_or}
 use Rattle.cb_constraints.specs.Constraints.{Constraint}
 use Rattle.cb_constraints.specs.Holding.{after_demand, may_hold}
-use Rattle.cb_constraints.specs.PatternValues.{SlotValue}
+use Rattle.cb_constraints.specs.PatternValues.{Parts, SlotValue}
+use Rattle.cb_constraints.specs.PatternValues as pattern
 use Rattle.cb_constraints.specs.Rows.{after_segments, before_segments, fields_wanted, segments_wanted}
 use Rattle.cb_exprs.specs.Bindings.{Bindings}
+use Rattle.cb_facts.specs.Facts.{FactContent}
+use Rattle.cb_facts.specs.Facts as fact
 use Rattle.cb_facts.specs.Values.{fields_in, value_of_field}
 use Rattle.cb_facts.specs.declared.single.Single.{Single}
 use Rattle.cb_facts.specs.declared.value.Value.{Value}
@@ -67,6 +70,20 @@ are_ones cs = segments_wanted cs == 0
 -- a row can take so many fields: more than its constraints for one field only where one takes a segment
 abbrev pub takes_length : List Constraint → ℕ → Bool
 takes_length cs n = if are_ones cs then n == fields_wanted cs else nat_le (fields_wanted cs) n
+
+-- a row can take as many fields as its slot has
+abbrev pub slot_takes_length : SlotValue → List (List ℕ × Value) → Bool
+slot_takes_length s slots = option_map_or (λ v. takes_length s.row (length (fields_in v))) (slot_at s.place slots) false
+
+-- each row can take as many as its slot has
+abbrev pub slots_take_lengths : List SlotValue → List (List ℕ × Value) → Bool
+slots_take_lengths rows slots = list_all (λ s. slot_takes_length s slots) rows
+
+-- a pattern can take as many fields as the content of a fact has
+abbrev pub take_lengths : Parts → FactContent → Bool
+take_lengths (pattern.fields row) (fact.fields fs) = takes_length row (length fs)
+take_lengths (pattern.slots rows) (fact.slots ss) = slots_take_lengths rows ss
+take_lengths parts content = false
 
 -- the constraints before the first that takes a segment may take the first fields
 abbrev pub may_take_front : List Constraint → List Single → Bool

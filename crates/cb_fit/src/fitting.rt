@@ -9,6 +9,7 @@ ghost use Rattle.cb_fit.specs.Ways.{way_with, ways, ways_of_parts, ways_of_row, 
 
 use crate::beginning::Beginning;
 use crate::fields::Fields;
+use crate::lengths::take_lengths;
 use crate::meter::Meter;
 use crate::pattern::Pattern;
 use crate::search::Search;
@@ -28,6 +29,7 @@ use std::alloc::Global;
 /// template is to be of that one.
 ///
 /// Growth is refused as `NoMemory`; the meter has gone up then too.
+#[tactic(auto, using(crate::proofs::Looked::lengths_never_fit))]
 pub fn fit<T>(
     alloc: Global,
     constants: &Constants,
@@ -40,6 +42,9 @@ pub fn fit<T>(
     ensures counted { meter.new ≡ one_more meter.old }
 {
     let parts = pattern.open(meter);
+    if !take_lengths(parts, fact.content()) {
+        return Ok(Vec::new(alloc));
+    }
     if pattern.relation().as_slice() != fact.relation() {
         return Ok(Vec::new(alloc));
     }

@@ -9,6 +9,7 @@ mod fields;
 mod fitting;
 mod given;
 pub mod laws;
+mod lengths;
 mod look;
 mod may_take;
 mod meter;

@@ -5,6 +5,7 @@ ghost use Rattle.cb_constraints.specs.Constraints.{constraint_of};
 ghost use Rattle.cb_fit.specs.Internal.FieldLists.{row_fields};
 ghost use Rattle.cb_fit.specs.Internal.{after_last, may_take, may_take_back, may_take_front, may_take_row, takes_length};
 
+use crate::lengths::takes_length;
 use crate::look::Look;
 use crate::rest::split_ones;
 use cb_constraints::{Constraint, Row, may_hold};
@@ -61,16 +62,6 @@ impl Look<'_> {
         }
         true
     }
-}
-
-/// Whether a row can take so many fields.
-fn takes_length(row: &Row, count: usize) -> bool
-    ensures { result ≡ takes_length row.now count }
-{
-    if row.segments() == 0 {
-        return count == row.fields();
-    }
-    row.fields() <= count
 }
 
 /// The constraints after the last that takes a segment, or all where none does.
