@@ -50,11 +50,11 @@ first-row s ss slots v t ts e h =
 
 -- the same of those that are left
 pub begun_row : (left others : List program_row.SlotRow) (row : program_row.SlotRow) (slots : List (List ℕ × Value)) (v : Value) (fields : List Single) (begun : Beginning) (ts : List Taken)
-    → left ≡ row ∷ others → slot_at row.place slots ≡ Some v → fields ≡ fields_in v → map (after_cuts begun.cuts.items) (ways_of_row row.row fields begun.env) ≡ ts
+    → left ≡ row ∷ others → slot_at row.place slots ≡ Some v → fields ≡ fields_in v → map (after_cuts begun.cuts) (ways_of_row row.row fields begun.env) ≡ ts
     → followed_by_rows (map asked_slot left) slots (taken_of begun ∷ []) ≡ followed_by_rows (map asked_slot others) slots ts
 begun_row left others row slots v fields begun ts split value is ways =
     ap (λ rows. followed_by_rows (map asked_slot rows) slots (taken_of begun ∷ [])) split
-    ∙ first-row (asked_slot row) (map asked_slot others) slots v (taken_of begun) ts value (ap (λ fs. map (after_cuts begun.cuts.items) (ways_of_row row.row fs begun.env)) (sym is) ∙ ways)
+    ∙ first-row (asked_slot row) (map asked_slot others) slots v (taken_of begun) ts value (ap (λ fs. map (after_cuts begun.cuts) (ways_of_row row.row fs begun.env)) (sym is) ∙ ways)
 
 -- a row that takes all fields
 pub all-ended : (fields : List Single) (at : ℕ) (cuts : List ℕ) (env : Bindings) → at ≡ length fields → endings [] (record { cuts = cuts; left = drop at fields; env = env }) ≡ record { cuts = cuts; env = env } ∷ []

@@ -16,6 +16,7 @@ mod Parted
 mod Places
 mod Related
 mod Rows
+mod RunLaws
 mod Segments
 mod Splits
 mod Takes

@@ -2,6 +2,7 @@
 pub mod Choices
 pub mod FieldLists
 pub mod GivenValues
+pub mod Runs
 use Rattle.std.specs.Prelude.{◌==◌, ◌&&◌, ◌||◌, ◌-◌, ℕ, Bool, true, false, List, [], ◌∷◌, ◌++◌, Option, Some, None, map, length, take, drop, nat_le, option_map, option_to_list, replicate, if◌then◌else◌}
 use Rattle.std.specs.List.{list_all}
 use Rattle.std.specs.Option.{option_and_then, option_map_or}
@@ -28,11 +29,11 @@ pub record Begun : Type 0 where
 
 -- the one that has got so far with these fields
 abbrev pub begun_of : List Single → program.Beginning → Begun
-begun_of fields b = record { cuts = b.cuts.items; left = drop b.at fields; env = b.env }
+begun_of fields b = record { cuts = b.cuts; left = drop b.at fields; env = b.env }
 
 -- the same between two rows
 abbrev pub taken_of : program.Beginning → Taken
-taken_of b = record { cuts = b.cuts.items; env = b.env }
+taken_of b = record { cuts = b.cuts; env = b.env }
 
 -- all that it becomes, with these constraints still to come
 abbrev pub endings : List Constraint → Begun → List Taken

@@ -5,6 +5,7 @@
 
 mod beginning;
 mod choice;
+mod cuts;
 mod fields;
 mod fitting;
 mod given;

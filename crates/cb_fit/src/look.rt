@@ -6,7 +6,7 @@ ghost use Rattle.cb_fit.specs.Internal.FieldLists.{row_fields};
 ghost use Rattle.cb_fit.specs.Internal.{after_ones, begun_of, may_take, with_group};
 ghost use Rattle.cb_fit.specs.Ways.{after_segment};
 
-use crate::beginning::{Beginning, with_lengths};
+use crate::beginning::Beginning;
 use crate::fields::Fields;
 use cb_constraints::{Constraint, Demand, Tested, meets, meets_beyond_constants};
 use cb_exprs::Env;
@@ -121,7 +121,9 @@ impl Look<'_> {
         let Some(at) = self.take_ones(ones, to, &mut env)? else {
             return Ok(None);
         };
-        let cuts = with_lengths(self.alloc, &begun.cuts, (to - begun.at) as u64, ones.len())?;
+        let cuts = begun
+            .cuts
+            .with(self.alloc, (to - begun.at) as u64, ones.len())?;
         Ok(Some(Beginning { cuts, at, env }))
     }
 }

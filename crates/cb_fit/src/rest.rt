@@ -7,7 +7,7 @@ ghost use Rattle.cb_fit.specs.Internal.Choices.{IsRest};
 ghost use Rattle.cb_fit.specs.Internal.FieldLists.{row_fields};
 ghost use Rattle.cb_fit.specs.Ways.{after_cuts, ways_of_row};
 
-use crate::beginning::{Beginning, add_ones};
+use crate::beginning::Beginning;
 use crate::look::Look;
 use cb_constraints::{Constraint, Row};
 use cb_forms::NoMemory;
@@ -31,7 +31,7 @@ impl Look<'_> {
         requires { may_take_row row.now (row_fields self.fields) ≡ true }
         ensures ways { IfOk result (λ rest. MatchOption rest
             (ways_of_row row.now (row_fields self.entry.fields) begun.old.env ≡ [])
-            (λ r. map (after_cuts begun.old.cuts.items)
+            (λ r. map (after_cuts begun.old.cuts)
             (ways_of_row row.now (row_fields self.entry.fields) begun.old.env)
             ≡ endings (map constraint_of r.constraints.now)
             (begun_of (row_fields self.entry.fields) begun.new))) }
@@ -47,7 +47,7 @@ impl Look<'_> {
         let Some(at) = self.take_ones(leading, 0, &mut begun.env)? else {
             return Ok(None);
         };
-        add_ones(&mut begun.cuts, leading.len())?;
+        begun.cuts.add_ones(leading.len())?;
         begun.at = at;
         Ok(Some(Rest {
             constraints,

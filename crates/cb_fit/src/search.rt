@@ -170,7 +170,7 @@ impl<'a> Search<'a> {
     {
         let bound = newly_bound(self.alloc, self.parts, self.before, &begun.env)?;
         kept.push(Way {
-            cuts: begun.cuts.into_vec()?,
+            cuts: begun.cuts.to_vec(self.alloc)?,
             bound,
         })?;
         Ok(())
@@ -186,7 +186,7 @@ impl<'a> Search<'a> {
     ) -> Result<Option<Choice<'a>>, NoMemory>
         requires { may_take_row row.now (row_fields look.fields) ≡ true }
         ensures ways { IfOk result (λ next. kept_with self.entry kept.new.items next
-            ≡ map way_of kept.old.items ++ as_ways self.entry (map (after_cuts begun.cuts.items)
+            ≡ map way_of kept.old.items ++ as_ways self.entry (map (after_cuts begun.cuts)
             (ways_of_row row.now (row_fields look.entry.fields) begun.env))) }
         ensures open { IfOk result (λ next. IfSome next (IsOpen self.entry.slots.now)) }
     {

@@ -60,11 +60,11 @@ returns-clause-ways c =
     let row-is : c.args.row.now ≡ map constraint_of c.split_ones.result.0.now ++ map constraint_of c.split_ones.result.1.now =
     sym (sym (map-append constraint_of c.split_ones.result.0.now c.split_ones.result.1.now) ∙ (ap (map constraint_of) c.split_ones.ensures.all ∙ c.constraints.ensures)) in
     let place : c.in-Some.at ≡ 0 + length c.split_ones.result.0.now = some-place c.in_ok-at.field-0 c.in-Some.at (0 + length c.split_ones.result.0.now) c.in-Some.is c.in_ok-at.ensures.place in
-    let so-far : c.add_ones.new.cuts.items ≡ c.args.begun.now.cuts.items ++ replicate (length (map constraint_of c.split_ones.result.0.now)) 1 =
-    c.in_ok-add_ones.ensures ∙ ap (λ k. c.args.begun.now.cuts.items ++ replicate k 1) (sym (length-map c.split_ones.result.0.now constraint_of)) in
+    let so-far : c.add_ones.new.self ≡ c.args.begun.now.cuts ++ replicate (length (map constraint_of c.split_ones.result.0.now)) 1 =
+    c.in_ok-add_ones.ensures ∙ ap (λ k. c.args.begun.now.cuts ++ replicate k 1) (sym (length-map c.split_ones.result.0.now constraint_of)) in
     let at-is : c.in-Some.at ≡ length (map constraint_of c.split_ones.result.0.now) = place ∙ (omega arith ∙ sym (length-map c.split_ones.result.0.now constraint_of)) in
-    ap (λ cs. map (after_cuts c.args.begun.now.cuts.items) (ways_of_row cs (row_fields c.args.self.fields) c.args.begun.now.env)) row-is
-    ∙ (leading-some (map constraint_of c.split_ones.result.0.now) (map constraint_of c.split_ones.result.1.now) (row_fields c.args.self.fields) c.args.begun.now.cuts.items c.args.begun.now.env c.take_ones.new.env c.split_ones.ensures.ones
+    ap (λ cs. map (after_cuts c.args.begun.now.cuts) (ways_of_row cs (row_fields c.args.self.fields) c.args.begun.now.env)) row-is
+    ∙ (leading-some (map constraint_of c.split_ones.result.0.now) (map constraint_of c.split_ones.result.1.now) (row_fields c.args.self.fields) c.args.begun.now.cuts c.args.begun.now.env c.take_ones.new.env c.split_ones.ensures.ones
     (some-met c.in_ok-at.field-0 c.in-Some.at c.take_ones.new.env (after_ones (map constraint_of c.split_ones.result.0.now) (row_fields c.args.self.fields) c.args.begun.now.env) c.in-Some.is c.in_ok-at.ensures.holds)
     ∙ sym (ap (λ cuts. endings (map constraint_of c.split_ones.result.1.now) (record { cuts = cuts; left = drop c.in-Some.at (row_fields c.args.self.fields); env = c.take_ones.new.env })) so-far
-    ∙ ap (λ k. endings (map constraint_of c.split_ones.result.1.now) (record { cuts = c.args.begun.now.cuts.items ++ replicate (length (map constraint_of c.split_ones.result.0.now)) 1; left = drop k (row_fields c.args.self.fields); env = c.take_ones.new.env })) at-is))
+    ∙ ap (λ k. endings (map constraint_of c.split_ones.result.1.now) (record { cuts = c.args.begun.now.cuts ++ replicate (length (map constraint_of c.split_ones.result.0.now)) 1; left = drop k (row_fields c.args.self.fields); env = c.take_ones.new.env })) at-is))

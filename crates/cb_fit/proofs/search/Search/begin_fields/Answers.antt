@@ -11,5 +11,5 @@ use Rattle.cb_fit.proofs.search.Search.begin_fields.Goals as goal
 
 pub returns-clause-ways : goal.returns-clause-ways
 returns-clause-ways c =
-    let ways : map (after_cuts c.args.begun.cuts.items) (ways_of_row c.args.row.now (row_fields c.args.look.fields) c.args.begun.env) ≡ endings (map constraint_of c.in-Some.rest.constraints.now) (begun_of (row_fields c.args.look.fields) c.begin_row.new.begun) = search rules in
+    let ways : map (after_cuts c.args.begun.cuts) (ways_of_row c.args.row.now (row_fields c.args.look.fields) c.args.begun.env) ≡ endings (map constraint_of c.in-Some.rest.constraints.now) (begun_of (row_fields c.args.look.fields) c.begin_row.new.begun) = search rules in
     ok-same c.go_on.result (λ next. map way_of c.go_on.new.kept.items ++ as_ways c.args.self (ways_if c.args.self.slots.now next)) (ap (λ xs. map way_of c.args.kept.now.items ++ as_ways c.args.self xs) (and-no-more (endings (map constraint_of c.in-Some.rest.constraints.now) (begun_of (row_fields c.args.look.fields) c.begin_row.new.begun)) ∙ sym ways)) c.go_on.ensures.ways

@@ -17,7 +17,7 @@ pub returns-then-not-is_empty-clause-ways : goal.returns-then-not-is_empty-claus
 returns-then-not-is_empty-clause-ways c =
     let split : c.loop-row.left.now ≡ c.in-Some.row.now ∷ c.in-Some.others.now = search rules in
     let value : slot_at c.in-Some.row.now.place c.args.self.slots.now ≡ Some c.in-Some-slot_value.value.now = search rules in
-    let ways : map (after_cuts c.loop-row.begun.cuts.items) (ways_of_row c.in-Some.row.now.row (row_fields c.look-look.result.fields) c.loop-row.begun.env) ≡ endings (map constraint_of c.in-Some-2.rest.constraints.now) (begun_of (row_fields c.look-look.result.fields) c.begin_row.new.begun) = search rules in
+    let ways : map (after_cuts c.loop-row.begun.cuts) (ways_of_row c.in-Some.row.now.row (row_fields c.look-look.result.fields) c.loop-row.begun.env) ≡ endings (map constraint_of c.in-Some-2.rest.constraints.now) (begun_of (row_fields c.look-look.result.fields) c.begin_row.new.begun) = search rules in
     let row = begun_row c.loop-row.left.now c.in-Some.others.now c.in-Some.row.now c.args.self.slots.now c.in-Some-slot_value.value.now (row_fields c.look-look.result.fields) c.loop-row.begun
     (endings (map constraint_of c.in-Some-2.rest.constraints.now) (begun_of (row_fields c.look-look.result.fields) c.begin_row.new.begun)) split value (ap row_fields c.look-look.ensures) ways in
     ap (λ xs. map way_of c.args.kept.now.items ++ as_ways c.args.self xs)
@@ -35,14 +35,14 @@ pub loop-row-preserved : goal.loop-row-preserved
 loop-row-preserved c =
     let split : c.loop-row.left.now ≡ c.in-Some.row.now ∷ c.in-Some.others.now = search rules in
     let value : slot_at c.in-Some.row.now.place c.args.self.slots.now ≡ Some c.in-Some-slot_value.value.now = search rules in
-    let ways : map (after_cuts c.loop-row.begun.cuts.items) (ways_of_row c.in-Some.row.now.row (row_fields c.look-look.result.fields) c.loop-row.begun.env) ≡ endings (map constraint_of c.in-Some-2.rest.constraints.now) (begun_of (row_fields c.look-look.result.fields) c.begin_row.new.begun) = search rules in
+    let ways : map (after_cuts c.loop-row.begun.cuts) (ways_of_row c.in-Some.row.now.row (row_fields c.look-look.result.fields) c.loop-row.begun.env) ≡ endings (map constraint_of c.in-Some-2.rest.constraints.now) (begun_of (row_fields c.look-look.result.fields) c.begin_row.new.begun) = search rules in
     let row = begun_row c.loop-row.left.now c.in-Some.others.now c.in-Some.row.now c.args.self.slots.now c.in-Some-slot_value.value.now (row_fields c.look-look.result.fields) c.loop-row.begun
     (endings (map constraint_of c.in-Some-2.rest.constraints.now) (begun_of (row_fields c.look-look.result.fields) c.begin_row.new.begun)) split value (ap row_fields c.look-look.ensures) ways in
     let none : c.in-Some-2.rest.constraints.now ≡ [] = none-left c.in-Some-2.rest.constraints.now c.is_empty.result c.is_empty.ensures c.if-not-is_empty.false in
     let ended : c.begin_row.new.begun.at ≡ length (row_fields c.look-look.result.fields) = search rules in
     let segments : segments_wanted (map constraint_of c.in-Some-2.rest.constraints.now) ≡ segments_wanted c.in-Some.row.now.row = search rules in
     let last : (endings (map constraint_of c.in-Some-2.rest.constraints.now) (begun_of (row_fields c.look-look.result.fields) c.begin_row.new.begun)) ≡ taken_of c.begin_row.new.begun ∷ [] =
-    ap (λ cs. endings (map constraint_of cs) (begun_of (row_fields c.look-look.result.fields) c.begin_row.new.begun)) none ∙ all-ended (row_fields c.look-look.result.fields) c.begin_row.new.begun.at c.begin_row.new.begun.cuts.items c.begin_row.new.begun.env ended in (
+    ap (λ cs. endings (map constraint_of cs) (begun_of (row_fields c.look-look.result.fields) c.begin_row.new.begun)) none ∙ all-ended (row_fields c.look-look.result.fields) c.begin_row.new.begun.at c.begin_row.new.begun.cuts c.begin_row.new.begun.env ended in (
       other_slots_may (asked_slot c.in-Some.row.now) (map asked_slot c.in-Some.others.now) c.args.self.slots.now (ap (λ rows. may_take_slots (map asked_slot rows) c.args.self.slots.now) (sym split) ∙ c.loop-row.invariant.0),
       ap (followed_by_rows (map asked_slot c.in-Some.others.now) c.args.self.slots.now) (sym last) ∙ (sym row ∙ c.loop-row.invariant.1),
       none-here c.in-Some.row.now.row (map asked_slot c.in-Some.others.now) (sym segments ∙ ap (λ cs. segments_wanted (map constraint_of cs)) none) ∙ (sym (ap (λ rows. segments_in (map asked_slot rows)) split) ∙ c.loop-row.invariant.2),

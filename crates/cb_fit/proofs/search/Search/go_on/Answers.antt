@@ -15,6 +15,6 @@ returns-clause-ways c =
     let none : c.args.rest.constraints.now ≡ [] = none-left c.args.rest.constraints.now c.is_empty.result c.is_empty.ensures c.if-not-is_empty.false in
     let last : endings (map constraint_of c.args.rest.constraints.now) (begun_of (row_fields c.args.look.fields) c.args.begun) ≡ taken_of c.args.begun ∷ [] =
     ap (λ cs. endings (map constraint_of cs) (begun_of (row_fields c.args.look.fields) c.args.begun)) none
-    ∙ all-ended (row_fields c.args.look.fields) c.args.begun.at c.args.begun.cuts.items c.args.begun.env (c.requires.ended none) in
+    ∙ all-ended (row_fields c.args.look.fields) c.args.begun.at c.args.begun.cuts c.args.begun.env (c.requires.ended none) in
     ok-same c.begin_rows.result (λ next. map way_of c.begin_rows.new.kept.items ++ as_ways c.args.self (ways_if c.args.self.slots.now next))
     (ap (λ ts. map way_of c.args.kept.now.items ++ as_ways c.args.self (followed_by_rows (map asked_slot c.args.rows.now) c.args.self.slots.now ts)) (sym last)) c.begin_rows.ensures.ways
