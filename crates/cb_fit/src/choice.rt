@@ -12,10 +12,6 @@ use crate::look::Look;
 use crate::rest::{Rest, split_ones};
 use cb_constraints::{Constraint, SlotRow, count_leading};
 use cb_forms::NoMemory;
-use smallvec::SmallVec;
-
-/// Choices that are open. Eight of them take no memory. Each is an `Option`, since a free place of the vector holds one too.
-pub(crate) type OpenChoices<'a> = SmallVec<Option<Choice<'a>>, 8>;
 
 /// A segment that may end at a place, or at each of those after it up to the last.
 #[derive(Drop)]

@@ -7,7 +7,7 @@ use Rattle.cb_fit.proofs.Choices.{last-first, tries-last}
 use Rattle.cb_fit.proofs.Tries.{no-more}
 use Rattle.cb_fit.specs.Internal.{endings}
 use Rattle.cb_fit.specs.Internal.Choices.{followed_by_rows, group_from, segments_in, tries_after, tries_left, ways_left, most_tries}
-use Rattle.cb_fit.proofs.search.open_others.Goals as goal
+use Rattle.cb_fit.proofs.open_choices.open_others.Goals as goal
 
 pub returns-clause-ways : goal.returns-clause-ways
 returns-clause-ways c = λ slots.

@@ -1,7 +1,7 @@
 use Rattle.std.proofs.Common.{◌∙◌, ap}
 use Rattle.cb_fit.proofs.Choices.{last-first, tries-last}
 use Rattle.cb_fit.specs.Internal.Choices.{tries_left, ways_left}
-use Rattle.cb_fit.proofs.search.open_next.Goals as goal
+use Rattle.cb_fit.proofs.open_choices.open_next.Goals as goal
 
 pub returns-in_ok-push-clause-ways : goal.returns-in_ok-push-clause-ways
 returns-in_ok-push-clause-ways c = λ slots. ap (ways_left slots) c.in_ok-push.ensures.ok ∙ last-first slots c.args.choices.now.items c.args.next
