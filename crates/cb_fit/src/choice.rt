@@ -96,15 +96,12 @@ impl<'a> Choice<'a> {
             ≡ begun_of (row_fields self.now.look.fields) p.1
             ∷ group_from self.now (p.0 + 1) (self.now.last - p.0))) }
     {
-        for to in self.to..self.last {
+        for to in self.to..=self.last {
             if let Some(begun) = self.take_up_to(to)? {
                 return Ok(Some((to, begun)));
             }
         }
-        let Some(begun) = self.take_up_to(self.last)? else {
-            return Ok(None);
-        };
-        Ok(Some((self.last, begun)))
+        Ok(None)
     }
 
     /// The beginning with a segment that ends at a place, and with the constraints for one field that follow it, if they hold.

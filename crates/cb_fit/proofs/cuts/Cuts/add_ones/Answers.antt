@@ -1,7 +1,6 @@
-use Rattle.std.proofs.Common.{◌≡◌, ◌∙◌, ◌++◌, ap, replicate, sym}
+use Rattle.std.proofs.Common.{◌∙◌, ◌++◌, ap, replicate, sym}
 use Rattle.cb_fit.proofs.RunLaws.{made_longer, popped}
 use Rattle.cb_fit.proofs.Takes.{on-ok}
-use Rattle.cb_fit.specs.Internal.Runs.{run_lengths}
 use Rattle.cb_fit.proofs.cuts.Cuts.add_ones.Goals as goal
 
 pub returns-in-Some-with_ones : goal.returns-in-Some-with_ones
