@@ -149,7 +149,10 @@ four segments, three with many ends	(p $?x a $?y b $?z c $?)	(p a a a a a a b b 
 a variable that may stand anywhere, twice	(p $? ?x $? ?x $?)	(p 1 2 3 4 5 6 7 8 9)
 a slot after one that has many ways	(part (sizes $? ?x $?) (weight ?x))	(part (name a) (weight 9) (sizes 1 2 3 4 5))
 fourteen constraints, with two segments	(p a b c d e f g h $?x i ?y $?z j k)	(p a b c d e f g h 1 i 2 3 j)
+nine segments, of which eight have many ends	(p $? a $? b $? c $? d $? e $? f $? g $? h $?)	(p a b c d e f g 1 1 1 1)
 END
+    printf 'a hundred constraints, with two segments\t(p%s $?x b%s ?y&:(> ?y 5) $?z)\t(p%s b%s 1 2)\n' \
+        "$(words 50 a)" "$(words 50 c)" "$(words 50 a)" "$(words 50 c)"
 }
 
 # The peak memory of a test in which each of three segments has as many ends as the fact has fields, and no way comes of it.
