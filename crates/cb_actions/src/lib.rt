@@ -1,6 +1,6 @@
 //! Expressions with effects, carried out: what is done to a state and written, one act after another, and how it ends.
 //!
-//! `docs/ARCHITECTURE.md` says where the layer stands.
+//! `docs/ARCHITECTURE.md` says where it belongs.
 #![tactic(auto)]
 
 mod act;

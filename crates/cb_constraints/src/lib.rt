@@ -1,6 +1,6 @@
 //! What patterns are made of: constraints and rows of them.
 //!
-//! `docs/ARCHITECTURE.md` says where the layer stands.
+//! `docs/ARCHITECTURE.md` says where it belongs.
 #![tactic(auto)]
 
 mod constraint;

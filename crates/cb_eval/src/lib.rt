@@ -1,6 +1,6 @@
 //! The value of an expression without an effect.
 //!
-//! `docs/ARCHITECTURE.md` says where the layer stands.
+//! `docs/ARCHITECTURE.md` says where it belongs.
 #![tactic(auto)]
 
 mod evaluation;

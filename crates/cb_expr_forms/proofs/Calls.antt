@@ -13,7 +13,7 @@ use Rattle.cb_expr_forms.specs.declared.call_form.CallForm.{CallForm}
 use Rattle.cb_expr_forms.specs.declared.call_form.CallForm.TheVariants as form
 use Rattle.cb_expr_forms.specs.declared.scope.Side.{Side}
 use Rattle.cb_expr_forms.proofs.Heads.{headed}
-use Rattle.cb_facts.specs.Results.{Tells}
+use Rattle.cb_facts.specs.Results.{Reports}
 use Rattle.cb_facts.specs.declared.refused.Refused.{Refused}
 use Rattle.cb_forms.specs.Members.{head_and_rest}
 use Rattle.cb_forms.specs.Trees.{atom, Trees, tree}
@@ -27,20 +27,20 @@ use Rattle.cb_words.specs.declared.head.Head.{Head}
 use Rattle.cb_words.specs.declared.head.Head.TheVariants as head
 
 one_more : (side : Side) (name : List ℕ) (us : Trees) (r : Result CallForm Refused)
-    → MatchResult r (IsHeaded side (head_of name) us) (λ e. Tells e (IsHeadedFault side (head_of name) us))
-    → MatchResult r (IsCall side (tree (atom (token.Symbol name)) us)) (λ e. Tells e (IsCallFault side (tree (atom (token.Symbol name)) us)))
+    → MatchResult r (IsHeaded side (head_of name) us) (λ e. Reports e (IsHeadedFault side (head_of name) us))
+    → MatchResult r (IsCall side (tree (atom (token.Symbol name)) us)) (λ e. Reports e (IsCallFault side (tree (atom (token.Symbol name)) us)))
 one_more side name us (Ok c) h = (h.0, h.1, omega arith)
 one_more side name us (Err e) h = h
 
 -- a list that begins with a word
 pub by_head : (side : Side) (ts : Trees) (name : List ℕ) (us : Trees) (r : Result CallForm Refused) → head_and_rest ts ≡ Some (name, us)
-    → MatchResult r (IsHeaded side (head_of name) us) (λ e. Tells e (IsHeadedFault side (head_of name) us)) → MatchResult r (IsCall side ts) (λ e. Tells e (IsCallFault side ts))
-by_head side ts name us r h there = subst (λ it. MatchResult r (IsCall side it) (λ e. Tells e (IsCallFault side it))) (sym (headed ts name us h)) (one_more side name us r there)
+    → MatchResult r (IsHeaded side (head_of name) us) (λ e. Reports e (IsHeadedFault side (head_of name) us)) → MatchResult r (IsCall side ts) (λ e. Reports e (IsCallFault side ts))
+by_head side ts name us r h there = subst (λ it. MatchResult r (IsCall side it) (λ e. Reports e (IsCallFault side it))) (sym (headed ts name us h)) (one_more side name us r there)
 
 -- what the word names
 pub by_word : (side : Side) (word known : Option Head) (us : Trees) (r : Result CallForm Refused) → word ≡ known
-    → MatchResult r (IsHeaded side known us) (λ e. Tells e (IsHeadedFault side known us)) → MatchResult r (IsHeaded side word us) (λ e. Tells e (IsHeadedFault side word us))
-by_word side word known us r h there = subst (λ it. MatchResult r (IsHeaded side it us) (λ e. Tells e (IsHeadedFault side it us))) (sym h) there
+    → MatchResult r (IsHeaded side known us) (λ e. Reports e (IsHeadedFault side known us)) → MatchResult r (IsHeaded side word us) (λ e. Reports e (IsHeadedFault side word us))
+by_word side word known us r h there = subst (λ it. MatchResult r (IsHeaded side it us) (λ e. Reports e (IsHeadedFault side it us))) (sym h) there
 
 expr_other : (a : Action) (ts facts : List Term) (t : Term) → a ≢ action.Assert → action_of a ts ≡ Some t → call_expr (Some (head.Action a)) ts facts ≡ t
 expr_other action.Assert ts facts t other h = absurd (other refl)

@@ -6,7 +6,7 @@ use Rattle.cb_templates.specs.FaultLists.{ReadsAs, first_of}
 use Rattle.cb_expr_forms.specs.Scopes.{Scope}
 use Rattle.cb_expr_forms.specs.Internal.Sizes.{tree_size, trees_size}
 use Rattle.cb_expr_forms.proofs.Heads.{first_append}
-use Rattle.cb_facts.specs.Results.{Tells}
+use Rattle.cb_facts.specs.Results.{Reports}
 use Rattle.cb_facts.specs.declared.refused.Refused.{Refused}
 use Rattle.cb_facts.specs.declared.refused.Refused.TheVariants as refused
 use Rattle.cb_forms.specs.Members.{members}
@@ -21,7 +21,7 @@ pub fails : {T V U W : Type 0} (view : T → V) (v : V) (other : U → W) (w : W
 fails view v other w (refused.Fault f) fs gs same h = same f h
 fails view v other w refused.NoMemory fs gs same h = tt
 
-pub fails_told : {U W : Type 0} (other : U → W) (w : W) (r : Refused) (P : Fault → Type 0) (gs : List Fault) → ((f : Fault) → P f → first_of gs ≡ Some f) → Tells r P → ReadsAs other (Err r) gs w
+pub fails_told : {U W : Type 0} (other : U → W) (w : W) (r : Refused) (P : Fault → Type 0) (gs : List Fault) → ((f : Fault) → P f → first_of gs ≡ Some f) → Reports r P → ReadsAs other (Err r) gs w
 fails_told other w (refused.Fault f) P gs same h = same f h
 fails_told other w refused.NoMemory P gs same h = tt
 

@@ -12,7 +12,7 @@ use Rattle.cb_expr_forms.specs.Scopes.{is_known}
 use Rattle.cb_expr_forms.specs.declared.slot_form.SlotForm.{SlotForm}
 use Rattle.cb_expr_forms.proofs.Heads.{called}
 use Rattle.cb_exprs.specs.Terms.{Term, constant, variable, global, call, assert, retract, bind, bind_global, choose, repeat, actions, printout, print, println}
-use Rattle.cb_facts.specs.Results.{Tells}
+use Rattle.cb_facts.specs.Results.{Reports}
 use Rattle.cb_facts.specs.Values.{fields_in}
 use Rattle.cb_facts.specs.declared.refused.Refused.{Refused}
 use Rattle.cb_facts.specs.declared.refused.Refused.TheVariants as refused
@@ -45,7 +45,7 @@ named_so (r ∷ slots) name s h = found_so (bytes_eq r.name name) r s (slot_name
 -- a slot that the template has, with its values
 pub is_slot : (slots : List SlotShape) (given : List (List ℕ)) (t : Tree) (name : List ℕ) (ts : Trees) (slot : SlotShape) (is_given : Bool) (r : Result SlotForm Refused)
     → call_of t ≡ Some (name, ts) → slot_named slots name ≡ Some slot → is_given ≡ is_known given slot.name
-    → MatchResult r (IsFilling slot is_given ts) (λ e. Tells e (IsFillingFault slot is_given ts)) → MatchResult r (IsSlot slots given t) (λ e. Tells e (IsSlotFault slots given t))
+    → MatchResult r (IsFilling slot is_given ts) (λ e. Reports e (IsFillingFault slot is_given ts)) → MatchResult r (IsSlot slots given t) (λ e. Reports e (IsSlotFault slots given t))
 is_slot slots given t name ts slot is_given (Ok c) h has known filling =
     let same : slot.name ≡ name = named_so slots name slot has in
     let so : is_known given name ≡ is_given = ap (is_known given) (sym same) ∙ sym known in

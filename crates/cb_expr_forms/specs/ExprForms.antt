@@ -1,4 +1,4 @@
--- Which expression a form is, and which fact. Where the form has a fault it is any.
+-- Which expression a form is, and which fact. Where the form has a fault, it is an arbitrary one.
 use Rattle.std.specs.Prelude.{ℕ, List, [], ◌∷◌, Option, Some, None, if◌then◌else◌}
 use Rattle.std.specs.Option.{unwrap_or}
 use Rattle.cb_expr_forms.specs.Actions.{action_of}

@@ -2,7 +2,7 @@
 ghost use Rattle.std.specs.Prelude.{◌≡◌, ◌≢◌, MatchResult, Some, true};
 ghost use Rattle.cb_expr_forms.specs.Internal.{IsCall, IsCallFault, IsHeaded, IsHeadedFault};
 ghost use Rattle.cb_expr_forms.specs.Scopes.{may_act};
-ghost use Rattle.cb_facts.specs.Results.{Tells};
+ghost use Rattle.cb_facts.specs.Results.{Reports};
 ghost use Rattle.cb_forms.specs.Members.{members};
 
 use crate::action_form::{ActionForm, arguments_fault, split_action};
@@ -25,7 +25,7 @@ pub(crate) enum CallForm<'a> {
 /// The call that a list is, or its first fault before those of its arguments.
 pub(crate) fn split_call<'a>(side: Side, forms: &'a [Form]) -> Result<CallForm<'a>, Refused>
     ensures { MatchResult result (IsCall side (members forms.now))
-        (λ r. Tells r (IsCallFault side (members forms.now))) }
+        (λ r. Reports r (IsCallFault side (members forms.now))) }
 {
     let Some((name, args)) = split_head(forms) else {
         return Err(Refused::Fault(Fault::MalformedForm));
@@ -42,7 +42,7 @@ pub(crate) fn split_call<'a>(side: Side, forms: &'a [Form]) -> Result<CallForm<'
 fn split_function<'a>(function: Function, args: &'a [Form]) -> Result<CallForm<'a>, Refused>
     ensures { (side : Side) → MatchResult result
         (IsHeaded side (Some (Head.Function function)) (members args.now))
-        (λ r. Tells r (IsHeadedFault side (Some (Head.Function function)) (members args.now))) }
+        (λ r. Reports r (IsHeadedFault side (Some (Head.Function function)) (members args.now))) }
 {
     if !function.arity().takes(args.len()) {
         return Err(Refused::Fault(Fault::WrongArguments));
@@ -53,7 +53,7 @@ fn split_function<'a>(function: Function, args: &'a [Form]) -> Result<CallForm<'
 fn split_acting<'a>(side: Side, action: Action, args: &'a [Form]) -> Result<CallForm<'a>, Refused>
     ensures { MatchResult result
         (IsHeaded side (Some (Head.Action action)) (members args.now))
-        (λ r. Tells r (IsHeadedFault side (Some (Head.Action action)) (members args.now))) }
+        (λ r. Reports r (IsHeadedFault side (Some (Head.Action action)) (members args.now))) }
 {
     if !side.may_act() {
         return Err(Refused::Fault(side.effect_fault()));
@@ -69,7 +69,7 @@ fn split_other<'a>(action: Action, args: &'a [Form]) -> Result<CallForm<'a>, Ref
     requires { action ≢ Action.Assert }
     ensures { (side : Side) → may_act side ≡ true → MatchResult result
         (IsHeaded side (Some (Head.Action action)) (members args.now))
-        (λ r. Tells r (IsHeadedFault side (Some (Head.Action action)) (members args.now))) }
+        (λ r. Reports r (IsHeadedFault side (Some (Head.Action action)) (members args.now))) }
 {
     match split_action(action, args) {
         Some(plan) => Ok(CallForm::Action(plan)),
@@ -80,7 +80,7 @@ fn split_other<'a>(action: Action, args: &'a [Form]) -> Result<CallForm<'a>, Ref
 fn split_assert<'a>(args: &'a [Form]) -> Result<CallForm<'a>, Refused>
     ensures { (side : Side) → may_act side ≡ true → MatchResult result
         (IsHeaded side (Some (Head.Action Action.Assert)) (members args.now))
-        (λ r. Tells r (IsHeadedFault side (Some (Head.Action Action.Assert)) (members args.now))) }
+        (λ r. Reports r (IsHeadedFault side (Some (Head.Action Action.Assert)) (members args.now))) }
 {
     match args.split_first() {
         Some(_) => Ok(CallForm::Assert(args)),

@@ -1,6 +1,6 @@
 //! Expressions and facts as they are written: which one a form is, or its first fault.
 //!
-//! `docs/ARCHITECTURE.md` says where the layer stands.
+//! `docs/ARCHITECTURE.md` says where it belongs.
 #![tactic(auto)]
 
 mod action_form;

@@ -1,7 +1,7 @@
 //! Facts and their slots as they are written.
 ghost use Rattle.std.specs.Prelude.{◌≡◌, MatchResult};
 ghost use Rattle.cb_expr_forms.specs.Internal.{IsFact, IsFactFault, IsFilling, IsFillingFault, IsSlot, IsSlotFault, slot_of};
-ghost use Rattle.cb_facts.specs.Results.{Tells};
+ghost use Rattle.cb_facts.specs.Results.{Reports};
 ghost use Rattle.cb_forms.specs.Members.{members};
 ghost use Rattle.cb_forms.specs.Trees.{tree_of};
 
@@ -14,7 +14,7 @@ use cb_templates::{Slot, Template, is_reserved};
 pub(crate) fn split_fact<'a>(form: &'a Form) -> Result<(&'a [u8], &'a [Form]), Refused>
     ensures { MatchResult result
         (λ split. IsFact (tree_of form.now) split.0.now (members split.1.now))
-        (λ r. Tells r (IsFactFault (tree_of form.now))) }
+        (λ r. Reports r (IsFactFault (tree_of form.now))) }
 {
     let Some((relation, forms)) = form.call() else {
         return Err(Refused::Fault(Fault::FactDoesNotFit));
@@ -53,7 +53,7 @@ pub(crate) fn split_slot<'a>(
     form: &'a Form,
 ) -> Result<SlotForm<'a>, Refused>
     ensures { MatchResult result (IsSlot template.now given.now (tree_of form.now))
-        (λ r. Tells r (IsSlotFault template.now given.now (tree_of form.now))) }
+        (λ r. Reports r (IsSlotFault template.now given.now (tree_of form.now))) }
 {
     let Some((name, forms)) = form.call() else {
         return Err(Refused::Fault(Fault::FactDoesNotFit));
@@ -71,7 +71,7 @@ fn split_values<'a>(
     forms: &'a [Form],
 ) -> Result<SlotForm<'a>, Refused>
     ensures { MatchResult result (IsFilling slot.now is_given (members forms.now))
-        (λ r. Tells r (IsFillingFault slot.now is_given (members forms.now))) }
+        (λ r. Reports r (IsFillingFault slot.now is_given (members forms.now))) }
 {
     if is_given {
         return Err(Refused::Fault(Fault::FactDoesNotFit));

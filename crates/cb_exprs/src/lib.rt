@@ -1,6 +1,6 @@
 //! What expressions are, and what the variables of a script have.
 //!
-//! `docs/ARCHITECTURE.md` says where the layer stands.
+//! `docs/ARCHITECTURE.md` says where it belongs.
 #![tactic(auto)]
 
 mod channel;

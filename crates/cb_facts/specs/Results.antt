@@ -20,15 +20,15 @@ with_first (Err f) others = Err f
 with_first (Ok x) (Err f) = Err f
 with_first (Ok x) (Ok xs) = Ok (x ∷ xs)
 
--- if the refusal is a fault, the fault is such as this; nothing is said of out of memory
-abbrev pub Tells : Refused → (Fault → Type 0) → Type 0
-Tells (refused.Fault f) P = P f
-Tells refused.NoMemory P = Unit {0}
+-- a refusal by a fault reports such a fault; of one by memory nothing is said
+abbrev pub Reports : Refused → (Fault → Type 0) → Type 0
+Reports (refused.Fault f) P = P f
+Reports refused.NoMemory P = Unit {0}
 
 -- The call returns what is wanted, shown so, or its fault. Of a call that ran out of memory nothing is said.
 abbrev pub Settles : {T V : Type 0} → (T → V) → Result T Refused → Result V Fault → Type 0
 Settles view (Ok t) wanted = wanted ≡ Ok (view t)
-Settles view (Err r) wanted = Tells r (λ f. wanted ≡ Err f)
+Settles view (Err r) wanted = Reports r (λ f. wanted ≡ Err f)
 
 -- The same, where what is returned needs no other showing.
 abbrev pub Returns : {T : Type 0} → Result T Refused → Result T Fault → Type 0

@@ -1,6 +1,6 @@
 //! Patterns, and the ways in which one fits a fact.
 //!
-//! `docs/ARCHITECTURE.md` says where the layer stands.
+//! `docs/ARCHITECTURE.md` says where it belongs.
 #![tactic(auto)]
 
 mod beginning;

@@ -1,4 +1,4 @@
--- What a cutter has been told and has given.
+-- What a cutter was given and what it has returned.
 use Rattle.std.specs.Prelude.{ℕ, Bool, false, List, [], map}
 use Rattle.cb_forms.specs.Trees.{Reading, reading_of}
 use Rattle.cb_forms.specs.declared.form.Item.{Item}

@@ -2,7 +2,7 @@
 //!
 //! A script is cut into items while its bytes come ([`Cutter`]), each an atom or a list ([`Form`]) or a fault
 //! ([`Fault`]). What `cb_io` has for the bytes themselves goes by this crate's name too, as [`Out`].
-//! `docs/ARCHITECTURE.md` says where the layer stands.
+//! `docs/ARCHITECTURE.md` says where it belongs.
 #![tactic(auto)]
 
 mod byte_kinds;

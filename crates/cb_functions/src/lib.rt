@@ -1,6 +1,6 @@
 //! The functions without an effect: what each returns for the values of its arguments.
 //!
-//! `docs/ARCHITECTURE.md` says where the layer stands.
+//! `docs/ARCHITECTURE.md` says where it belongs.
 #![tactic(auto)]
 
 mod arguments;

@@ -7,7 +7,7 @@ use std::marker::{Model, PhantomData};
 /// A history that exists for contracts alone: a clause reads the list as `items`, and at run time it
 /// takes no bytes and its methods do nothing.
 ///
-/// A type keeps one where its contract speaks of what happened so far, as the bytes that it was told
+/// A type keeps one where its contract speaks of what happened so far, as the bytes that it was given
 /// or how many calls failed. Being a list and not a number, it never overflows.
 ///
 /// By itself a history says nothing: no memory backs it, so it holds whatever its owner noted. The

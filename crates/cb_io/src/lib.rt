@@ -1,7 +1,7 @@
 //! Where the bytes of clipsbatch come from and where they go.
 //!
-//! Bytes come from a [`Source`] and go to a [`Sink`], through [`Out`]. `docs/ARCHITECTURE.md` says where the layer
-//! stands.
+//! Bytes come from a [`Source`] and go to a [`Sink`], through [`Out`]. `docs/ARCHITECTURE.md` says where it
+//! belongs.
 #![tactic(auto)]
 
 mod countdown;

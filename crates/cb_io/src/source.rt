@@ -12,7 +12,7 @@ pub struct ReadFault;
 
 /// Something that gives bytes in order, as standard input or a slice in memory.
 pub trait Source {
-    // the bytes that it hasn't given yet, or `None` where it doesn't tell
+    // the bytes that it hasn't given yet, or `None` where it doesn't say which
     ghost left: { Self → Option (List ℕ) };
 
     // the bytes that its reads gave, how many of them reported the end, and how many failed

@@ -1,6 +1,6 @@
 //! Laws about facts, templates and scripts: each is the contract of a function that does nothing.
 //!
-//! `docs/ARCHITECTURE.md` says where the layer stands.
+//! `docs/ARCHITECTURE.md` says where it belongs.
 #![tactic(auto)]
 
 pub mod acting;

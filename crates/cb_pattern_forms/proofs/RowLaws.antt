@@ -5,7 +5,7 @@ use Rattle.cb_constraints.specs.declared.constraint.Check as program
 use Rattle.cb_templates.specs.FaultLists.{ReadsAs, first_of, unless}
 use Rattle.cb_expr_forms.specs.Scopes.{Scope}
 use Rattle.cb_expr_forms.proofs.Cited.{first_append}
-use Rattle.cb_facts.specs.Results.{Tells}
+use Rattle.cb_facts.specs.Results.{Reports}
 use Rattle.cb_facts.specs.declared.refused.Refused.{Refused}
 use Rattle.cb_facts.specs.declared.refused.Refused.TheVariants as refused
 use Rattle.cb_forms.specs.declared.fault.Fault.{Fault}
@@ -123,6 +123,6 @@ pub checks_more : (xs ys : List program.Check) (c : program.Check) (d : Check) �
 checks_more xs ys c d is same = ap (map check_of) is ∙ seen_more check_of xs c ∙ ap (λ it. map check_of xs ++ it ∷ []) same
 
 -- a part that has a fault, which is told as that of the whole
-pub tells : {T V : Type 0} (view : T → V) (v : V) (e : Refused) (fs : List Fault) (P : Fault → Type 0) → ((f : Fault) → first_of fs ≡ Some f → P f) → ReadsAs view (Err e) fs v → Tells e P
+pub tells : {T V : Type 0} (view : T → V) (v : V) (e : Refused) (fs : List Fault) (P : Fault → Type 0) → ((f : Fault) → first_of fs ≡ Some f → P f) → ReadsAs view (Err e) fs v → Reports e P
 tells view v (refused.Fault f) fs P same h = same f h
 tells view v refused.NoMemory fs P same h = tt

@@ -1,4 +1,4 @@
--- Which pattern forms are. Where they have a fault it is any.
+-- Which pattern forms are. Where they have a fault, it is an arbitrary one.
 use Rattle.std.specs.Prelude.{ℕ, zero, List, [], ◌∷◌, Option, Some, None}
 use Rattle.std.specs.Option.{unwrap_or}
 use Rattle.cb_constraints.specs.PartValues.{asked_parts}

@@ -2,7 +2,7 @@
 ghost use Rattle.std.specs.Prelude.{◌≡◌, ◌<◌, ◌∷◌, [], Some, false, IfOk, IfSome, MatchOption, MatchResult, OnOk, length, map};
 ghost use Rattle.cb_constraints.specs.Constraints.{constraint_of, nothing};
 ghost use Rattle.cb_templates.specs.FaultLists.{ReadsAs, first_of};
-ghost use Rattle.cb_facts.specs.Results.{Tells};
+ghost use Rattle.cb_facts.specs.Results.{Reports};
 ghost use Rattle.cb_forms.specs.Members.{members};
 ghost use Rattle.cb_pattern_forms.specs.Members.{check, members_in};
 ghost use Rattle.cb_pattern_forms.specs.PatternFaults.{constraints_faults};
@@ -50,7 +50,7 @@ fn read_next<'a>(
         (λ split. StartsWithConstraint scope.now
         (first_of (constraints_faults scope.now (members forms.now)))
         (members_in (members forms.now)) (constraint_of split.0) (members_in (members split.1.now))))
-        (λ r. Tells r (λ f. first_of (constraints_faults scope.now (members forms.now)) ≡ Some f)) }
+        (λ r. Reports r (λ f. first_of (constraints_faults scope.now (members forms.now)) ≡ Some f)) }
     ensures shorter { IfOk result (λ next. IfSome next
         (λ split. length split.1.now < length forms.now)) }
 {
@@ -83,7 +83,7 @@ fn read_constraint<'a>(
         (λ split. StartsWithConstraint scope.now
         (first_of (checks_faults scope.now (members_in (members forms.now))))
         (members_in (members forms.now)) (constraint_of split.0) (members_in (members split.1.now)))
-        (λ r. Tells r (λ f. first_of (checks_faults scope.now (members_in (members forms.now)))
+        (λ r. Reports r (λ f. first_of (checks_faults scope.now (members_in (members forms.now)))
         ≡ Some f)) }
     ensures shorter { IfOk result (λ split. length split.1.now < length forms.now) }
 {

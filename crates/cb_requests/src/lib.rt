@@ -1,6 +1,6 @@
 //! What the items of a script ask for: constructs, commands and expressions as they are read, or their first faults.
 //!
-//! `docs/ARCHITECTURE.md` says where the layer stands.
+//! `docs/ARCHITECTURE.md` says where it belongs.
 #![tactic(auto)]
 
 mod command;

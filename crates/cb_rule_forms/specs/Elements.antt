@@ -76,12 +76,12 @@ abbrev pub elements_faults : Scope → List WrittenElement → List Fault
 elements_faults s [] = []
 elements_faults s (w ∷ ws) = element_faults s w ++ elements_faults s ws
 
--- the pattern that a list is; where it is none, any
+-- the pattern that a list is; where it is none, an arbitrary one
 abbrev pub pattern_at : Templates → Option (List ℕ × Trees) → PatternValue
 pattern_at templates None = record { relation = []; parts = fields [] }
 pattern_at templates (Some (word, ts)) = pattern_of templates word ts
 
--- which element it is; where it has a fault, any
+-- which element it is; where it has a fault, an arbitrary one
 abbrev pub element_of : Templates → WrittenElement → Element
 element_of templates (alone t) = pattern None (pattern_at templates (call_of t))
 element_of templates (addressed name None) = pattern (Some name) (pattern_at templates None)

@@ -75,6 +75,6 @@ sections_rule templates env (Some s) =
 abbrev pub rule_faults : Templates → Bindings → Trees → List Fault
 rule_faults templates env ts = sections_faults templates env (sections_of ts)
 
--- the rule that forms are; where they have a fault, any
+-- the rule that forms are; where they have a fault, an arbitrary one
 abbrev pub rule_of : Templates → Bindings → Trees → RuleValue
 rule_of templates env ts = sections_rule templates env (sections_of ts)

@@ -1,6 +1,6 @@
 //! Rules as they are written: which one forms are, or the first fault.
 //!
-//! `docs/ARCHITECTURE.md` says where the layer stands.
+//! `docs/ARCHITECTURE.md` says where it belongs.
 #![tactic(auto)]
 
 mod actions;

@@ -14,7 +14,7 @@ use Rattle.cb_session.specs.declared.limits.Limits.{Limits}
 abbrev pub IsTranscript : Limits → Outcome → List ℕ → List ℕ → Type 0
 IsTranscript limits result script wrote = (wrote ≡ transcript limits script) × (result ≡ ended_as (status_of limits script))
 
--- A run with this outcome. The source had `left` left when the run began and has `left'` now, if it tells; its reads had given
+-- A run with this outcome. The source had `left` left when the run began and has `left'` now, if it says so; its reads had given
 -- `reads` and have given `reads'`; the writes of the sink had taken `writes` and have taken `writes'`.
 pub record Ran (limits : Limits) (result : Outcome) (left left' : Option (List ℕ)) (reads reads' : PastReads) (writes writes' : PastWrites) : Type 0 where
   -- what the run read and what it wrote
@@ -37,7 +37,7 @@ pub record Ran (limits : Limits) (result : Outcome) (left left' : Option (List �
   pub write_failed : result.cause ≡ WriteFault → writes.failures < writes'.failures
   pub no_write_failed : (result.cause ≢ WriteFault) → writes'.failures ≡ writes.failures
   pub status_of_failure : HasFailed result.cause → result.status ≡ 3
-  -- A source that tells its bytes: of all of them, read or not. Where some are unread, it doesn't matter which.
+  -- A source that says which bytes it has: of all of them, read or not. Where some are unread, it doesn't matter which.
   pub gave : Gave left left' read
   pub whole_transcript : HasEnded result.cause → IfSome left (λ s. IsTranscript limits result s wrote)
   pub after_stop_of_all : HasStopped result.cause → IfSome left (λ s. BeginsWith wrote (transcript limits s))

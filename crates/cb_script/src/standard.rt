@@ -6,7 +6,7 @@ ghost use Rattle.cb_io.specs.Histories.{no_reads, no_writes};
 use cb_io::{ReadFault, ReadHistory, Sink, Source, WriteFault, WriteHistory};
 use std::io::{Read, Stdin, Stdout, Write};
 
-/// Standard input as a source. It doesn't tell the bytes that it has left.
+/// Standard input as a source. It doesn't say which bytes it has left.
 #[derive(Drop)]
 pub struct StandardInput {
     stdin: Stdin,

@@ -1,7 +1,7 @@
 -- What an item asks for, by what a state shows of itself.
 use Rattle.std.proofs.Common.{◌≡◌, ◌∙◌, Result, Ok, Err, sym, ap}
 use Rattle.cb_exprs.specs.Bindings.{Bindings}
-use Rattle.cb_facts.specs.Results.{Tells}
+use Rattle.cb_facts.specs.Results.{Reports}
 use Rattle.cb_facts.specs.declared.refused.Refused.{Refused}
 use Rattle.cb_facts.specs.declared.refused.Refused.TheVariants as refused
 use Rattle.cb_forms.specs.Trees.{Reading}
@@ -23,6 +23,6 @@ module _ (s : State) (r : Reading) (templates : Templates) (env : Bindings) (mem
       ∙ ap (λ it. request_of s.world.templates s.world.env (is_in_use s.world.memory it) r) d)
       ∙ h
 
-  pub refused_so : (refusal : Refused) → Tells refusal (λ f. request_of templates env (is_in_use memory deffacts) r ≡ Err f) → Tells refusal (λ f. requested s r ≡ Err f)
+  pub refused_so : (refusal : Refused) → Reports refusal (λ f. request_of templates env (is_in_use memory deffacts) r ≡ Err f) → Reports refusal (λ f. requested s r ≡ Err f)
   refused_so (refused.Fault f) h = requested_so (Err f) h
   refused_so refused.NoMemory h = tt

@@ -13,7 +13,7 @@ use Rattle.cb_actions.specs.declared.act.Ended.{Ended}
 use Rattle.cb_actions.specs.declared.act.Limit.{Limit}
 use Rattle.cb_actions.specs.declared.stop.Stop.TheVariants as stop
 use Rattle.cb_actions.specs.declared.stop.Stop.{Stop}
-use Rattle.cb_facts.specs.Results.{Tells}
+use Rattle.cb_facts.specs.Results.{Reports}
 use Rattle.cb_facts.specs.declared.refused.Refused.TheVariants as refused
 use Rattle.cb_facts.specs.declared.refused.Refused.{Refused}
 use Rattle.cb_facts.specs.declared.value.Value.TheVariants as value
@@ -123,7 +123,7 @@ acted-fault s r f is = ap (λ it. follow (give_or_fault it s).state (give_or_fau
 
 module _ {K : Type 0} (writes : K → PastWrites) (o : OutState K) (s : State) (r : Reading) where
   -- an item whose request is refused
-  pub went_refused : (refusal : Refused) → o.fault ≡ false → Tells refusal (λ f. requested s r ≡ Err f) → Went {K = K} {S = State} {A = Unit {0}} writes o o s (Err (broken_by refusal)) (acted r s)
+  pub went_refused : (refusal : Refused) → o.fault ≡ false → Reports refusal (λ f. requested s r ≡ Err f) → Went {K = K} {S = State} {A = Unit {0}} writes o o s (Err (broken_by refusal)) (acted r s)
   went_refused (refused.Fault f) fine tells = went_as writes o o s _ _ _ _ refl (acted-fault s r f tells) (record { puts = puts_none writes o fine; answers = (refl, refl) })
   went_refused refused.NoMemory fine tells = record { puts = puts_nothing writes o (acted r s).written fine; answers = tt }
 

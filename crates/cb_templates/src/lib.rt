@@ -1,6 +1,6 @@
 //! Templates: how they are written, and the facts that are made by them.
 //!
-//! `docs/ARCHITECTURE.md` says where the layer stands.
+//! `docs/ARCHITECTURE.md` says where it belongs.
 #![tactic(auto)]
 
 mod attribute;

@@ -1,6 +1,6 @@
 //! The words of the language: what the symbol that a list begins with names.
 //!
-//! All readers ask the one table here, in `words.rt`. `docs/ARCHITECTURE.md` says where the layer stands.
+//! All readers ask the one table here, in `words.rt`. `docs/ARCHITECTURE.md` says where it belongs.
 #![tactic(auto)]
 
 mod function;

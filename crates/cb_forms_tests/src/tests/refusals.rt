@@ -9,53 +9,53 @@ const TEXT: &[u8] = b"(ab \"c\" (1)) ?x&d";
 const ITEMS: &[u8] = b" ( s:ab t:c ( i:1 ) ) v:x & s:d";
 
 /// Whether a call says that it failed exactly if the cutter then does, and does so once one has.
-fn is_told(had_failed: bool, has_failed: bool, is_err: bool) -> bool {
+fn is_reported(had_failed: bool, has_failed: bool, is_err: bool) -> bool {
     has_failed == is_err && (is_err || !had_failed)
 }
 
-/// One more byte, and whether it is told so.
-fn step_is_told(cutter: &mut Cutter, shown: &mut Shown, byte: u8) -> Result<bool, NoMemory> {
+/// One more byte, and whether its failure is reported so.
+fn step_is_reported(cutter: &mut Cutter, shown: &mut Shown, byte: u8) -> Result<bool, NoMemory> {
     let had_failed = cutter.failed();
     let cut = cutter.step(byte);
-    let is_told = is_told(had_failed, cutter.failed(), cut.is_err());
+    let is_reported = is_reported(had_failed, cutter.failed(), cut.is_err());
     if let Ok(cut) = cut {
         shown.add_cut(&cut)?;
     }
-    Ok(is_told)
+    Ok(is_reported)
 }
 
 /// The same of the end.
-fn end_is_told(cutter: &mut Cutter, shown: &mut Shown) -> Result<bool, NoMemory> {
+fn end_is_reported(cutter: &mut Cutter, shown: &mut Shown) -> Result<bool, NoMemory> {
     let had_failed = cutter.failed();
     let end = cutter.end();
-    let is_told = is_told(had_failed, cutter.failed(), end.is_err());
+    let is_reported = is_reported(had_failed, cutter.failed(), end.is_err());
     if let Ok(item) = end {
         shown.add_some(item.as_ref())?;
     }
-    Ok(is_told)
+    Ok(is_reported)
 }
 
-/// Whether each byte and the end are told so.
-fn all_are_told(cutter: &mut Cutter, shown: &mut Shown) -> Result<bool, NoMemory> {
+/// Whether each byte and the end report their failures so.
+fn all_are_reported(cutter: &mut Cutter, shown: &mut Shown) -> Result<bool, NoMemory> {
     for byte in TEXT {
-        if !step_is_told(cutter, shown, *byte)? {
+        if !step_is_reported(cutter, shown, *byte)? {
             return Ok(false);
         }
     }
-    end_is_told(cutter, shown)
+    end_is_reported(cutter, shown)
 }
 
-/// Whether a refusal is told from then on, and the items before it are as ever: all of them where none was refused.
+/// Whether a refusal is reported from then on, and the items before it are as ever: all of them where none was refused.
 fn is_as_ever(alloc: Global) -> Result<bool, NoMemory> {
     let mut cutter = Cutter::new(alloc, 100);
     let mut shown = Shown::new(alloc);
-    let are_told = all_are_told(&mut cutter, &mut shown)?;
+    let are_reported = all_are_reported(&mut cutter, &mut shown)?;
     let is_whole = cutter.failed() || shown.bytes() == ITEMS;
-    Ok(are_told && is_whole && ITEMS.starts_with(shown.bytes()))
+    Ok(are_reported && is_whole && ITEMS.starts_with(shown.bytes()))
 }
 
 #[test]
-fn tells_a_refusal_by_steps(rt: HostRuntime) {
+fn reports_a_refusal_by_steps(rt: HostRuntime) {
     assert!(rt; is_as_ever(rt.alloc()).unwrap_or(true));
 }
 
@@ -69,6 +69,6 @@ fn reads_all(alloc: Global) -> Result<bool, NoMemory> {
 }
 
 #[test]
-fn tells_a_refusal_at_once(rt: HostRuntime) {
+fn reports_a_refusal_at_once(rt: HostRuntime) {
     assert!(rt; reads_all(rt.alloc()).unwrap_or(true));
 }

@@ -2,7 +2,7 @@
 use super::*;
 
 const FACTS: [Row; 6] = [
-    // Of no facts nothing is told.
+    // Of no facts nothing is listed.
     Row {
         steps: &[
             (b"(facts) ", b""),

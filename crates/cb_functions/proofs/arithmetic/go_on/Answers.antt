@@ -1,6 +1,6 @@
 use Rattle.std.proofs.Common.{◌≡◌, ℤ, Err, FitsSigned, map, ap, subst, ◌∙◌, rules, to_z, w64}
 use Rattle.std.proofs.lemmas.Int.{to_z-of_z}
-use Rattle.cb_facts.specs.Results.{Tells}
+use Rattle.cb_facts.specs.Results.{Reports}
 use Rattle.cb_functions.specs.Arithmetic.{with_others}
 use Rattle.cb_functions.specs.Internal.{as_number}
 use Rattle.cb_functions.specs.Internal.Operations.{operator_of}
@@ -18,6 +18,6 @@ returns-in_err-total c =
     let number_is = to_z-of_z w64 c.number.result fits ∙ c.number.ensures in
     let first_is = to_z-of_z w64 c.args.first c.ranges.first in
     let goes = c.loop-value.invariant ∙ ap (λ n. with_others op n (map as_number vs)) first_is in
-    let told = subst (λ (m : ℤ). Tells why (λ f. op total m ≡ Err f)) number_is c.in_err-total.ensures in
+    let told = subst (λ (m : ℤ). Reports why (λ f. op total m ≡ Err f)) number_is c.in_err-total.ensures in
     let off = step_off op total vs c.loop-value.value-index c.value-item.result (with_others op c.args.first (map as_number vs)) why c.loop-value-test.true c.value-item.is goes told in
     rw r off

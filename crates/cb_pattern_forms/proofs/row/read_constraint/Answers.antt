@@ -3,7 +3,7 @@ use Rattle.std.specs.Prelude.{MatchResult}
 use Rattle.cb_constraints.specs.Constraints.{check_of, constraint_of}
 use Rattle.cb_constraints.specs.declared.constraint.Constraint.{Constraint}
 use Rattle.cb_templates.specs.FaultLists.{first_of}
-use Rattle.cb_facts.specs.Results.{Tells}
+use Rattle.cb_facts.specs.Results.{Reports}
 use Rattle.cb_facts.specs.declared.refused.Refused.{Refused}
 use Rattle.cb_forms.specs.Members.{members}
 use Rattle.cb_forms.specs.declared.form.Form.{Form}
@@ -25,7 +25,7 @@ returns-in_err-read_check-clause-constraint c =
     let r : c.from_residual.result ≡ Err c.in_err-read_check.field-0.0 = search rules in
     subst
     (λ (it : Result (Constraint × Bor (List Form)) Refused).
-    MatchResult it (λ split. StartsWithConstraint s (first_of (checks_faults s all)) all (constraint_of split.0) (members_in (members split.1.now))) (λ e. Tells e (λ f. first_of (checks_faults s all) ≡ Some f)))
+    MatchResult it (λ split. StartsWithConstraint s (first_of (checks_faults s all)) all (constraint_of split.0) (members_in (members split.1.now))) (λ e. Reports e (λ f. first_of (checks_faults s all) ≡ Some f)))
     (sym r)
     (tells check_of (check_in s.templates n w) c.in_err-read_check.field-0.0 (written_faults s w) (λ f. first_of (checks_faults s all) ≡ Some f)
     (λ f h. ap first_of (sym c.loop-is_negated.invariant.0 ∙ ap (checks_faults s) c.in-Some.ensures.check) ∙ check_faulty s n w others f h)
