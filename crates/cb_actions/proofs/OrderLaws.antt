@@ -1,10 +1,11 @@
 -- Arguments from the left, and what comes after all of them.
-use Rattle.std.proofs.Common.{◌≡◌, ℕ, Bool, true, false, List, [], ◌∷◌, ◌++◌, Option, Result, Ok, Err, refl, sym, ap, ◌∙◌, append_assoc}
+use Rattle.std.proofs.Common.{◌≡◌, ℕ, Bool, true, false, List, [], ◌∷◌, ◌++◌, ◌||◌, Option, Some, Result, Ok, Err, refl, sym, ap, ◌∙◌, append_assoc}
 use Rattle.std.proofs.lemmas.List.{append-nil, same_from_push}
 use Rattle.std.proofs.lemmas.Bool.{true≢false}
-use Rattle.cb_actions.specs.Acts.{Act, after_writing, follow, give}
+use Rattle.std.specs.List.{list_any}
+use Rattle.cb_actions.specs.Acts.{Act, Effect, after_writing, follow, give}
 use Rattle.cb_actions.specs.Actions.{carried, carried_values}
-use Rattle.cb_actions.specs.Effects.{valued, ends, chosen}
+use Rattle.cb_actions.specs.Effects.{valued, wanted, ends, chosen}
 use Rattle.cb_actions.specs.Laws.{one_then}
 use Rattle.cb_actions.specs.Worlds.{World}
 use Rattle.cb_actions.specs.declared.act.Ended.{Ended}
@@ -80,3 +81,53 @@ module _ (f : Option Function) (us : List Term) where
   values_decided vs (t ∷ ts) s ws w on is last =
       let m = valued (carried t) s in
       follow_kept m.state m.written m.answer (after_value vs ts) (after_value vs (ts ++ us)) (Ok (ws ++ w ∷ [])) (λ v. chosen_kept (ends f v) (vs ++ v ∷ []) (carried_values f (vs ++ v ∷ []) (terms ts)) (carried_values f (vs ++ v ∷ []) (terms (ts ++ us))) m.state (Ok (ws ++ w ∷ [])) (λ more ended. values_decided (vs ++ v ∷ []) ts m.state ws w (goes_on_with f vs v more) ended last)) is
+
+-- the value that an act answers with
+wanted_value : (act : Act World (Option Value)) (s : World) (v : Value) → (act s).answer ≡ Ok (Some v) → (valued act s).answer ≡ Ok v
+wanted_value act s v is = ap (λ r. (follow (act s).state (act s).written r wanted).answer) is
+
+last_value : (b : Bool) (vs : List Value) (s : World) → (chosen b (give vs) (give vs) s).answer ≡ Ok vs
+last_value true vs s = refl
+last_value false vs s = refl
+
+decides_among : (f : Option Function) (vs : List Value) (w : Value) → ends f w ≡ true → list_any (ends f) (vs ++ w ∷ []) ≡ true
+decides_among f [] w e = ap (λ b. b || false) e
+decides_among f (u ∷ vs) w e = ap (λ b. ends f u || b) (decides_among f vs w e) ∙ any-true (ends f u)
+  where
+    any-true : (b : Bool) → (b || true) ≡ true
+    any-true true = refl
+    any-true false = refl
+
+module _ (f : Option Function) (t : Term) (v : Value) where
+  abbrev with_next : List Value → List Term → Value → Act World (List Value)
+  with_next vs ts w = chosen (ends f w) (give (vs ++ w ∷ [])) (carried_values f (vs ++ w ∷ []) (terms ts))
+
+  -- one argument more, after these values
+  abbrev Next : List Value → List Term → World → List Value → Type 0
+  Next vs ts s ws =
+      (carried_values f vs (terms ts) s).answer ≡ Ok ws → (carried t (carried_values f vs (terms ts) s).state).answer ≡ Ok (Some v) → (carried_values f vs (terms (ts ++ t ∷ [])) s).answer ≡ Ok (ws ++ v ∷ [])
+
+  chosen_next : (vs : List Value) (ts : List Term) (s : World) (ws : List Value) (b : Bool) (w : Value) → list_any (ends f) ws ≡ false → ends f w ≡ b → Next (vs ++ w ∷ []) ts s ws
+      → (chosen b (give (vs ++ w ∷ [])) (carried_values f (vs ++ w ∷ []) (terms ts)) s).answer ≡ Ok ws
+      → (carried t (chosen b (give (vs ++ w ∷ [])) (carried_values f (vs ++ w ∷ []) (terms ts)) s).state).answer ≡ Ok (Some v)
+      → (chosen b (give (vs ++ w ∷ [])) (carried_values f (vs ++ w ∷ []) (terms (ts ++ t ∷ []))) s).answer ≡ Ok (ws ++ v ∷ [])
+  chosen_next vs ts s ws true w on e next is has =
+      let same : vs ++ w ∷ [] ≡ ws = cc in
+      absurd (true≢false (sym (ap (list_any (ends f)) (sym same) ∙ decides_among f vs w e) ∙ on))
+  chosen_next vs ts s ws false w on e next is has = next is has
+
+  follow_next : (vs : List Value) (ts : List Term) (s : World) (bytes : List ℕ) (ws : List Value) (r : Result Value Ended) → list_any (ends f) ws ≡ false → ((w : Value) → Next (vs ++ w ∷ []) ts s ws)
+      → (follow s bytes r (with_next vs ts)).answer ≡ Ok ws → (carried t (follow s bytes r (with_next vs ts)).state).answer ≡ Ok (Some v)
+      → (follow s bytes r (with_next vs (ts ++ t ∷ []))).answer ≡ Ok (ws ++ v ∷ [])
+  follow_next vs ts s bytes ws (Err e) on next is has = absurd (cc)
+  follow_next vs ts s bytes ws (Ok w) on next is has = chosen_next vs ts s ws (ends f w) w on refl (next w) is has
+
+  pub values_next : (vs : List Value) (ts : List Term) (s : World) (ws : List Value) → list_any (ends f) ws ≡ false → Next vs ts s ws
+  values_next vs [] s ws on is has =
+      let same : vs ≡ ws = cc in
+      let m = valued (carried t) s in
+      ap (λ r. (follow m.state m.written r (with_next vs [])).answer) (wanted_value (carried t) s v has)
+      ∙ (last_value (ends f v) (vs ++ v ∷ []) m.state ∙ ap (λ us. Ok (us ++ v ∷ [])) same)
+  values_next vs (u ∷ ts) s ws on is has =
+      let m = valued (carried u) s in
+      follow_next vs ts m.state m.written ws m.answer on (λ w. values_next (vs ++ w ∷ []) ts m.state ws on) is has

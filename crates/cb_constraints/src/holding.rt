@@ -37,8 +37,11 @@ pub fn meets(
     meets_beyond_constants(alloc, constants, demand, tested, env)
 }
 
-/// What `meets` returns where `may_hold` has returned `true`: constants aren't compared again, but for those of alternatives
-/// among which a variable or an expression stands.
+/// What `meets` returns where `may_hold` has returned `true`: constants aren't compared again, except those of alternatives
+/// that have a variable or an expression among them.
+///
+/// Growth is refused as `NoMemory`, and so is a count of sharers that is full. After `false` or `NoMemory` some variables may
+/// have been given values in `env`.
 pub fn meets_beyond_constants(
     alloc: Global,
     constants: &Constants,

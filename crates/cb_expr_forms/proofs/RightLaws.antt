@@ -1,16 +1,17 @@
 -- Arguments, calls, facts and fields that have no fault, and the first that has one.
-use Rattle.std.proofs.Common.{◌≡◌, ◌↔◌, ◌∙◌, ◌++◌, ◌&&◌, Bool, true, false, not, List, [], ◌∷◌, Option, Some, None, refl, ap, ap₂, sym}
-use Rattle.cb_expr_forms.specs.ExprFaults.{all_faults, begins_with_list, call_faults, count, equals_faults, faults_of, is_equals, type_faults, values_faults}
+use Rattle.std.proofs.Common.{◌≡◌, ◌≢◌, ◌↔◌, ◌∙◌, ◌++◌, ◌&&◌, Bool, true, false, not, List, [], ◌∷◌, Option, Some, None, codes, refl, ap, ap₂, sym}
+use Rattle.cb_expr_forms.specs.ExprFaults.{all_faults, begins_with_list, call_faults, count, equals_faults, fact_faults, facts_faults, faults_of, is_equals, type_faults, values_faults}
 use Rattle.cb_expr_forms.specs.ExprForms.{expr_of}
 use Rattle.cb_templates.specs.FaultLists.{first_of, unless}
-use Rattle.cb_expr_forms.specs.Laws.{AreFaultless, AreRight, NoListAfterEquals, followed_by}
-use Rattle.cb_expr_forms.specs.Scopes.{Scope}
+use Rattle.cb_expr_forms.specs.Laws.{AreFaultless, AreRight, NoListAfterEquals, followed_by, list_of}
+use Rattle.cb_expr_forms.specs.Scopes.{Scope, effect_fault, may_act}
 use Rattle.cb_expr_forms.proofs.Heads.{first_append}
 use Rattle.cb_expr_forms.proofs.PlanLaws.{any_type}
 use Rattle.cb_forms.specs.Trees.{Tree, Trees, no_trees, tree}
 use Rattle.cb_forms.specs.declared.fault.Fault.{Fault}
 use Rattle.cb_forms.specs.declared.fault.Fault.TheVariants.{NotInProfile, WrongArguments}
 use Rattle.cb_words.specs.Arities.{arity_of, takes}
+use Rattle.cb_words.specs.Words.{head_of}
 use Rattle.cb_words.specs.declared.function.Function.{Function}
 use Rattle.cb_words.specs.declared.head.Head.{Head}
 use Rattle.cb_words.specs.declared.head.Head.TheVariants as head
@@ -45,6 +46,44 @@ first_reported faults all next no_trees t after f right h = ap first_of (next t 
 first_reported faults all next (tree u us) t after f right h =
     let rest = followed_by us (tree t after) in
     ap first_of (next u rest) ∙ ap (λ fs. first_of (fs ++ all rest)) right.0 ∙ first_reported faults all next us t after f right.1 h
+
+-- facts, one by one
+right_facts : (s : Scope) (ts : Trees) → facts_faults s ts ≡ [] → AreFaultless (fact_faults s) ts
+right_facts s no_trees h = tt
+right_facts s (tree t ts) h = let parts = both_none (fact_faults s t) (facts_faults s ts) h in (parts.0, right_facts s ts parts.1)
+
+facts_right : (s : Scope) (ts : Trees) → AreFaultless (fact_faults s) ts → facts_faults s ts ≡ []
+facts_right s no_trees h = refl
+facts_right s (tree t ts) h = none_both (fact_faults s t) (facts_faults s ts) h.0 (facts_right s ts h.1)
+
+-- calls with an effect, where one may stand
+act_so : (s : Scope) (fs : List Fault) → may_act s.side ≡ true → unless (may_act s.side) (effect_fault s.side) ++ fs ≡ fs
+act_so s fs may = ap (λ b. unless b (effect_fault s.side) ++ fs) may
+
+some_there : (t : Tree) (ts : Trees) → tree t ts ≢ no_trees
+some_there t ts h = cc
+
+pub assert_right : (s : Scope) (facts : Trees) → may_act s.side ≡ true → (faults_of s (list_of (codes "assert") facts) ≡ []) ↔ ((facts ≢ no_trees) × AreFaultless (fact_faults s) facts)
+unfolding head_of
+assert_right s no_trees may = (λ h. absurd (some_faults (sym (act_so s (WrongArguments ∷ []) may) ∙ h)), λ h. absurd (h.0 refl))
+  where
+    some_faults : WrongArguments ∷ [] ≡ [] → ⊥
+    some_faults e = cc
+assert_right s (tree t ts) may = (
+  λ h. (some_there t ts, right_facts s (tree t ts) (sym (act_so s (facts_faults s (tree t ts)) may) ∙ h)),
+  λ h. act_so s (facts_faults s (tree t ts)) may ∙ facts_right s (tree t ts) h.1,
+)
+
+pub retract_right : (s : Scope) (args : Trees) → may_act s.side ≡ true → (faults_of s (list_of (codes "retract") args) ≡ []) ↔ ((args ≢ no_trees) × AreRight s args)
+unfolding head_of
+retract_right s no_trees may = (λ h. absurd (some_faults (sym (act_so s (WrongArguments ∷ []) may) ∙ h)), λ h. absurd (h.0 refl))
+  where
+    some_faults : WrongArguments ∷ [] ≡ [] → ⊥
+    some_faults e = cc
+retract_right s (tree t ts) may = (
+  λ h. (some_there t ts, right_all s (tree t ts) (sym (act_so s (all_faults s (tree t ts)) may) ∙ h)),
+  λ h. act_so s (all_faults s (tree t ts)) may ∙ all_right s (tree t ts) h.1,
+)
 
 -- a call of a function without an effect, by what its word names
 pub call_right : (s : Scope) (word : Option Head) (f : Function) (args : Trees) (facts : List Fault) → word ≡ Some (head.Function f)

@@ -1,12 +1,12 @@
 //! Laws of expressions and facts as they are written, each the contract of a function that does nothing.
-ghost use Rattle.std.specs.Prelude.{◌≡◌, ◌↔◌, ℕ, List, [], Contains, None, Some, false, true, IsPermutation};
+ghost use Rattle.std.specs.Prelude.{◌≡◌, ◌≢◌, ◌↔◌, ℕ, List, [], Contains, None, Some, codes, false, true, IsPermutation};
 ghost use Rattle.cb_expr_forms.specs.ExprFaults.{all_faults, are_filled, count, fact_faults, facts_faults, faults_of, slot_faults};
 ghost use Rattle.cb_expr_forms.specs.ExprForms.{expr_of, fact_of, slot_names};
 ghost use Rattle.cb_templates.specs.FaultLists.{first_of};
 ghost use Rattle.cb_expr_forms.specs.Laws.{AreFaultless, AreRight, GiveSlots, GiveTheSame, IsPlain, NoListAfterEquals, followed_by, list_of};
-ghost use Rattle.cb_expr_forms.specs.Scopes.{Scope, scope_on};
+ghost use Rattle.cb_expr_forms.specs.Scopes.{Scope, may_act, scope_on};
 ghost use Rattle.cb_expr_forms.specs.declared.scope.Side.TheVariants.{Actions, Left};
-ghost use Rattle.cb_forms.specs.Trees.{Tree, Trees, atom, tree, trees_of};
+ghost use Rattle.cb_forms.specs.Trees.{Tree, Trees, atom, no_trees, tree, trees_of};
 ghost use Rattle.cb_forms.specs.declared.fault.Fault.{Fault};
 ghost use Rattle.cb_forms.specs.declared.fault.Fault.TheVariants.{NotOnLeftSide};
 ghost use Rattle.cb_forms.specs.declared.token.Token.TheVariants as token;
@@ -38,6 +38,21 @@ pub fn a_call_is_right_where_its_parts_are()
         → head_of name ≡ Some (head.Function f)
         → (faults_of s (list_of name args) ≡ [])
         ↔ ((takes (arity_of f) (count args) ≡ true) × AreRight s args) }
+{}
+
+/// Where a call with an effect may stand, an `assert` has no fault exactly where a fact follows it and each fact, by itself,
+/// has none.
+pub fn an_assert_is_right_where_its_facts_are()
+    ensures { (s : Scope) (facts : Trees) → may_act s.side ≡ true
+        → (faults_of s (list_of (codes "assert") facts) ≡ [])
+        ↔ ((facts ≢ no_trees) × AreFaultless (fact_faults s) facts) }
+{}
+
+/// A `retract` there has none exactly where an argument follows it and each argument, by itself, has none.
+pub fn a_retract_is_right_where_its_arguments_are()
+    ensures { (s : Scope) (args : Trees) → may_act s.side ≡ true
+        → (faults_of s (list_of (codes "retract") args) ≡ [])
+        ↔ ((args ≢ no_trees) × AreRight s args) }
 {}
 
 /// Of the facts of an `assert`, the first that has a fault is reported: what follows it does not matter.

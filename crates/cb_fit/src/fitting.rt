@@ -25,10 +25,12 @@ use std::alloc::Global;
 /// All ways in which a pattern fits a fact, where variables have these values, in the order of the lengths of their segments
 /// (`docs/LANGUAGE.md`, "Patterns"). It tests the pattern once, so the meter goes up by one.
 ///
+/// The caller gives the variable of `?f <-` before the pattern, if it has one, its address in `env` first.
+///
 /// A slot's value is taken by the place that the slot has in the template by which the pattern was read; so a fact of a
 /// template is to be of that one.
 ///
-/// Growth is refused as `NoMemory`; the meter has gone up then too.
+/// Growth is refused as `NoMemory`, and so is a count of sharers that is full; the meter has gone up then too.
 #[tactic(auto, using(crate::proofs::Looked::lengths_never_fit))]
 pub fn fit<T>(
     alloc: Global,

@@ -23,7 +23,7 @@ impl<T> Model for Meter<T> {
 }
 
 impl<T> Meter<T> {
-    /// A meter at 0.
+    /// A meter at 0. Whoever has the mark can make one; nothing else is done with it.
     pub fn new(mark: T) -> Meter<T>
         ensures { result ≡ 0 }
     {

@@ -35,7 +35,8 @@ impl<T> Model for Pattern<T> {
 }
 
 impl<T> Pattern<T> {
-    /// A pattern for the facts of a relation.
+    /// A pattern for the facts of a relation, which asks these parts of their content: a row for the fields of ordered facts,
+    /// or rows for slots of the relation's template.
     pub fn new(relation: Name, parts: Parts) -> Pattern<T>
         ensures { result ≡ record { relation = relation; parts = asked_parts parts } }
     {

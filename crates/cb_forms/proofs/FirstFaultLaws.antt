@@ -1,11 +1,14 @@
 -- The first fault of a list, where some lists are open before it.
 use Rattle.std.proofs.Common.{◌≡◌, ◌≤◌, ◌<◌, ◌+◌, ◌-◌, ◌⊎◌, inl, inr, ◌++◌, ℕ, Bool, true, false, List, [], ◌∷◌, Option, Some, None, Ok, Err, refl, sym, ap, ◌∙◌, arith, if◌then◌else◌, nat_le, subst}
 use Rattle.std.proofs.lemmas.Bool.{leb-true, leb-false}
+use Rattle.std.specs.List.{flat_map}
+use Rattle.cb_forms.specs.Bytes.{begins_with, opening}
+use Rattle.cb_forms.specs.Items.{is_open_list, items, parts, piece_readings, readings_of}
 use Rattle.cb_forms.specs.Lists.{first_fault, first_tree, levels_of, fault_or, list_reading}
-use Rattle.cb_forms.specs.Pieces.{lexemes}
+use Rattle.cb_forms.specs.Pieces.{lexeme_of, lexemes}
 use Rattle.cb_forms.specs.Trees.{Tree}
 use Rattle.cb_forms.specs.declared.fault.Fault.{Fault}
-use Rattle.cb_forms.specs.declared.fault.Fault.TheVariants.{NestingTooDeep}
+use Rattle.cb_forms.specs.declared.fault.Fault.TheVariants.{FormNotClosed, NestingTooDeep}
 use Rattle.cb_forms.specs.declared.lexeme.Lexeme.{Lexeme}
 use Rattle.cb_forms.specs.declared.lexeme.Lexeme.TheVariants.{Gap, Opening, Closing, Atom}
 use Rattle.cb_forms.specs.declared.token.Token.{Token}
@@ -246,3 +249,12 @@ found_is_first s f r =
       first = λ bs l cs g e at. r.first bs l cs g e (counted bs l g at);
     }) in
     ap (λ o. fault_or o (first_tree (levels_of (lexemes s)))) is
+
+-- the one item of a text that is one closed list
+pub faulty_item : (s : List ℕ) (f : Fault) → parts s ≡ s ∷ [] → begins_with opening s ≡ true → is_open_list s ≡ false → FirstFault s f → items s ≡ Err f ∷ []
+unfolding items
+faulty_item s f alone begins shut first =
+    ap (flat_map readings_of) alone
+    ∙ (ap (λ b. (if b then (if is_open_list s then Err FormNotClosed else list_reading (lexemes s)) ∷ [] else piece_readings (lexeme_of s)) ++ []) begins
+    ∙ (ap (λ b. (if b then Err FormNotClosed else list_reading (lexemes s)) ∷ []) shut
+    ∙ ap (λ r. r ∷ []) (found_is_first s f first)))

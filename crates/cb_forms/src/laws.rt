@@ -3,7 +3,8 @@ ghost use Rattle.std.specs.Prelude.{◌≡◌, ◌<◌, ◌≤◌, ℕ, Bool, tr
 ghost use Rattle.std.specs.List.{flat_map, All};
 ghost use Rattle.cb_forms.specs.Cutting.{AreCut, cut, joined};
 ghost use Rattle.cb_forms.specs.FirstFaults.{FirstFault};
-ghost use Rattle.cb_forms.specs.Items.{items, Reads, is_gap, is_open, whole, rest, over, fitting};
+ghost use Rattle.cb_forms.specs.Bytes.{begins_with, opening};
+ghost use Rattle.cb_forms.specs.Items.{items, parts, Reads, is_gap, is_open, is_open_list, whole, rest, over, fitting};
 ghost use Rattle.cb_forms.specs.Laws.{BeginsWith, OpensAfter, without_gaps, depth_of};
 ghost use Rattle.cb_forms.specs.Lists.{levels_of, list_reading, put_first, written};
 ghost use Rattle.cb_forms.specs.Pieces.{lexemes};
@@ -83,8 +84,11 @@ pub fn a_text_is_its_forms_as_written()
 {}
 
 /// The fault that a list is read as is the first in it, by what stands before: an atom's own fault, or a `(` that has at least
-/// 200 more `(` than `)` before it. And where there is such a first fault, the list is read as it.
+/// 200 more `(` than `)` before it. And where there is such a first fault, the list is read as it: a text that is one closed
+/// list has that fault as its one item.
 pub fn the_first_fault_counts()
     ensures found { (s : List ℕ) (f : Fault) → list_reading (lexemes s) ≡ Err f → FirstFault s f }
     ensures only { (s : List ℕ) (f : Fault) → FirstFault s f → list_reading (lexemes s) ≡ Err f }
+    ensures item { (s : List ℕ) (f : Fault) → parts s ≡ s ∷ [] → begins_with opening s ≡ true
+        → is_open_list s ≡ false → FirstFault s f → items s ≡ Err f ∷ [] }
 {}

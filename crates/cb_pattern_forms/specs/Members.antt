@@ -21,7 +21,7 @@ pub data Member : Type 0 where
   one_of : Member
   check : Bool → WrittenCheck → Member
 
--- `~` before these members: the check that comes first is negated, and elsewhere one is missing
+-- `~` before these members: the check that comes first is negated, if it has no `~` itself, and else a check is missing
 abbrev pub negated : List Member → List Member
 negated (check false w ∷ ms) = check true w ∷ ms
 negated ms = check true missing ∷ ms

@@ -20,8 +20,9 @@ use cb_templates::Template;
 /// The pattern that a relation and the forms after it are in this scope, or its first fault (`docs/LANGUAGE.md`,
 /// "Patterns"): its relation, and what it asks of the content of a fact.
 ///
-/// The relation may be any name, and the variables any: whether it is a reserved word, and whether they are bound where an
-/// expression names them, is to be seen by the caller.
+/// The relation may be any name, and so may the variables: the caller has to see whether it is a reserved word, and whether
+/// they are bound where an expression names them. Only in a scope of the left side of a rule are globals and calls with an
+/// effect CB13. Growth is refused as `NoMemory`.
 pub fn read_pattern(
     names: &mut Names,
     scope: &Scope<'_>,

@@ -28,9 +28,9 @@ use std::alloc::Global;
 /// A condition element of a rule (`docs/LANGUAGE.md`, "Rules").
 #[derive(Drop)]
 pub enum Ce<T> {
-    /// A pattern, with the variable that takes the address of its fact.
+    /// A pattern, with the variable of the `?f <-` before it.
     Pattern {
-        /// The variable.
+        /// The variable, which takes the address of the pattern's fact, or `None` without `?f <-`. `fit` doesn't set it.
         address: Option<Name>,
         /// The pattern.
         pattern: Pattern<T>,
@@ -48,7 +48,7 @@ pub struct Rule<T> {
     pub salience: i64,
     /// What each way through its `or` elements asks, element by element; without them there is one.
     pub branches: Vec<Vec<Ce<T>>>,
-    /// For each branch whether each of its elements that is a pattern or a group is a pattern, from left to right.
+    /// For each branch, of each of its patterns and groups from left to right, whether it is a pattern.
     pub layouts: Vec<Vec<bool>>,
     /// Its actions.
     pub actions: Vec<Expr>,
@@ -58,8 +58,9 @@ pub struct Rule<T> {
 }
 
 impl<T> Rule<T> {
-    /// The rule that the forms after the word `defrule` are, or their first fault (`docs/LANGUAGE.md`, "Rules"). The globals
-    /// of `env` may be named by the salience and the actions. Growth is refused as `NoMemory`.
+    /// The rule that the forms after the word `defrule` are, or their first fault (`docs/LANGUAGE.md`, "Rules"). The salience
+    /// is evaluated, once and here. It and the actions may name the globals of `env`; the variables of `env` aren't known in
+    /// the rule. Growth is refused as `NoMemory`.
     pub fn read(
         names: &mut Names,
         constants: &Constants,

@@ -3,8 +3,9 @@ use cb_facts::{Fact, Names, Refused, Value};
 use cb_forms::{Fault, Form};
 use cb_templates::{GivenSlot, Parts, Relations, build_fact};
 
-/// The fact of a form whose fields, or whose slots' values, are constants. It refuses as a fact with these parts does
-/// (`docs/LANGUAGE.md`, "Facts"), and with CB08 where something else than a constant stands for a value.
+/// The fact of a form whose fields, or whose slots' values, are constants. It refuses what doesn't fit the slots of its
+/// template (`docs/LANGUAGE.md`, "Facts"), and with CB08 anything else than a constant as a value. It looks neither at the
+/// types of slots nor at reserved words.
 pub(crate) fn read_fact(
     names: &mut Names,
     relations: &Relations,
