@@ -1,5 +1,5 @@
 -- What an item of a script does.
-use Rattle.std.proofs.Common.{◌≡◌, ◌∙◌, ◌++◌, ℕ, List, [], ◌∷◌, Option, Some, None, Result, Ok, Err, codes, map, refl, sym, ap, ap₂, subst}
+use Rattle.std.proofs.Common.{◌≡◌, ◌∙◌, ◌++◌, ℕ, List, [], ◌∷◌, Option, Some, None, Result, Ok, Err, codes, map, refl, sym, ap, ap₂, subst, false, true, if◌then◌else◌}
 use Rattle.cb_actions.specs.Actions.{carried}
 use Rattle.cb_actions.specs.Acts.{follow, give_or_fault, ◌>>=◌}
 use Rattle.cb_actions.specs.Worlds.{World}
@@ -7,10 +7,9 @@ use Rattle.cb_actions.specs.declared.act.Ended.{Ended}
 use Rattle.cb_actions.specs.declared.act.Ended.TheVariants as ended
 use Rattle.cb_actions.specs.declared.act.Limit.{Limit}
 use Rattle.cb_expr_forms.specs.ExprFaults.{faults_of}
-use Rattle.cb_expr_forms.specs.ExprForms.{assertion, assertions, expr_of, exprs_of, fact_of, fact_with, slot_expr, slot_exprs, slot_names}
+use Rattle.cb_expr_forms.specs.ExprForms.{assertion, assertions, expr_of, exprs_of, fact_of, fact_with, one_of, slot_expr, slot_exprs, slot_names}
 use Rattle.cb_expr_forms.specs.Laws.{fact_giving, list_of}
-use Rattle.cb_exprs.specs.FactTerms.{FactTerm}
-use Rattle.cb_exprs.specs.Terms.{Term, actions, terms}
+use Rattle.cb_exprs.specs.Terms.{Term, actions, call, retract, terms}
 use Rattle.cb_facts.specs.Results.{ok_then}
 use Rattle.cb_facts.specs.declared.value.Value.{Value}
 use Rattle.cb_forms.specs.Trees.{Reading, Tree, Trees, trees_of}
@@ -31,9 +30,8 @@ use Rattle.cb_templates.specs.TemplateFaults.{template_faults}
 use Rattle.cb_templates.specs.TemplateShapes.{template_shape}
 use Rattle.cb_templates.specs.Templates.{Templates, slots_of, with_template}
 use Rattle.cb_words.specs.Words.{head_of}
+use Rattle.cb_words.specs.declared.function.Function.TheVariants as function
 use Rattle.cb_words.specs.declared.head.Action.{Action}
-use Rattle.cb_words.specs.declared.head.Construct.TheVariants as construct
-use Rattle.cb_words.specs.declared.head.Head.{Head}
 use Rattle.cb_words.specs.declared.head.Head.TheVariants as head
 
 -- what an item does that asks for this, or that has this fault
@@ -129,6 +127,16 @@ pub has_fields : (templates : Templates) (relation : List ℕ) (forms : List Tre
 has_fields templates relation forms h =
     ap (λ o. fact_with relation o (exprs_of templates (trees_of forms)) (slot_names (trees_of forms)) (λ slots. slot_exprs templates slots (trees_of forms))) h
     ∙ ap (λ ts. record { shape = record { relation = relation; slots = None }; values = terms ts }) (exprs_are templates forms)
+
+pub single_given : (s : SlotShape) (t : Term) → s.is_multi ≡ false → slot_expr (Some s) (t ∷ []) ≡ t
+single_given s t h = ap (λ b. if b then call function.Create (terms (t ∷ [])) else t) h
+
+pub multi_given : (s : SlotShape) (ts : List Term) → s.is_multi ≡ true → slot_expr (Some s) ts ≡ call function.Create (terms ts)
+multi_given s ts h = ap (λ b. if b then call function.Create (terms ts) else one_of ts) h
+
+pub retracts : (templates : Templates) (t : Tree) (forms : List Tree) → expr_of templates (list_of (codes "retract") (trees_of (t ∷ forms))) ≡ retract (terms (map (expr_of templates) (t ∷ forms)))
+unfolding head_of
+retracts templates t forms = ap (λ ts. retract (terms (expr_of templates t ∷ ts))) (exprs_are templates forms)
 
 -- slots as they are written
 abbrev slot_forms : List (List ℕ × List Tree) → Trees

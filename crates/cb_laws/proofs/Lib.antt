@@ -29,3 +29,5 @@ mod AttributeLaws
 mod OnlyFitLaws
 mod ItemLaws
 mod PrintedLaws
+mod CommentLaws
+mod RunningLaws

@@ -1,5 +1,5 @@
 -- The name of a template or of a slot is looked at before what follows it.
-use Rattle.std.proofs.Common.{◌≡◌, ◌∙◌, ◌++◌, ℕ, Bool, true, false, not, List, [], ◌∷◌, Option, Some, None, refl, ap}
+use Rattle.std.proofs.Common.{◌≡◌, ◌∙◌, ◌++◌, ℕ, Bool, true, false, not, List, [], ◌∷◌, Some, None, refl, ap}
 use Rattle.cb_forms.specs.Members.{call_of, head_and_rest}
 use Rattle.cb_forms.specs.Trees.{Tree, Trees}
 use Rattle.cb_forms.specs.declared.fault.Fault.{Fault}
@@ -7,7 +7,7 @@ use Rattle.cb_forms.specs.declared.fault.Fault.TheVariants.{MalformedForm, Templ
 use Rattle.cb_laws.specs.Written.{slot_word}
 use Rattle.cb_templates.specs.FaultLists.{first_of, unless}
 use Rattle.cb_templates.specs.Reserved.{is_reserved}
-use Rattle.cb_templates.specs.TemplateFaults.{attributes_faults, is_among, kept_faults, kind_faults, named_slot_faults, named_template_faults, slot_form_faults, slots_form_faults, template_faults}
+use Rattle.cb_templates.specs.TemplateFaults.{attributes_faults, is_among, kept_faults, named_slot_faults, named_template_faults, slot_form_faults, slots_form_faults, template_faults}
 use Rattle.cb_templates.specs.TemplateShapes.{default_in, types_in}
 use Rattle.cb_templates.specs.Templates.{without_comment}
 

@@ -1,7 +1,7 @@
 -- The first type, and the first constant, that has a fault.
-use Rattle.std.proofs.Common.{◌≡◌, ◌∙◌, ◌++◌, List, [], ◌∷◌, Option, Some, None, refl, sym, ap}
+use Rattle.std.proofs.Common.{◌≡◌, ◌∙◌, ◌++◌, List, [], ◌∷◌, Some, refl, ap}
 use Rattle.cb_forms.specs.Members.{symbol_of}
-use Rattle.cb_forms.specs.Trees.{Tree, Trees, no_trees, tree, trees_of}
+use Rattle.cb_forms.specs.Trees.{Tree, trees_of}
 use Rattle.cb_forms.specs.declared.fault.Fault.{Fault}
 use Rattle.cb_templates.specs.FaultLists.{first_of}
 use Rattle.cb_templates.specs.TemplateFaults.{constant_faults, constants_faults, type_name_faults, types_faults}

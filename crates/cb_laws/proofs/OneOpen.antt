@@ -1,5 +1,5 @@
 -- The open item of a text is one item.
-use Rattle.std.proofs.Common.{◌≡◌, ◌≢◌, ◌∙◌, ◌==◌, ◌||◌, ◌++◌, ℕ, Bool, true, false, List, [], ◌∷◌, Result, Ok, Err, refl, sym, ap, append-nil, if◌then◌else◌}
+use Rattle.std.proofs.Common.{◌≡◌, ◌≢◌, ◌∙◌, ◌==◌, ◌||◌, ℕ, Bool, true, false, List, [], ◌∷◌, Result, Ok, Err, refl, sym, ap, append-nil, if◌then◌else◌}
 use Rattle.std.specs.List.{flat_map}
 use Rattle.cb_forms.proofs.Cited.{are_cut-cut, cut-joined, open-no_gap}
 use Rattle.cb_forms.specs.Bytes.{ampersand, bar, closing, is_blank, opening, quote, semicolon, tilde}

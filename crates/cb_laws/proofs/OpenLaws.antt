@@ -9,14 +9,14 @@ use Rattle.cb_session.specs.declared.limits.Limits.{Limits}
 use Rattle.cb_session.specs.declared.status.Status.{Status}
 
 -- runs, by whether an item is too long
-abbrev run_of : Limits → Bool → List Reading → List Reading → Run
+abbrev pub run_of : Limits → Bool → List Reading → List Reading → Run
 run_of limits t some all = if t then too_long (after_all (begun limits) some) else after_all (begun limits) all
 
-so_far_by : (limits : Limits) (p : List ℕ) (t : Bool) → over limits.max_form p ≡ t → so_far limits p ≡ run_of limits t (fitting limits.max_form p) (whole p)
+pub so_far_by : (limits : Limits) (p : List ℕ) (t : Bool) → over limits.max_form p ≡ t → so_far limits p ≡ run_of limits t (fitting limits.max_form p) (whole p)
 unfolding so_far
 so_far_by limits p t e = ap (λ b. run_of limits b (fitting limits.max_form p) (whole p)) e
 
-complete_by : (limits : Limits) (s : List ℕ) (t : Bool) → over limits.max_form s ≡ t → complete limits s ≡ run_of limits t (fitting limits.max_form s) (fitting limits.max_form s)
+pub complete_by : (limits : Limits) (s : List ℕ) (t : Bool) → over limits.max_form s ≡ t → complete limits s ≡ run_of limits t (fitting limits.max_form s) (fitting limits.max_form s)
 unfolding complete
 complete_by limits s t e = ap (λ b. run_of limits b (fitting limits.max_form s) (fitting limits.max_form s)) e
 

@@ -4,7 +4,7 @@ use Rattle.std.proofs.lemmas.List.{append_cancel_right}
 use Rattle.std.specs.List.{flat_map, list_any}
 use Rattle.cb_forms.proofs.Cited.{are_cut-cut, are_cut-front, cut-joined, joined-cut, list_any-split, open-no_gap}
 use Rattle.cb_forms.specs.Cutting.{AreCut, joined}
-use Rattle.cb_forms.specs.Items.{but_last, ended_readings, fitting, fitting_parts, is_gap, is_longer, is_open, items, last_part, over, part_takes, parts, readings_of, rest, whole}
+use Rattle.cb_forms.specs.Items.{but_last, fitting, fitting_parts, is_gap, is_longer, is_open, items, last_part, over, part_takes, parts, readings_of, rest, whole}
 
 -- a text whose last part is an open item: what stands before it, and the parts of that
 pub record EndsOpen (p before : List ℕ) : Type 0 where

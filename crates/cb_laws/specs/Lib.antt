@@ -1,5 +1,6 @@
 pub mod Memories
 pub mod Naming
+pub mod Running
 pub mod SlotValues
 pub mod Written
 pub mod Reached

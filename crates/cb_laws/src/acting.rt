@@ -22,10 +22,10 @@ ghost use Rattle.cb_laws.specs.Naming.{LeavesUnnamed, LeavesUpToMissing, names_f
 ghost use Rattle.cb_templates.specs.Building.{built, field_values, slot_values};
 ghost use Rattle.cb_working_memory.specs.WorkingMemory.{asserted_one, is_retractable};
 
-/// An `assert` asserts its one fact, and its answer is the address under which that fact is there. Only where the fact has a
+/// An `assert` asserts its one fact, and its value is the address under which that fact is there. Only where the fact has a
 /// fault or no index is left does it end without one: with the fault, and nothing changes, or at the limit of indices. However
 /// it ends, it writes nothing and changes the facts alone.
-pub fn an_assertion_answers_its_address()
+pub fn an_assertion_returns_its_address()
     ensures asserted { (shape : Shape) (vs : List Value) (s : World) (fact : FactValue)
         (answer : Option Value)
         → IsSound s.memory

@@ -6,10 +6,10 @@ ghost use Rattle.cb_facts.specs.Facts.{FactValue};
 ghost use Rattle.cb_laws.specs.Memories.{AreAsserted, IsSound, IsThere};
 ghost use Rattle.cb_working_memory.specs.WorkingMemory.{Memory, asserted_one, greatest_index};
 
-/// After a fact was asserted and an index was left for it, it is there under the index that is answered. That is the index
+/// After a fact was asserted and an index was left for it, it is there under the index that is returned. That is the index
 /// that it had, if it was there, and then nothing changes; else it is the next, which is then the one given last. An index is
 /// left as long as the greatest was not given.
-pub fn what_is_asserted_has_the_index_answered()
+pub fn what_is_asserted_has_the_index_returned()
     ensures there { (m : Memory) (fact : FactValue) (ix : ℕ) → IsSound m
         → (asserted_one m fact).1 ≡ Some ix
         → fact_at (asserted_one m fact).0.facts ix ≡ Some fact }

@@ -1,12 +1,12 @@
 //! What an item of a script does to the facts and the templates.
-ghost use Rattle.std.specs.Prelude.{◌≡◌, ◌++◌, ℕ, List, [], Option, None, Some, Ok, Err, codes, map};
+ghost use Rattle.std.specs.Prelude.{◌≡◌, ◌++◌, ◌∷◌, ℕ, List, [], Option, None, Some, Ok, Err, codes, false, map, true};
 ghost use Rattle.cb_actions.specs.Actions.{carried};
 ghost use Rattle.cb_actions.specs.declared.act.Ended.TheVariants as ended;
 ghost use Rattle.cb_actions.specs.declared.act.Limit.{Limit};
 ghost use Rattle.cb_expr_forms.specs.ExprFaults.{faults_of};
-ghost use Rattle.cb_expr_forms.specs.ExprForms.{assertion, expr_of, fact_of, slot_expr};
+ghost use Rattle.cb_expr_forms.specs.ExprForms.{expr_of, fact_of, slot_expr};
 ghost use Rattle.cb_expr_forms.specs.Laws.{fact_giving, list_of};
-ghost use Rattle.cb_exprs.specs.Terms.{Term, actions, terms};
+ghost use Rattle.cb_exprs.specs.Terms.{Term, actions, assert, call, retract, terms};
 ghost use Rattle.cb_facts.specs.declared.value.Value.{Value};
 ghost use Rattle.cb_forms.specs.Trees.{Reading, Tree, Trees, trees_of};
 ghost use Rattle.cb_forms.specs.declared.fault.Fault.{Fault};
@@ -23,6 +23,7 @@ ghost use Rattle.cb_templates.specs.Slots.{SlotShape, slot_named};
 ghost use Rattle.cb_templates.specs.TemplateFaults.{template_faults};
 ghost use Rattle.cb_templates.specs.Templates.{Templates, slots_of};
 ghost use Rattle.cb_words.specs.Words.{head_of};
+ghost use Rattle.cb_words.specs.declared.function.Function.TheVariants.{Create};
 ghost use Rattle.cb_words.specs.declared.head.Action.{Action};
 ghost use Rattle.cb_words.specs.declared.head.Head.TheVariants as head;
 
@@ -68,7 +69,8 @@ pub fn a_call_without_a_fault_is_carried_out()
 pub fn an_assert_asserts_what_is_written()
     ensures facts { (templates : Templates) (forms : List Tree)
         → expr_of templates (list_of (codes "assert") (trees_of forms))
-        ≡ actions (terms (map (λ t. assertion (fact_of templates t)) forms)) }
+        ≡ actions (terms (map (λ t. assert (fact_of templates t).shape
+        (fact_of templates t).values) forms)) }
     ensures fields { (templates : Templates) (relation : List ℕ) (forms : List Tree)
         → slots_of templates relation ≡ None
         → fact_of templates (list_of relation (trees_of forms))
@@ -84,6 +86,22 @@ pub fn an_assert_asserts_what_is_written()
           g.0,
           slot_expr (slot_named slots g.0) (map (expr_of templates) g.1),
         )) given) }
+{}
+
+/// What a fact gives a slot of one value is the value that is written. What it gives a multislot is a multifield of all that is
+/// written.
+pub fn a_slot_is_given_what_is_written()
+    ensures single { (s : SlotShape) (t : Term) → s.is_multi ≡ false
+        → slot_expr (Some s) (t ∷ []) ≡ t }
+    ensures multi { (s : SlotShape) (ts : List Term) → s.is_multi ≡ true
+        → slot_expr (Some s) ts ≡ call Create (terms ts) }
+{}
+
+/// A `retract` retracts what its arguments are, in the order in which they are written.
+pub fn a_retract_retracts_what_is_written()
+    ensures { (templates : Templates) (t : Tree) (forms : List Tree)
+        → expr_of templates (list_of (codes "retract") (trees_of (t ∷ forms)))
+        ≡ retract (terms (map (expr_of templates) (t ∷ forms))) }
 {}
 
 /// An item that is a `deftemplate` without a fault defines its template and does nothing else. One with a fault defines

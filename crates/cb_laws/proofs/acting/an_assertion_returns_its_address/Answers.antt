@@ -1,5 +1,5 @@
 use Rattle.cb_laws.proofs.ActLaws.{address_answered, address_there, asserts_only, asserts_quietly, fault_ends, fault_stays, limit_answered, one_asserted}
-use Rattle.cb_laws.proofs.acting.an_assertion_answers_its_address.Goals as goal
+use Rattle.cb_laws.proofs.acting.an_assertion_returns_its_address.Goals as goal
 
 pub returns-clause-asserted : goal.returns-clause-asserted
 returns-clause-asserted c = address_there

@@ -1,5 +1,5 @@
 use Rattle.cb_laws.proofs.AssertLaws.{has_index, known, next_index, next_last, no_index}
-use Rattle.cb_laws.proofs.asserting.what_is_asserted_has_the_index_answered.Goals as goal
+use Rattle.cb_laws.proofs.asserting.what_is_asserted_has_the_index_returned.Goals as goal
 
 pub returns-clause-there : goal.returns-clause-there
 returns-clause-there c = has_index
