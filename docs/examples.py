@@ -7,7 +7,8 @@ docs/examples.py --check    only checks that they are up to date
 Both also say where the table of patterns and the stored run of `pattern_fits` differ.
 
 A script of a page is a block of the kind `clips`, and its transcript is the next block of the kind `text`; a block of the
-kind `clips rules` is not for clipsbatch yet. In the table of functions each call is a line of one script, and what it shows
+kind `clips rules` is not for clipsbatch yet. The tables of tokens, words, strings and items are scripts too: what a cell says
+of a script is what the script shows. In the table of functions each call is a line of one script, and what it shows
 a line of the transcript. In the man page the script is what `echo` writes. The exit status follows from the transcript: 4
 where its last line is a limit's, 1 where one line is a fault's, else 0.
 """
@@ -77,6 +78,82 @@ def files():
         yield script.name, script.read_text(), script.with_suffix(".txt").read_text()
 
 
+def cells_of(line):
+    """The cells of a row of a table."""
+    return [cell.strip().replace("\\|", "|") for cell in re.split(r"(?<!\\)\|", line)[1:-1]]
+
+
+def tables(heading):
+    """The tables of a section of LANGUAGE, each by its first row: the cells of the others."""
+    head = None
+    for line in next(lines for name, lines in sections("docs/LANGUAGE.md") if name == heading):
+        if not line.startswith("|"):
+            head = None
+        elif head is None:
+            head = tuple(cells_of(line))
+        elif not line.startswith("|-"):
+            yield head, cells_of(line)
+
+
+def code(cell):
+    return re.findall(r"`([^`]*)`", cell)
+
+
+FAULT_LINES = {row[0]: f"[{row[0]}] {row[1]}\n" for _, row in tables("Faults") if row[0].startswith("CB")}
+KINDS = [("the symbol ", "{}\n"), ("the string ", '"{}"\n'), ("the variable ", FAULT_LINES["CB11"]), ("the list of ", FAULT_LINES["CB06"])]
+CLASSES = [("the wildcard", "CB08"), ("the global", "CB12"), ("the variable", "CB11"), ("the multifield variable", "CB11"), ("the fault CB05", "CB05")]
+
+
+def shown(part):
+    """What a script shows of a part of a cell that says what the script is."""
+    if part == "a comment":
+        return ""
+    if re.fullmatch(r"(then )?CB\d\d", part):
+        return FAULT_LINES[part[-4:]]
+    if re.fullmatch(r"the integer -?\d+", part):
+        return f"{part.split()[-1]}\n"
+    for words, line in KINDS:
+        if part.startswith(words):
+            return line.format(code(part)[0])
+    return {"`&`": FAULT_LINES["CB08"], "`|`": FAULT_LINES["CB08"], "`~`": FAULT_LINES["CB08"]}[part]
+
+
+def parts_of(cell):
+    """The parts of a cell. The members of a list are one part with it."""
+    parts = re.split(r",? and (?=a comment)|, ", cell)
+    return [cell] if " and `" in cell else parts
+
+
+def shown_word(what, word):
+    """What a word of a class shows."""
+    for words, fault in CLASSES:
+        if what.startswith(words):
+            return FAULT_LINES[fault]
+    return f"{int(word)}\n" if what.startswith("an integer") else f"{word}\n"
+
+
+def token_scripts():
+    """The scripts of the tables of tokens, words, strings and items, one for each row."""
+    for heading in ("Tokens", "Strings", "Items"):
+        for number, (head, row) in enumerate(tables(heading), 1):
+            title = f"{heading}: row {number}"
+            if head in (("Script", "Tokens"), ("Script", "Items")):
+                yield title, "\n".join(code(row[0])) if " and, in the next line, " in row[0] else code(row[0])[0], "".join(map(shown, parts_of(row[1])))
+            elif head == ("The word", "What it is", "Examples"):
+                words = code(re.sub(r"\([^)]*\)", "", row[2]))
+                yield title, "".join(f"{word}\n" for word in words), "".join(shown_word(row[1], word) for word in words)
+            elif head == ("Written", "Content"):
+                content = (code(row[1]) or [""])[0]
+                yield title, f"(printout t {code(row[0])[0]} crlf)", f"{content}\n"
+
+
+def wrong_lengths():
+    """The items of LANGUAGE that haven't the length that is said."""
+    for head, row in tables("Items"):
+        if head == ("Item", "Length") and len(code(row[0])[0]) != int(row[1]):
+            yield f"docs/LANGUAGE.md: {row[0]} hasn't the length {row[1]}"
+
+
 def literal(text):
     return text.replace("\\", "\\\\").replace('"', '\\"').replace("\t", "\\t")
 
@@ -106,6 +183,7 @@ def modules():
     first = next(place for place, (title, _, _) in enumerate(language) if title.startswith("Templates"))
     yield "functions.rt", module("`docs/LANGUAGE.md` on expressions, functions, variables and control", "FUNCTIONS", language[:first])
     yield "language.rt", module("`docs/LANGUAGE.md` on templates, facts and commands", "LANGUAGE", language[first:])
+    yield "tokens.rt", module("the tables of `docs/LANGUAGE.md` on tokens, words, strings and items", "TOKENS", list(token_scripts()))
     others = [*scripts("docs/CLIPS.md"), *scripts("README.md"), *piped_scripts()]
     yield "clips.rt", module("`docs/CLIPS.md`, of `README.md` and of the man page", "CLIPS", others)
     yield "examples.rt", module("`examples/`", "EXAMPLES", list(files()))
@@ -143,7 +221,7 @@ def main():
     if words not in ([], ["--check"]):
         sys.exit(__doc__)
     stale = 0
-    for line in wrong_patterns():
+    for line in [*wrong_patterns(), *wrong_lengths()]:
         stale += 1
         print(line)
     for name, text in modules():

@@ -14,4 +14,5 @@ mod rows;
 mod runs;
 mod sessions;
 mod template_rows;
+mod tokens;
 mod words;

@@ -6,6 +6,7 @@ use super::language::LANGUAGE;
 use super::one_run::{Want, goes_in_blocks};
 use super::orders::ORDERS;
 use super::rows::Example;
+use super::tokens::TOKENS;
 use cb_forms::NoMemory;
 use std::alloc::Global;
 
@@ -62,5 +63,11 @@ fn carries_the_scripts_of_the_language_out(rt: HostRuntime) -> Result<(), NoMemo
 #[test]
 fn carries_the_scripts_that_compute_out(rt: HostRuntime) -> Result<(), NoMemory> {
     assert_eq!(rt; first_untrue(rt.alloc(), &FUNCTIONS)?, None);
+    Ok(())
+}
+
+#[test]
+fn reads_the_tokens_and_items_of_the_language(rt: HostRuntime) -> Result<(), NoMemory> {
+    assert_eq!(rt; first_untrue(rt.alloc(), &TOKENS)?, None);
     Ok(())
 }
