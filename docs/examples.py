@@ -7,10 +7,11 @@ docs/examples.py --check    only checks that they are up to date
 Both also say where the table of patterns and the stored run of `pattern_fits` differ.
 
 A script of a page is a block of the kind `clips`, and its transcript is the next block of the kind `text`; a block of the
-kind `clips rules` is not for clipsbatch yet. The tables of tokens, words, strings and items are scripts too: what a cell says
-of a script is what the script shows. In the table of functions each call is a line of one script, and what it shows
-a line of the transcript. In the man page the script is what `echo` writes. The exit status follows from the transcript: 4
-where its last line is a limit's, 1 where one line is a fault's, else 0.
+kind `clips rules` is not for clipsbatch yet. In one of the kind `clips control` pictures such as ␁ stand for control bytes.
+The tables of tokens, words, strings and items are scripts too: what a cell says of a script is what the script shows. In the
+table of functions each call is a line of one script, and what it shows a line of the transcript. In the man page the script
+is what `echo` writes. The exit status follows from the transcript: 4 where its last line is a limit's, 1 where one line is a
+fault's, else 0.
 """
 import re
 import sys
@@ -23,6 +24,7 @@ CALL = re.compile(r"^\| `[^`]+` \|.*\| `(\([^`]*\))` \| `([^`]*)` \|$")
 PIPED = re.compile(r"^\$ echo '([^']*)' \| clipsbatch\n(.*?)^\.Ed$", re.M | re.S)
 LIMIT = re.compile(r"^\[CB9\d\] .*\n\Z", re.M)
 FAULT = re.compile(r"\[CB\d\d\] ")
+PICTURES = {0x2421: 127} | {0x2400 + byte: byte for byte in range(32)}
 
 
 def sections(page):
@@ -59,8 +61,8 @@ def scripts(page):
             yield f"{heading}: each one", "".join(f"{call}\n" for call, _ in calls), "".join(f"{shown}\n" for _, shown in calls)
         script, number = None, 0
         for kind, text in blocks(lines):
-            if kind == "clips":
-                script, number = text, number + 1
+            if kind in ("clips", "clips control"):
+                script, number = text.translate(PICTURES if kind == "clips control" else {}), number + 1
             elif kind == "text" and script is not None:
                 yield f"{heading}: {number}", script, text
                 script = None
@@ -155,7 +157,8 @@ def wrong_lengths():
 
 
 def literal(text):
-    return text.replace("\\", "\\\\").replace('"', '\\"').replace("\t", "\\t")
+    text = text.replace("\\", "\\\\").replace('"', '\\"').replace("\t", "\\t")
+    return re.sub(r"[\x00-\x09\x0b-\x1f\x7f]", lambda found: f"\\x{ord(found[0]):02x}", text)
 
 
 def outcome(written):

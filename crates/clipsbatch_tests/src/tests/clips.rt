@@ -1,7 +1,7 @@
 //! The scripts of `docs/CLIPS.md`, of `README.md` and of the man page, made by `docs/examples.py`.
-use super::rows::{Example, WITH_A_FAULT, WITHOUT_FAULT};
+use super::rows::{AT_A_LIMIT, Example, WITH_A_FAULT, WITHOUT_FAULT};
 
-pub(super) const CLIPS: [Example; 27] = [
+pub(super) const CLIPS: [Example; 29] = [
     Example {
         name: "Input and output: 1",
         script: b"(+ 1 2)
@@ -48,6 +48,22 @@ blue
 7
 ",
         outcome: WITH_A_FAULT,
+    },
+    Example {
+        name: "Input and output: 5",
+        script: b"(create$ a\x01b)
+(create$ a\x0bb)
+(create$ a\x0cb)
+(create$ a\x1bb)
+(create$ a\x7fb)
+",
+        written: b"(a b)
+(a b)
+(a b)
+(a b)
+(a b)
+",
+        outcome: WITHOUT_FAULT,
     },
     Example {
         name: "What is left out: 1",
@@ -331,6 +347,32 @@ FALSE
 [CB17] wrong type
 ",
         outcome: WITH_A_FAULT,
+    },
+    Example {
+        name: "Limits: 1",
+        script: b"(abs (abs (abs (abs (abs (abs (abs (abs (abs (abs (abs (abs (abs (abs (abs (abs (abs (abs (abs (abs
+(abs (abs (abs (abs (abs (abs (abs (abs (abs (abs (abs (abs (abs (abs (abs (abs (abs (abs (abs (abs
+(abs (abs (abs (abs (abs (abs (abs (abs (abs (abs (abs (abs (abs (abs (abs (abs (abs (abs (abs (abs
+(abs (abs (abs (abs (abs (abs (abs (abs (abs (abs (abs (abs (abs (abs (abs (abs (abs (abs (abs (abs
+(abs (abs (abs (abs (abs (abs (abs (abs (abs (abs (abs (abs (abs (abs (abs (abs (abs (abs (abs (abs
+(abs (abs (abs (abs (abs (abs (abs (abs (abs (abs (abs (abs (abs (abs (abs (abs (abs (abs (abs (abs
+(abs (abs (abs (abs (abs (abs (abs (abs (abs (abs (abs (abs (abs (abs (abs (abs (abs (abs (abs (abs
+(abs (abs (abs (abs (abs (abs (abs (abs (abs (abs (abs (abs (abs (abs (abs (abs (abs (abs (abs (abs
+(abs (abs (abs (abs (abs (abs (abs (abs (abs (abs (abs (abs (abs (abs (abs (abs (abs (abs (abs (abs
+(abs (abs (abs (abs (abs (abs (abs (abs (abs (abs (abs (abs (abs (abs (abs (abs (abs (abs (abs (abs
+(abs 1
+)))))))))))))))))))))))))))))))))))))))))))))))))))))))))))))))))))
+)))))))))))))))))))))))))))))))))))))))))))))))))))))))))))))))))))
+)))))))))))))))))))))))))))))))))))))))))))))))))))))))))))))))))))
+(bind ?i 0)
+(while (< ?i 10000001) do (bind ?i (+ ?i 1)))
+?i
+",
+        written: b"[CB03] nesting too deep
+0
+[CB93] loop limit reached
+",
+        outcome: AT_A_LIMIT,
     },
     Example {
         name: "A first transcript: 1",
