@@ -1,9 +1,5 @@
-pub mod Cited
-mod ActLaws
 mod GivenLaws
 mod WentLaws
-mod Falling
-mod TurnLaws
 mod LoopLaws
 mod CallLaws
 mod DefinitionLaws

@@ -10,8 +10,8 @@ use Rattle.cb_actions.specs.declared.act.Break.TheVariants as break
 use Rattle.cb_actions.specs.declared.act.Ended.TheVariants as ended
 use Rattle.cb_actions.specs.declared.act.Limit.TheVariants.{Turns}
 use Rattle.cb_actions.specs.declared.stop.Stop.TheVariants as stop
-use Rattle.cb_actions.proofs.ActLaws.{went_then, went_off, went_quietly}
-use Rattle.cb_actions.proofs.TurnLaws.{again, never_rises, tested_falls}
+use Rattle.cb_actions.specs.Lemmas.ActLaws.{went_then, went_off, went_quietly}
+use Rattle.cb_actions.specs.Lemmas.TurnLaws.{again, never_rises, tested_falls}
 use Rattle.cb_actions.proofs.WentLaws.{went_fine, went_state, went_refused}
 use Rattle.cb_exprs.specs.Terms.{Term, repeat, Terms, term, term_of, terms_of}
 use Rattle.cb_exprs.specs.declared.expr.Expr.{Expr}

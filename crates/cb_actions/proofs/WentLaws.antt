@@ -6,22 +6,22 @@ use Rattle.cb_actions.specs.declared.act.Break.{Break}
 use Rattle.cb_actions.specs.declared.act.Break.TheVariants as break
 use Rattle.cb_actions.specs.declared.act.Ended.{Ended}
 use Rattle.cb_actions.specs.declared.stop.Stop.TheVariants as stop
-use Rattle.cb_actions.proofs.ActLaws.{follow_begins, follow-err}
+use Rattle.cb_actions.specs.Lemmas.ActLaws.{follow_begins, follow-err}
 use Rattle.cb_io.specs.Histories.{PastWrites}
 use Rattle.cb_io.specs.Output.{OutState}
-use Rattle.cb_io.proofs.Cited.{puts_nothing, puts_refused, puts_as, puts_fine}
+use Rattle.cb_io.specs.contracts.cited.LawsCited.TheImpl as io_laws
 
 module _ {K S A : Type 0} (writes : K → PastWrites) where
   -- memory was refused before anything was put
   pub went_unbegun : (o : OutState K) (s : S) (m : Effect S A) → o.fault ≡ false → Went {K = K} {S = S} {A = A} writes o o s (Err (break.Stop stop.NoMemory)) m
-  went_unbegun o s m fine = record { puts = puts_nothing writes o m.written fine; answers = tt }
+  went_unbegun o s m fine = record { puts = io_laws.ghosts.puts_nothing _ writes o m.written fine; answers = tt }
 
   -- the output is as it should be, and the state is the effect's
   pub went_fine : (o o1 : OutState K) (s : S) (a : A) (m : Effect S A) → Went writes o o1 s (Ok a) m → o1.fault ≡ false
-  went_fine o o1 s a m h = puts_fine writes o o1 m.written h.puts
+  went_fine o o1 s a m h = io_laws.ghosts.puts_fine _ writes o o1 m.written h.puts
 
   pub went_ok : (o o1 : OutState K) (s : S) (r : Result A Break) (m : Effect S A) → Went writes o o1 s r m → OnOk r (o1.fault ≡ false)
-  went_ok o o1 s (Ok a) m h = puts_fine writes o o1 m.written h.puts
+  went_ok o o1 s (Ok a) m h = io_laws.ghosts.puts_fine _ writes o o1 m.written h.puts
   went_ok o o1 s (Err e) m h = tt
 
   pub went_state : (o o1 : OutState K) (s : S) (a : A) (m : Effect S A) → Went writes o o1 s (Ok a) m → s ≡ m.state
@@ -39,7 +39,7 @@ module _ {K S A B : Type 0} (writes : K → PastWrites) where
       → Went {K = K} {S = S} {A = B} writes o o1 s2 (Err (break.Stop stop.NoMemory)) (follow m.state m.written m.answer next)
   went_refused o o1 s1 s2 a m next first =
       let begins = follow_begins m.state m.written m.answer next in
-      record { puts = puts_as writes o o1 _ _ _ _ refl begins.is (puts_refused writes o o1 m.written begins.more first.puts); answers = tt }
+      record { puts = io_laws.ghosts.puts_as _ writes o o1 _ _ _ _ refl begins.is (io_laws.ghosts.puts_refused _ writes o o1 m.written begins.more first.puts); answers = tt }
 
 -- an act that ended is all that is done
 pub left_off : {S A : Type 0} (m : Effect S A) (e : Ended) (next : A → Act S A) → m.answer ≡ Err e → follow m.state m.written m.answer next ≡ m

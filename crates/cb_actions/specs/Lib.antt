@@ -4,6 +4,7 @@ pub mod Definitions
 pub mod Effects
 pub mod Internal
 pub mod Laws
+pub mod Lemmas
 pub mod Printing
 pub mod Went
 pub mod Worlds

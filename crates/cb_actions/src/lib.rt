@@ -5,6 +5,7 @@
 
 mod act;
 mod carry;
+pub mod cited;
 mod deffacts;
 mod globals;
 pub mod laws;

@@ -1,4 +1,2 @@
 mod Alternatives
-pub mod Cited
-mod MayHold
 mod Opposites

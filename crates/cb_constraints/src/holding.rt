@@ -20,7 +20,7 @@ use std::alloc::Global;
 /// Where it holds, variables that had no value may have taken this one; where it doesn't, they may be any.
 ///
 /// An expression that faults doesn't hold. Growth is refused as `NoMemory`, and then the values of variables may be any.
-#[tactic(auto, using(crate::proofs::MayHold::never_holds))]
+#[tactic(auto, using(crate::specs::Lemmas::never_holds))]
 pub fn meets(
     alloc: Global,
     constants: &Constants,
@@ -69,7 +69,7 @@ pub fn meets_beyond_constants(
 }
 
 /// Whether checks joined by `&`, of which those for constants hold, all hold, from left to right.
-#[tactic(auto, using(crate::proofs::MayHold::first_holds, crate::proofs::MayHold::others_hold))]
+#[tactic(auto, using(crate::specs::Lemmas::first_holds, crate::specs::Lemmas::others_hold))]
 fn meets_each(
     alloc: Global,
     constants: &Constants,
@@ -90,7 +90,7 @@ fn meets_each(
 }
 
 /// Whether a check holds; a check for a constant is known to hold. A variable without `~` may take the value.
-#[tactic(auto, using(crate::proofs::MayHold::constant_is_met))]
+#[tactic(auto, using(crate::specs::Lemmas::constant_is_met))]
 fn meets_one(
     alloc: Global,
     constants: &Constants,

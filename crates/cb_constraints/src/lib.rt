@@ -3,6 +3,7 @@
 //! `docs/ARCHITECTURE.md` says where it belongs.
 #![tactic(auto)]
 
+pub mod cited;
 mod constraint;
 mod holding;
 pub mod laws;

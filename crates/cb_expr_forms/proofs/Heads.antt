@@ -1,14 +1,12 @@
 -- Forms by the symbol that they begin with.
-use Rattle.std.proofs.Common.{◌≡◌, ◌++◌, ℕ, suc, List, [], ◌∷◌, Option, Some, None, length, refl, ap}
+use Rattle.std.proofs.Common.{◌≡◌, ℕ, suc, List, [], ◌∷◌, Option, Some, None, length, refl, ap}
 use Rattle.cb_expr_forms.specs.Actions.{is_this_word}
 use Rattle.cb_expr_forms.specs.ExprFaults.{count, fact_faults, is_this_symbol, list_faults, slot_faults}
 use Rattle.cb_expr_forms.specs.ExprForms.{expr_of, list_expr}
-use Rattle.cb_templates.specs.FaultLists.{first_of}
 use Rattle.cb_expr_forms.specs.Scopes.{Scope}
 use Rattle.cb_expr_forms.proofs.Compounds.{compound-word, list-compound}
 use Rattle.cb_forms.specs.Members.{call_of, head_and_rest, members}
 use Rattle.cb_forms.specs.Trees.{Tree, atom, branch, Trees, no_trees, tree}
-use Rattle.cb_forms.specs.declared.fault.Fault.{Fault}
 use Rattle.cb_forms.specs.declared.fault.Fault.TheVariants.{MalformedForm, FactDoesNotFit}
 use Rattle.cb_forms.specs.declared.form.Form.{Form}
 use Rattle.cb_forms.specs.declared.token.Token.TheVariants as token
@@ -105,8 +103,3 @@ word_symbol templates word (atom token.Not) = refl
 pub count_members : (fs : List Form) → count (members fs) ≡ length fs
 count_members [] = refl
 count_members (f ∷ fs) = ap suc (count_members fs)
-
--- the first fault of a beginning is the first of all
-pub first_append : (xs ys : List Fault) (f : Fault) → first_of xs ≡ Some f → first_of (xs ++ ys) ≡ Some f
-first_append [] ys f h = absurd (cc)
-first_append (x ∷ xs) ys f h = h

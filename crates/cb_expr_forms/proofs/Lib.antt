@@ -1,4 +1,3 @@
-pub mod Cited
 mod Calls
 mod Compounds
 mod Elses

@@ -1,9 +1,9 @@
 -- Values that names were given after others.
 use Rattle.std.proofs.Common.{◌≡◌, ◌∙◌, ℕ, cond, List, [], ◌∷◌, ◌++◌, Option, None, Some, refl, ap}
 use Rattle.std.specs.Str.{bytes_eq}
-use Rattle.cb_exprs.specs.Bindings.{Values, value_at, with_value}
+use Rattle.cb_exprs.specs.Bindings.{Values, value_at}
 use Rattle.cb_exprs.specs.Internal.Recent.{with_one, with_recent}
-use Rattle.cb_exprs.proofs.ValueLaws.{value_at-with_value}
+use Rattle.cb_exprs.specs.Lemmas.ValueLaws.{value_at-with_value}
 use Rattle.cb_facts.specs.declared.value.Value.{Value}
 
 -- the last counts

@@ -4,6 +4,7 @@
 #![tactic(auto)]
 
 mod channel;
+pub mod cited;
 mod env;
 mod expr;
 mod fact_expr;

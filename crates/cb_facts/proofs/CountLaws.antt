@@ -1,10 +1,8 @@
 -- Counting one fact more and one less.
-use Rattle.std.proofs.Common.{◌≡◌, ◌≤◌, ◌∙◌, ◌+◌, ◌-◌, ◌||◌, ℕ, Bool, true, false, cond, List, [], ◌∷◌, Option, Some, None, refl, sym, ap, arith, nat_lt, rules}
-use Rattle.std.proofs.lemmas.List.Sums.{sum_by-cons}
+use Rattle.std.proofs.Common.{◌≡◌, ◌≤◌, ◌∙◌, ◌+◌, ◌-◌, ℕ, Bool, true, false, cond, List, Option, Some, None, refl, sym, ap, arith}
 use Rattle.std.specs.BTreeMap as tree
 use Rattle.std.specs.BTreeMap.{BTreeMap}
 use Rattle.std.specs.Cmp.Lexicographic.{slice_cmp, texts_ties, bytes_decides}
-use Rattle.std.specs.List.{list_any, sum_by}
 use Rattle.std.specs.Option.{unwrap_or}
 use Rattle.std.specs.Ordering.{nat_cmp}
 use Rattle.std.specs.Str.{bytes_eq}
@@ -46,13 +44,3 @@ pub last_less : (old new : BTreeMap (List ℕ) ℕ) (relation : List ℕ) → co
 last_less old new relation few u =
     λ q. ap (λ o. unwrap_or o 0) (u.0 q) ∙ ap (λ t. unwrap_or (cond t None (number old q)) 0) (sym (texts_ties relation q))
     ∙ none_left (bytes_eq relation q) (number old q) (count_of old.entries relation) (λ e. ap (count_of old.entries) (sym ((bytes_decides relation q).0 e))) few
-
-first_or : (t rest : Bool) (n : ℕ) → rest ≡ nat_lt 0 n → (t || rest) ≡ nat_lt 0 (one_if t + n)
-first_or true rest n e = search rules
-first_or false rest n e = let same : n ≡ 0 + n = omega arith in e ∙ ap (nat_lt 0) same
-
--- one of them passes a test where their number is not 0
-pub any_counted : {X : Type 0} (test : X → Bool) (xs : List X) → list_any test xs ≡ nat_lt 0 (sum_by (λ x. one_if (test x)) xs)
-any_counted test [] = refl
-any_counted test (x ∷ xs) =
-    first_or (test x) (list_any test xs) (sum_by (λ y. one_if (test y)) xs) (any_counted test xs) ∙ ap (nat_lt 0) (sym (sum_by-cons (λ y. one_if (test y)) x xs))

@@ -1,21 +1,17 @@
 -- What adding a fact and removing one keep.
 use Rattle.std.proofs.Common.{◌≡◌, ◌≢◌, ◌⊎◌, inl, inr, ℕ, Bool, true, false, Option, Some, None, refl, sym, ◌∙◌, subst}
-use Rattle.std.proofs.lemmas.Bool.{eqb-true, eq-eqb, false_from_ne_true}
+use Rattle.std.proofs.lemmas.Bool.{false_from_ne_true}
 use Rattle.std.specs.BTreeMap as tree
 use Rattle.std.specs.BTreeMap.{is_at, BTreeMap}
-use Rattle.std.specs.Bool.{Decides}
-use Rattle.std.specs.Cmp.{unsigned_tied}
 use Rattle.std.specs.Ordering.{nat_cmp}
 use Rattle.cb_facts.specs.FactLists.{IndexedFacts, fact_at, IsAbsent, IsFactBase, ChangesOnly}
 use Rattle.cb_facts.specs.Internal.{IsIndexed}
 use Rattle.cb_facts.specs.Internal.FactLaws.{fact_tied}
 use Rattle.cb_facts.specs.Facts.{FactValue, fact_eq}
 use Rattle.cb_facts.specs.Internal.FactOrder.{fact_cmp}
-use Rattle.cb_facts.proofs.FactEquality.{fact-Decides}
-use Rattle.cb_facts.proofs.Inverses.{as_before, known-added, known-removed, listed-added, listed-removed}
-
-pub is_at-Decides : (i j : ℕ) → Decides (is_at (nat_cmp i) j) (i ≡ j)
-is_at-Decides i j = (λ e. eqb-true i j (sym (unsigned_tied i j) ∙ e), λ e. unsigned_tied i j ∙ eq-eqb i j e)
+use Rattle.cb_facts.specs.Lemmas.FactEquality.{fact-Decides}
+use Rattle.cb_facts.specs.Lemmas.Inverses.{added, removed, taken_back}
+use Rattle.cb_facts.specs.Lemmas.{is_at-Decides}
 
 is_or_not : (f g : FactValue) (t : Bool) → fact_eq f g ≡ t → (f ≡ g) ⊎ (f ≢ g)
 is_or_not f g true e = inl ((fact-Decides f g).0 e)
@@ -27,7 +23,7 @@ fact-cases f g = is_or_not f g (fact_eq f g) refl
 pub fact_base : (facts : IndexedFacts) (find : FactValue → Option ℕ) → IsIndexed facts find → IsFactBase facts
 fact_base facts find inv = record {
   rising = inv.rising;
-  distinct = λ fact i j p q. let e : Some i ≡ Some j = sym (inv.known fact i p) ∙ inv.known fact j q in cc;
+  distinct = λ fact i j p q. let e : Some i ≡ Some j = sym (inv.agree.known fact i p) ∙ inv.agree.known fact j q in cc;
 }
 
 -- what the two maps say of an update
@@ -50,11 +46,7 @@ pub indexed-insert : (old new : BTreeMap ℕ FactValue) (m n : BTreeMap FactValu
 indexed-insert old new m n ix fact shared inv same free absent facts_update indices_update rising =
     let change = facts-change old new ix (Some fact) facts_update in
     let find_change = subst (λ f. ChangesOnly (tree.get fact_cmp m) (tree.get fact_cmp n) f (Some ix)) same (indices-change m n shared (Some ix) indices_update) in
-    record {
-      rising = rising;
-      listed = listed-added (fact_at old.entries) (fact_at new.entries) (tree.get fact_cmp m) (tree.get fact_cmp n) ix fact (fact-cases fact) inv.listed inv.known free absent change find_change;
-      known = known-added (fact_at old.entries) (fact_at new.entries) (tree.get fact_cmp m) (tree.get fact_cmp n) ix fact (fact-cases fact) inv.listed inv.known free absent change find_change;
-    }
+    record { rising = rising; agree = added (fact_at old.entries) (fact_at new.entries) (tree.get fact_cmp m) (tree.get fact_cmp n) ix fact (fact-cases fact) inv.agree free absent change find_change }
 
 pub indexed-remove : (old new : BTreeMap ℕ FactValue) (m n : BTreeMap FactValue ℕ) (ix : ℕ) (fact : FactValue)
     → IsIndexed old.entries (tree.get fact_cmp m) → fact_at old.entries ix ≡ Some fact
@@ -63,11 +55,7 @@ pub indexed-remove : (old new : BTreeMap ℕ FactValue) (m n : BTreeMap FactValu
 indexed-remove old new m n ix fact inv was_there facts_update indices_update rising =
     let change = facts-change old new ix None facts_update in
     let find_change = indices-change m n fact None indices_update in
-    record {
-      rising = rising;
-      listed = listed-removed (fact_at old.entries) (fact_at new.entries) (tree.get fact_cmp m) (tree.get fact_cmp n) ix fact (fact-cases fact) inv.listed inv.known was_there change find_change;
-      known = known-removed (fact_at old.entries) (fact_at new.entries) (tree.get fact_cmp m) (tree.get fact_cmp n) ix fact (fact-cases fact) inv.listed inv.known was_there change find_change;
-    }
+    record { rising = rising; agree = removed (fact_at old.entries) (fact_at new.entries) (tree.get fact_cmp m) (tree.get fact_cmp n) ix fact (fact-cases fact) inv.agree was_there change find_change }
 
 -- an index that is noted and taken out again leaves the look-up as it was
 pub indexed-undone : (facts : IndexedFacts) (m n o : BTreeMap FactValue ℕ) (ix : ℕ) (fact shared again : FactValue)
@@ -76,9 +64,4 @@ pub indexed-undone : (facts : IndexedFacts) (m n o : BTreeMap FactValue ℕ) (ix
 indexed-undone facts m n o ix fact shared again inv absent same back added undone =
     let add = subst (λ f. ChangesOnly (tree.get fact_cmp m) (tree.get fact_cmp n) f (Some ix)) same (indices-change m n shared (Some ix) added) in
     let undo = subst (λ f. ChangesOnly (tree.get fact_cmp n) (tree.get fact_cmp o) f None) back (indices-change n o again None undone) in
-    let is = as_before (fact_at facts) (fact_at facts) (tree.get fact_cmp m) (tree.get fact_cmp n) ix fact (fact-cases fact) inv.listed inv.known absent (tree.get fact_cmp o) add undo in
-    record {
-      rising = inv.rising;
-      listed = λ g q h. inv.listed g q (sym (is g) ∙ h);
-      known = λ g q h. is g ∙ inv.known g q h;
-    }
+    record { rising = inv.rising; agree = taken_back (fact_at facts) (tree.get fact_cmp m) (tree.get fact_cmp n) (tree.get fact_cmp o) ix fact (fact-cases fact) inv.agree absent add undo }

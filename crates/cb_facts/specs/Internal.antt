@@ -12,11 +12,15 @@ use Rattle.cb_facts.specs.FactLists.{IndexedFacts, fact_at}
 use Rattle.cb_facts.specs.declared.fact.Body.{Body}
 use Rattle.cb_forms.specs.declared.fault.Fault.{Fault}
 
+-- A look-up of keys by values gives a key exactly where that key has the value.
+pub record Agree {V : Type 0} (find : V → Option ℕ) (at : ℕ → Option V) : Type 0 where
+  pub listed : (v : V) (k : ℕ) → find v ≡ Some k → at k ≡ Some v
+  pub known : (v : V) (k : ℕ) → at k ≡ Some v → find v ≡ Some k
+
 -- The indices rise, and the look-up by facts gives an index exactly where that index has the fact.
 pub record IsIndexed (facts : IndexedFacts) (find : FactValue → Option ℕ) : Type 0 where
   pub rising : IsStrictlySortedBy nat_cmp (keys_of facts)
-  pub listed : (fact : FactValue) (ix : ℕ) → find fact ≡ Some ix → fact_at facts ix ≡ Some fact
-  pub known : (fact : FactValue) (ix : ℕ) → fact_at facts ix ≡ Some fact → find fact ≡ Some ix
+  pub agree : Agree find (fact_at facts)
 
 -- what the body of a fact says
 abbrev pub body_fact : Body → FactValue

@@ -4,6 +4,7 @@
 //! layer stands.
 #![tactic(auto)]
 
+pub mod cited;
 mod fact;
 mod fact_list;
 mod multifield;

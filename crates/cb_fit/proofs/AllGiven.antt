@@ -9,8 +9,8 @@ use Rattle.cb_constraints.specs.Constraints.{Test, constant, variable, predicate
 use Rattle.cb_constraints.specs.Holding.{after_check, after_checks, after_demand, after_test, one_holds, opposite_if, provided, after_variable, test_holds}
 use Rattle.cb_constraints.specs.PatternValues.{Parts, PatternValue, SlotValue}
 use Rattle.cb_constraints.specs.PatternValues as pattern
-use Rattle.cb_exprs.proofs.Cited.{value_at-with_value, value_at_set}
 use Rattle.cb_exprs.specs.Bindings.{Bindings, value_at, with_variable, with_variables}
+use Rattle.cb_exprs.specs.contracts.cited.LawsCited.TheImpl as exprs_laws
 use Rattle.cb_facts.specs.Facts.{FactContent, FactValue}
 use Rattle.cb_facts.specs.Facts as fact
 use Rattle.cb_facts.specs.declared.single.Single.{Single}
@@ -63,7 +63,7 @@ both xs ys a b c h i = (
 
 -- a variable that had no value
 others-keep : (x : List ℕ) (v : Value) (env : Bindings) → value_at x env.variables ≡ None → Keeps env (with_variable x v env)
-others-keep x v env none y w e = value_at-with_value env.variables y x v ∙ (ap (λ t. cond t (Some v) (value_at y env.variables)) (other (bytes_eq y x) (bytes_decides y x).0) ∙ e)
+others-keep x v env none y w e = exprs_laws.ghosts.value_at_with_value env.variables y x v ∙ (ap (λ t. cond t (Some v) (value_at y env.variables)) (other (bytes_eq y x) (bytes_decides y x).0) ∙ e)
   where
     other : (t : Bool) → (t ≡ true → y ≡ x) → t ≡ false
     other false is = refl
@@ -89,7 +89,7 @@ takes x v env grown e = by (value_at x env.variables) refl e
         subst (Step (x ∷ []) env) (same-one (with_variable x v env) grown d) (
           others-keep x v env is,
           (λ after bound keeps.
-              ((x, v) ∷ [], takes-first x v env (value_at x env.variables) (value_at x after.variables) bound is (keeps x v (value_at_set env.variables x v)), refl)),
+              ((x, v) ∷ [], takes-first x v env (value_at x env.variables) (value_at x after.variables) bound is (keeps x v (exprs_laws.ghosts.value_at_set env.variables x v)), refl)),
         )
     by (Some w) is d =
         subst (Step (x ∷ []) env) (provided-if (same v w) env grown d).1 (

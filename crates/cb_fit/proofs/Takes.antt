@@ -1,9 +1,9 @@
 -- What a returned place and a returned answer say.
 use Rattle.std.proofs.Common.{◌≡◌, ◌∙◌, ◌&&◌, Bool, true, false, ℕ, List, [], ◌∷◌, Option, None, Some, Result, Ok, Err, IfOk, OnOk, IfSome, is_some, ap, refl, rules, subst, sym}
 use Rattle.std.specs.Option.{option_and_then}
-use Rattle.cb_constraints.proofs.Cited.{holds-may}
 use Rattle.cb_constraints.specs.Constraints.{Constraint}
 use Rattle.cb_constraints.specs.Holding.{Meets, after_demand, may_hold}
+use Rattle.cb_constraints.specs.contracts.cited.LawsCited.TheImpl as constraints_laws
 use Rattle.cb_exprs.specs.Bindings.{Bindings}
 use Rattle.cb_facts.specs.Values.{value_of_field}
 use Rattle.cb_facts.specs.declared.single.Single.{Single}
@@ -36,7 +36,7 @@ none-met o env after e h = subst (λ p. Meets (is_some p) env after) e h
 pub nothing-taken : (cs : List Constraint) (fs : List Single) (env : Bindings) → may_take cs fs ≡ false → after_ones cs fs env ≡ None
 nothing-taken [] fs env e = let never : true ≡ false = e in cc
 nothing-taken (c ∷ cs) [] env e = refl
-nothing-taken (c ∷ cs) (f ∷ fs) env e = by (after_demand c.demand (value_of_field f) env) (λ g. holds-may c.demand (value_of_field f) env g) (λ g. nothing-taken cs fs g)
+nothing-taken (c ∷ cs) (f ∷ fs) env e = by (after_demand c.demand (value_of_field f) env) (λ g. constraints_laws.ghosts.holds_may c.demand (value_of_field f) env g) (λ g. nothing-taken cs fs g)
   where
     others : (a b : Bool) → a ≡ true → a && b ≡ false → b ≡ false
     others true b d h = h

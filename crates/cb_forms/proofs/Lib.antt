@@ -1,22 +1,12 @@
-pub mod Cited
 mod CutterLaws
-mod CuttingLaws
 mod DepthLaws
 mod Examples
 mod FirstFaultLaws
-mod FittingLaws
 mod FormLaws
-mod Lasts
 mod ListLaws
-mod Modes
-mod ListStackLaws
 mod NumberLemmas
-mod OpenPartLaws
-mod PartLaws
 mod PieceLaws
-mod ScanStateLaws
 mod ReaderLaws
-mod ReadingLaws
 mod RunLaws
 mod SpellingLaws
 mod Splits

@@ -1,18 +1,16 @@
 -- What is kept of a part after a byte that completes nothing.
-use Rattle.std.proofs.Common.{◌≡◌, ◌==◌, ◌||◌, ◌<◌, ◌≤◌, ℕ, ◌+◌, ◌-◌, Bool, true, false, List, [], ◌∷◌, ◌++◌, length, nat_lt, refl, sym, ap, ◌∙◌, subst, arith, if◌then◌else◌}
+use Rattle.std.proofs.Common.{◌≡◌, ◌==◌, ℕ, ◌+◌, ◌-◌, Bool, true, false, List, [], ◌∷◌, ◌++◌, nat_lt, refl, sym, ap, ◌∙◌, subst, if◌then◌else◌}
 use Rattle.std.proofs.lemmas.Bool.{or_right}
-use Rattle.std.proofs.lemmas.List.{length_push}
-use Rattle.cb_forms.specs.Internal.Cuts.{opened_readings, open_bytes, part_with, readings_before}
-use Rattle.cb_forms.specs.Items.{part_takes, is_gap, readings_of, is_open, ended_readings}
+use Rattle.cb_forms.specs.Internal.Cuts.{opened_readings, part_with, readings_before}
+use Rattle.cb_forms.specs.Items.{part_takes, readings_of, is_open, ended_readings}
 use Rattle.cb_forms.specs.Internal.OpenParts.{IsKept, Reaches}
-use Rattle.cb_forms.specs.Internal.ScanStates.{mode_takes, fresh_mode, continued_mode, next_mode, mode_is_open, next_depth, fresh_depth, IsStateIn}
+use Rattle.cb_forms.specs.Internal.ScanStates.{mode_takes, fresh_mode, continued_mode, next_mode, next_depth}
 use Rattle.cb_forms.specs.Trees.{Reading}
 use Rattle.cb_forms.specs.declared.cut.Cut.TheVariants as cut
 use Rattle.cb_forms.specs.declared.lex_mode.LexMode.{LexMode}
-use Rattle.cb_forms.specs.declared.lex_mode.LexMode.TheVariants.{Ended}
 use Rattle.cb_forms.specs.declared.open_part.OpenPart.{OpenPart}
-use Rattle.cb_forms.proofs.OpenPartLaws.{kept-open, open_bytes-open, open_bytes-ended, open-no_gap-push, state-goes, reaches-item, reaches-comment, reaches-gap, depth-fresh}
-use Rattle.cb_forms.proofs.ScanStateLaws.{state-takes, state-open, state-push, state-fresh}
+use Rattle.cb_forms.specs.Lemmas.OpenPartLaws.{reaches-comment}
+use Rattle.cb_forms.specs.Lemmas.ScanStateLaws.{state-takes}
 
 -- the byte goes on with the part
 goes_on : (limit : ℕ) (w : List ℕ) (b : ℕ) (part : OpenPart) → part_takes w b ≡ true → Reaches limit (w ++ b ∷ []) [] cut.More part → Reaches limit (part_with w b) (readings_before w b) cut.More part

@@ -7,6 +7,7 @@
 
 mod byte_kinds;
 mod byte_string;
+pub mod cited;
 mod cut;
 mod cutter;
 mod fault;

@@ -1,5 +1,2 @@
-pub mod Cited
 mod Examples
-mod Passing
-mod Putting
 mod Walks

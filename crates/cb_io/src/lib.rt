@@ -4,6 +4,7 @@
 //! belongs.
 #![tactic(auto)]
 
+pub mod cited;
 mod countdown;
 mod histories;
 mod history;

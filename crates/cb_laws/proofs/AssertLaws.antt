@@ -4,15 +4,15 @@ use Rattle.std.proofs.lemmas.Bool.{cases_eq}
 use Rattle.std.proofs.lemmas.Cmp.{nat_cmp_total}
 use Rattle.std.specs.BTreeMap.{is_at}
 use Rattle.std.specs.Ordering.{nat_cmp}
-use Rattle.cb_facts.proofs.Cited.{is_at-Decides}
 use Rattle.cb_facts.specs.FactLists.{IsAbsent, fact_at, with_fact}
 use Rattle.cb_facts.specs.Facts.{FactValue}
+use Rattle.cb_facts.specs.contracts.cited.LawsCited.TheImpl as facts_laws
 use Rattle.cb_laws.proofs.EntryLaws.{put_here, put_elsewhere, rising_put}
 use Rattle.cb_laws.proofs.Members.{first_or_other}
 use Rattle.cb_laws.proofs.MemoryBasics.{base_of, found_there, not_found}
 use Rattle.cb_laws.specs.Memories.{AreAsserted, IsSound, IsThere}
-use Rattle.cb_working_memory.proofs.Cited.{contains_here, contains_there, index_of-absent, index_of-there}
 use Rattle.cb_working_memory.specs.WorkingMemory.{Memory, asserted_beside, asserted_one, greatest_index, grown, index_of}
+use Rattle.cb_working_memory.specs.contracts.cited.LawsCited.TheImpl as memory_laws
 
 -- A fact was asserted and has this index: it is there, the others are as before, and there are no more.
 pub record OneMore (m : Memory) (f : FactValue) (n : Memory) (ix : ℕ) : Type 0 where
@@ -29,10 +29,10 @@ module _ (m : Memory) (f : FactValue) (sound : IsSound m) (absent : index_of m.f
   new = m.last + 1
 
   at_new : fact_at (with_fact m.facts (m.last + 1) f) (m.last + 1) ≡ Some f
-  at_new = put_here nat_cmp (λ i j. is_at (nat_cmp i) j) is_at-Decides is_at-Decides m.facts (m.last + 1) f
+  at_new = put_here nat_cmp (λ i j. is_at (nat_cmp i) j) facts_laws.ghosts.is_at_decides facts_laws.ghosts.is_at_decides m.facts (m.last + 1) f
 
   at_old : (q : ℕ) → q ≢ m.last + 1 → fact_at (with_fact m.facts (m.last + 1) f) q ≡ fact_at m.facts q
-  at_old q n = put_elsewhere nat_cmp (λ i j. is_at (nat_cmp i) j) is_at-Decides is_at-Decides m.facts (m.last + 1) q f n
+  at_old q n = put_elsewhere nat_cmp (λ i j. is_at (nat_cmp i) j) facts_laws.ghosts.is_at_decides facts_laws.ghosts.is_at_decides m.facts (m.last + 1) q f n
 
   was_free : (q : ℕ) (g : FactValue) → fact_at m.facts q ≡ Some g → q ≢ m.last + 1
   was_free q g at e =
@@ -136,11 +136,11 @@ several_only m n (f ∷ fs) g sound h at = by (several_only (asserted_one m f).0
 
     first : (q : ℕ) → (fact_at m.facts q ≡ Some g) ⊎ (f ≡ g) → IsThere m g ⊎ Contains (f ∷ fs) g
     first q (inl was) = inl (q, was)
-    first q (inr same) = inr (subst (Contains (f ∷ fs)) same (contains_here f fs))
+    first q (inr same) = inr (subst (Contains (f ∷ fs)) same (facts_laws.ghosts.contains_here _ f fs))
 
     by : IsThere (asserted_one m f).0 g ⊎ Contains fs g → IsThere m g ⊎ Contains (f ∷ fs) g
     by (inl there) = first there.0 (step.only there.0 g there.1)
-    by (inr c) = inr (contains_there f g fs c)
+    by (inr c) = inr (facts_laws.ghosts.contains_there _ f g fs c)
 
 pub several_there : (m n : Memory) (fs : List FactValue) (g : FactValue) → IsSound m → AreAsserted m fs n → IsThere m g ⊎ Contains fs g → IsThere n g
 several_there m n fs g sound h (inl there) = (there.0, several_stay m n fs g there.0 sound h there.1)
@@ -159,7 +159,7 @@ there_where m n fs g sound h = (several_only m n fs g sound h, several_there m n
 
 -- where the fact was there, and where it was not
 pub known : (m : Memory) (f : FactValue) (ix : ℕ) → IsSound m → fact_at m.facts ix ≡ Some f → asserted_one m f ≡ (m, Some ix)
-known m f ix sound at = ap (asserted_beside m f) (index_of-there m.facts f ix (base_of m sound) at)
+known m f ix sound at = ap (asserted_beside m f) (memory_laws.ghosts.index_of_there m.facts f ix (base_of m sound) at)
 
 room_left : (m : Memory) (f : FactValue) (room : Bool) → room ≡ true → (if◌then◌else◌ {A = Memory × Option ℕ} room (grown m f, Some (m.last + 1)) (m, None)).1 ≡ Some (m.last + 1)
 room_left m f true e = refl
@@ -168,7 +168,7 @@ room_left m f false e = absurd (cc)
 pub next_index : (m : Memory) (f : FactValue) → IsSound m → IsAbsent m.facts f → m.last < greatest_index → (asserted_one m f).1 ≡ Some (m.last + 1)
 next_index m f sound absent below =
     let room : nat_lt m.last greatest_index ≡ true = search rules in
-    ap (λ o. (asserted_beside m f o).1) (index_of-absent m.facts f (base_of m sound) absent) ∙ room_left m f (nat_lt m.last greatest_index) room
+    ap (λ o. (asserted_beside m f o).1) (memory_laws.ghosts.index_of_absent m.facts f (base_of m sound) absent) ∙ room_left m f (nat_lt m.last greatest_index) room
 
 no_room : (m : Memory) (f : FactValue) (room : Bool) → room ≡ false → if◌then◌else◌ {A = Memory × Option ℕ} room (grown m f, Some (m.last + 1)) (m, None) ≡ (m, None)
 no_room m f true e = absurd (cc)
@@ -177,7 +177,7 @@ no_room m f false e = refl
 pub no_index : (m : Memory) (f : FactValue) → IsSound m → IsAbsent m.facts f → greatest_index ≤ m.last → asserted_one m f ≡ (m, None)
 no_index m f sound absent above =
     let full : nat_lt m.last greatest_index ≡ false = search rules in
-    ap (asserted_beside m f) (index_of-absent m.facts f (base_of m sound) absent) ∙ no_room m f (nat_lt m.last greatest_index) full
+    ap (asserted_beside m f) (memory_laws.ghosts.index_of_absent m.facts f (base_of m sound) absent) ∙ no_room m f (nat_lt m.last greatest_index) full
 
 last_grown : (m : Memory) (f : FactValue) (room : Bool) → room ≡ true → (if◌then◌else◌ {A = Memory × Option ℕ} room (grown m f, Some (m.last + 1)) (m, None)).0.last ≡ m.last + 1
 last_grown m f true e = refl
@@ -186,4 +186,4 @@ last_grown m f false e = absurd (cc)
 pub next_last : (m : Memory) (f : FactValue) → IsSound m → IsAbsent m.facts f → m.last < greatest_index → (asserted_one m f).0.last ≡ m.last + 1
 next_last m f sound absent below =
     let room : nat_lt m.last greatest_index ≡ true = search rules in
-    ap (λ o. (asserted_beside m f o).0.last) (index_of-absent m.facts f (base_of m sound) absent) ∙ last_grown m f (nat_lt m.last greatest_index) room
+    ap (λ o. (asserted_beside m f o).0.last) (memory_laws.ghosts.index_of_absent m.facts f (base_of m sound) absent) ∙ last_grown m f (nat_lt m.last greatest_index) room

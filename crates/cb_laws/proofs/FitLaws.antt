@@ -11,6 +11,7 @@ use Rattle.std.proofs.lemmas.Bool.{and_from}
 use Rattle.cb_facts.specs.Facts.{FactValue, template_fact}
 use Rattle.cb_facts.specs.Results.{ok_then, with_first}
 use Rattle.cb_facts.specs.Values.{is_multifield, spliced}
+use Rattle.cb_facts.specs.contracts.cited.LawsCited.TheImpl as facts_laws
 use Rattle.cb_facts.specs.declared.value.Value.{Value}
 use Rattle.cb_facts.specs.declared.value.Value.TheVariants as value
 use Rattle.cb_forms.specs.declared.fault.Fault.TheVariants.{FactDoesNotFit, OneValueWanted}
@@ -19,14 +20,13 @@ use Rattle.cb_laws.specs.SlotValues.{CanTake, FitsSlots, IsGiven, IsLeftOut}
 use Rattle.cb_templates.specs.Building.{Given, are_distinct, built, built_by, filled, fits, given_for, given_names, is_one_value, one_value, slot_values, can_take, value_or_default}
 use Rattle.cb_templates.specs.Slots.{SlotShape, slot_named}
 use Rattle.cb_templates.specs.Templates.{Templates, slots_of}
-use Rattle.cb_working_memory.proofs.Cited.{contains_here, contains_there}
 
 all_known : (slots : List SlotShape) (given : Given) → ((name : List ℕ) (vs : List Value) → IsGiven given name vs → is_some (slot_named slots name) ≡ true)
     → list_all (λ g. is_some (slot_named slots g.0)) given ≡ true
 all_known slots [] known = refl
 all_known slots ((name, vs) ∷ given) known =
-    and_from (is_some (slot_named slots name)) (list_all (λ g. is_some (slot_named slots g.0)) given) (known name vs (contains_here (name, vs) given))
-    (all_known slots given (λ other us is. known other us (contains_there (name, vs) (other, us) given is)))
+    and_from (is_some (slot_named slots name)) (list_all (λ g. is_some (slot_named slots g.0)) given) (known name vs (facts_laws.ghosts.contains_here _ (name, vs) given))
+    (all_known slots given (λ other us is. known other us (facts_laws.ghosts.contains_there _ (name, vs) (other, us) given is)))
 
 -- a name that differs from all that are given is not given
 not_given : (given : Given) (name : List ℕ) → AllByRecursion (λ n. bytes_eq name n ≡ false) (given_names given) → given_for given name ≡ None

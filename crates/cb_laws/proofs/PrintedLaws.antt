@@ -11,7 +11,6 @@ use Rattle.std.specs.List.{flat_map, fold, list_all}
 use Rattle.std.specs.Prelude.{if◌then◌else◌, length, nat_le, nat_lt, neg_ℤ}
 use Rattle.cb_facts.specs.Texts.{between_quotes, escaped_byte, quoted_bytes}
 use Rattle.cb_facts.specs.declared.value.Value.TheVariants as value
-use Rattle.cb_forms.proofs.Cited.{reads-one}
 use Rattle.cb_forms.specs.Bytes.{is_blank, is_connective, is_delimiter, is_digit, is_single, ampersand, bar, closing, dollar, minus, opening, plus, question_mark, quote, semicolon, tilde}
 use Rattle.cb_forms.specs.Cutting.{AreCut, TakesAll}
 use Rattle.cb_forms.specs.Items.{atom_reading, items, part_takes, piece_readings, readings_of}
@@ -19,6 +18,7 @@ use Rattle.cb_forms.specs.Pieces.{lexeme_of, piece_takes}
 use Rattle.cb_forms.specs.Strings.{escaped_content_of, is_unclosed, is_unclosed_escaped, string_content}
 use Rattle.cb_forms.specs.Trees.{Reading, atom}
 use Rattle.cb_forms.specs.Words.{after_digits, digits_value, integer_token, is_digits, is_empty, spells_integer, plain_token, token_of, without_sign}
+use Rattle.cb_forms.specs.contracts.cited.LawsCited.TheImpl as forms_laws
 use Rattle.cb_forms.specs.declared.fault.Fault.TheVariants.{FormNotClosed, IntegerOutOfRange}
 use Rattle.cb_forms.specs.declared.token.Token.TheVariants as token
 use Rattle.cb_functions.specs.Arithmetic.{fits_64_bits}
@@ -34,7 +34,7 @@ no false x y e = refl
 -- a text that is one part
 one-part : (w : List ℕ) (r : Reading) → AreCut part_takes (w ∷ []) → readings_of w ≡ r ∷ [] → items w ≡ r ∷ []
 one-part w r cut e =
-    sym (reads-one w (r ∷ []) (w ∷ [], record { together = append-nil w; each = cut }, sym (append-nil (readings_of w) ∙ e)))
+    sym (forms_laws.ghosts.reads_one w (r ∷ []) (w ∷ [], record { together = append-nil w; each = cut }, sym (append-nil (readings_of w) ∙ e)))
 
 -- the bytes close no string, whatever follows
 abbrev Through : List ℕ → Type 0

@@ -9,9 +9,9 @@ use Rattle.std.specs.List.{list_all}
 use Rattle.std.specs.List.Sorted.{IsStrictlySortedBy}
 use Rattle.std.specs.Map.{keys_of}
 use Rattle.std.specs.Ordering.{eq_by_cmp, nat_cmp}
-use Rattle.cb_facts.proofs.Cited.{is_at-Decides}
 use Rattle.cb_facts.specs.FactLists.{fact_at}
 use Rattle.cb_facts.specs.Facts.{FactValue}
+use Rattle.cb_facts.specs.contracts.cited.LawsCited.TheImpl as facts_laws
 use Rattle.cb_facts.specs.declared.value.Value.{Value}
 use Rattle.cb_facts.specs.declared.value.Value.TheVariants as value
 use Rattle.cb_laws.proofs.EntryLaws.{rising_taken}
@@ -27,7 +27,7 @@ left_without m sound i ix =
     ∙ ap (λ t. cond t None (fact_at m.facts ix)) (unsigned_tied i ix)
   where
     one : (x y : ℕ) → is_at (nat_cmp i) x ≡ true → is_at (nat_cmp i) y ≡ eq_by_cmp nat_cmp x y
-    one x y e = ap (λ n. is_at (nat_cmp n) y) ((is_at-Decides i x).0 e)
+    one x y e = ap (λ n. is_at (nat_cmp n) y) ((facts_laws.ghosts.is_at_decides i x).0 e)
 
 kept : (t : Bool) (o : Option FactValue) (fact : FactValue) → (if t then None else o) ≡ Some fact → o ≡ Some fact
 kept true o fact h = absurd (cc)

@@ -1,9 +1,9 @@
 -- Items are carried out one after another.
 use Rattle.std.proofs.Common.{◌≡◌, ◌∙◌, ◌++◌, ◌∷◌, ℕ, Bool, List, [], None, false, true, ap, refl, sym}
 use Rattle.std.proofs.lemmas.Bool.{true≢false}
-use Rattle.cb_forms.proofs.Cited.{fitting-items, over-kept_all}
 use Rattle.cb_forms.specs.Items.{items, over, whole}
 use Rattle.cb_forms.specs.Trees.{Reading}
+use Rattle.cb_forms.specs.contracts.cited.LawsCited.TheImpl as forms_laws
 use Rattle.cb_laws.proofs.OpenLaws.{complete_by, so_far_by}
 use Rattle.cb_laws.specs.Running.{IsCarriedOut}
 use Rattle.cb_session.specs.Transcripts.{Run, after, after_all, after_status, begun, complete, so_far}
@@ -24,7 +24,7 @@ fits_before limits p q fine = by (over limits.max_form p) refl
   where
     by : (b : Bool) → over limits.max_form p ≡ b → b ≡ false
     by false e = refl
-    by true e = absurd (true≢false (sym (over-kept_all limits.max_form p q e) ∙ fine))
+    by true e = absurd (true≢false (sym (forms_laws.ghosts.over_kept_all limits.max_form p q e) ∙ fine))
 
 pub next_carried : (limits : Limits) (p q : List ℕ) (r : Reading) → over limits.max_form (p ++ q) ≡ false → whole (p ++ q) ≡ whole p ++ r ∷ [] → (so_far limits p).status ≡ None
     → IsCarriedOut (so_far limits p) r (so_far limits (p ++ q))
@@ -39,7 +39,7 @@ next_carried limits p q r fine one none =
 
 -- at the end of a script
 ended : (limits : Limits) (s : List ℕ) → over limits.max_form s ≡ false → complete limits s ≡ after_all (begun limits) (items s)
-ended limits s fine = complete_by limits s false fine ∙ ap (after_all (begun limits)) (fitting-items limits.max_form s fine)
+ended limits s fine = complete_by limits s false fine ∙ ap (after_all (begun limits)) (forms_laws.ghosts.fitting_items limits.max_form s fine)
 
 pub last_carried : (limits : Limits) (s : List ℕ) (r : Reading) → over limits.max_form s ≡ false → items s ≡ whole s ++ r ∷ [] → (so_far limits s).status ≡ None
     → IsCarriedOut (so_far limits s) r (complete limits s)

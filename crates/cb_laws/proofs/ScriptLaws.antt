@@ -32,7 +32,6 @@ use Rattle.cb_session.specs.States.{State}
 use Rattle.cb_session.specs.Transcripts.{Run, after, after_all, after_status, begun, complete, concluded, executed, so_far, too_long, too_long_status}
 use Rattle.cb_session.specs.declared.limits.Limits.{Limits}
 use Rattle.cb_session.specs.declared.status.Status.{Status}
-use Rattle.cb_templates.proofs.Cited.{slots_said_so}
 use Rattle.cb_templates.specs.FaultLists.{unless, unless_faulty}
 use Rattle.cb_templates.specs.Reserved.{is_reserved}
 use Rattle.cb_templates.specs.Slots.{SlotShape}
@@ -40,6 +39,7 @@ use Rattle.cb_templates.specs.TemplateFaults.{named_template_faults, slots_form_
 use Rattle.cb_templates.specs.TemplateShapes.{slots_said, template_said}
 use Rattle.cb_templates.specs.Internal.SlotReads.{slots_after}
 use Rattle.cb_templates.specs.Templates.{slots_of, with_template, without_comment}
+use Rattle.cb_templates.specs.contracts.cited.LawsCited.TheImpl as templates_laws
 use Rattle.cb_words.specs.Words.{head_of}
 use Rattle.cb_words.specs.declared.head.Command.{Command as Word}
 use Rattle.cb_words.specs.declared.head.Command.TheVariants as word
@@ -55,7 +55,7 @@ Kept s = AreWellKept s.world.memory s.world.templates
 -- slots that are read make a template
 right_template : (forms : Trees) → slots_form_faults [] forms ≡ [] → IsTemplate (slots_said forms)
 right_template forms h =
-    let read : slots_after [] forms ≡ Ok (slots_said forms) = slots_said_so forms ∙ ap (λ fs. unless_faulty fs (slots_said forms)) h in
+    let read : slots_after [] forms ≡ Ok (slots_said forms) = templates_laws.ghosts.slots_said_so forms ∙ ap (λ fs. unless_faulty fs (slots_said forms)) h in
     let each = (each_slot forms (slots_said forms)).0 read in
     record { differ = each.1; defaults = slots_suit forms (slots_said forms) each.0 }
 

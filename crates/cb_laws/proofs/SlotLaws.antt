@@ -9,6 +9,7 @@ use Rattle.std.specs.Str.{bytes_eq}
 use Rattle.cb_facts.specs.Facts.{FactValue, template_fact}
 use Rattle.cb_facts.specs.Results.{ok_then, with_first}
 use Rattle.cb_facts.specs.Values.{is_multifield, spliced}
+use Rattle.cb_facts.specs.contracts.cited.LawsCited.TheImpl as facts_laws
 use Rattle.cb_facts.specs.declared.value.Value.{Value}
 use Rattle.cb_facts.specs.declared.value.Value.TheVariants as value
 use Rattle.cb_forms.specs.declared.fault.Fault.{Fault}
@@ -18,7 +19,6 @@ use Rattle.cb_laws.specs.SlotValues.{IsGiven, IsLeftOut, slot_value}
 use Rattle.cb_templates.specs.Building.{Given, are_distinct, built, built_by, filled, fits, given_for, one_value, slot_values, can_take, value_or_default}
 use Rattle.cb_templates.specs.Slots.{GivenValues, SlotShape, slot_named}
 use Rattle.cb_templates.specs.Templates.{Templates, slots_of}
-use Rattle.cb_working_memory.proofs.Cited.{contains_here, contains_there}
 
 -- what is given is found, where no slot is given twice
 pub given_found : (given : Given) (name : List ℕ) (vs : List Value) → are_distinct given ≡ true → IsGiven given name vs → given_for given name ≡ Some vs
@@ -51,8 +51,8 @@ found_given (g ∷ given) name vs h = by (bytes_eq g.0 name) refl h (found_given
     by : (t : Bool) → bytes_eq g.0 name ≡ t → (if t then Some g.1 else given_for given name) ≡ Some vs → (given_for given name ≡ Some vs → IsGiven given name vs) → IsGiven (g ∷ given) name vs
     by true e is more =
         let same : g.1 ≡ vs = cc in
-        subst (Contains (g ∷ given)) (ap₂ (λ (n : List ℕ) (us : List Value). (n, us)) ((bytes_decides g.0 name).0 e) same) (contains_here g given)
-    by false e is more = contains_there g (name, vs) given (more is)
+        subst (Contains (g ∷ given)) (ap₂ (λ (n : List ℕ) (us : List Value). (n, us)) ((bytes_decides g.0 name).0 e) same) (facts_laws.ghosts.contains_here _ g given)
+    by false e is more = facts_laws.ghosts.contains_there _ g (name, vs) given (more is)
 
 -- what is not given is not found
 pub left_out : (given : Given) (name : List ℕ) → IsLeftOut given name → given_for given name ≡ None

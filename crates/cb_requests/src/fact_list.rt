@@ -34,7 +34,6 @@ pub(crate) fn read_kept_facts(
 }
 
 /// The same in any scope.
-#[tactic(auto, using(cb_facts::proofs::Cited::after_none, cb_facts::proofs::Cited::after_all, cb_facts::proofs::Cited::after_one))]
 fn read_facts(
     names: &mut Names,
     scope: &Scope<'_>,

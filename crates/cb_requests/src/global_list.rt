@@ -16,7 +16,6 @@ use cb_forms::{Fault, Form, Token};
 use cb_templates::Relations;
 
 /// The globals that forms give, each with the expression of its initial value, or the first fault.
-#[tactic(auto, using(cb_facts::proofs::Cited::after_none, cb_facts::proofs::Cited::after_all, cb_facts::proofs::Cited::after_one))]
 pub(crate) fn read_globals(
     names: &mut Names,
     relations: &Relations,

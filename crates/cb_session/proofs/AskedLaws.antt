@@ -1,5 +1,5 @@
 -- What an item asks for, by what a state shows of itself.
-use Rattle.std.proofs.Common.{◌≡◌, ◌∙◌, Result, Ok, Err, sym, ap}
+use Rattle.std.proofs.Common.{◌≡◌, ◌∙◌, Result, Err, sym, ap}
 use Rattle.cb_exprs.specs.Bindings.{Bindings}
 use Rattle.cb_facts.specs.Results.{Reports}
 use Rattle.cb_facts.specs.declared.refused.Refused.{Refused}

@@ -1,5 +1,5 @@
 -- What an item that ends with a fault leaves as it was.
-use Rattle.std.proofs.Common.{◌≡◌, ◌∙◌, ℕ, true, List, [], Option, Some, None, Result, Ok, Err, refl, sym, ap, subst}
+use Rattle.std.proofs.Common.{◌≡◌, ◌∙◌, ℕ, true, List, Option, Result, Ok, Err, refl, sym, ap, subst}
 use Rattle.cb_actions.specs.Acts.{Effect, become, give_or_fault, follow, ◌>>=◌}
 use Rattle.cb_actions.specs.Definitions.{globals_after}
 use Rattle.cb_actions.specs.declared.act.Ended.{Ended}

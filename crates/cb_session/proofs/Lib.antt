@@ -1,9 +1,6 @@
-pub mod Cited
 mod AskedLaws
 mod LineLaws
 mod FaultLaws
-mod RunLaws
-mod ScriptLaws
 mod ItemLaws
 mod StepLaws
 mod GlobalLaws

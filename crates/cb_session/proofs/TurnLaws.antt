@@ -1,10 +1,9 @@
 -- The turns that are left never rise from item to item.
-use Rattle.std.proofs.Common.{◌≡◌, ◌≤◌, ℕ, Bool, true, false, List, [], ◌∷◌, Option, Some, None, Result, Ok, Err, arith, if◌then◌else◌}
+use Rattle.std.proofs.Common.{◌≤◌, ℕ, Bool, true, false, List, [], ◌∷◌, Option, Some, None, Result, Ok, Err, arith, if◌then◌else◌}
 use Rattle.cb_actions.specs.Internal.{Falls, turns_left}
-use Rattle.cb_actions.proofs.Cited.{falls_then, never_rises, template_falls, globals_fall, anew_falls, facts_fall}
-use Rattle.cb_actions.specs.Acts.{Act, give_or_fault, ◌>>=◌}
+use Rattle.cb_actions.specs.Acts.{give_or_fault, ◌>>=◌}
 use Rattle.cb_actions.specs.Definitions.{all_asserted, all_evaluated, globals_defined}
-use Rattle.cb_actions.specs.Worlds.{World}
+use Rattle.cb_actions.specs.contracts.cited.LawsCited.TheImpl as actions_laws
 use Rattle.cb_actions.specs.declared.act.Ended.{Ended}
 use Rattle.cb_actions.specs.declared.act.Ended.TheVariants as ended
 use Rattle.cb_exprs.specs.FactTerms.{FactTerm}
@@ -27,14 +26,14 @@ left s = s.world.turns
 
 reset_falls : (gs : List GlobalTerm) (facts : List FactTerm) → Falls turns_left (reset_to gs facts)
 reset_falls gs facts =
-    falls_then turns_left (all_evaluated gs) (λ _. started_over >>= (λ _. all_asserted facts)) (anew_falls gs)
-    (λ _. falls_then turns_left started_over (λ _. all_asserted facts) (λ s. omega arith) (λ _. facts_fall facts))
+    actions_laws.ghosts.falls_then _ _ _ turns_left (all_evaluated gs) (λ _. started_over >>= (λ _. all_asserted facts)) (actions_laws.ghosts.anew_falls gs)
+    (λ _. actions_laws.ghosts.falls_then _ _ _ turns_left started_over (λ _. all_asserted facts) (λ s. omega arith) (λ _. actions_laws.ghosts.facts_fall facts))
 
 performed_falls : (request : Request) → Falls left (performed request)
-performed_falls (asked.act t) s = never_rises t s.world
-performed_falls (asked.define_template template) s = template_falls template s.world
+performed_falls (asked.act t) s = actions_laws.ghosts.never_rises t s.world
+performed_falls (asked.define_template template) s = actions_laws.ghosts.template_falls template s.world
 performed_falls (asked.define_deffacts name facts) s = omega arith
-performed_falls (asked.define_globals gs) s = falls_then left (on_world (globals_defined gs)) (λ _. initials_kept gs) (λ u. globals_fall gs u.world) (λ _ u. omega arith) s
+performed_falls (asked.define_globals gs) s = actions_laws.ghosts.falls_then _ _ _ left (on_world (globals_defined gs)) (λ _. initials_kept gs) (λ u. actions_laws.ghosts.globals_fall gs u.world) (λ _ u. omega arith) s
 performed_falls asked.list_facts s = omega arith
 performed_falls asked.reset s = reset_falls s.globals (kept_facts s.deffacts) s.world
 performed_falls asked.clear s = omega arith
@@ -47,7 +46,7 @@ acted_falls : (r : Reading) → Falls left (acted r)
 unfolding acted
 acted_falls r s =
     let request = requested s r in
-    falls_then left (give_or_fault request) performed_and_shown (read_falls request) (λ it. falls_then left (performed it) shown (performed_falls it) (λ v u. omega arith)) s
+    actions_laws.ghosts.falls_then _ _ _ left (give_or_fault request) performed_and_shown (read_falls request) (λ it. actions_laws.ghosts.falls_then _ _ _ left (performed it) shown (performed_falls it) (λ v u. omega arith)) s
 
 concluded_falls : (s : State) (w : List ℕ) (r : Result (Unit {0}) Ended) → left (concluded s w r).state ≤ left s
 concluded_falls s w (Ok v) = omega arith

@@ -2,6 +2,7 @@ pub mod Actions
 pub mod Globals
 pub mod Internal
 pub mod Laws
+pub mod Lemmas
 pub mod Lines
 pub mod Sessions
 pub mod States

@@ -1,6 +1,7 @@
 //! Scripts carried out item by item, and their transcripts.
 #![tactic(auto)]
 
+pub mod cited;
 mod engine;
 mod globals;
 pub mod laws;

@@ -1,6 +1,2 @@
-pub mod Cited
 mod PlaceLaws
-mod SlotLaws
 mod TemplateLaws
-mod TemplateReads
-mod TemplateFaultLaws

@@ -178,7 +178,6 @@ fn read_multi_default(names: &mut Names, forms: &[Form]) -> Result<SlotDefault, 
     Ok(SlotDefault::Fixed(Value::Multi(Multifield::from_vec(fields)?)))
 }
 
-#[tactic(auto, using(cb_facts::proofs::Cited::after_none, cb_facts::proofs::Cited::after_all, cb_facts::proofs::Cited::after_one))]
 fn read_constants(names: &mut Names, forms: &[Form]) -> Result<Vec<Value>, Refused>
     ensures { Settles (λ values. values.items) result (default_constants (members forms.now)) }
 {

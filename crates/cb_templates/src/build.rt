@@ -130,7 +130,6 @@ fn is_one_value(values: &[Value]) -> bool
 }
 
 /// The slots of a template, each with its value.
-#[tactic(auto, using(cb_facts::proofs::Cited::after_none, cb_facts::proofs::Cited::after_all, cb_facts::proofs::Cited::after_one))]
 fn fill(alloc: Global, slots: &[Slot], given: &GivenSlots) -> Result<Vec<(Name, Value)>, Refused>
     ensures { Settles (λ content. content.items) result (filled slots.now given.now) }
 {

@@ -5,6 +5,7 @@
 
 mod attribute;
 mod build;
+pub mod cited;
 mod comment;
 pub mod laws;
 mod parts;

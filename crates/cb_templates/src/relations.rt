@@ -98,7 +98,7 @@ impl Relations {
 ///
 /// It refuses with the first fault in this order: CB08 where the name is no symbol or a reserved word, CB23 where the
 /// relation is in use, and then those of each slot: CB08, CB14 and, after its last attribute, CB10.
-#[tactic(auto, using(crate::proofs::TemplateFaultLaws::slots_as_said))]
+#[tactic(auto, using(crate::specs::Lemmas::TemplateFaultLaws::slots_as_said))]
 pub fn read_template(
     names: &mut Names,
     forms: &[Form],

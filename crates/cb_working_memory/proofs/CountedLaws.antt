@@ -8,10 +8,10 @@ use Rattle.std.specs.Map.{values_of}
 use Rattle.std.specs.Option.{unwrap_or}
 use Rattle.std.specs.Ordering.{nat_cmp}
 use Rattle.std.specs.Str.{bytes_eq}
-use Rattle.cb_facts.proofs.Cited.{any_counted, any_of_map}
 use Rattle.cb_facts.specs.FactLists.{IndexedFacts, IsFactBase, fact_at, with_fact, without_fact}
 use Rattle.cb_facts.specs.Facts.{FactValue}
 use Rattle.cb_facts.specs.RelationCounts.{Counts, HasOneLess, HasOneMore, IsEmpty, count_of, one_if}
+use Rattle.cb_working_memory.proofs.Counting.{made_counted}
 use Rattle.cb_working_memory.specs.Internal.Namings.{IsCountOf}
 use Rattle.cb_working_memory.specs.Internal.WorkingMemories.{IsLessBy}
 
@@ -54,4 +54,4 @@ counted-undone facts counts more less relation counted one back q =
 pub counted_any : (facts : IndexedFacts) (counts : Counts) (relation : List ℕ) → AreCounted counts facts
     → nat_lt 0 (count_of counts relation) ≡ list_any (λ entry. bytes_eq entry.1.relation relation) facts
 counted_any facts counts relation counted =
-    ap (nat_lt 0) (counted relation) ∙ sym (any_counted (λ f. bytes_eq f.relation relation) (values_of facts)) ∙ any_of_map (λ e. e.1) (λ f. bytes_eq f.relation relation) facts
+    ap (nat_lt 0) (counted relation) ∙ made_counted (λ e. e.1) (λ f. bytes_eq f.relation relation) facts

@@ -1,5 +1,5 @@
 -- Assertions near the greatest index.
-use Rattle.std.proofs.Common.{◌≡◌, ℕ, [], ◌∷◌, Some, None, codes, refl}
+use Rattle.std.proofs.Common.{◌≡◌, ℕ, [], Some, None, codes, refl}
 use Rattle.cb_facts.specs.Facts.{FactValue, ordered_fact}
 use Rattle.cb_working_memory.specs.WorkingMemory.{Memory, asserted_one}
 

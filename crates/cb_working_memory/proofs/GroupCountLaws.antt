@@ -4,8 +4,8 @@ use Rattle.std.proofs.lemmas.List.Sums.{sum_by-cons, sum_by_push}
 use Rattle.std.specs.List.{sum_by}
 use Rattle.std.specs.Option.{unwrap_or}
 use Rattle.std.specs.Str.{bytes_eq}
-use Rattle.cb_facts.proofs.Cited.{any_counted}
 use Rattle.cb_facts.specs.RelationCounts.{Counts, IsEmpty, count_of}
+use Rattle.cb_working_memory.proofs.Counting.{any_counted}
 use Rattle.cb_working_memory.specs.Deffacts.{DeffactsTable, is_named_in_deffacts}
 use Rattle.cb_working_memory.specs.Internal.GroupCounts.{AreCounted, HasMore, IsLessByGroup, names_in}
 use Rattle.cb_working_memory.specs.Internal.Groups.{Group}

@@ -1,8 +1,7 @@
-pub mod Cited
 mod CountedLaws
+mod Counting
 mod Examples
-mod IndexLaws
-mod KeepLaws
-mod MemoryLaws
 mod GroupCountLaws
 mod GroupLaws
+mod KeepLaws
+mod MemoryLaws

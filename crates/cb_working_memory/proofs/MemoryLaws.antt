@@ -1,7 +1,7 @@
 -- The assertion of a fact.
 use Rattle.std.proofs.Common.{◌≡◌, ◌≤◌, ◌<◌, ◌+◌, ℕ, true, false, Some, None, sym, ap, ◌∙◌, nat_lt, rules, if◌then◌else◌}
 use Rattle.cb_working_memory.specs.WorkingMemory.{Memory, greatest_index, grown, asserted_beside, asserted_one}
-use Rattle.cb_working_memory.proofs.IndexLaws.{index_of-there, index_of-absent}
+use Rattle.cb_working_memory.specs.Lemmas.{index_of-there, index_of-absent}
 use Rattle.cb_facts.specs.FactLists.{IndexedFacts, fact_at, with_fact, IsAbsent, IsFactBase}
 use Rattle.cb_facts.specs.Facts.{FactValue}
 

@@ -1,6 +1,7 @@
 //! The working memory, and the facts that each `deffacts` keeps for it.
 #![tactic(auto)]
 
+pub mod cited;
 mod counted_facts;
 mod deffacts;
 mod groups;

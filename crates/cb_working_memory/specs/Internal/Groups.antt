@@ -1,5 +1,5 @@
 -- How the program keeps the facts of each `deffacts`: each group under a number, and the number of each name.
-use Rattle.std.specs.Prelude.{◌≡◌, ℕ, List, Option, Some, option_map}
+use Rattle.std.specs.Prelude.{◌≡◌, ℕ, List, Option, option_map}
 use Rattle.std.specs.BTreeMap.{is_at}
 use Rattle.std.specs.List.{All}
 use Rattle.std.specs.List.Sorted.{IsStrictlySortedBy}
@@ -7,6 +7,7 @@ use Rattle.std.specs.Map.{keys_of, lookup}
 use Rattle.std.specs.Ordering.{nat_cmp}
 use Rattle.std.specs.declared.cmp.Ordering.TheVariants.{Greater}
 use Rattle.cb_exprs.specs.FactTerms.{FactTerm}
+use Rattle.cb_facts.specs.Internal.{Agree}
 
 -- a name and its facts
 abbrev pub Group : Type 0
@@ -23,8 +24,7 @@ name_at groups n = option_map (λ g. g.0) (lookup (is_at (nat_cmp n)) groups)
 -- The numbers rise, and the look-up by names gives a number exactly where the group with that number has the name.
 pub record AreNumbered (groups : NumberedGroups) (find : List ℕ → Option ℕ) : Type 0 where
   pub rising : IsStrictlySortedBy nat_cmp (keys_of groups)
-  pub listed : (name : List ℕ) (n : ℕ) → find name ≡ Some n → name_at groups n ≡ Some name
-  pub known : (name : List ℕ) (n : ℕ) → name_at groups n ≡ Some name → find name ≡ Some n
+  pub agree : Agree find (name_at groups)
 
 -- the number comes after those of all groups
 abbrev pub IsAfterAll : NumberedGroups → ℕ → Type 0

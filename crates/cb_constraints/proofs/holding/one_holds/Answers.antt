@@ -1,7 +1,7 @@
 use Rattle.std.proofs.Common.{◌∙◌, map, sym}
 use Rattle.cb_constraints.specs.Constraints.{check_of}
 use Rattle.cb_constraints.specs.Holding.{tested_value}
-use Rattle.cb_constraints.proofs.MayHold.{constants_decide}
+use Rattle.cb_constraints.specs.Lemmas.{constants_decide}
 use Rattle.cb_constraints.proofs.holding.one_holds.Goals as goal
 
 pub returns-then-are_of_constants : goal.returns-then-are_of_constants

@@ -1,8 +1,6 @@
 use Rattle.std.proofs.Common.{◌≡◌, ◌∙◌, ◌+◌, ◌++◌, ◌∷◌, [], ap, sym, append_assoc, subst, length}
 use Rattle.std.proofs.lemmas.List.{append-nil, length-append, nil_from_length}
 use Rattle.cb_expr_forms.proofs.Elses.{HasNoElse, cut, no_else_more, uncut}
-use Rattle.cb_expr_forms.specs.Internal.{IsCutAtElse}
-use Rattle.cb_forms.specs.Members.{members}
 use Rattle.cb_expr_forms.proofs.action_form.split_else.Goals as goal
 
 pub returns-then-is_else : goal.returns-then-is_else

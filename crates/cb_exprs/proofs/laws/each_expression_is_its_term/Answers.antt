@@ -1,4 +1,4 @@
-use Rattle.cb_exprs.proofs.TermLaws.{of_constant, of_variable, of_global, of_call, of_assert, of_retract, of_bind, of_bind_global, of_if, of_while, of_actions, of_printout, of_print, of_println}
+use Rattle.cb_exprs.specs.Lemmas.{of_constant, of_variable, of_global, of_call, of_assert, of_retract, of_bind, of_bind_global, of_if, of_while, of_actions, of_printout, of_print, of_println}
 use Rattle.cb_exprs.proofs.laws.each_expression_is_its_term.Goals as goal
 
 pub returns-clause-is_constant : goal.returns-clause-is_constant

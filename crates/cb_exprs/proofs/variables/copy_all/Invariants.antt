@@ -1,4 +1,4 @@
-use Rattle.std.proofs.Common.{◌≡◌, ◌+◌, ◌++◌, ◌≤◌, drop, length}
+use Rattle.std.proofs.Common.{◌≡◌, ◌+◌, ◌++◌, drop, length}
 use Rattle.cb_exprs.proofs.variables.copy_all.Given as goal
 
 abbrev pub invariant-loop-one : goal.invariant-loop-one

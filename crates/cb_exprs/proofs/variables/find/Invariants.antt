@@ -1,4 +1,4 @@
-use Rattle.std.proofs.Common.{◌≡◌, ℕ, length}
+use Rattle.std.proofs.Common.{◌≡◌, length}
 use Rattle.cb_exprs.specs.Bindings.{value_at}
 use Rattle.cb_exprs.specs.Internal.Recent.{with_recent}
 use Rattle.cb_exprs.proofs.variables.find.Given as goal

@@ -10,13 +10,13 @@ use Rattle.cb_actions.specs.Worlds.{World}
 use Rattle.cb_actions.specs.declared.act.Break.TheVariants as break
 use Rattle.cb_actions.specs.declared.act.Ended.TheVariants as ended
 use Rattle.cb_actions.specs.declared.stop.Stop.TheVariants as stop
-use Rattle.cb_actions.proofs.ActLaws.{went_then, went_off, went_quietly, went_as}
+use Rattle.cb_actions.specs.Lemmas.ActLaws.{went_then, went_off, went_quietly, went_as}
 use Rattle.cb_actions.proofs.CallLaws.{first_off, first_decides, second_off, both_then, call_off, call_then}
 use Rattle.cb_actions.proofs.LoopLaws.{all_then, all_off, values_then, values_end, values_off, values_refused, test_off, test_fails, test_refused, turn_off, action_off, round_then, turns_fall}
 use Rattle.cb_actions.proofs.WentLaws.{went_at, went_unbegun, went_fine, went_ok}
 use Rattle.cb_exprs.specs.Terms.{constant, variable, global, call, assert, retract, bind, bind_global, choose, repeat, actions, printout, print, println, term_of, terms_of}
+use Rattle.cb_exprs.specs.contracts.cited.LawsCited.TheImpl as exprs_laws
 use Rattle.cb_exprs.specs.declared.expr.Expr.{Expr}
-use Rattle.cb_exprs.proofs.Cited.{of_constant, of_variable, of_global, of_call, of_assert, of_retract, of_bind, of_bind_global, of_if, of_while, of_actions, of_printout, of_print, of_println}
 use Rattle.cb_facts.specs.declared.value.Value.{Value}
 use Rattle.cb_forms.specs.declared.fault.Fault.TheVariants.{WrongType}
 use Rattle.cb_functions.specs.Constants.{false_symbol}
@@ -108,17 +108,17 @@ holds-returns-clause-went g t c =
 
 pub carry_out-returns-in-Constant-clause-went : goal.carry_out-returns-in-Constant-clause-went
 carry_out-returns-in-Constant-clause-went g t c =
-    let e : term_of c.args.expr.now ≡ constant c.in-Constant.value = ap term_of c.in-Constant.is ∙ of_constant _ in
+    let e : term_of c.args.expr.now ≡ constant c.in-Constant.value = ap term_of c.in-Constant.is ∙ exprs_laws.ghosts.of_constant _ in
     went_as g.K.Sink.writes _ _ _ _ _ _ _ refl (ap (λ it. carried it c.args.self.now) e) (went_quietly g.K.Sink.writes c.args.out.now c.args.self.now _ (give (Some c.in-Constant.value) c.args.self.now) c.requires (c.constant.ensures c.args.self.now))
 
 pub carry_out-returns-in-Variable-clause-went : goal.carry_out-returns-in-Variable-clause-went
 carry_out-returns-in-Variable-clause-went g t c =
-    let e : term_of c.args.expr.now ≡ variable c.in-Variable.name = ap term_of c.in-Variable.is ∙ of_variable _ in
+    let e : term_of c.args.expr.now ≡ variable c.in-Variable.name = ap term_of c.in-Variable.is ∙ exprs_laws.ghosts.of_variable _ in
     went_as g.K.Sink.writes _ _ _ _ _ _ _ refl (ap (λ it. carried it c.args.self.now) e) (went_quietly g.K.Sink.writes c.args.out.now c.args.self.now _ (looked_up c.in-Variable.name c.args.self.now) c.requires c.variable.ensures)
 
 pub carry_out-returns-in-Global-clause-went : goal.carry_out-returns-in-Global-clause-went
 carry_out-returns-in-Global-clause-went g t c =
-    let e : term_of c.args.expr.now ≡ global c.in-Global.name = ap term_of c.in-Global.is ∙ of_global _ in
+    let e : term_of c.args.expr.now ≡ global c.in-Global.name = ap term_of c.in-Global.is ∙ exprs_laws.ghosts.of_global _ in
     went_as g.K.Sink.writes _ _ _ _ _ _ _ refl (ap (λ it. carried it c.args.self.now) e) (went_quietly g.K.Sink.writes c.args.out.now c.args.self.now _ (global_looked_up c.in-Global.name c.args.self.now) c.requires c.global.ensures)
 
 pub carry_call-returns-in_err-first-clause-went : goal.carry_call-returns-in_err-first-clause-went
@@ -154,29 +154,29 @@ carry_call-returns-clause-went g t c =
 
 pub carry_out-returns-in-Call-clause-went : goal.carry_out-returns-in-Call-clause-went
 carry_out-returns-in-Call-clause-went g t c =
-    let e : term_of c.args.expr.now ≡ call c.in-Call.function (terms_of c.deref.result.now) = ap term_of c.in-Call.is ∙ (of_call _ _ ∙ ap (λ it. call c.in-Call.function (terms_of it)) (sym c.deref.ensures.value)) in
+    let e : term_of c.args.expr.now ≡ call c.in-Call.function (terms_of c.deref.result.now) = ap term_of c.in-Call.is ∙ (exprs_laws.ghosts.of_call _ _ ∙ ap (λ it. call c.in-Call.function (terms_of it)) (sym c.deref.ensures.value)) in
     went_as g.K.Sink.writes _ _ _ _ _ _ _ refl (ap (λ it. carried it c.args.self.now) e) c.carry_call.ensures.went
 
 pub carry_out-returns-in_err-values-in-Assert-clause-went : goal.carry_out-returns-in_err-values-in-Assert-clause-went
 carry_out-returns-in_err-values-in-Assert-clause-went g t c =
     let r : c.from_residual.result ≡ Err c.in_err-values-in-Assert.field-0.0 = search rules in
-    let e : term_of c.args.expr.now ≡ assert c.in-Assert.shape (terms_of c.deref-in-Assert.result.now) = ap term_of c.in-Assert.is ∙ (of_assert _ _ ∙ ap (λ it. assert c.in-Assert.shape (terms_of it)) (sym c.deref-in-Assert.ensures.value)) in
+    let e : term_of c.args.expr.now ≡ assert c.in-Assert.shape (terms_of c.deref-in-Assert.result.now) = ap term_of c.in-Assert.is ∙ (exprs_laws.ghosts.of_assert _ _ ∙ ap (λ it. assert c.in-Assert.shape (terms_of it)) (sym c.deref-in-Assert.ensures.value)) in
     went_as g.K.Sink.writes _ _ _ _ _ _ _ r (ap (λ it. carried it c.args.self.now) e) (went_off g.K.Sink.writes _ _ _ _ _ (asserted c.in-Assert.shape) c.in_err-values-in-Assert.ensures.went)
 
 pub carry_out-returns-in_ok-values-in-Assert-clause-went : goal.carry_out-returns-in_ok-values-in-Assert-clause-went
 carry_out-returns-in_ok-values-in-Assert-clause-went g t c =
-    let e : term_of c.args.expr.now ≡ assert c.in-Assert.shape (terms_of c.deref-in-Assert.result.now) = ap term_of c.in-Assert.is ∙ (of_assert _ _ ∙ ap (λ it. assert c.in-Assert.shape (terms_of it)) (sym c.deref-in-Assert.ensures.value)) in
+    let e : term_of c.args.expr.now ≡ assert c.in-Assert.shape (terms_of c.deref-in-Assert.result.now) = ap term_of c.in-Assert.is ∙ (exprs_laws.ghosts.of_assert _ _ ∙ ap (λ it. assert c.in-Assert.shape (terms_of it)) (sym c.deref-in-Assert.ensures.value)) in
     went_as g.K.Sink.writes _ _ _ _ _ _ _ refl (ap (λ it. carried it c.args.self.now) e) (went_then g.K.Sink.writes _ _ _ _ _ _ _ _ (asserted c.in-Assert.shape) c.in_ok-values-in-Assert.ensures.went (went_quietly g.K.Sink.writes _ _ _ _ (went_fine g.K.Sink.writes _ _ _ _ _ c.in_ok-values-in-Assert.ensures.went) c.assert.ensures))
 
 pub carry_out-returns-in_err-values-in-Retract-clause-went : goal.carry_out-returns-in_err-values-in-Retract-clause-went
 carry_out-returns-in_err-values-in-Retract-clause-went g t c =
     let r : c.from_residual-in_err-values-in-Retract.result ≡ Err c.in_err-values-in-Retract.field-0.0 = search rules in
-    let e : term_of c.args.expr.now ≡ retract (terms_of c.deref-in-Retract.result.now) = ap term_of c.in-Retract.is ∙ (of_retract _ ∙ ap (λ it. retract (terms_of it)) (sym c.deref-in-Retract.ensures.value)) in
+    let e : term_of c.args.expr.now ≡ retract (terms_of c.deref-in-Retract.result.now) = ap term_of c.in-Retract.is ∙ (exprs_laws.ghosts.of_retract _ ∙ ap (λ it. retract (terms_of it)) (sym c.deref-in-Retract.ensures.value)) in
     went_as g.K.Sink.writes _ _ _ _ _ _ _ r (ap (λ it. carried it c.args.self.now) e) (went_off g.K.Sink.writes _ _ _ _ _ retracted c.in_err-values-in-Retract.ensures.went)
 
 pub carry_out-returns-in_ok-values-in-Retract-clause-went : goal.carry_out-returns-in_ok-values-in-Retract-clause-went
 carry_out-returns-in_ok-values-in-Retract-clause-went g t c =
-    let e : term_of c.args.expr.now ≡ retract (terms_of c.deref-in-Retract.result.now) = ap term_of c.in-Retract.is ∙ (of_retract _ ∙ ap (λ it. retract (terms_of it)) (sym c.deref-in-Retract.ensures.value)) in
+    let e : term_of c.args.expr.now ≡ retract (terms_of c.deref-in-Retract.result.now) = ap term_of c.in-Retract.is ∙ (exprs_laws.ghosts.of_retract _ ∙ ap (λ it. retract (terms_of it)) (sym c.deref-in-Retract.ensures.value)) in
     let q : Quietly c.retract.new.self c.retract.result (retracted c.in_ok-values-in-Retract.values.items c.carry_values-in-Retract.new.self) = subst (λ it. Quietly c.retract.new.self c.retract.result (retracted it c.carry_values-in-Retract.new.self)) c.as_slice.ensures.value c.retract.ensures in
     went_as g.K.Sink.writes _ _ _ _ _ _ _ refl (ap (λ it. carried it c.args.self.now) e) (went_then g.K.Sink.writes _ _ _ _ _ _ _ _ retracted c.in_ok-values-in-Retract.ensures.went (went_quietly g.K.Sink.writes _ _ _ _ (went_fine g.K.Sink.writes _ _ _ _ _ c.in_ok-values-in-Retract.ensures.went) q))
 
@@ -184,13 +184,13 @@ pub carry_out-returns-in_err-values-in-Printout-clause-went : goal.carry_out-ret
 carry_out-returns-in_err-values-in-Printout-clause-went g t c =
     let r : c.from_residual-in_err-values-in-Printout.result ≡ Err c.in_err-values-in-Printout.field-0.0 = search rules in
     let next : List Value → Act World (Option Value) = λ vs. write (printed c.in-Printout.channel vs) in
-    let e : term_of c.args.expr.now ≡ printout c.in-Printout.channel (terms_of c.deref-in-Printout.result.now) = ap term_of c.in-Printout.is ∙ (of_printout _ _ ∙ ap (λ it. printout c.in-Printout.channel (terms_of it)) (sym c.deref-in-Printout.ensures.value)) in
+    let e : term_of c.args.expr.now ≡ printout c.in-Printout.channel (terms_of c.deref-in-Printout.result.now) = ap term_of c.in-Printout.is ∙ (exprs_laws.ghosts.of_printout _ _ ∙ ap (λ it. printout c.in-Printout.channel (terms_of it)) (sym c.deref-in-Printout.ensures.value)) in
     went_as g.K.Sink.writes _ _ _ _ _ _ _ r (ap (λ it. carried it c.args.self.now) e) (went_off g.K.Sink.writes _ _ _ _ _ next c.in_err-values-in-Printout.ensures.went)
 
 pub carry_out-returns-in_ok-values-in-Printout-clause-went : goal.carry_out-returns-in_ok-values-in-Printout-clause-went
 carry_out-returns-in_ok-values-in-Printout-clause-went g t c =
     let next : List Value → Act World (Option Value) = λ vs. write (printed c.in-Printout.channel vs) in
-    let e : term_of c.args.expr.now ≡ printout c.in-Printout.channel (terms_of c.deref-in-Printout.result.now) = ap term_of c.in-Printout.is ∙ (of_printout _ _ ∙ ap (λ it. printout c.in-Printout.channel (terms_of it)) (sym c.deref-in-Printout.ensures.value)) in
+    let e : term_of c.args.expr.now ≡ printout c.in-Printout.channel (terms_of c.deref-in-Printout.result.now) = ap term_of c.in-Printout.is ∙ (exprs_laws.ghosts.of_printout _ _ ∙ ap (λ it. printout c.in-Printout.channel (terms_of it)) (sym c.deref-in-Printout.ensures.value)) in
     let P : List Value → Type 0 = λ it. Went g.K.Sink.writes c.carry_values-in-Printout.new.out c.print.new.out c.carry_values-in-Printout.new.self c.print.result (next it c.carry_values-in-Printout.new.self) in
     went_as g.K.Sink.writes _ _ _ _ _ _ _ refl (ap (λ it. carried it c.args.self.now) e) (went_then g.K.Sink.writes _ _ _ _ _ _ _ _ next c.in_ok-values-in-Printout.ensures.went (subst P c.as_slice-in-Printout.ensures.value c.print.ensures))
 
@@ -202,13 +202,13 @@ pub carry_out-returns-in_err-values-in-Print-clause-went : goal.carry_out-return
 carry_out-returns-in_err-values-in-Print-clause-went g t c =
     let r : c.from_residual-in_err-values-in-Print.result ≡ Err c.in_err-values-in-Print.field-0.0 = search rules in
     let next : List Value → Act World (Option Value) = λ vs. write (printed_values vs) in
-    let e : term_of c.args.expr.now ≡ print (terms_of c.deref-in-Print.result.now) = ap term_of c.in-Print.is ∙ (of_print _ ∙ ap (λ it. print (terms_of it)) (sym c.deref-in-Print.ensures.value)) in
+    let e : term_of c.args.expr.now ≡ print (terms_of c.deref-in-Print.result.now) = ap term_of c.in-Print.is ∙ (exprs_laws.ghosts.of_print _ ∙ ap (λ it. print (terms_of it)) (sym c.deref-in-Print.ensures.value)) in
     went_as g.K.Sink.writes _ _ _ _ _ _ _ r (ap (λ it. carried it c.args.self.now) e) (went_off g.K.Sink.writes _ _ _ _ _ next c.in_err-values-in-Print.ensures.went)
 
 pub carry_out-returns-in_ok-values-in-Print-clause-went : goal.carry_out-returns-in_ok-values-in-Print-clause-went
 carry_out-returns-in_ok-values-in-Print-clause-went g t c =
     let next : List Value → Act World (Option Value) = λ vs. write (printed_values vs) in
-    let e : term_of c.args.expr.now ≡ print (terms_of c.deref-in-Print.result.now) = ap term_of c.in-Print.is ∙ (of_print _ ∙ ap (λ it. print (terms_of it)) (sym c.deref-in-Print.ensures.value)) in
+    let e : term_of c.args.expr.now ≡ print (terms_of c.deref-in-Print.result.now) = ap term_of c.in-Print.is ∙ (exprs_laws.ghosts.of_print _ ∙ ap (λ it. print (terms_of it)) (sym c.deref-in-Print.ensures.value)) in
     let P : List Value → Type 0 = λ it. Went g.K.Sink.writes c.carry_values-in-Print.new.out c.print-in-Print.new.out c.carry_values-in-Print.new.self c.print-in-Print.result (next it c.carry_values-in-Print.new.self) in
     went_as g.K.Sink.writes _ _ _ _ _ _ _ refl (ap (λ it. carried it c.args.self.now) e) (went_then g.K.Sink.writes _ _ _ _ _ _ _ _ next c.in_ok-values-in-Print.ensures.went (subst P c.as_slice-in-Print.ensures.value c.print-in-Print.ensures))
 
@@ -220,13 +220,13 @@ pub carry_out-returns-in_err-values-in-Println-clause-went : goal.carry_out-retu
 carry_out-returns-in_err-values-in-Println-clause-went g t c =
     let r : c.from_residual-in_err-values-in-Println.result ≡ Err c.in_err-values-in-Println.field-0.0 = search rules in
     let next : List Value → Act World (Option Value) = λ vs. write (printed_line vs) in
-    let e : term_of c.args.expr.now ≡ println (terms_of c.deref-in-Println.result.now) = ap term_of c.in-Println.is ∙ (of_println _ ∙ ap (λ it. println (terms_of it)) (sym c.deref-in-Println.ensures.value)) in
+    let e : term_of c.args.expr.now ≡ println (terms_of c.deref-in-Println.result.now) = ap term_of c.in-Println.is ∙ (exprs_laws.ghosts.of_println _ ∙ ap (λ it. println (terms_of it)) (sym c.deref-in-Println.ensures.value)) in
     went_as g.K.Sink.writes _ _ _ _ _ _ _ r (ap (λ it. carried it c.args.self.now) e) (went_off g.K.Sink.writes _ _ _ _ _ next c.in_err-values-in-Println.ensures.went)
 
 pub carry_out-returns-in_ok-values-in-Println-clause-went : goal.carry_out-returns-in_ok-values-in-Println-clause-went
 carry_out-returns-in_ok-values-in-Println-clause-went g t c =
     let next : List Value → Act World (Option Value) = λ vs. write (printed_line vs) in
-    let e : term_of c.args.expr.now ≡ println (terms_of c.deref-in-Println.result.now) = ap term_of c.in-Println.is ∙ (of_println _ ∙ ap (λ it. println (terms_of it)) (sym c.deref-in-Println.ensures.value)) in
+    let e : term_of c.args.expr.now ≡ println (terms_of c.deref-in-Println.result.now) = ap term_of c.in-Println.is ∙ (exprs_laws.ghosts.of_println _ ∙ ap (λ it. println (terms_of it)) (sym c.deref-in-Println.ensures.value)) in
     let P : List Value → Type 0 = λ it. Went g.K.Sink.writes c.carry_values-in-Println.new.out c.print_line.new.out c.carry_values-in-Println.new.self c.print_line.result (next it c.carry_values-in-Println.new.self) in
     went_as g.K.Sink.writes _ _ _ _ _ _ _ refl (ap (λ it. carried it c.args.self.now) e) (went_then g.K.Sink.writes _ _ _ _ _ _ _ _ next c.in_ok-values-in-Println.ensures.went (subst P c.as_slice-in-Println.ensures.value c.print_line.ensures))
 
@@ -237,76 +237,76 @@ carry_out-returns-in_ok-values-in-Println-clause-fine g t c =
 pub carry_out-returns-in_err-value-in-Bind-clause-went : goal.carry_out-returns-in_err-value-in-Bind-clause-went
 carry_out-returns-in_err-value-in-Bind-clause-went g t c =
     let r : c.from_residual-in_err-value-in-Bind.result ≡ Err c.in_err-value-in-Bind.field-0.0 = search rules in
-    let e : term_of c.args.expr.now ≡ bind c.in-Bind.name (term_of c.deref-in-Bind.result.now) = ap term_of c.in-Bind.is ∙ (of_bind _ _ ∙ ap (λ it. bind c.in-Bind.name (term_of it)) (sym c.deref-in-Bind.ensures)) in
+    let e : term_of c.args.expr.now ≡ bind c.in-Bind.name (term_of c.deref-in-Bind.result.now) = ap term_of c.in-Bind.is ∙ (exprs_laws.ghosts.of_bind _ _ ∙ ap (λ it. bind c.in-Bind.name (term_of it)) (sym c.deref-in-Bind.ensures)) in
     went_as g.K.Sink.writes _ _ _ _ _ _ _ r (ap (λ it. carried it c.args.self.now) e) (went_off g.K.Sink.writes _ _ _ _ _ (bound c.in-Bind.name) c.in_err-value-in-Bind.ensures.went)
 
 pub carry_out-returns-in_ok-value-in-Bind-clause-went : goal.carry_out-returns-in_ok-value-in-Bind-clause-went
 carry_out-returns-in_ok-value-in-Bind-clause-went g t c =
-    let e : term_of c.args.expr.now ≡ bind c.in-Bind.name (term_of c.deref-in-Bind.result.now) = ap term_of c.in-Bind.is ∙ (of_bind _ _ ∙ ap (λ it. bind c.in-Bind.name (term_of it)) (sym c.deref-in-Bind.ensures)) in
+    let e : term_of c.args.expr.now ≡ bind c.in-Bind.name (term_of c.deref-in-Bind.result.now) = ap term_of c.in-Bind.is ∙ (exprs_laws.ghosts.of_bind _ _ ∙ ap (λ it. bind c.in-Bind.name (term_of it)) (sym c.deref-in-Bind.ensures)) in
     went_as g.K.Sink.writes _ _ _ _ _ _ _ refl (ap (λ it. carried it c.args.self.now) e) (went_then g.K.Sink.writes _ _ _ _ _ _ _ _ (bound c.in-Bind.name) c.in_ok-value-in-Bind.ensures.went (went_quietly g.K.Sink.writes _ _ _ _ (went_fine g.K.Sink.writes _ _ _ _ _ c.in_ok-value-in-Bind.ensures.went) c.bind.ensures))
 
 pub carry_out-returns-in_err-value-in-BindGlobal-clause-went : goal.carry_out-returns-in_err-value-in-BindGlobal-clause-went
 carry_out-returns-in_err-value-in-BindGlobal-clause-went g t c =
     let r : c.from_residual-in_err-value-in-BindGlobal.result ≡ Err c.in_err-value-in-BindGlobal.field-0.0 = search rules in
-    let e : term_of c.args.expr.now ≡ bind_global c.in-BindGlobal.name (term_of c.deref-in-BindGlobal.result.now) = ap term_of c.in-BindGlobal.is ∙ (of_bind_global _ _ ∙ ap (λ it. bind_global c.in-BindGlobal.name (term_of it)) (sym c.deref-in-BindGlobal.ensures)) in
+    let e : term_of c.args.expr.now ≡ bind_global c.in-BindGlobal.name (term_of c.deref-in-BindGlobal.result.now) = ap term_of c.in-BindGlobal.is ∙ (exprs_laws.ghosts.of_bind_global _ _ ∙ ap (λ it. bind_global c.in-BindGlobal.name (term_of it)) (sym c.deref-in-BindGlobal.ensures)) in
     went_as g.K.Sink.writes _ _ _ _ _ _ _ r (ap (λ it. carried it c.args.self.now) e) (went_off g.K.Sink.writes _ _ _ _ _ (global_bound c.in-BindGlobal.name) c.in_err-value-in-BindGlobal.ensures.went)
 
 pub carry_out-returns-in_ok-value-in-BindGlobal-clause-went : goal.carry_out-returns-in_ok-value-in-BindGlobal-clause-went
 carry_out-returns-in_ok-value-in-BindGlobal-clause-went g t c =
-    let e : term_of c.args.expr.now ≡ bind_global c.in-BindGlobal.name (term_of c.deref-in-BindGlobal.result.now) = ap term_of c.in-BindGlobal.is ∙ (of_bind_global _ _ ∙ ap (λ it. bind_global c.in-BindGlobal.name (term_of it)) (sym c.deref-in-BindGlobal.ensures)) in
+    let e : term_of c.args.expr.now ≡ bind_global c.in-BindGlobal.name (term_of c.deref-in-BindGlobal.result.now) = ap term_of c.in-BindGlobal.is ∙ (exprs_laws.ghosts.of_bind_global _ _ ∙ ap (λ it. bind_global c.in-BindGlobal.name (term_of it)) (sym c.deref-in-BindGlobal.ensures)) in
     went_as g.K.Sink.writes _ _ _ _ _ _ _ refl (ap (λ it. carried it c.args.self.now) e) (went_then g.K.Sink.writes _ _ _ _ _ _ _ _ (global_bound c.in-BindGlobal.name) c.in_ok-value-in-BindGlobal.ensures.went (went_quietly g.K.Sink.writes _ _ _ _ (went_fine g.K.Sink.writes _ _ _ _ _ c.in_ok-value-in-BindGlobal.ensures.went) c.bind_global.ensures))
 
 pub carry_out-returns-in_err-holds-in-If-clause-went : goal.carry_out-returns-in_err-holds-in-If-clause-went
 carry_out-returns-in_err-holds-in-If-clause-went g t c =
     let r : c.from_residual-in_err-holds-in-If.result ≡ Err c.in_err-holds-in-If.field-0.0 = search rules in
-    let e : term_of c.args.expr.now ≡ choose (term_of c.deref-in-If.result.now) (term_of c.in-If.yes.value) (term_of c.in-If.no.value) = ap term_of c.in-If.is ∙ (of_if _ _ _ ∙ ap (λ it. choose (term_of it) (term_of c.in-If.yes.value) (term_of c.in-If.no.value)) (sym c.deref-in-If.ensures)) in
+    let e : term_of c.args.expr.now ≡ choose (term_of c.deref-in-If.result.now) (term_of c.in-If.yes.value) (term_of c.in-If.no.value) = ap term_of c.in-If.is ∙ (exprs_laws.ghosts.of_if _ _ _ ∙ ap (λ it. choose (term_of it) (term_of c.in-If.yes.value) (term_of c.in-If.no.value)) (sym c.deref-in-If.ensures)) in
     went_as g.K.Sink.writes _ _ _ _ _ _ _ r (ap (λ it. carried it c.args.self.now) e) (went_off g.K.Sink.writes _ _ _ _ _ (λ b. chosen b (carried (term_of c.in-If.yes.value)) (carried (term_of c.in-If.no.value))) c.in_err-holds-in-If.ensures.went)
 
 pub carry_out-returns-then-branch-clause-went : goal.carry_out-returns-then-branch-clause-went
 carry_out-returns-then-branch-clause-went g t c =
     let first = went_as g.K.Sink.writes _ _ _ _ (Ok true) _ _ (ap Ok (sym c.if-branch.true)) refl c.in_ok-holds-in-If.ensures.went in
     let P : Expr → Type 0 = λ it. Went g.K.Sink.writes c.holds.new.out c.carry_out.new.out c.carry_out.new.self c.carry_out.result (carried (term_of it) c.holds.new.self) in
-    let e : term_of c.args.expr.now ≡ choose (term_of c.deref-in-If.result.now) (term_of c.in-If.yes.value) (term_of c.in-If.no.value) = ap term_of c.in-If.is ∙ (of_if _ _ _ ∙ ap (λ it. choose (term_of it) (term_of c.in-If.yes.value) (term_of c.in-If.no.value)) (sym c.deref-in-If.ensures)) in
+    let e : term_of c.args.expr.now ≡ choose (term_of c.deref-in-If.result.now) (term_of c.in-If.yes.value) (term_of c.in-If.no.value) = ap term_of c.in-If.is ∙ (exprs_laws.ghosts.of_if _ _ _ ∙ ap (λ it. choose (term_of it) (term_of c.in-If.yes.value) (term_of c.in-If.no.value)) (sym c.deref-in-If.ensures)) in
     went_as g.K.Sink.writes _ _ _ _ _ _ _ refl (ap (λ it. carried it c.args.self.now) e) (went_then g.K.Sink.writes _ _ _ _ _ true _ _ (λ b. chosen b (carried (term_of c.in-If.yes.value)) (carried (term_of c.in-If.no.value))) first (subst P c.deref-then-branch.ensures c.carry_out.ensures.went))
 
 pub carry_out-returns-else-branch-clause-went : goal.carry_out-returns-else-branch-clause-went
 carry_out-returns-else-branch-clause-went g t c =
     let first = went_as g.K.Sink.writes _ _ _ _ (Ok false) _ _ (ap Ok (sym c.if-branch.false)) refl c.in_ok-holds-in-If.ensures.went in
     let P : Expr → Type 0 = λ it. Went g.K.Sink.writes c.holds.new.out c.carry_out-else-branch.new.out c.carry_out-else-branch.new.self c.carry_out-else-branch.result (carried (term_of it) c.holds.new.self) in
-    let e : term_of c.args.expr.now ≡ choose (term_of c.deref-in-If.result.now) (term_of c.in-If.yes.value) (term_of c.in-If.no.value) = ap term_of c.in-If.is ∙ (of_if _ _ _ ∙ ap (λ it. choose (term_of it) (term_of c.in-If.yes.value) (term_of c.in-If.no.value)) (sym c.deref-in-If.ensures)) in
+    let e : term_of c.args.expr.now ≡ choose (term_of c.deref-in-If.result.now) (term_of c.in-If.yes.value) (term_of c.in-If.no.value) = ap term_of c.in-If.is ∙ (exprs_laws.ghosts.of_if _ _ _ ∙ ap (λ it. choose (term_of it) (term_of c.in-If.yes.value) (term_of c.in-If.no.value)) (sym c.deref-in-If.ensures)) in
     went_as g.K.Sink.writes _ _ _ _ _ _ _ refl (ap (λ it. carried it c.args.self.now) e) (went_then g.K.Sink.writes _ _ _ _ _ false _ _ (λ b. chosen b (carried (term_of c.in-If.yes.value)) (carried (term_of c.in-If.no.value))) first (subst P c.deref-else-branch.ensures c.carry_out-else-branch.ensures.went))
 
 pub carry_out-returns-in-Actions-clause-went : goal.carry_out-returns-in-Actions-clause-went
 carry_out-returns-in-Actions-clause-went g t c =
-    let e : term_of c.args.expr.now ≡ actions (terms_of c.deref-in-Actions.result.now) = ap term_of c.in-Actions.is ∙ (of_actions _ ∙ ap (λ it. actions (terms_of it)) (sym c.deref-in-Actions.ensures.value)) in
+    let e : term_of c.args.expr.now ≡ actions (terms_of c.deref-in-Actions.result.now) = ap term_of c.in-Actions.is ∙ (exprs_laws.ghosts.of_actions _ ∙ ap (λ it. actions (terms_of it)) (sym c.deref-in-Actions.ensures.value)) in
     went_as g.K.Sink.writes _ _ _ _ _ _ _ refl (ap (λ it. carried it c.args.self.now) e) c.carry_all.ensures.went
 
 pub carry_out-returns-in_err-holds-in-While-clause-went : goal.carry_out-returns-in_err-holds-in-While-clause-went
 carry_out-returns-in_err-holds-in-While-clause-went g t c =
-    let e : term_of c.args.expr.now ≡ repeat (term_of c.deref-in-loop-self.result.now) (term_of c.in-While.action.value) = ap term_of c.in-While.is ∙ (of_while _ _ ∙ ap (λ it. repeat (term_of it) (term_of c.in-While.action.value)) (sym c.deref-in-loop-self.ensures)) in
+    let e : term_of c.args.expr.now ≡ repeat (term_of c.deref-in-loop-self.result.now) (term_of c.in-While.action.value) = ap term_of c.in-While.is ∙ (exprs_laws.ghosts.of_while _ _ ∙ ap (λ it. repeat (term_of it) (term_of c.in-While.action.value)) (sym c.deref-in-loop-self.ensures)) in
     let r : c.from_residual-in_err-holds-in-While.result ≡ Err c.in_err-holds-in-While.field-0.0 = search rules in
     went_as g.K.Sink.writes _ _ _ _ _ _ _ r refl (c.loop-self.invariant.goes _ _ _ (went_as g.K.Sink.writes _ _ _ _ _ _ _ refl (ap (λ it. carried it c.loop-self.self) e) (test_off g.K.Sink.writes (term_of c.deref-in-loop-self.result.now) (term_of c.in-While.action.value) c.loop-self.self _ _ _ _ c.in_err-holds-in-While.ensures.went)))
 
 pub carry_out-returns-in_err-no-in-While-clause-went : goal.carry_out-returns-in_err-no-in-While-clause-went
 carry_out-returns-in_err-no-in-While-clause-went g t c =
-    let e : term_of c.args.expr.now ≡ repeat (term_of c.deref-in-loop-self.result.now) (term_of c.in-While.action.value) = ap term_of c.in-While.is ∙ (of_while _ _ ∙ ap (λ it. repeat (term_of it) (term_of c.in-While.action.value)) (sym c.deref-in-loop-self.ensures)) in
+    let e : term_of c.args.expr.now ≡ repeat (term_of c.deref-in-loop-self.result.now) (term_of c.in-While.action.value) = ap term_of c.in-While.is ∙ (exprs_laws.ghosts.of_while _ _ ∙ ap (λ it. repeat (term_of it) (term_of c.in-While.action.value)) (sym c.deref-in-loop-self.ensures)) in
     let r : c.from_residual-in_err-no-in-While.result ≡ Err (break.Stop stop.NoMemory) = search rules in
     went_as g.K.Sink.writes _ _ _ _ _ _ _ r refl (c.loop-self.invariant.goes _ _ _ (went_as g.K.Sink.writes _ _ _ _ _ _ _ refl (ap (λ it. carried it c.loop-self.self) e) (test_refused g.K.Sink.writes (term_of c.deref-in-loop-self.result.now) (term_of c.in-While.action.value) c.loop-self.self _ _ _ _ _ c.in_ok-holds-in-While.ensures.went)))
 
 pub carry_out-returns-in_ok-no-in-While-clause-went : goal.carry_out-returns-in_ok-no-in-While-clause-went
 carry_out-returns-in_ok-no-in-While-clause-went g t c =
-    let e : term_of c.args.expr.now ≡ repeat (term_of c.deref-in-loop-self.result.now) (term_of c.in-While.action.value) = ap term_of c.in-While.is ∙ (of_while _ _ ∙ ap (λ it. repeat (term_of it) (term_of c.in-While.action.value)) (sym c.deref-in-loop-self.ensures)) in
+    let e : term_of c.args.expr.now ≡ repeat (term_of c.deref-in-loop-self.result.now) (term_of c.in-While.action.value) = ap term_of c.in-While.is ∙ (exprs_laws.ghosts.of_while _ _ ∙ ap (λ it. repeat (term_of it) (term_of c.in-While.action.value)) (sym c.deref-in-loop-self.ensures)) in
     c.loop-self.invariant.goes _ _ _ (went_at g.K.Sink.writes _ _ _ _ _ _ c.in_ok-no-in-While.ensures.same (went_as g.K.Sink.writes _ _ _ _ _ _ _ refl (ap (λ it. carried it c.loop-self.self) e) (test_fails g.K.Sink.writes (term_of c.deref-in-loop-self.result.now) (term_of c.in-While.action.value) c.loop-self.self _ _ _ _ c.in_ok-no-in-While.ensures.value (went_as g.K.Sink.writes _ _ _ _ (Ok false) _ _ (ap Ok (sym c.if-branch-2.false)) refl c.in_ok-holds-in-While.ensures.went))))
 
 pub carry_out-returns-in_err-take_turn-in-While-clause-went : goal.carry_out-returns-in_err-take_turn-in-While-clause-went
 carry_out-returns-in_err-take_turn-in-While-clause-went g t c =
-    let e : term_of c.args.expr.now ≡ repeat (term_of c.deref-in-loop-self.result.now) (term_of c.in-While.action.value) = ap term_of c.in-While.is ∙ (of_while _ _ ∙ ap (λ it. repeat (term_of it) (term_of c.in-While.action.value)) (sym c.deref-in-loop-self.ensures)) in
+    let e : term_of c.args.expr.now ≡ repeat (term_of c.deref-in-loop-self.result.now) (term_of c.in-While.action.value) = ap term_of c.in-While.is ∙ (exprs_laws.ghosts.of_while _ _ ∙ ap (λ it. repeat (term_of it) (term_of c.in-While.action.value)) (sym c.deref-in-loop-self.ensures)) in
     let r : c.from_residual-in_err-take_turn-in-While.result ≡ Err c.in_err-take_turn-in-While.field-0.0 = search rules in
     went_as g.K.Sink.writes _ _ _ _ _ _ _ r refl (c.loop-self.invariant.goes _ _ _ (went_as g.K.Sink.writes _ _ _ _ _ _ _ refl (ap (λ it. carried it c.loop-self.self) e) (turn_off g.K.Sink.writes (term_of c.deref-in-loop-self.result.now) (term_of c.in-While.action.value) c.loop-self.self _ _ _ _ _ (went_as g.K.Sink.writes _ _ _ _ (Ok true) _ _ (ap Ok (sym c.if-branch-2.true)) refl c.in_ok-holds-in-While.ensures.went) c.in_err-take_turn-in-While.ensures)))
 
 pub carry_out-returns-in_err-carry_out-in-While-clause-went : goal.carry_out-returns-in_err-carry_out-in-While-clause-went
 carry_out-returns-in_err-carry_out-in-While-clause-went g t c =
-    let e : term_of c.args.expr.now ≡ repeat (term_of c.deref-in-loop-self.result.now) (term_of c.deref-in-loop-self-2.result.now) = ap term_of c.in-While.is ∙ (of_while _ _ ∙ ap₂ (λ it that. repeat (term_of it) (term_of that)) (sym c.deref-in-loop-self.ensures) (sym c.deref-in-loop-self-2.ensures)) in
+    let e : term_of c.args.expr.now ≡ repeat (term_of c.deref-in-loop-self.result.now) (term_of c.deref-in-loop-self-2.result.now) = ap term_of c.in-While.is ∙ (exprs_laws.ghosts.of_while _ _ ∙ ap₂ (λ it that. repeat (term_of it) (term_of that)) (sym c.deref-in-loop-self.ensures) (sym c.deref-in-loop-self-2.ensures)) in
     let r : c.from_residual-in_err-carry_out-in-While.result ≡ Err c.in_err-carry_out-in-While.field-0.0 = search rules in
     went_as g.K.Sink.writes _ _ _ _ _ _ _ r refl (c.loop-self.invariant.goes _ _ _ (went_as g.K.Sink.writes _ _ _ _ _ _ _ refl (ap (λ it. carried it c.loop-self.self) e) (action_off g.K.Sink.writes (term_of c.deref-in-loop-self.result.now) (term_of c.deref-in-loop-self-2.result.now) c.loop-self.self _ _ _ _ _ _ _ (went_as g.K.Sink.writes _ _ _ _ (Ok true) _ _ (ap Ok (sym c.if-branch-2.true)) refl c.in_ok-holds-in-While.ensures.went) c.in_ok-take_turn-in-While.ensures c.in_err-carry_out-in-While.ensures.went)))
 
@@ -316,7 +316,7 @@ carry_out-loop-self-smaller g t c =
 
 pub carry_out-loop-self-preserved : goal.carry_out-loop-self-preserved
 carry_out-loop-self-preserved g t c =
-    let e : term_of c.args.expr.now ≡ repeat (term_of c.deref-in-loop-self.result.now) (term_of c.deref-in-loop-self-2.result.now) = ap term_of c.in-While.is ∙ (of_while _ _ ∙ ap₂ (λ it that. repeat (term_of it) (term_of that)) (sym c.deref-in-loop-self.ensures) (sym c.deref-in-loop-self-2.ensures)) in
+    let e : term_of c.args.expr.now ≡ repeat (term_of c.deref-in-loop-self.result.now) (term_of c.deref-in-loop-self-2.result.now) = ap term_of c.in-While.is ∙ (exprs_laws.ghosts.of_while _ _ ∙ ap₂ (λ it that. repeat (term_of it) (term_of that)) (sym c.deref-in-loop-self.ensures) (sym c.deref-in-loop-self-2.ensures)) in
     record {
       fine = c.in_ok-carry_out-in-While.ensures.fine;
       goes = λ o s r h. c.loop-self.invariant.goes o s r (went_as g.K.Sink.writes _ _ _ _ _ _ _ refl (ap (λ it. carried it c.loop-self.self) e) (round_then g.K.Sink.writes (term_of c.deref-in-loop-self.result.now) (term_of c.deref-in-loop-self-2.result.now) c.loop-self.self _ _ _ _ _ _ _ _ _ r (went_as g.K.Sink.writes _ _ _ _ (Ok true) _ _ (ap Ok (sym c.if-branch-2.true)) refl c.in_ok-holds-in-While.ensures.went) c.in_ok-take_turn-in-While.ensures c.in_ok-carry_out-in-While.ensures.went (went_as g.K.Sink.writes _ _ _ _ _ _ _ refl (ap (λ it. carried it c.carry_out-in-loop-self.new.self) (sym e)) h)));

@@ -1,7 +1,7 @@
 use Rattle.std.proofs.Common.{◌≡◌, Err, refl, sym, ap, ap₂, rules}
 use Rattle.cb_actions.specs.Actions.{carried}
 use Rattle.cb_actions.specs.Effects.{asserted}
-use Rattle.cb_actions.proofs.ActLaws.{went_then, went_off, went_quietly, went_as}
+use Rattle.cb_actions.specs.Lemmas.ActLaws.{went_then, went_off, went_quietly, went_as}
 use Rattle.cb_actions.proofs.WentLaws.{went_fine}
 use Rattle.cb_exprs.specs.Terms.{assert}
 use Rattle.cb_actions.proofs.world.World.assert_fact.Goals as goal

@@ -1,13 +1,13 @@
 use Rattle.std.proofs.Common.{◌≡◌, Ok, None, ap, ◌∙◌, subst}
 use Rattle.cb_forms.specs.Trees.{reading_of}
+use Rattle.cb_io.specs.contracts.cited.LawsCited.TheImpl as io_laws
 use Rattle.cb_session.specs.Transcripts.{executed}
 use Rattle.cb_session.specs.Internal.Executing.{Executes}
-use Rattle.cb_io.proofs.Cited.{puts_fine}
 use Rattle.cb_session.proofs.ItemLaws.{executes-none, executes-long, executes-two, executes-first}
 use Rattle.cb_session.proofs.engine.Engine.execute_cut.Goals as goal
 
 pub execute-requires-in-Ok-None : goal.execute-requires-in-Ok-None
-execute-requires-in-Ok-None g c = puts_fine g.K.Sink.writes _ _ _ c.in-Ok-None.ensures.puts
+execute-requires-in-Ok-None g c = io_laws.ghosts.puts_fine _ g.K.Sink.writes _ _ _ c.in-Ok-None.ensures.puts
 
 pub returns-in-More : goal.returns-in-More
 returns-in-More g c = executes-none g.K.Sink.writes _ c.args.self.now c.args.cut.now c.in-More.is c.requires

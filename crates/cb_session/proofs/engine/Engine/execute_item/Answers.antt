@@ -1,7 +1,7 @@
 use Rattle.std.proofs.Common.{◌≡◌, Err, sym, subst, rules}
 use Rattle.cb_forms.specs.Trees.{reading_of}
-use Rattle.cb_io.proofs.Cited.{puts_fine}
 use Rattle.cb_io.specs.Output.{Puts}
+use Rattle.cb_io.specs.contracts.cited.LawsCited.TheImpl as io_laws
 use Rattle.cb_session.specs.Actions.{acted}
 use Rattle.cb_session.specs.States.{State}
 use Rattle.cb_session.specs.Transcripts.{executed}
@@ -16,13 +16,13 @@ pub report-requires : goal.report-requires
 report-requires g c =
     let r : c.act.result ≡ Err (break.Ended (ended.Fault c.in-Err-Ended-Fault.fault)) = search rules in
     let h = subst (λ it. Went g.K.Sink.writes c.args.out.now c.act.new.out c.act.new.self it (acted (reading_of c.args.item.now) c.args.self.now)) r c.act.ensures in
-    puts_fine g.K.Sink.writes _ _ _ h.puts
+    io_laws.ghosts.puts_fine _ g.K.Sink.writes _ _ _ h.puts
 
 pub end_at_limit-requires : goal.end_at_limit-requires
 end_at_limit-requires g c =
     let r : c.act.result ≡ Err (break.Ended (ended.Limit c.in-Err-Ended-Limit.limit)) = search rules in
     let h = subst (λ it. Went g.K.Sink.writes c.args.out.now c.act.new.out c.act.new.self it (acted (reading_of c.args.item.now) c.args.self.now)) r c.act.ensures in
-    puts_fine g.K.Sink.writes _ _ _ h.puts
+    io_laws.ghosts.puts_fine _ g.K.Sink.writes _ _ _ h.puts
 
 pub returns-in-Ok : goal.returns-in-Ok
 returns-in-Ok g c = executes-done g.K.Sink.writes _ _ c.args.self.now _ (reading_of c.args.item.now) c.in-Ok.field-0 c.in-Ok.ensures

@@ -1,7 +1,7 @@
 use Rattle.std.proofs.Common.{◌≡◌, sym, subst, ◌∙◌}
 use Rattle.cb_session.specs.Sessions.{SessionState}
 use Rattle.cb_session.specs.Transcripts.{so_far}
-use Rattle.cb_session.proofs.ScriptLaws.{way-status}
+use Rattle.cb_session.specs.Lemmas.ScriptLaws.{way-status}
 use Rattle.cb_session.proofs.session.Session.feed.Goals as goal
 
 pub feed_and_flush-requires-clause-goes : goal.feed_and_flush-requires-clause-goes

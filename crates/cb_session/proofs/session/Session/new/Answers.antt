@@ -1,4 +1,4 @@
-use Rattle.cb_session.proofs.ScriptLaws.{way-start_of}
+use Rattle.cb_session.specs.Lemmas.ScriptLaws.{way-start_of}
 use Rattle.cb_session.proofs.session.Session.new.Goals as goal
 
 pub invariant_of-result : goal.invariant_of-result

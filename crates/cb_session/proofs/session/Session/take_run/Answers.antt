@@ -3,7 +3,7 @@ use Rattle.std.proofs.Math.Seq.{take-length}
 use Rattle.cb_session.specs.Internal.Scripts.{IsUnderWay}
 use Rattle.cb_session.specs.Sessions.{SessionState}
 use Rattle.cb_session.specs.Transcripts.{so_far}
-use Rattle.cb_session.proofs.ScriptLaws.{run-nothing, way-status, way-taken}
+use Rattle.cb_session.specs.Lemmas.ScriptLaws.{run-nothing, way-status, way-taken}
 use Rattle.cb_session.proofs.StepLaws.{after-end-adds, taken-after-end}
 use Rattle.cb_session.proofs.session.Session.take_run.Goals as goal
 

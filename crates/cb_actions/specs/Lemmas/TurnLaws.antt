@@ -1,0 +1,170 @@
+-- Turns: they never rise, and the number of tests that a loop is defined by does not matter.
+use Rattle.std.proofs.Common.{◌≡◌, ◌<◌, ◌≤◌, ℕ, zero, suc, Bool, true, false, List, [], ◌∷◌, ◌++◌, if◌then◌else◌, Option, Some, None, Result, Ok, Err, refl, ap, arith}
+use Rattle.std.specs.List.{list_all}
+use Rattle.cb_actions.specs.Acts.{Act, after_writing, become, follow, give, stop, give_or_fault, ◌>>=◌}
+use Rattle.cb_actions.specs.Actions.{carried, carried_all, carried_values, round, rounds}
+use Rattle.cb_actions.specs.Lemmas.{falls_then}
+use Rattle.cb_actions.specs.Definitions.{all_asserted, all_evaluated, globals_after, globals_defined, one_evaluated, template_defined}
+use Rattle.cb_actions.specs.Effects.{found, wanted, valued, truth_of, ends, called, fact_added, addressed, asserted, taken, retracted, bound, global_bound, chosen, turn, turn_of}
+use Rattle.cb_actions.specs.Internal.{Falls, turns_left}
+use Rattle.cb_actions.specs.Worlds.{World}
+use Rattle.cb_actions.specs.declared.act.Ended.{Ended}
+use Rattle.cb_actions.specs.declared.act.Ended.TheVariants as ended
+use Rattle.cb_eval.specs.Evaluation.{value_of}
+use Rattle.cb_exprs.specs.Bindings.{value_at}
+use Rattle.cb_exprs.specs.FactTerms.{FactTerm}
+use Rattle.cb_exprs.specs.GlobalTerms.{GlobalTerm}
+use Rattle.cb_exprs.specs.Terms.{Term, constant, variable, global, call, assert, retract, bind, bind_global, choose, repeat, actions, printout, print, println, Terms, no_terms, term}
+use Rattle.cb_facts.specs.declared.value.Value.{Value}
+use Rattle.cb_forms.specs.declared.fault.Fault.{Fault}
+use Rattle.cb_forms.specs.declared.fault.Fault.TheVariants.{UnboundVariable, UnknownGlobal, WrongType}
+use Rattle.cb_functions.specs.Applied.{applied}
+use Rattle.cb_functions.specs.Constants.{false_symbol}
+use Rattle.cb_functions.specs.Logic.{is_true}
+use Rattle.cb_templates.specs.Building.{built}
+use Rattle.cb_templates.specs.Slots.{SlotShape}
+use Rattle.cb_words.specs.declared.function.Function.{Function}
+use Rattle.cb_working_memory.specs.WorkingMemory.{Memory, asserted_one, is_retractable, retracted_all}
+use Rattle.cb_actions.specs.Effects.{parts_of}
+
+chosen_falls : {A : Type 0} (b : Bool) (p q : Act World A) → Falls turns_left p → Falls turns_left q → Falls turns_left (chosen b p q)
+chosen_falls true p q f g s = f s
+chosen_falls false p q f g s = g s
+
+turn_of_falls : (n : ℕ) (s : World) → n ≤ s.turns → (turn_of n s).state.turns ≤ s.turns
+turn_of_falls zero s h = omega arith
+turn_of_falls (suc n) s h = omega arith
+
+round_falls : (test : Act World Bool) (action next : Act World (Option Value)) → Falls turns_left test → Falls turns_left action → Falls turns_left next → Falls turns_left (round test action next)
+round_falls test action next f g h =
+    falls_then turns_left test (λ b. chosen b (turn >>= (λ _. action >>= (λ _. next))) (give (Some false_symbol))) f
+    (λ b. chosen_falls b _ _ (falls_then turns_left turn (λ _. action >>= (λ _. next)) (λ s. turn_of_falls s.turns s (omega arith)) (λ _. falls_then turns_left action (λ _. next) g (λ _. h))) (λ s. omega arith))
+
+rounds_fall : (n : ℕ) (test : Act World Bool) (action : Act World (Option Value)) → Falls turns_left test → Falls turns_left action → Falls turns_left (rounds n test action)
+rounds_fall zero test action f g s = omega arith
+rounds_fall (suc n) test action f g s = round_falls test action (rounds n test action) f g (rounds_fall n test action f g) s
+
+wanted_falls : (v : Option Value) → Falls turns_left (wanted v)
+wanted_falls None s = omega arith
+wanted_falls (Some v) s = omega arith
+
+valued_falls : (act : Act World (Option Value)) → Falls turns_left act → Falls turns_left (valued act)
+valued_falls act f = falls_then turns_left act wanted f wanted_falls
+
+pub tested_falls : (act : Act World (Option Value)) → Falls turns_left act → Falls turns_left (truth_of act)
+tested_falls act f = falls_then turns_left (valued act) (λ v. give (is_true v)) (valued_falls act f) (λ v s. omega arith)
+
+found_falls : (f : Fault) (o : Option Value) → Falls turns_left (found f o)
+found_falls f None s = omega arith
+found_falls f (Some v) s = omega arith
+
+read_falls : {A : Type 0} (r : Result A Fault) → Falls turns_left (give_or_fault r)
+read_falls (Ok a) s = omega arith
+read_falls (Err f) s = omega arith
+
+called_falls : (f : Function) (vs : List Value) → Falls turns_left (called f vs)
+called_falls f vs = falls_then turns_left (give_or_fault (applied f vs)) (λ v. give (Some v)) (read_falls (applied f vs)) (λ v s. omega arith)
+
+addressed_falls : (o : Memory × Option ℕ) → Falls turns_left (addressed o)
+addressed_falls (m, Some ix) s = omega arith
+addressed_falls (m, None) s = omega arith
+
+asserted_falls : (shape : _) (vs : List Value) → Falls turns_left (asserted shape vs)
+asserted_falls shape vs s =
+    let r = built s.templates shape.relation (parts_of shape.slots vs) in
+    falls_then turns_left (give_or_fault r) fact_added (read_falls r) (λ fact u. addressed_falls (asserted_one u.memory fact) u) s
+
+taken_falls : (o : Memory × Bool) → Falls turns_left (taken o)
+taken_falls (m, true) s = omega arith
+taken_falls (m, false) s = omega arith
+
+retracted_if_falls : (b : Bool) (o : Memory × Bool) (s : World) → (if b then taken o s else stop (ended.Fault WrongType) s).state.turns ≤ s.turns
+retracted_if_falls true o s = taken_falls o s
+retracted_if_falls false o s = omega arith
+
+mutual
+  pub never_rises : (t : Term) → Falls turns_left (carried t)
+  never_rises (constant v) s = omega arith
+  never_rises (variable x) s = found_falls UnboundVariable (value_at x s.env.variables) s
+  never_rises (global x) s = found_falls UnknownGlobal (value_at x s.env.globals) s
+  never_rises (call f ts) s = falls_then turns_left (carried_values (Some f) [] ts) (called f) (values_never_rise (Some f) [] ts) (called_falls f) s
+  never_rises (assert shape ts) s = falls_then turns_left (carried_values None [] ts) (asserted shape) (values_never_rise None [] ts) (asserted_falls shape) s
+  never_rises (retract ts) s = falls_then turns_left (carried_values None [] ts) retracted (values_never_rise None [] ts) (λ vs u. retracted_if_falls (list_all is_retractable vs) (retracted_all u.memory vs) u) s
+  never_rises (bind x t) s = falls_then turns_left (valued (carried t)) (bound x) (valued_falls (carried t) (never_rises t)) (λ v u. omega arith) s
+  never_rises (bind_global x t) s = falls_then turns_left (valued (carried t)) (global_bound x) (valued_falls (carried t) (never_rises t)) (λ v u. omega arith) s
+  never_rises (choose t u w) s =
+      falls_then turns_left (truth_of (carried t)) (λ b. chosen b (carried u) (carried w)) (tested_falls (carried t) (never_rises t)) (λ b. chosen_falls b _ _ (never_rises u) (never_rises w)) s
+  never_rises (repeat t u) s = rounds_fall (suc s.turns) (truth_of (carried t)) (carried u) (tested_falls (carried t) (never_rises t)) (never_rises u) s
+  never_rises (actions ts) s = all_never_rise (Some false_symbol) ts s
+  never_rises (printout on ts) s = falls_then turns_left (carried_values None [] ts) _ (values_never_rise None [] ts) (λ vs u. omega arith) s
+  never_rises (print ts) s = falls_then turns_left (carried_values None [] ts) _ (values_never_rise None [] ts) (λ vs u. omega arith) s
+  never_rises (println ts) s = falls_then turns_left (carried_values None [] ts) _ (values_never_rise None [] ts) (λ vs u. omega arith) s
+
+  values_never_rise : (f : Option Function) (vs : List Value) (ts : Terms) → Falls turns_left (carried_values f vs ts)
+  values_never_rise f vs no_terms s = omega arith
+  values_never_rise f vs (term t ts) s =
+      falls_then turns_left (valued (carried t)) (λ v. chosen (ends f v) (give (vs ++ v ∷ [])) (carried_values f (vs ++ v ∷ []) ts)) (valued_falls (carried t) (never_rises t))
+      (λ v. chosen_falls (ends f v) _ _ (λ u. omega arith) (values_never_rise f (vs ++ v ∷ []) ts)) s
+
+  all_never_rise : (last : Option Value) (ts : Terms) → Falls turns_left (carried_all last ts)
+  all_never_rise last no_terms s = omega arith
+  all_never_rise last (term t ts) s = falls_then turns_left (carried t) (λ v. carried_all v ts) (never_rises t) (λ v. all_never_rise v ts) s
+
+follow_same : {A B : Type 0} (s : World) (w : List ℕ) (r : Result A Ended) (f g : A → Act World B) → ((a : A) → f a s ≡ g a s) → follow s w r f ≡ follow s w r g
+follow_same s w (Ok a) f g h = ap (λ it. after_writing w it) (h a)
+follow_same s w (Err e) f g h = refl
+
+chosen_same : {A : Type 0} (b : Bool) (p q x : Act World A) (s : World) → p s ≡ q s → chosen b p x s ≡ chosen b q x s
+chosen_same true p q x s h = h
+chosen_same false p q x s h = refl
+
+turn_same : {A : Type 0} (n : ℕ) (p q : Act World A) (s : World) → ((k : ℕ) → k < n → p (record s { turns = k }) ≡ q (record s { turns = k }))
+    → follow (turn_of n s).state (turn_of n s).written (turn_of n s).answer (λ _. p) ≡ follow (turn_of n s).state (turn_of n s).written (turn_of n s).answer (λ _. q)
+turn_same zero p q s h = refl
+turn_same (suc n) p q s h = ap (λ it. after_writing [] it) (h n (omega arith))
+
+-- what follows a round is met with fewer turns left
+round_same : (test : Act World Bool) (action p q : Act World (Option Value)) (s : World) → Falls turns_left test → Falls turns_left action → ((u : World) → u.turns < s.turns → p u ≡ q u) → round test action p s ≡ round test action q s
+round_same test action p q s f g h =
+    follow_same (test s).state (test s).written (test s).answer _ _ (λ b. chosen_same b (turn >>= (λ _. action >>= (λ _. p))) (turn >>= (λ _. action >>= (λ _. q))) (give (Some false_symbol)) (test s).state
+    (turn_same (test s).state.turns (action >>= (λ _. p)) (action >>= (λ _. q)) (test s).state (λ k lt.
+    let here = record (test s).state { turns = k } in
+    let low = f s in
+    let lower = g here in
+    follow_same (action here).state (action here).written (action here).answer _ _ (λ _. h (action here).state (omega arith)))))
+
+enough : (n m : ℕ) (test : Act World Bool) (action : Act World (Option Value)) (s : World) → Falls turns_left test → Falls turns_left action → s.turns < n → s.turns < m → rounds n test action s ≡ rounds m test action s
+enough zero m test action s f g h k = absurd (omega arith)
+enough (suc n) zero test action s f g h k = absurd (omega arith)
+enough (suc n) (suc m) test action s f g h k = round_same test action (rounds n test action) (rounds m test action) s f g (λ u lt. enough n m test action u f g (omega arith) (omega arith))
+
+-- a loop is a round and the loop again
+pub again : (t u : Term) (s : World) → carried (repeat t u) s ≡ round (truth_of (carried t)) (carried u) (carried (repeat t u)) s
+again t u s =
+    let f = tested_falls (carried t) (never_rises t) in
+    let g = never_rises u in
+    round_same (truth_of (carried t)) (carried u) (rounds s.turns (truth_of (carried t)) (carried u)) (carried (repeat t u)) s f g
+    (λ v lt. enough s.turns (suc v.turns) (truth_of (carried t)) (carried u) v f g lt (omega arith))
+
+-- what is put in place where it has no fault
+put_falls : {A : Type 0} (put : A → World) (s : World) → ((a : A) → (put a).turns ≤ s.turns) → (r : Result A Fault) → ((give_or_fault r >>= (λ a. become (put a))) s).state.turns ≤ s.turns
+put_falls put s h (Ok a) = h a
+put_falls put s h (Err f) = omega arith
+
+-- what is defined, and what a reset does again
+pub template_falls : (template : List ℕ × List SlotShape) → Falls turns_left (template_defined template)
+template_falls template s = omega arith
+
+pub globals_fall : (gs : List GlobalTerm) → Falls turns_left (globals_defined gs)
+globals_fall gs s = put_falls (λ env. record s { env = env }) s (λ env. omega arith) (globals_after s.env gs)
+
+one_falls : (g : GlobalTerm) → Falls turns_left (one_evaluated g)
+one_falls g s = falls_then turns_left (give_or_fault (value_of g.1 s.env)) (global_bound g.0) (read_falls (value_of g.1 s.env)) (λ v u. omega arith) s
+
+pub anew_falls : (gs : List GlobalTerm) → Falls turns_left (all_evaluated gs)
+anew_falls [] s = omega arith
+anew_falls (g ∷ gs) s = falls_then turns_left (one_evaluated g) (λ _. all_evaluated gs) (one_falls g) (λ _. anew_falls gs) s
+
+pub facts_fall : (fs : List FactTerm) → Falls turns_left (all_asserted fs)
+facts_fall [] s = omega arith
+facts_fall (f ∷ fs) s = falls_then turns_left (carried (assert f.shape f.values)) (λ _. all_asserted fs) (never_rises (assert f.shape f.values)) (λ _. facts_fall fs) s
