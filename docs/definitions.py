@@ -7,7 +7,8 @@
 
 A definition has a row: its name, what it says, and its place. What it says is the sentence for it in docs/definitions.txt
 (lines `crate File name: sentence`); where it has none there, the comment before it in its file; else its type.
-What only the code needs stands in the module `Internal` of a crate, and has an index of its own.
+What only the code needs stands in the module `Internal` of a crate, and has an index of its own. What stands in `Lemmas` is no
+definition; --check also wants that no other crate names it, nor what stands in `proofs`.
 """
 import collections
 import re
@@ -58,7 +59,7 @@ def type_of(rest):
 def all_definitions():
     for folder in sorted((TOP / "crates").glob("*/specs")):
         for path in sorted(folder.glob("**/*.antt")):
-            if path.stem != "Lib":
+            if path.stem != "Lib" and path.relative_to(folder).with_suffix("").parts[0] != "Lemmas":
                 yield from read_file(folder.parent.name, path, str(path.relative_to(folder).with_suffix("")))
 
 
@@ -150,6 +151,15 @@ def named_twice():
     return sorted(name for name, count in counts.items() if count > 1)
 
 
+def lemmas_of_others():
+    """The files that name a lemma of another crate, each with the name."""
+    found = []
+    for path in sorted([*TOP.glob("crates/*/src/**/*.rt"), *TOP.glob("crates/*/specs/**/*.antt"), *TOP.glob("crates/*/proofs/**/*.antt")]):
+        names = re.findall(r"\b(cb_\w+)(?:\.|::)(proofs|specs(?:\.|::)Lemmas)\b", path.read_text(encoding="utf-8"))
+        found += [f"{path.relative_to(TOP)}: {crate}" for crate, _ in names if crate != path.relative_to(TOP).parts[1]]
+    return found
+
+
 def main():
     page = PAGE.read_text(encoding="utf-8")
     by_hand = with_line_counts(page.split(BEGIN)[0])
@@ -160,10 +170,12 @@ def main():
         print(f"the reading order should have this once: {file}")
     for name in named_twice():
         print(f"two definitions have this name: {name}")
+    for place in lemmas_of_others():
+        print(f"names a lemma of another crate: {place}")
     if sys.argv[1:] == ["--check"]:
         up_to_date = wanted == page and not misread(by_hand)
         print("docs/DEFINITIONS.md is up to date" if up_to_date else "docs/DEFINITIONS.md: run docs/definitions.py")
-        sys.exit(0 if up_to_date and not stale() and not named_twice() else 1)
+        sys.exit(0 if up_to_date and not stale() and not named_twice() and not lemmas_of_others() else 1)
     PAGE.write_text(wanted, encoding="utf-8")
 
 
