@@ -16,10 +16,11 @@ use Rattle.cb_facts.specs.Facts as fact
 use Rattle.cb_facts.specs.declared.single.Single.{Single}
 use Rattle.cb_facts.specs.declared.value.Value.{Value}
 use Rattle.cb_functions.specs.Comparison.{same}
-use Rattle.cb_fit.proofs.Givings.{given_more}
+use Rattle.cb_fit.proofs.Givings.{given_once, given_more}
 use Rattle.cb_fit.proofs.Segments.{then-some}
 use Rattle.cb_fit.proofs.WithoutVariables.{provided-if}
-use Rattle.cb_fit.specs.Bound.{GivenSoFar, binder, binders, binders_in, binders_in_parts, binders_of, given_all, given_one, newly_bound}
+use Rattle.cb_fit.specs.Bound.{binder, binders, binders_in, binders_in_parts, binders_of, newly_bound}
+use Rattle.cb_fit.specs.Internal.GivenValues.{GivenSoFar, given_all, given_one}
 use Rattle.cb_fit.specs.Related.{Fits, HoldInTurn, PartsFit, SlotsFit}
 use Rattle.cb_fit.specs.Ways.{segment_value}
 
@@ -147,7 +148,7 @@ parts-give (pattern.slots rows) (fact.slots ss) cuts before after h = slots-give
 bound-gives : (p : Parts) (before after : Bindings) → Step (binders_in_parts p) before after → with_variables (newly_bound p before after) before ≡ after
 bound-gives p before after h =
     let w = h.1 after [] (λ x v e. e) in
-    ap (λ g. with_variables g.bound before) w.1 ∙ w.2
+    ap (λ bound. with_variables bound before) (sym (given_once (binders_in_parts p) after (gave [] before))) ∙ ap (λ g. with_variables g.bound before) w.1 ∙ w.2
 
 pub all-given : (p : PatternValue) (f : FactValue) (cuts : List ℕ) (before after : Bindings) → Fits p f cuts before after → with_variables (newly_bound p.parts before after) before ≡ after
 all-given p f cuts before after h = bound-gives p.parts before after (parts-give p.parts f.content cuts before after h.1)

@@ -1,8 +1,9 @@
 -- The variables to which a way gives values.
-use Rattle.std.specs.Prelude.{ℕ, Bool, false, List, [], ◌∷◌, ◌++◌, Option, Some, None, flat_map}
+use Rattle.std.specs.Prelude.{ℕ, Bool, false, not, List, [], ◌∷◌, Option, Some, None, filter, flat_map}
+use Rattle.std.specs.Str.{bytes_eq}
 use Rattle.cb_constraints.specs.Constraints.{Test, variable, Check, Demand, nothing, each, either, Constraint}
 use Rattle.cb_constraints.specs.PatternValues.{Parts, fields, slots}
-use Rattle.cb_exprs.specs.Bindings.{Bindings, value_at, with_variable}
+use Rattle.cb_exprs.specs.Bindings.{Bindings, value_at}
 use Rattle.cb_facts.specs.declared.value.Value.{Value}
 
 -- the variable that a check without `~` may give a value
@@ -28,21 +29,19 @@ abbrev pub binders_in_parts : Parts → List (List ℕ)
 binders_in_parts (fields row) = binders_in row
 binders_in_parts (slots rows) = flat_map (λ s. binders_in s.row) rows
 
--- variables with the values that they were given, and what variables have with them
-pub record GivenSoFar : Type 0 where
-  pub bound : List (List ℕ × Value)
-  pub env : Bindings
+-- the names, each where it comes first
+abbrev pub each_once : List (List ℕ) → List (List ℕ)
+each_once [] = []
+each_once (x ∷ xs) = x ∷ filter (λ y. not (bytes_eq y x)) (each_once xs)
 
--- one more, if it has no value yet and has one after
-abbrev pub given_one : List ℕ → Option Value → Option Value → GivenSoFar → GivenSoFar
-given_one x None (Some v) g = record { bound = g.bound ++ (x, v) ∷ []; env = with_variable x v g.env }
-given_one x before after g = g
+abbrev pub given_if : List ℕ → Option Value → Option Value → List (List ℕ × Value)
+given_if x None (Some v) = (x, v) ∷ []
+given_if x old now = []
 
--- those of the variables that have no value yet and have one after, each once
-abbrev pub given_all : List (List ℕ) → Bindings → GivenSoFar → GivenSoFar
-given_all [] after g = g
-given_all (x ∷ xs) after g = given_all xs after (given_one x (value_at x g.env.variables) (value_at x after.variables) g)
+-- a variable with its value, if it has none before and one after
+abbrev pub given : Bindings → Bindings → List ℕ → List (List ℕ × Value)
+given before after x = given_if x (value_at x before.variables) (value_at x after.variables)
 
--- the variables of a pattern that have no value before and have one after, in the order in which they are written
+-- the variables of a pattern that have no value before and have one after, each once, in the order in which they are written
 abbrev pub newly_bound : Parts → Bindings → Bindings → List (List ℕ × Value)
-newly_bound parts before after = (given_all (binders_in_parts parts) after (record { bound = []; env = before })).bound
+newly_bound parts before after = flat_map (given before after) (each_once (binders_in_parts parts))

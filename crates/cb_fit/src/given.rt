@@ -2,8 +2,8 @@
 ghost use Rattle.std.specs.Prelude.{◌≡◌, ◌∷◌, [], IfOk, OnOk, flat_map, map};
 ghost use Rattle.cb_constraints.specs.Constraints.{check_of, constraint_of, demand_of};
 ghost use Rattle.cb_constraints.specs.PartValues.{asked_parts, asked_slot};
-ghost use Rattle.cb_fit.specs.Bound.{binders, binders_in, binders_in_parts, binders_of, given_all, newly_bound};
-ghost use Rattle.cb_fit.specs.Internal.GivenValues.{given_of};
+ghost use Rattle.cb_fit.specs.Bound.{binders, binders_in, binders_in_parts, binders_of, newly_bound};
+ghost use Rattle.cb_fit.specs.Internal.GivenValues.{given_all, given_of};
 
 use cb_constraints::{Check, Constraint, Demand, Parts, SlotRow, Test};
 use cb_exprs::Env;
@@ -19,6 +19,7 @@ struct Given {
 }
 
 /// The variables of a pattern that have no value before and have one after.
+#[tactic(auto, using(crate::proofs::Givings::given_once))]
 pub(crate) fn newly_bound(
     alloc: Global,
     parts: &Parts,

@@ -1,7 +1,7 @@
 use Rattle.std.proofs.Common.{◌≡◌, drop, map}
 use Rattle.cb_constraints.specs.Constraints.{check_of}
-use Rattle.cb_fit.specs.Bound.{binders_of, given_all}
-use Rattle.cb_fit.specs.Internal.GivenValues.{given_of}
+use Rattle.cb_fit.specs.Bound.{binders_of}
+use Rattle.cb_fit.specs.Internal.GivenValues.{given_all, given_of}
 use Rattle.cb_fit.proofs.given.give_checks.Given as goal
 
 abbrev pub invariant-loop-check : goal.invariant-loop-check

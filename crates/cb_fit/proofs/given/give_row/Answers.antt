@@ -2,8 +2,8 @@ use Rattle.std.proofs.Common.{◌≡◌, ◌∙◌, ◌+◌, ◌∷◌, ap, drop
 use Rattle.std.proofs.lemmas.List.{drop_more}
 use Rattle.cb_constraints.specs.Constraints.{constraint_of, demand_of}
 use Rattle.cb_fit.proofs.Givings.{given_more}
-use Rattle.cb_fit.specs.Bound.{binders, binders_in, given_all}
-use Rattle.cb_fit.specs.Internal.GivenValues.{given_of}
+use Rattle.cb_fit.specs.Bound.{binders, binders_in}
+use Rattle.cb_fit.specs.Internal.GivenValues.{given_all, given_of}
 use Rattle.cb_fit.proofs.given.give_row.Goals as goal
 
 pub loop-constraint-preserved : goal.loop-constraint-preserved

@@ -1,7 +1,7 @@
 use Rattle.std.proofs.Common.{◌≡◌, drop, map}
 use Rattle.cb_constraints.specs.Constraints.{constraint_of}
-use Rattle.cb_fit.specs.Bound.{binders_in, given_all}
-use Rattle.cb_fit.specs.Internal.GivenValues.{given_of}
+use Rattle.cb_fit.specs.Bound.{binders_in}
+use Rattle.cb_fit.specs.Internal.GivenValues.{given_all, given_of}
 use Rattle.cb_fit.proofs.given.give_row.Given as goal
 
 abbrev pub invariant-loop-constraint : goal.invariant-loop-constraint

@@ -3,8 +3,8 @@ use Rattle.std.proofs.lemmas.List.{drop_more}
 use Rattle.std.specs.List.{flat_map}
 use Rattle.cb_constraints.specs.PartValues.{asked_slot}
 use Rattle.cb_fit.proofs.Givings.{given_more}
-use Rattle.cb_fit.specs.Bound.{binders_in, given_all}
-use Rattle.cb_fit.specs.Internal.GivenValues.{given_of}
+use Rattle.cb_fit.specs.Bound.{binders_in}
+use Rattle.cb_fit.specs.Internal.GivenValues.{given_all, given_of}
 use Rattle.cb_fit.proofs.given.give_slots.Goals as goal
 
 pub loop-slot-preserved : goal.loop-slot-preserved

@@ -1,8 +1,8 @@
 use Rattle.std.proofs.Common.{◌≡◌, drop, map}
 use Rattle.std.specs.List.{flat_map}
 use Rattle.cb_constraints.specs.PartValues.{asked_slot}
-use Rattle.cb_fit.specs.Bound.{binders_in, given_all}
-use Rattle.cb_fit.specs.Internal.GivenValues.{given_of}
+use Rattle.cb_fit.specs.Bound.{binders_in}
+use Rattle.cb_fit.specs.Internal.GivenValues.{given_all, given_of}
 use Rattle.cb_fit.proofs.given.give_slots.Given as goal
 
 abbrev pub invariant-loop-slot : goal.invariant-loop-slot
