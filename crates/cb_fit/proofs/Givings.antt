@@ -1,5 +1,6 @@
 -- Variables that are given values one after another, and each once.
 use Rattle.std.proofs.Common.{◌≡◌, ◌∙◌, ◌++◌, ◌∷◌, [], List, ℕ, Bool, true, false, not, cond, filter, Option, Some, None, ap, refl, sym}
+use Rattle.std.proofs.lemmas.Bool.{false_from_ne_true}
 use Rattle.std.proofs.lemmas.List.{append-nil, append_assoc}
 use Rattle.std.specs.Cmp.Lexicographic.{bytes_decides}
 use Rattle.std.specs.List.{flat_map}
@@ -15,23 +16,26 @@ given_more [] ys after g = refl
 given_more (x ∷ xs) ys after g = given_more xs ys after (given_one x (value_at x g.env.variables) (value_at x after.variables) g)
 
 abbrev others : List ℕ → List (List ℕ) → List (List ℕ)
-others x ys = filter (λ y. not (bytes_eq y x)) ys
+others x ys = filter (λ y. not (bytes_eq x y)) ys
 
 -- where a name is among them no more, the others are given what they were given
-module _ (x : List ℕ) (now before : List ℕ → List (List ℕ × Value)) (none : now x ≡ []) (same : (y : List ℕ) → bytes_eq y x ≡ false → now y ≡ before y) where
-  one : (y : List ℕ) (ys : List (List ℕ)) (t : Bool) → bytes_eq y x ≡ t → flat_map now ys ≡ flat_map before (others x ys)
+module _ (x : List ℕ) (now before : List ℕ → List (List ℕ × Value)) (none : now x ≡ []) (same : (y : List ℕ) → bytes_eq x y ≡ false → now y ≡ before y) where
+  one : (y : List ℕ) (ys : List (List ℕ)) (t : Bool) → bytes_eq x y ≡ t → flat_map now ys ≡ flat_map before (others x ys)
       → now y ++ flat_map now ys ≡ flat_map before (cond (not t) (y ∷ others x ys) (others x ys))
-  one y ys true e more = ap (λ z. now z ++ flat_map now ys) ((bytes_decides y x).0 e) ∙ ap (λ vs. vs ++ flat_map now ys) none ∙ more
+  one y ys true e more = ap (λ z. now z ++ flat_map now ys) (sym ((bytes_decides x y).0 e)) ∙ ap (λ vs. vs ++ flat_map now ys) none ∙ more
   one y ys false e more = ap (λ vs. vs ++ flat_map now ys) (same y e) ∙ ap (λ vs. before y ++ vs) more
 
   without : (ys : List (List ℕ)) → flat_map now ys ≡ flat_map before (others x ys)
   without [] = refl
-  without (y ∷ ys) = one y ys (bytes_eq y x) refl (without ys)
+  without (y ∷ ys) = one y ys (bytes_eq x y) refl (without ys)
 
-given-now : (x : List ℕ) (v : Value) (env after : Bindings) (y : List ℕ) → bytes_eq y x ≡ false → given (with_variable x v env) after y ≡ given env after y
+apart_too : (x y : List ℕ) → bytes_eq x y ≡ false → bytes_eq y x ≡ false
+apart_too x y apart = false_from_ne_true (bytes_eq y x) (λ e. let yes : bytes_eq x y ≡ true = (bytes_decides x y).1 (sym ((bytes_decides y x).0 e)) in cc)
+
+given-now : (x : List ℕ) (v : Value) (env after : Bindings) (y : List ℕ) → bytes_eq x y ≡ false → given (with_variable x v env) after y ≡ given env after y
 given-now x v env after y apart =
     ap (λ o. given_if y o (value_at y after.variables))
-    (exprs_laws.ghosts.value_at_with_value env.variables y x v ∙ ap (λ t. cond t (Some v) (value_at y env.variables)) apart)
+    (exprs_laws.ghosts.value_at_with_value env.variables y x v ∙ ap (λ t. cond t (Some v) (value_at y env.variables)) (apart_too x y apart))
 
 given-set : (x : List ℕ) (v : Value) (env after : Bindings) → given (with_variable x v env) after x ≡ []
 given-set x v env after = ap (λ o. given_if x o (value_at x after.variables)) (exprs_laws.ghosts.value_at_set env.variables x v) ∙ settled (value_at x after.variables)

@@ -29,10 +29,10 @@ abbrev pub binders_in_parts : Parts → List (List ℕ)
 binders_in_parts (fields row) = binders_in row
 binders_in_parts (slots rows) = flat_map (λ s. binders_in s.row) rows
 
--- the names, each where it comes first
+-- these names, each once: of equal ones the first is kept
 abbrev pub each_once : List (List ℕ) → List (List ℕ)
 each_once [] = []
-each_once (x ∷ xs) = x ∷ filter (λ y. not (bytes_eq y x)) (each_once xs)
+each_once (x ∷ names) = x ∷ filter (λ y. not (bytes_eq x y)) (each_once names)
 
 abbrev pub given_if : List ℕ → Option Value → Option Value → List (List ℕ × Value)
 given_if x None (Some v) = (x, v) ∷ []

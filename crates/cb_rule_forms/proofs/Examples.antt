@@ -1,7 +1,7 @@
 -- Rules as they are written, and which rule each is or what is wrong with it.
 use Prim.Native.String.{String}
 use Rattle.std.proofs.Common.{◌≡◌, ◌++◌, ℕ, ℤ, pos, Bool, List, [], ◌∷◌, Option, Some, None, Result, Ok, map, codes, true, false, refl}
-use Rattle.cb_constraints.specs.Constraints.{Constraint, variable, each}
+use Rattle.cb_constraints.specs.Constraints.{variable, each}
 use Rattle.cb_constraints.specs.PatternValues.{PatternValue, fields}
 use Rattle.cb_templates.specs.FaultLists.{first_of, unless_faulty}
 use Rattle.cb_exprs.specs.Bindings.{Bindings}

@@ -1,8 +1,8 @@
 -- The relations that a rule names.
-use Rattle.std.specs.Prelude.{◌++◌, ℕ, not, List, [], ◌∷◌, filter, map}
+use Rattle.std.specs.Prelude.{◌++◌, ℕ, List, [], ◌∷◌, map}
 use Rattle.std.specs.List.{flat_map}
-use Rattle.std.specs.Str.{bytes_eq}
 use Rattle.cb_exprs.specs.Terms.{Term, constant, variable, global, call, assert, retract, bind, bind_global, choose, repeat, actions, printout, print, println, Terms, no_terms, term, terms}
+use Rattle.cb_fit.specs.Bound.{each_once}
 use Rattle.cb_rule_forms.specs.RuleValues.{Element, pattern}
 
 abbrev mutual
@@ -30,11 +30,6 @@ abbrev mutual
 -- the relation of an element's facts
 abbrev pub relation_of : Element → List ℕ
 relation_of (pattern x p) = p.relation
-
--- these names, each once: of equal ones the first is kept
-abbrev pub each_once : List (List ℕ) → List (List ℕ)
-each_once [] = []
-each_once (x ∷ names) = x ∷ filter (λ y. not (bytes_eq x y)) (each_once names)
 
 -- the relations that a rule with these branches and actions names: first those of its patterns, then those that it asserts
 abbrev pub relations_of : List (List Element) → List Term → List (List ℕ)

@@ -3,7 +3,7 @@ use Rattle.std.specs.Prelude.{ℕ, List, Option, Some, None, codes, is_some, opt
 use Rattle.std.specs.Option.{option_and_then}
 use Rattle.std.specs.Str.{bytes_eq}
 use Rattle.cb_expr_forms.specs.ExprFaults.{is_this_symbol}
-use Rattle.cb_forms.specs.Members.{call_of, head_and_rest, members}
+use Rattle.cb_forms.specs.Members.{call_of, head_and_rest}
 use Rattle.cb_forms.specs.Trees.{Trees, no_trees, tree}
 use Rattle.cb_templates.specs.Templates.{without_comment}
 
