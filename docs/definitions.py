@@ -2,7 +2,8 @@
 """Makes the index of docs/DEFINITIONS.md from the comments in crates/*/specs.
 
     docs/definitions.py            writes the index anew
-    docs/definitions.py --check    says whether the page is up to date, and no two definitions have one name; exit status 0
+    docs/definitions.py --check    says whether the page is up to date, and no two definitions have one name, nor a
+                                   definition and a constructor; exit status 0
                                    if so, else 1
 
 A definition has a row: its name, what it says, and its place. What it says is the sentence for it in docs/definitions.txt
@@ -145,10 +146,26 @@ def misread(by_hand):
     return sorted(file for file in files | set(order) if order.count(file) != (file in files))
 
 
+def constructors():
+    """The names of the constructors: the lines of a `data` block, which an empty line ends."""
+    names = set()
+    for path in sorted(TOP.glob("crates/*/specs/**/*.antt")):
+        in_data = False
+        for text in path.read_text(encoding="utf-8").split("\n"):
+            if re.match(r"\s*(?:pub +)?data ", text):
+                in_data = True
+            elif not text.strip():
+                in_data = False
+            elif in_data and (match := re.match(r"  +([^\s:({-]+) :", text)):
+                names.add(match.group(1))
+    return names
+
+
 def named_twice():
-    """The names that more than one definition has."""
+    """The names that more than one definition has, or a definition and a constructor."""
     counts = collections.Counter(d.name for d in all_definitions())
-    return sorted(name for name, count in counts.items() if count > 1)
+    of_data = constructors()
+    return sorted(name for name, count in counts.items() if count > 1 or name in of_data)
 
 
 def lemmas_of_others():

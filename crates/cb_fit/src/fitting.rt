@@ -3,7 +3,7 @@ ghost use Rattle.std.specs.Prelude.{◌≡◌, IfOk, map};
 ghost use Rattle.cb_constraints.specs.PartValues.{asked_parts, asked_slot};
 ghost use Rattle.cb_facts.specs.Facts.{content_of};
 ghost use Rattle.cb_fit.specs.Internal.Choices.{as_ways};
-ghost use Rattle.cb_fit.specs.Meters.{one_more};
+ghost use Rattle.cb_fit.specs.Meters.{one_test_more};
 ghost use Rattle.cb_fit.specs.WayValues.{way_of};
 ghost use Rattle.cb_fit.specs.Ways.{way_with, ways, ways_of_parts, ways_of_row, ways_of_slots};
 
@@ -41,7 +41,7 @@ pub fn fit<T>(
     meter: &mut Meter<T>,
 ) -> Result<Vec<Way>, NoMemory>
     ensures ways { IfOk result (λ all. map way_of all.items ≡ ways pattern.now fact.now env.now) }
-    ensures counted { meter.new ≡ one_more meter.old }
+    ensures counted { meter.new ≡ one_test_more meter.old }
 {
     let parts = pattern.open(meter);
     if !take_lengths(parts, fact.content()) {

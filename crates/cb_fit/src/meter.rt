@@ -1,6 +1,6 @@
 //! How often patterns were tested.
 ghost use Rattle.std.specs.Prelude.{◌≡◌};
-ghost use Rattle.cb_fit.specs.Meters.{one_more};
+ghost use Rattle.cb_fit.specs.Meters.{one_test_more};
 
 use std::marker::Model;
 
@@ -39,7 +39,7 @@ impl<T> Meter<T> {
 
     /// One test more.
     pub(crate) fn count(&mut self)
-        ensures { self.new ≡ one_more self.old }
+        ensures { self.new ≡ one_test_more self.old }
     {
         self.probes = self.probes.saturating_add(1);
     }

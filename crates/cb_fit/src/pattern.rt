@@ -1,7 +1,7 @@
 //! Patterns.
 ghost use Rattle.std.specs.Prelude.{◌≡◌};
 ghost use Rattle.cb_constraints.specs.PartValues.{asked_parts};
-ghost use Rattle.cb_fit.specs.Meters.{one_more};
+ghost use Rattle.cb_fit.specs.Meters.{one_test_more};
 
 use crate::meter::Meter;
 use cb_constraints::Parts;
@@ -57,7 +57,7 @@ impl<T> Pattern<T> {
     /// What it asks of a fact, for one test of the pattern: the meter goes up by one.
     pub(crate) fn open(&self, meter: &mut Meter<T>) -> &Parts
         ensures parts { asked_parts result.now ≡ self.now.parts }
-        ensures counted { meter.new ≡ one_more meter.old }
+        ensures counted { meter.new ≡ one_test_more meter.old }
     {
         meter.count();
         &self.parts

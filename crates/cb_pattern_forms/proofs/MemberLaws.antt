@@ -2,14 +2,14 @@
 use Rattle.std.proofs.Common.{◌≡◌, true, false, List, [], ◌∷◌, refl}
 use Rattle.cb_forms.specs.Trees.{Tree, atom, branch, Trees, tree}
 use Rattle.cb_forms.specs.declared.token.Token.TheVariants as token
-use Rattle.cb_pattern_forms.specs.Members.{Member, wildcard, both, one_of, check, missing, members_in, negated}
+use Rattle.cb_pattern_forms.specs.Members.{Member, wildcard, both, any_of, check, missing, members_in, negated}
 use Rattle.cb_pattern_forms.specs.Internal.{IsMark}
 
 negated_twice : (ms : List Member) → negated (negated ms) ≡ check true missing ∷ negated ms
 negated_twice [] = refl
 negated_twice (wildcard several ∷ ms) = refl
 negated_twice (both ∷ ms) = refl
-negated_twice (one_of ∷ ms) = refl
+negated_twice (any_of ∷ ms) = refl
 negated_twice (check false w ∷ ms) = refl
 negated_twice (check true w ∷ ms) = refl
 

@@ -9,9 +9,9 @@ use Rattle.cb_facts.specs.declared.refused.Refused.{Refused}
 use Rattle.cb_facts.specs.declared.refused.Refused.TheVariants as refused
 use Rattle.cb_forms.specs.declared.fault.Fault.{Fault}
 use Rattle.cb_forms.specs.declared.fault.Fault.TheVariants.{MalformedForm}
-use Rattle.cb_pattern_forms.specs.Members.{WrittenCheck, Member, wildcard, both, one_of, check}
+use Rattle.cb_pattern_forms.specs.Members.{WrittenCheck, Member, wildcard, both, any_of, check}
 use Rattle.cb_pattern_forms.specs.RowFaults.{begins_with_check, row_faults, written_faults}
-use Rattle.cb_pattern_forms.specs.Rows.{WrittenConstraint, wild, joined, check_in, constraint_in, demand_in, is_several, put_before, row_in, written_constraints}
+use Rattle.cb_pattern_forms.specs.Rows.{WrittenConstraint, wild, of_checks, check_in, constraint_in, demand_in, is_several, put_before, row_in, written_constraints}
 use Rattle.cb_pattern_forms.specs.Internal.{StartsWithConstraint, EndsConstraint, IsConnected, checks_faults, connective_of}
 use Rattle.cb_pattern_forms.specs.declared.row.Connective.{Connective}
 use Rattle.cb_pattern_forms.specs.declared.row.Connective.TheVariants as connective
@@ -26,24 +26,24 @@ or_assoc false b c = refl
 pub put_nothing : (rest : List WrittenConstraint) → put_before false [] [] rest ≡ rest
 put_nothing [] = refl
 put_nothing (wild several ∷ rest) = refl
-put_nothing (joined several [] ∷ rest) = refl
-put_nothing (joined several (cs ∷ others) ∷ rest) = refl
+put_nothing (of_checks several [] ∷ rest) = refl
+put_nothing (of_checks several (cs ∷ others) ∷ rest) = refl
 
 put_check : (a b : Bool) (alternatives : List (List Check)) (cs : List Check) (c : Check) (rest : List WrittenConstraint)
     → put_before a alternatives cs (put_before b [] (c ∷ []) rest) ≡ put_before (a || b) alternatives (cs ++ c ∷ []) rest
 put_check a b alternatives cs c [] = refl
 put_check a b alternatives cs c (wild several ∷ rest) = refl
-put_check a b alternatives cs c (joined several [] ∷ rest) = refl
-put_check a b alternatives cs c (joined several (ds ∷ others) ∷ rest) =
-    ap₂ (λ more es. joined more (alternatives ++ es ∷ others) ∷ rest) (or_assoc a b several) (sym (append_assoc cs (c ∷ []) ds))
+put_check a b alternatives cs c (of_checks several [] ∷ rest) = refl
+put_check a b alternatives cs c (of_checks several (ds ∷ others) ∷ rest) =
+    ap₂ (λ more es. of_checks more (alternatives ++ es ∷ others) ∷ rest) (or_assoc a b several) (sym (append_assoc cs (c ∷ []) ds))
 
 put_alternative : (a b : Bool) (alternatives : List (List Check)) (cs : List Check) (c : Check) (rest : List WrittenConstraint)
     → put_before a alternatives cs (put_before b ((c ∷ []) ∷ []) [] rest) ≡ put_before (a || b) (alternatives ++ (cs ++ c ∷ []) ∷ []) [] rest
 put_alternative a b alternatives cs c [] = refl
 put_alternative a b alternatives cs c (wild several ∷ rest) = refl
-put_alternative a b alternatives cs c (joined several [] ∷ rest) = refl
-put_alternative a b alternatives cs c (joined several (ds ∷ others) ∷ rest) =
-    ap₂ (λ more es. joined more es ∷ rest) (or_assoc a b several) (sym (append_assoc alternatives ((cs ++ c ∷ []) ∷ []) (ds ∷ others)))
+put_alternative a b alternatives cs c (of_checks several [] ∷ rest) = refl
+put_alternative a b alternatives cs c (of_checks several (ds ∷ others) ∷ rest) =
+    ap₂ (λ more es. of_checks more es ∷ rest) (or_assoc a b several) (sym (append_assoc alternatives ((cs ++ c ∷ []) ∷ []) (ds ∷ others)))
 
 -- a check and a connective
 pub written_on : (t : Templates) (k : Connective) (several more : Bool) (alternatives alternatives' : List (List Check)) (cs grown cs' : List Check) (n : Bool) (w : WrittenCheck) (ms : List Member)
@@ -62,18 +62,18 @@ pub faults_on : (s : Scope) (k : Connective) (n : Bool) (w : WrittenCheck) (ms :
 faults_on s connective.Both n w ms none = ap (λ fs. fs ++ checks_faults s ms) none
 faults_on s connective.OneOf n w ms none = ap (λ fs. fs ++ checks_faults s ms) none
 
-check_alone : (t : Templates) (n : Bool) (w : WrittenCheck) (ms : List Member) → EndsConstraint ms → written_constraints t (check n w ∷ ms) ≡ joined (is_several w) ((check_in t n w ∷ []) ∷ []) ∷ written_constraints t ms
+check_alone : (t : Templates) (n : Bool) (w : WrittenCheck) (ms : List Member) → EndsConstraint ms → written_constraints t (check n w ∷ ms) ≡ of_checks (is_several w) ((check_in t n w ∷ []) ∷ []) ∷ written_constraints t ms
 check_alone t n w [] ends = refl
 check_alone t n w (wildcard several ∷ ms) ends = refl
 check_alone t n w (both ∷ ms) ends = absurd ends
-check_alone t n w (one_of ∷ ms) ends = absurd ends
+check_alone t n w (any_of ∷ ms) ends = absurd ends
 check_alone t n w (check m v ∷ ms) ends = refl
 
 faults_alone : (s : Scope) (ms : List Member) → EndsConstraint ms → row_faults s true ms ≡ row_faults s false ms
 faults_alone s [] ends = refl
 faults_alone s (wildcard several ∷ ms) ends = refl
 faults_alone s (both ∷ ms) ends = absurd ends
-faults_alone s (one_of ∷ ms) ends = absurd ends
+faults_alone s (any_of ∷ ms) ends = absurd ends
 faults_alone s (check m v ∷ ms) ends = refl
 
 -- the last check of a constraint
@@ -106,7 +106,7 @@ IsNoWildcard m = Unit {0}
 pub same_fault : (s : Scope) (m : Member) (ms : List Member) → IsNoWildcard m → first_of (checks_faults s (m ∷ ms)) ≡ first_of (row_faults s false (m ∷ ms))
 same_fault s (wildcard several) ms h = absurd h
 same_fault s both ms h = refl
-same_fault s one_of ms h = refl
+same_fault s any_of ms h = refl
 same_fault s (check n w) ms h = refl
 
 -- no first fault, no fault

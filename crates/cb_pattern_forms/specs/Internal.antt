@@ -9,7 +9,7 @@ use Rattle.cb_forms.specs.Trees.{Tree, atom, tree_of}
 use Rattle.cb_forms.specs.declared.fault.Fault.{Fault}
 use Rattle.cb_forms.specs.declared.fault.Fault.TheVariants.{MalformedForm}
 use Rattle.cb_forms.specs.declared.token.Token.TheVariants as token
-use Rattle.cb_pattern_forms.specs.Members.{WrittenCheck, single, predicate, return_value, stray, missing, Member, wildcard, both, one_of, check}
+use Rattle.cb_pattern_forms.specs.Members.{WrittenCheck, single, predicate, return_value, stray, missing, Member, wildcard, both, any_of, check}
 use Rattle.cb_pattern_forms.specs.RowFaults.{begins_with_check, row_faults}
 use Rattle.cb_pattern_forms.specs.Rows.{row_in}
 use Rattle.cb_pattern_forms.specs.declared.member.Member as program_member
@@ -31,18 +31,18 @@ written_of written.Missing = missing
 abbrev pub member_of : program_member.Member → Member
 member_of (member.Wildcard several) = wildcard several
 member_of member.Both = both
-member_of member.OneOf = one_of
+member_of member.OneOf = any_of
 member_of (member.Check negated w) = check negated (written_of w)
 
 -- a connective
 abbrev pub connective_of : Connective → Member
 connective_of connective.Both = both
-connective_of connective.OneOf = one_of
+connective_of connective.OneOf = any_of
 
 -- no connective comes first
 abbrev pub EndsConstraint : List Member → Type 0
 EndsConstraint (both ∷ ms) = ⊥
-EndsConstraint (one_of ∷ ms) = ⊥
+EndsConstraint (any_of ∷ ms) = ⊥
 EndsConstraint ms = Unit {0}
 
 abbrev pub checks_of : Vec program.Check Global → List Check

@@ -18,7 +18,7 @@ pub data WrittenCheck : Type 0 where
 pub data Member : Type 0 where
   wildcard : Bool → Member
   both : Member
-  one_of : Member
+  any_of : Member
   check : Bool → WrittenCheck → Member
 
 -- `~` before these members: the check that comes first is negated, if it has no `~` itself, and else a check is missing
@@ -40,6 +40,6 @@ members_in (tree (atom (token.Symbol name)) (tree (branch us) ts)) = with_list n
 members_in (tree (atom token.Any) ts) = wildcard false ∷ members_in ts
 members_in (tree (atom token.MultiAny) ts) = wildcard true ∷ members_in ts
 members_in (tree (atom token.And) ts) = both ∷ members_in ts
-members_in (tree (atom token.Or) ts) = one_of ∷ members_in ts
+members_in (tree (atom token.Or) ts) = any_of ∷ members_in ts
 members_in (tree (atom token.Not) ts) = negated (members_in ts)
 members_in (tree (atom t) ts) = check false (single t) ∷ members_in ts

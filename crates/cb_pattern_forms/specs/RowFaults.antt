@@ -7,7 +7,7 @@ use Rattle.cb_forms.specs.declared.fault.Fault.{Fault}
 use Rattle.cb_forms.specs.declared.fault.Fault.TheVariants.{MalformedForm, FactDoesNotFit, NotOnLeftSide}
 use Rattle.cb_forms.specs.declared.token.Token.{Token}
 use Rattle.cb_forms.specs.declared.token.Token.TheVariants as token
-use Rattle.cb_pattern_forms.specs.Members.{WrittenCheck, single, predicate, return_value, stray, missing, Member, wildcard, both, one_of, check}
+use Rattle.cb_pattern_forms.specs.Members.{WrittenCheck, single, predicate, return_value, stray, missing, Member, wildcard, both, any_of, check}
 
 -- A constant and a variable may stand alone, a global may not. A wildcard and a connective are no checks.
 abbrev pub single_faults : Token → List Fault
@@ -39,7 +39,7 @@ begins_with_check (m ∷ ms) = is_check m
 abbrev pub member_faults : Scope → Bool → Member → List Member → List Fault
 member_faults s after (wildcard several) ms = []
 member_faults s after both ms = unless (after && begins_with_check ms) MalformedForm
-member_faults s after one_of ms = unless (after && begins_with_check ms) MalformedForm
+member_faults s after any_of ms = unless (after && begins_with_check ms) MalformedForm
 member_faults s after (check negated w) ms = written_faults s w
 
 -- what is wrong with members, which come just after a check or don't

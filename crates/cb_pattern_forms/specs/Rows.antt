@@ -5,7 +5,7 @@ use Rattle.cb_expr_forms.specs.ExprForms.{expr_of}
 use Rattle.cb_facts.specs.declared.value.Value.TheVariants as value
 use Rattle.cb_forms.specs.declared.token.Token.{Token}
 use Rattle.cb_forms.specs.declared.token.Token.TheVariants as token
-use Rattle.cb_pattern_forms.specs.Members.{WrittenCheck, Member, wildcard, both, one_of, check}
+use Rattle.cb_pattern_forms.specs.Members.{WrittenCheck, Member, wildcard, both, any_of, check}
 use Rattle.cb_pattern_forms.specs.Members as written
 use Rattle.cb_templates.specs.Templates.{Templates}
 
@@ -39,11 +39,11 @@ is_several w = false
 -- a constraint: a wildcard, or alternatives joined by `|`, each of checks joined by `&`; and whether it takes a segment
 pub data WrittenConstraint : Type 0 where
   wild : Bool → WrittenConstraint
-  joined : Bool → List (List Check) → WrittenConstraint
+  of_checks : Bool → List (List Check) → WrittenConstraint
 
 -- alternatives, and checks of one more, in front of the first constraint: the checks come to those of its first alternative
 abbrev pub put_before : Bool → List (List Check) → List Check → List WrittenConstraint → List WrittenConstraint
-put_before several alternatives checks (joined more (cs ∷ others) ∷ rest) = joined (several || more) (alternatives ++ (checks ++ cs) ∷ others) ∷ rest
+put_before several alternatives checks (of_checks more (cs ∷ others) ∷ rest) = of_checks (several || more) (alternatives ++ (checks ++ cs) ∷ others) ∷ rest
 put_before several alternatives checks rest = rest
 
 -- the constraints that members are
@@ -51,8 +51,8 @@ abbrev pub written_constraints : Templates → List Member → List WrittenConst
 written_constraints templates [] = []
 written_constraints templates (wildcard several ∷ ms) = wild several ∷ written_constraints templates ms
 written_constraints templates (check negated w ∷ both ∷ ms) = put_before (is_several w) [] (check_in templates negated w ∷ []) (written_constraints templates ms)
-written_constraints templates (check negated w ∷ one_of ∷ ms) = put_before (is_several w) ((check_in templates negated w ∷ []) ∷ []) [] (written_constraints templates ms)
-written_constraints templates (check negated w ∷ ms) = joined (is_several w) ((check_in templates negated w ∷ []) ∷ []) ∷ written_constraints templates ms
+written_constraints templates (check negated w ∷ any_of ∷ ms) = put_before (is_several w) ((check_in templates negated w ∷ []) ∷ []) [] (written_constraints templates ms)
+written_constraints templates (check negated w ∷ ms) = of_checks (is_several w) ((check_in templates negated w ∷ []) ∷ []) ∷ written_constraints templates ms
 written_constraints templates (m ∷ ms) = written_constraints templates ms
 
 -- the variable that a check is, in either form and without `~`
@@ -77,7 +77,7 @@ demand_in [] = nothing
 
 abbrev pub constraint_in : WrittenConstraint → Constraint
 constraint_in (wild several) = record { segment = several; demand = nothing }
-constraint_in (joined several alternatives) = record { segment = several; demand = demand_in alternatives }
+constraint_in (of_checks several alternatives) = record { segment = several; demand = demand_in alternatives }
 
 -- the constraints of a row
 abbrev pub row_in : Templates → List Member → List Constraint

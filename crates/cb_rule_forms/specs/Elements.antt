@@ -19,7 +19,7 @@ use Rattle.cb_templates.specs.Templates.{Templates}
 -- an element as it is written: a form, or `?name <-` and the form after it, if one follows
 pub data WrittenElement : Type 0 where
   alone : Tree → WrittenElement
-  addressed : List ℕ → Option Tree → WrittenElement
+  with_address : List ℕ → Option Tree → WrittenElement
 
 -- the variable that a form is
 abbrev pub variable_of : Tree → Option (List ℕ)
@@ -47,8 +47,8 @@ abbrev mutual
 
   -- what follows `?name <-`
   pub written_after : List ℕ → Trees → List WrittenElement
-  written_after name no_trees = addressed name None ∷ []
-  written_after name (tree t ts) = addressed name (Some t) ∷ written_in ts
+  written_after name no_trees = with_address name None ∷ []
+  written_after name (tree t ts) = with_address name (Some t) ∷ written_in ts
 
 -- what is wrong with a list that begins with a word kept for other elements; `declare` is kept, but names none
 abbrev pub word_fault : List ℕ → Fault
@@ -69,8 +69,8 @@ addressed_faults s (Some (word, ts)) = called_pattern_faults s NotInProfile word
 -- what is wrong with an element
 abbrev pub element_faults : Scope → WrittenElement → List Fault
 element_faults s (alone t) = alone_faults s (call_of t)
-element_faults s (addressed name None) = NotInProfile ∷ []
-element_faults s (addressed name (Some t)) = addressed_faults s (call_of t)
+element_faults s (with_address name None) = NotInProfile ∷ []
+element_faults s (with_address name (Some t)) = addressed_faults s (call_of t)
 
 abbrev pub elements_faults : Scope → List WrittenElement → List Fault
 elements_faults s [] = []
@@ -84,8 +84,8 @@ pattern_at templates (Some (word, ts)) = pattern_of templates word ts
 -- which element it is; where it has a fault, an arbitrary one
 abbrev pub element_of : Templates → WrittenElement → Element
 element_of templates (alone t) = pattern None (pattern_at templates (call_of t))
-element_of templates (addressed name None) = pattern (Some name) (pattern_at templates None)
-element_of templates (addressed name (Some t)) = pattern (Some name) (pattern_at templates (call_of t))
+element_of templates (with_address name None) = pattern (Some name) (pattern_at templates None)
+element_of templates (with_address name (Some t)) = pattern (Some name) (pattern_at templates (call_of t))
 
 abbrev pub elements_of : Templates → List WrittenElement → List Element
 elements_of templates [] = []

@@ -5,7 +5,7 @@ use Rattle.std.specs.Option.{option_map}
 use Rattle.cb_constraints.specs.PartValues.{asked_parts}
 use Rattle.cb_facts.specs.declared.refused.Refused.{Refused}
 use Rattle.cb_forms.specs.Trees.{tree_of}
-use Rattle.cb_rule_forms.specs.Elements.{WrittenElement, alone, addressed}
+use Rattle.cb_rule_forms.specs.Elements.{WrittenElement, alone, with_address}
 use Rattle.cb_rule_forms.specs.Mentions.{Mention, known_after, mention_faults, with_name}
 use Rattle.cb_rule_forms.specs.RuleValues.{Element, pattern}
 use Rattle.cb_rule_forms.specs.declared.element.ElementForm.{ElementForm}
@@ -20,7 +20,7 @@ form_value e = pattern e.address (record { relation = e.relation; parts = asked_
 -- what is read next is written so
 abbrev pub written_seen : Next → WrittenElement
 written_seen (next.Alone t) = alone (tree_of t.now)
-written_seen (next.Addressed name t) = addressed name.now (option_map (λ f. tree_of f.now) t)
+written_seen (next.Addressed name t) = with_address name.now (option_map (λ f. tree_of f.now) t)
 
 -- Of the variables that had a value the call makes those that have one after these mentions, or it returns the first fault.
 abbrev pub Knows : List (List ℕ) → List Mention → List (List ℕ) → Result (Unit {0}) Refused → Type 0

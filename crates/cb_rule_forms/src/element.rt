@@ -4,7 +4,7 @@ ghost use Rattle.cb_templates.specs.FaultLists.{ReadsAs};
 ghost use Rattle.cb_forms.specs.Members.{call_of, members};
 ghost use Rattle.cb_forms.specs.Trees.{tree_of};
 ghost use Rattle.cb_pattern_forms.specs.Patterns.{pattern_of, pattern_value};
-ghost use Rattle.cb_rule_forms.specs.Elements.{address_of, addressed, alone, called_pattern_faults, element_faults, element_of, elements_faults, elements_of, word_fault, written_in};
+ghost use Rattle.cb_rule_forms.specs.Elements.{address_of, with_address, alone, called_pattern_faults, element_faults, element_of, elements_faults, elements_of, word_fault, written_in};
 ghost use Rattle.cb_rule_forms.specs.Internal.{form_value, written_seen};
 
 use cb_constraints::Parts as PatternParts;
@@ -121,8 +121,8 @@ fn read_addressed(
     form: &Form,
 ) -> Result<ElementForm, Refused>
     ensures { ReadsAs form_value result
-        (element_faults scope.now (addressed name.now (Some (tree_of form.now))))
-        (element_of scope.now.templates (addressed name.now (Some (tree_of form.now)))) }
+        (element_faults scope.now (with_address name.now (Some (tree_of form.now))))
+        (element_of scope.now.templates (with_address name.now (Some (tree_of form.now)))) }
 {
     let Some((word, forms)) = form.call() else {
         return Err(Refused::Fault(Fault::NotInProfile));

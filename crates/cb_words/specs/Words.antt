@@ -21,8 +21,8 @@ constructs =
     (codes "defglobal", head.Construct construct.Defglobal) ∷ []
 
 -- functions with an effect
-abbrev pub actions : Rows
-actions =
+abbrev pub action_words : Rows
+action_words =
     (codes "assert", head.Action action.Assert) ∷
     (codes "retract", head.Action action.Retract) ∷
     (codes "bind", head.Action action.Bind) ∷
@@ -104,7 +104,7 @@ refused_words =
 
 -- every word
 abbrev pub words : Rows
-words = constructs ++ (actions ++ (commands ++ (functions ++ map (λ word. (word, head.Refused)) (planned_words ++ refused_words))))
+words = constructs ++ (action_words ++ (commands ++ (functions ++ map (λ word. (word, head.Refused)) (planned_words ++ refused_words))))
 
 -- what the word names as the head of a list, if it names anything
 unfoldable pub head_of : List ℕ → Option Head
