@@ -3,8 +3,7 @@
 
     docs/definitions.py            writes the index anew
     docs/definitions.py --check    says whether the page is up to date, and no two definitions have one name, nor a
-                                   definition and a constructor; exit status 0
-                                   if so, else 1
+                                   definition and a constructor; exit status 0 if so, else 1
 
 A definition has a row: its name, what it says, and its place. What it says is the sentence for it in docs/definitions.txt
 (lines `crate File name: sentence`); where it has none there, the comment before it in its file; else its type.
