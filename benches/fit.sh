@@ -1,9 +1,9 @@
 #!/bin/sh
 # Measures how the time of one test of a pattern against a fact grows with the number of the fact's fields: for constraints for
 # one field each, for one segment, for two segments with a constant between, where the number of fields can't fit, which is seen
-# without looking at them, and for as many variables, to which the test or an earlier pattern gives their values. It counts what
-# a test allocates where the pattern fits in no way, which must be nothing, and compares the peak memory of two tests in which
-# many beginnings of ways come to nothing.
+# without looking at them, and for as many variables, to which the test or an earlier pattern gives their values. It compares
+# tests of small patterns with one another, counts what a test allocates where the pattern fits in no way, which must be nothing,
+# and compares the peak memory of two tests in which many beginnings of ways come to nothing.
 # Run it from anywhere, with GNU time as /usr/bin/time, a C compiler and the GNU C library:
 #
 #     benches/fit.sh
@@ -62,6 +62,23 @@ test_time() {
     script "$1" "$2" 0 >"$place/script"
     without=$(seconds)
     echo "$with $without $3" | awk '{ print 1000000 * ($1 - $2) / $3 }'
+}
+
+# The same of 1,000,000 tests of the pattern $1 against the fact $2.
+small_time() {
+    echo "(defrule r $1 =>)(again 1000000 $2)" >"$place/script"
+    with=$(seconds)
+    echo "(defrule r $1 =>)(again 0 $2)" >"$place/script"
+    without=$(seconds)
+    echo "$with $without" | awk '{ print $1 - $2 }'
+}
+
+# How many times the time a test of the pattern $2 against the fact $3 takes of one of $4 against $5, as $1 says. It may be $6.
+pair() {
+    echo "$(small_time "$2" "$3") $(small_time "$4" "$5")" | awk -v what="$1" -v most="$6" '{
+        printf "%-42s %.1f times the time (wanted: at most %s)\n", what ":", $1 / $2, most
+        exit $1 > most * $2
+    }' || missed=1
 }
 
 # How many times the time of a test for the pattern of kind $1, which $2 says, grows from each number of fields in $3 to the
@@ -143,7 +160,7 @@ a constant that occurs nowhere	(p $?x a $?y)	(p 1 2 3)
 a constant that occurs once, and a predicate	(p $?x a ?y&:(> ?y 2) $?z)	(p 1 a 2 3)
 a constant that occurs once, and a variable	(p $?x a $?x)	(p 1 a 2)
 two constants, of which one occurs	(p $?x a $?y b $?z)	(p 1 a 2)
-eight variables	(p ?a ?b ?c ?d ?e ?f ?g ?h ?h)	(p 1 2 3 4 5 6 7 8 9)
+nine variables	(p ?a ?b ?c ?d ?e ?f ?g ?h ?i ?i)	(p 1 2 3 4 5 6 7 8 9 0)
 two segments, each with many ends	(p $?x a $?y b $?z c)	(p a a a a a a b b b b)
 four segments, three with many ends	(p $?x a $?y b $?z c $?)	(p a a a a a a b b b b)
 a variable that may stand anywhere, twice	(p $? ?x $? ?x $?)	(p 1 2 3 4 5 6 7 8 9)
@@ -153,6 +170,7 @@ nine segments, of which eight have many ends	(p $? a $? b $? c $? d $? e $? f $?
 END
     printf 'a hundred constraints, with two segments\t(p%s $?x b%s ?y&:(> ?y 5) $?z)\t(p%s b%s 1 2)\n' \
         "$(words 50 a)" "$(words 50 c)" "$(words 50 a)" "$(words 50 c)"
+    printf 'eighty variables, of which one comes twice\t(p%s ?v1)\t(p%s b)\n' "$(variables 80)" "$(words 80 a)"
 }
 
 # The peak memory of a test in which each of three segments has as many ends as the fact has fields, and no way comes of it.
@@ -180,8 +198,11 @@ row constraints 'as many constraints as fields' '1 10 100 1000' 12000000 'by fie
 row segment 'one segment' '1 10 100 1000' 700000 'for all' 2
 row between 'two segments with a constant between' '1 10 100 1000' 4000000 'by fields' 15
 row length 'a pattern of two fields' '1 10 100 1000' 10000000 'for all' 2
-row variables 'as many variables as fields' '8 80 800' 4000000 'by fields' 30
+row variables 'as many variables as fields' '8 80 800' 4000000 'by fields' 20
 row bound 'as many, with values from another pattern' '8 80 800' 4000000 'by fields' 30
+pair 'one segment against one variable' '(p $?x)' '(p a)' '(p ?x)' '(p a)' 4
+pair 'two segments against one' '(p $?x a $?y)' '(p 1 a 2)' '(p $?x)' '(p 1 a 2)' 5
+pair 'nine variables against eight' "(p$(variables 9))" "(p$(words 9 a))" "(p$(variables 8))" "(p$(words 8 a))" 1.5
 few=$(peak 10)
 many=$(peak 150)
 echo "$few $many" | awk '{

@@ -1,5 +1,5 @@
 -- When a constraint holds of a value, and what variables have then.
-use Rattle.std.specs.Prelude.{◌≡◌, ℕ, Bool, true, false, not, List, [], ◌∷◌, Option, Some, None, Result, Ok, Err, if◌then◌else◌}
+use Rattle.std.specs.Prelude.{◌≡◌, ◌+◌, ℕ, Bool, IfSome, length, true, false, not, List, [], ◌∷◌, Option, Some, None, Result, Ok, Err, if◌then◌else◌}
 use Rattle.std.specs.List.{list_all, list_any}
 use Rattle.std.specs.Option.{option_and_then, option_map_or}
 use Rattle.cb_constraints.specs.Constraints.{Test, constant, variable, predicate, return_value, Check, Demand, nothing, each, either}
@@ -97,3 +97,26 @@ may_hold (either first alternatives) v = list_any (constants_hold v) alternative
 abbrev pub Meets : Bool → Bindings → Option Bindings → Type 0
 Meets true env after = after ≡ Some env
 Meets false env after = after ≡ None
+
+-- before each check variables have what the checks before it leave, from the one with this number on
+abbrev pub FollowFrom : (ℕ → Bindings) → ℕ → List Check → Value → Type 0
+FollowFrom before n [] v = Unit {0}
+FollowFrom before n (c ∷ cs) v = IfSome (after_check c v (before n)) (λ grown. before (n + 1) ≡ grown) × FollowFrom before (n + 1) cs v
+
+-- the same of all checks of a constraint; a variable that is set apart is like one
+abbrev pub Follows : (ℕ → Bindings) → Demand → Value → Type 0
+Follows before nothing v = Unit {0}
+Follows before (each cs) v = FollowFrom before 0 cs v
+Follows before (either None alternatives) v = Unit {0}
+Follows before (either (Some x) alternatives) v = IfSome (after_variable x v (before 0)) (λ grown. before 1 ≡ grown)
+
+-- how many checks of a constraint may give a variable a value: those joined by `&`, or the variable that is set apart
+abbrev pub checks_in : Demand → ℕ
+checks_in nothing = 0
+checks_in (each cs) = length cs
+checks_in (either None alternatives) = 0
+checks_in (either (Some x) alternatives) = 1
+
+-- a call returned whether a constraint holds, and where it does these are the bindings after its checks
+abbrev pub MeetsIn : Bool → (ℕ → Bindings) → Demand → Value → Type 0
+MeetsIn holds before d v = Meets holds (before (checks_in d)) (after_demand d v (before 0))

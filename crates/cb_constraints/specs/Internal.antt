@@ -1,9 +1,14 @@
 -- What only the code needs: which constants stand among checks.
 pub mod Codes
-use Rattle.std.specs.Prelude.{Bool, List}
+pub mod Tables
+use Rattle.std.specs.Prelude.{◌≡◌, Bool, List}
 use Rattle.std.specs.List.{list_all}
+use Rattle.cb_constraints.specs.Binders.{constraints_in, places, sites_in}
 use Rattle.cb_constraints.specs.Constraints.{Check}
 use Rattle.cb_constraints.specs.Holding.{is_constant}
+use Rattle.cb_constraints.specs.Internal.Tables.{IsNamed, first_places}
+use Rattle.cb_constraints.specs.PatternValues.{Parts}
+use Rattle.cb_constraints.specs.declared.table.Table.{Table}
 
 -- all checks are for constants
 abbrev pub is_of_constants : List Check → Bool
@@ -12,3 +17,7 @@ is_of_constants cs = list_all (λ c. is_constant c.test) cs
 -- all checks of all alternatives are
 abbrev pub are_of_constants : List (List Check) → Bool
 are_of_constants alternatives = list_all is_of_constants alternatives
+
+-- the table has the variables of a pattern, each once with its first place, and the sites of its constraints
+abbrev pub HasTable : Table → Parts → Type 0
+HasTable t parts = IsNamed t × (t.variables.items ≡ first_places (places 0 (constraints_in parts))) × (t.sites.items ≡ sites_in parts)

@@ -1,9 +1,10 @@
 -- Lemmas under the laws that other crates cite; no contract names what is here. A constraint that holds may hold.
-use Rattle.std.proofs.Common.{◌≡◌, ◌∙◌, ◌&&◌, ◌||◌, Bool, true, false, List, [], ◌∷◌, Option, None, Some, ap, refl, sym}
+pub mod FollowLaws
+use Rattle.std.proofs.Common.{◌≡◌, ◌∙◌, ◌&&◌, ◌||◌, ℕ, IfSome, is_some, Bool, true, false, List, [], ◌∷◌, Option, None, Some, ap, refl, subst, sym}
 use Rattle.std.specs.List.{list_all, list_any}
 use Rattle.std.specs.Option.{option_and_then}
 use Rattle.cb_constraints.specs.Constraints.{Test, constant, variable, predicate, return_value, Check, Demand, nothing, each, either}
-use Rattle.cb_constraints.specs.Holding.{after_check, after_checks, after_demand, after_test, check_holds, constant_holds, constants_hold, is_constant, may_hold, one_holds, opposite_if, provided, after_variable, test_holds}
+use Rattle.cb_constraints.specs.Holding.{Meets, after_check, after_checks, after_demand, after_test, check_holds, constant_holds, constants_hold, is_constant, may_hold, one_holds, opposite_if, provided, after_variable, test_holds}
 use Rattle.cb_constraints.specs.Internal.{are_of_constants, is_of_constants}
 use Rattle.cb_exprs.specs.Bindings.{Bindings}
 use Rattle.cb_facts.specs.declared.value.Value.{Value}
@@ -109,3 +110,20 @@ constants_decide [] v env e = refl
 constants_decide (cs ∷ more) v env e =
     let w = both-true (is_of_constants cs) (are_of_constants more) e in
     ap (λ t. t || one_holds more v env) (checks-decide cs v env w.0) ∙ ap (λ t. constants_hold v cs || t) (constants_decide more v env w.1)
+
+-- a variable set apart agrees, and then an alternative has to hold
+pub set_apart_meets : (x : List ℕ) (alternatives : List (List Check)) (v : Value) (before : ℕ → Bindings) (holds : Bool)
+    → is_some (after_variable x v (before 0)) ≡ true → IfSome (after_variable x v (before 0)) (λ grown. before 1 ≡ grown) → holds ≡ one_holds alternatives v (before 1)
+    → Meets holds (before 1) (after_demand (either (Some x) alternatives) v (before 0))
+set_apart_meets x alternatives v before holds some follows is = by (after_variable x v (before 0)) some follows
+  where
+    given : (b : Bool) → Meets b (before 1) (provided b (before 1))
+    given true = refl
+    given false = refl
+
+    by : (o : Option Bindings) → is_some o ≡ true → IfSome o (λ grown. before 1 ≡ grown)
+        → Meets holds (before 1) (option_and_then (λ grown. provided (one_holds alternatives v grown) grown) o)
+    by None e f = let never : false ≡ true = e in cc
+    by (Some grown) e f =
+        subst (λ g. Meets holds (before 1) (provided (one_holds alternatives v g) g)) f
+        (subst (λ b. Meets holds (before 1) (provided b (before 1))) is (given holds))

@@ -1,149 +1,184 @@
 //! Whether a constraint holds of a value.
-ghost use Rattle.std.specs.Prelude.{◌≡◌, IfOk, map, true};
+ghost use Rattle.std.specs.Prelude.{◌≡◌, IfOk, IfSome, Some, is_some, length, map, true};
 ghost use Rattle.std.specs.List.{list_all, list_any};
-ghost use Rattle.cb_constraints.specs.Constraints.{check_of, demand_of, asked_test};
-ghost use Rattle.cb_constraints.specs.Holding.{Meets, after_check, after_checks, after_demand, check_holds, constant_holds, constants_hold, is_constant, may_hold, one_holds, after_variable, test_holds, tested_value, value_if_any};
+ghost use Rattle.cb_constraints.specs.Constraints.{asked_test, check_of, demand_of, either};
+ghost use Rattle.cb_constraints.specs.Holding.{FollowFrom, Follows, Meets, MeetsIn, after_check, after_checks, after_demand, after_variable, check_holds, constant_holds, constants_hold, is_constant, may_hold, one_holds, test_holds, tested_value, value_if_any};
 ghost use Rattle.cb_constraints.specs.Internal.{are_of_constants, is_of_constants};
 ghost use Rattle.cb_eval.specs.Evaluation.{value_of};
 ghost use Rattle.cb_exprs.specs.Terms.{term_of};
 
+use crate::bound::{AtCheck, Bound};
 use crate::constraint::{Check, Demand, Test};
 use crate::tested::Tested;
 use cb_eval::eval;
-use cb_exprs::{Env, Expr};
+use cb_exprs::Expr;
 use cb_facts::{Name, Refused, Value};
 use cb_forms::NoMemory;
 use cb_functions::{Constants, is_true};
 use std::alloc::Global;
 
 /// Whether a constraint holds of the value in its place, where variables have these values (`docs/LANGUAGE.md`, "Patterns").
-/// Where it holds, variables that had no value may have taken this one; where it doesn't, they may be any.
 ///
-/// An expression that faults doesn't hold. Growth is refused as `NoMemory`, and then the values of variables may be any.
+/// An expression that faults doesn't hold. Growth is refused as `NoMemory`.
 #[tactic(auto, using(crate::specs::Lemmas::never_holds))]
-pub fn meets(
+pub fn meets<B: Bound>(
     alloc: Global,
     constants: &Constants,
     demand: &Demand,
     tested: Tested<'_>,
-    env: &mut Env,
+    bound: &B,
 ) -> Result<bool, NoMemory>
-    ensures { IfOk result (λ holds. Meets holds env.new
-        (after_demand (demand_of demand.now) (tested_value tested.entry) env.old)) }
+    requires { Follows (B.before bound.now) (demand_of demand.now) (tested_value tested) }
+    ensures { IfOk result (λ holds. MeetsIn holds (B.before bound.now) (demand_of demand.now)
+        (tested_value tested.entry)) }
 {
     if !may_hold(demand, tested) {
         return Ok(false);
     }
-    meets_beyond_constants(alloc, constants, demand, tested, env)
+    meets_beyond_constants(alloc, constants, demand, tested, bound)
 }
 
 /// What `meets` returns where `may_hold` has returned `true`: constants aren't compared again, except those of alternatives
 /// that have a variable or an expression among them.
 ///
-/// Growth is refused as `NoMemory`, and so is a count of sharers that is full. After `false` or `NoMemory` some variables may
-/// have been given values in `env`.
-pub fn meets_beyond_constants(
+/// Growth is refused as `NoMemory`, and so is a count of sharers that is full.
+pub fn meets_beyond_constants<B: Bound>(
     alloc: Global,
     constants: &Constants,
     demand: &Demand,
     tested: Tested<'_>,
-    env: &mut Env,
+    bound: &B,
 ) -> Result<bool, NoMemory>
-    requires { may_hold (demand_of demand.now) (tested_value tested) ≡ true }
-    ensures { IfOk result (λ holds. Meets holds env.new
-        (after_demand (demand_of demand.now) (tested_value tested.entry) env.old)) }
+    requires follows { Follows (B.before bound.now) (demand_of demand.now) (tested_value tested) }
+    requires may { may_hold (demand_of demand.now) (tested_value tested) ≡ true }
+    ensures { IfOk result (λ holds. MeetsIn holds (B.before bound.now) (demand_of demand.now)
+        (tested_value tested.entry)) }
 {
     match demand {
         Demand::Nothing => Ok(true),
-        Demand::Each(checks) => meets_each(alloc, constants, checks.as_slice(), tested, env),
+        Demand::Each(checks) => meets_each(alloc, constants, checks.as_slice(), tested, bound),
         Demand::Either(None, alternatives) => {
-            one_holds(alloc, constants, alternatives.as_slice(), tested, env)
+            one_holds(alloc, constants, alternatives.as_slice(), tested, bound, 0)
         }
         Demand::Either(Some(first), alternatives) => {
-            if !take(first, tested, env)? {
-                return Ok(false);
-            }
-            one_holds(alloc, constants, alternatives.as_slice(), tested, env)
+            meets_apart(
+                alloc,
+                constants,
+                first,
+                alternatives.as_slice(),
+                tested,
+                bound,
+            )
         }
     }
+}
+
+/// Whether a variable that is set apart agrees, and then one of the alternatives holds, where the constants of one do.
+#[tactic(auto, using(crate::specs::Lemmas::set_apart_meets))]
+fn meets_apart<B: Bound>(
+    alloc: Global,
+    constants: &Constants,
+    first: &Name,
+    alternatives: &[Vec<Check>],
+    tested: Tested<'_>,
+    bound: &B,
+) -> Result<bool, NoMemory>
+    requires follows { IfSome (after_variable first.now (tested_value tested)
+        (B.before bound.now 0)) (λ grown. B.before bound.now 1 ≡ grown) }
+    requires may { list_any (constants_hold (tested_value tested))
+        (map (λ cs. map check_of cs.items) alternatives.now) ≡ true }
+    ensures { IfOk result (λ holds. Meets holds (B.before bound.now 1)
+        (after_demand (either (Some first.now) (map (λ cs. map check_of cs.items) alternatives.now))
+        (tested_value tested.entry) (B.before bound.now 0))) }
+{
+    Ok(
+        agrees(first, tested, bound, 0)?
+            && one_holds(alloc, constants, alternatives, tested, bound, 1)?,
+    )
 }
 
 /// Whether checks joined by `&`, of which those for constants hold, all hold, from left to right.
 #[tactic(auto, using(crate::specs::Lemmas::first_holds, crate::specs::Lemmas::others_hold))]
-fn meets_each(
+fn meets_each<B: Bound>(
     alloc: Global,
     constants: &Constants,
     checks: &[Check],
     tested: Tested<'_>,
-    env: &mut Env,
+    bound: &B,
 ) -> Result<bool, NoMemory>
-    requires { constants_hold (tested_value tested) (map check_of checks.now) ≡ true }
-    ensures { IfOk result (λ holds. Meets holds env.new
-        (after_checks (map check_of checks.now) (tested_value tested.entry) env.old)) }
+    requires follows { FollowFrom (B.before bound.now) 0 (map check_of checks.now)
+        (tested_value tested) }
+    requires may { constants_hold (tested_value tested) (map check_of checks.now) ≡ true }
+    ensures { IfOk result (λ holds. Meets holds (B.before bound.now (length checks.now))
+        (after_checks (map check_of checks.now) (tested_value tested.entry)
+        (B.before bound.now 0))) }
 {
+    let mut at = 0;
     for check in checks {
-        if !meets_one(alloc, constants, check, tested, env)? {
+        if !meets_one(alloc, constants, check, tested, bound, at)? {
             return Ok(false);
         }
+        at += 1;
     }
     Ok(true)
 }
 
-/// Whether a check holds; a check for a constant is known to hold. A variable without `~` may take the value.
-#[tactic(auto, using(crate::specs::Lemmas::constant_is_met))]
-fn meets_one(
+/// Whether the check with this number holds; one for a constant is known to hold.
+fn meets_one<B: Bound>(
     alloc: Global,
     constants: &Constants,
     check: &Check,
     tested: Tested<'_>,
-    env: &mut Env,
+    bound: &B,
+    at: usize,
 ) -> Result<bool, NoMemory>
     requires { constant_holds (tested_value tested) (check_of check.now).negated
         (check_of check.now).test ≡ true }
-    ensures { IfOk result (λ holds. Meets holds env.new
-        (after_check (check_of check.now) (tested_value tested.entry) env.old)) }
+    ensures { IfOk result (λ holds. holds ≡ is_some (after_check (check_of check.now)
+        (tested_value tested.entry) (B.before bound.now at))) }
 {
     if let Test::Constant(_) = &check.test {
         return Ok(true);
     }
     if !check.is_negated {
         if let Test::Variable(name) = &check.test {
-            return take(name, tested, env);
+            return agrees(name, tested, bound, at);
         }
     }
-    check_holds(alloc, constants, check, tested, env)
+    check_holds(alloc, constants, check, tested, bound, at)
 }
 
-/// Whether a variable takes the value, or has it already.
-fn take(name: &Name, tested: Tested<'_>, env: &mut Env) -> Result<bool, NoMemory>
-    ensures { IfOk result (λ holds. Meets holds env.new
-        (after_variable name.now (tested_value tested.entry) env.old)) }
+/// Whether a variable has no value yet, and takes this one, or has this one.
+fn agrees<B: Bound>(name: &Name, tested: Tested<'_>, bound: &B, at: usize) -> Result<bool, NoMemory>
+    ensures { IfOk result (λ holds. holds ≡ is_some (after_variable name.now
+        (tested_value tested.entry) (B.before bound.now at))) }
 {
-    if let Some(value) = env.get(name) {
-        return Ok(tested.is(value));
-    }
-    env.set(name, tested.to_value()?)?;
-    Ok(true)
+    Ok(match bound.variable(name, at)? {
+        Some(value) => tested.is(&value),
+        None => true,
+    })
 }
 
 /// Whether one of the alternatives holds, where the constants of one do.
-fn one_holds(
+fn one_holds<B: Bound>(
     alloc: Global,
     constants: &Constants,
     alternatives: &[Vec<Check>],
     tested: Tested<'_>,
-    env: &Env,
+    bound: &B,
+    at: usize,
 ) -> Result<bool, NoMemory>
     requires { list_any (constants_hold (tested_value tested))
         (map (λ cs. map check_of cs.items) alternatives.now) ≡ true }
     ensures { IfOk result (λ holds. holds ≡ one_holds
-        (map (λ cs. map check_of cs.items) alternatives.now) (tested_value tested.entry) env.now) }
+        (map (λ cs. map check_of cs.items) alternatives.now) (tested_value tested.entry)
+        (B.before bound.now at)) }
 {
     if are_of_constants(alternatives) {
         return Ok(true);
     }
     for alternative in alternatives {
-        if all_hold(alloc, constants, alternative.as_slice(), tested, env)? {
+        if all_hold(alloc, constants, alternative.as_slice(), tested, bound, at)? {
             return Ok(true);
         }
     }
@@ -185,18 +220,20 @@ fn is_constant(test: &Test) -> bool
 }
 
 /// Whether all checks of an alternative hold.
-fn all_hold(
+fn all_hold<B: Bound>(
     alloc: Global,
     constants: &Constants,
     checks: &[Check],
     tested: Tested<'_>,
-    env: &Env,
+    bound: &B,
+    at: usize,
 ) -> Result<bool, NoMemory>
     ensures { IfOk result (λ holds. holds
-        ≡ list_all (check_holds (tested_value tested.entry) env.now) (map check_of checks.now)) }
+        ≡ list_all (check_holds (tested_value tested.entry) (B.before bound.now at))
+        (map check_of checks.now)) }
 {
     for check in checks {
-        if !check_holds(alloc, constants, check, tested, env)? {
+        if !check_holds(alloc, constants, check, tested, bound, at)? {
             return Ok(false);
         }
     }
@@ -204,42 +241,44 @@ fn all_hold(
 }
 
 /// Whether a check holds as it is; no variable takes a value.
-fn check_holds(
+fn check_holds<B: Bound>(
     alloc: Global,
     constants: &Constants,
     check: &Check,
     tested: Tested<'_>,
-    env: &Env,
+    bound: &B,
+    at: usize,
 ) -> Result<bool, NoMemory>
-    ensures { IfOk result (λ holds. holds
-        ≡ check_holds (tested_value tested.entry) env.now (check_of check.now)) }
+    ensures { IfOk result (λ holds. holds ≡ check_holds (tested_value tested.entry)
+        (B.before bound.now at) (check_of check.now)) }
 {
-    let holds = test_holds(alloc, constants, &check.test, tested, env)?;
+    let holds = test_holds(alloc, constants, &check.test, tested, bound, at)?;
     Ok(if check.is_negated { !holds } else { holds })
 }
 
 /// Whether a test holds.
-fn test_holds(
+fn test_holds<B: Bound>(
     alloc: Global,
     constants: &Constants,
     test: &Test,
     tested: Tested<'_>,
-    env: &Env,
+    bound: &B,
+    at: usize,
 ) -> Result<bool, NoMemory>
-    ensures { IfOk result (λ holds. holds
-        ≡ test_holds (asked_test test.now) (tested_value tested.entry) env.now) }
+    ensures { IfOk result (λ holds. holds ≡ test_holds (asked_test test.now)
+        (tested_value tested.entry) (B.before bound.now at)) }
 {
     match test {
         Test::Constant(value) => Ok(tested.is(value)),
-        Test::Variable(name) => Ok(match env.get(name) {
-            Some(value) => tested.is(value),
+        Test::Variable(name) => Ok(match bound.variable(name, at)? {
+            Some(value) => tested.is(&value),
             None => false,
         }),
-        Test::Predicate(expr) => Ok(match value_if_any(alloc, constants, expr, env)? {
+        Test::Predicate(expr) => Ok(match value_if_any(alloc, constants, expr, bound, at)? {
             Some(value) => is_true(&value),
             None => false,
         }),
-        Test::ReturnValue(expr) => Ok(match value_if_any(alloc, constants, expr, env)? {
+        Test::ReturnValue(expr) => Ok(match value_if_any(alloc, constants, expr, bound, at)? {
             Some(value) => tested.is(&value),
             None => false,
         }),
@@ -247,16 +286,17 @@ fn test_holds(
 }
 
 /// The value of an expression, or `None` where it faults.
-fn value_if_any(
+fn value_if_any<B: Bound>(
     alloc: Global,
     constants: &Constants,
     expr: &Expr,
-    env: &Env,
+    bound: &B,
+    at: usize,
 ) -> Result<Option<Value>, NoMemory>
     ensures { IfOk result (λ value. value
-        ≡ value_if_any (value_of (term_of expr.now) env.now)) }
+        ≡ value_if_any (value_of (term_of expr.now) (B.before bound.now at))) }
 {
-    match eval(alloc, constants, expr, env) {
+    match eval(alloc, constants, expr, &AtCheck { bound, check: at }) {
         Ok(value) => Ok(Some(value)),
         Err(Refused::Fault(_)) => Ok(None),
         Err(Refused::NoMemory) => Err(NoMemory),

@@ -29,7 +29,7 @@ impl Tested<'_> {
 
     /// It as a value that shares its bytes or fields. It takes no memory, and is refused as `NoMemory` only where the count
     /// of the sharers is full.
-    pub(crate) fn to_value(self) -> Result<Value, NoMemory>
+    pub fn to_value(self) -> Result<Value, NoMemory>
         ensures { IfOk result (λ v. v ≡ tested_value self.entry) }
     {
         match self {

@@ -8,7 +8,7 @@ ghost use Rattle.cb_exprs.specs.Terms.{term_of, terms_of};
 ghost use Rattle.cb_facts.specs.Results.{Returns, and_then};
 ghost use Rattle.cb_functions.specs.Applied.{applied};
 
-use cb_exprs::{Env, Expr};
+use cb_exprs::{Expr, Lookup};
 use cb_facts::{Refused, Value};
 use cb_forms::Fault;
 use cb_functions::{Constants, apply, decides};
@@ -24,14 +24,23 @@ use std::alloc::Global;
 ///
 /// It calls itself as deep as the expression is nested.
 #[cycle(evaluation)]
-pub fn eval(alloc: Global, constants: &Constants, expr: &Expr, env: &Env) -> Result<Value, Refused>
-    ensures { Returns result (value_of (term_of expr.now) env.now) }
+pub fn eval<L: Lookup>(
+    alloc: Global,
+    constants: &Constants,
+    expr: &Expr,
+    known: &L,
+) -> Result<Value, Refused>
+    ensures { Returns result (value_of (term_of expr.now) (L.bindings known.now)) }
 {
     match expr {
         Expr::Constant(value) => Ok(value.clone()?),
-        Expr::Variable(name) => copy_or(env.get(name), Fault::UnboundVariable),
-        Expr::Global(name) => copy_or(env.global(name), Fault::UnknownGlobal),
-        Expr::Call(function, args) => call(alloc, constants, *function, args.as_slice(), env),
+        Expr::Variable(name) => known
+            .variable(name)?
+            .ok_or(Refused::Fault(Fault::UnboundVariable)),
+        Expr::Global(name) => known
+            .global_variable(name)?
+            .ok_or(Refused::Fault(Fault::UnknownGlobal)),
+        Expr::Call(function, args) => call(alloc, constants, *function, args.as_slice(), known),
         Expr::Assert(_, _)
         | Expr::Retract(_)
         | Expr::Bind(_, _)
@@ -47,39 +56,39 @@ pub fn eval(alloc: Global, constants: &Constants, expr: &Expr, env: &Env) -> Res
 
 /// What a function returns for the values of these arguments.
 #[cycle(evaluation)]
-fn call(
+fn call<L: Lookup>(
     alloc: Global,
     constants: &Constants,
     function: Function,
     args: &[Expr],
-    env: &Env,
+    known: &L,
 ) -> Result<Value, Refused>
     ensures { Returns result
-        (and_then (values_of function [] (terms_of args.now) env.now) (applied function)) }
+        (and_then (values_of function [] (terms_of args.now) (L.bindings known.now)) (applied function)) }
 {
     if may_be_decided(function) {
-        return call_until_decided(alloc, constants, function, args, env);
+        return call_until_decided(alloc, constants, function, args, known);
     }
-    call_with_all(alloc, constants, function, args, env)
+    call_with_all(alloc, constants, function, args, known)
 }
 
 /// The value of a call that an argument may decide. Of those that don't decide it only the last is kept, as the others change
 /// nothing.
 #[cycle(evaluation)]
-fn call_until_decided(
+fn call_until_decided<L: Lookup>(
     alloc: Global,
     constants: &Constants,
     function: Function,
     args: &[Expr],
-    env: &Env,
+    known: &L,
 ) -> Result<Value, Refused>
     requires { may_be_decided function ≡ true }
     ensures { Returns result
-        (and_then (values_of function [] (terms_of args.now) env.now) (applied function)) }
+        (and_then (values_of function [] (terms_of args.now) (L.bindings known.now)) (applied function)) }
 {
     let mut last = None;
     for arg in args {
-        let value = eval(alloc, constants, arg, env)?;
+        let value = eval(alloc, constants, arg, known)?;
         if decides(function, &value) {
             return apply(alloc, constants, function, &[value]);
         }
@@ -93,43 +102,43 @@ fn call_until_decided(
 
 /// What a function returns for the values of all these arguments. Up to four need no vector.
 #[cycle(evaluation)]
-fn call_with_all(
+fn call_with_all<L: Lookup>(
     alloc: Global,
     constants: &Constants,
     function: Function,
     args: &[Expr],
-    env: &Env,
+    known: &L,
 ) -> Result<Value, Refused>
     ensures { Returns result
-        (and_then (all_values (terms_of args.now) env.now) (applied function)) }
+        (and_then (all_values (terms_of args.now) (L.bindings known.now)) (applied function)) }
 {
     match args {
         [only] => {
-            let value = eval(alloc, constants, only, env)?;
+            let value = eval(alloc, constants, only, known)?;
             apply(alloc, constants, function, &[value])
         }
         [first, second] => {
-            let first = eval(alloc, constants, first, env)?;
-            let second = eval(alloc, constants, second, env)?;
+            let first = eval(alloc, constants, first, known)?;
+            let second = eval(alloc, constants, second, known)?;
             apply(alloc, constants, function, &[first, second])
         }
         [first, second, third] => {
-            let first = eval(alloc, constants, first, env)?;
-            let second = eval(alloc, constants, second, env)?;
-            let third = eval(alloc, constants, third, env)?;
+            let first = eval(alloc, constants, first, known)?;
+            let second = eval(alloc, constants, second, known)?;
+            let third = eval(alloc, constants, third, known)?;
             apply(alloc, constants, function, &[first, second, third])
         }
         [first, second, third, fourth] => {
-            let first = eval(alloc, constants, first, env)?;
-            let second = eval(alloc, constants, second, env)?;
-            let third = eval(alloc, constants, third, env)?;
-            let fourth = eval(alloc, constants, fourth, env)?;
+            let first = eval(alloc, constants, first, known)?;
+            let second = eval(alloc, constants, second, known)?;
+            let third = eval(alloc, constants, third, known)?;
+            let fourth = eval(alloc, constants, fourth, known)?;
             apply(alloc, constants, function, &[first, second, third, fourth])
         }
         _ => {
             let mut values = Vec::new(alloc);
             for arg in args {
-                values.push(eval(alloc, constants, arg, env)?)?;
+                values.push(eval(alloc, constants, arg, known)?)?;
             }
             apply(alloc, constants, function, values.as_slice())
         }
@@ -141,14 +150,4 @@ fn may_be_decided(function: Function) -> bool
     ensures { result ≡ may_be_decided function }
 {
     matches!(function, Function::And | Function::Or)
-}
-
-/// A copy of the value that was found, or this fault.
-fn copy_or(found: Option<&Value>, fault: Fault) -> Result<Value, Refused>
-    ensures { Returns result (ok_or (option_copied found.entry) fault) }
-{
-    match found {
-        Some(value) => Ok(value.clone()?),
-        None => Err(Refused::Fault(fault)),
-    }
 }

@@ -16,11 +16,11 @@ use Rattle.cb_facts.specs.Facts as fact
 use Rattle.cb_facts.specs.declared.single.Single.{Single}
 use Rattle.cb_facts.specs.declared.value.Value.{Value}
 use Rattle.cb_functions.specs.Comparison.{same}
-use Rattle.cb_fit.proofs.Givings.{given_once, given_more}
+use Rattle.cb_fit.proofs.Givings.{GivenSoFar, given_all, given_one, given_once, given_more}
 use Rattle.cb_fit.proofs.Segments.{then-some}
 use Rattle.cb_fit.proofs.WithoutVariables.{provided-if}
-use Rattle.cb_fit.specs.Bound.{binder, binders, binders_in, binders_in_parts, binders_of, newly_bound}
-use Rattle.cb_fit.specs.Internal.GivenValues.{GivenSoFar, given_all, given_one}
+use Rattle.cb_constraints.specs.Binders.{binder, binders, binders_in, binders_of}
+use Rattle.cb_constraints.specs.Bound.{binders_in_parts, newly_bound}
 use Rattle.cb_fit.specs.Related.{Fits, HoldInTurn, PartsFit, SlotsFit}
 use Rattle.cb_fit.specs.Ways.{segment_value}
 

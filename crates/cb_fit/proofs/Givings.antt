@@ -8,8 +8,22 @@ use Rattle.std.specs.Str.{bytes_eq}
 use Rattle.cb_exprs.specs.Bindings.{Bindings, value_at, with_variable}
 use Rattle.cb_exprs.specs.contracts.cited.LawsCited.TheImpl as exprs_laws
 use Rattle.cb_facts.specs.declared.value.Value.{Value}
-use Rattle.cb_fit.specs.Bound.{each_once, given, given_if}
-use Rattle.cb_fit.specs.Internal.GivenValues.{GivenSoFar, given_all, given_one}
+use Rattle.cb_constraints.specs.Bound.{each_once, given, given_if}
+
+-- variables with the values that they were given so far, and what variables have with them
+pub record GivenSoFar : Type 0 where
+  pub bound : List (List ℕ × Value)
+  pub env : Bindings
+
+-- one more, if it has no value yet and has one after
+abbrev pub given_one : List ℕ → Option Value → Option Value → GivenSoFar → GivenSoFar
+given_one x None (Some v) g = record { bound = g.bound ++ (x, v) ∷ []; env = with_variable x v g.env }
+given_one x before after g = g
+
+-- those of the variables that have no value yet and have one after
+abbrev pub given_all : List (List ℕ) → Bindings → GivenSoFar → GivenSoFar
+given_all [] after g = g
+given_all (x ∷ xs) after g = given_all xs after (given_one x (value_at x g.env.variables) (value_at x after.variables) g)
 
 pub given_more : (xs ys : List (List ℕ)) (after : Bindings) (g : GivenSoFar) → given_all (xs ++ ys) after g ≡ given_all ys after (given_all xs after g)
 given_more [] ys after g = refl

@@ -1,19 +1,21 @@
 -- A constraint for a segment, and those for one field that follow it.
 use Rattle.std.proofs.Common.{arith, ◌≡◌, ◌∙◌, ◌+◌, ◌-◌, ◌==◌, ◌<◌, ◌≤◌, Bool, true, false, List, ℕ, [], ◌∷◌, ◌++◌, Option, None, Some, ap, drop, length, map, refl, replicate, sym, take, slice_range, leb, nat_le}
-use Rattle.std.proofs.lemmas.List.{append-nil, length-drop, map-append}
+use Rattle.std.proofs.lemmas.List.{append-nil, append_assoc, length-drop, map-append}
 use Rattle.std.proofs.lemmas.Bool.{eqb-false, eqb-true, leb-false, leb-true}
 use Rattle.std.specs.List.{flat_map}
 use Rattle.std.specs.Option.{option_and_then}
 use Rattle.std.specs.Prelude.{option_map, option_to_list, if◌then◌else◌}
 use Rattle.cb_constraints.specs.Constraints.{Constraint}
+use Rattle.cb_constraints.specs.Holding.{Meets}
 use Rattle.cb_constraints.specs.Rows.{fields_wanted, segments_wanted}
 use Rattle.cb_exprs.specs.Bindings.{Bindings}
 use Rattle.cb_facts.specs.declared.single.Single.{Single}
 use Rattle.cb_fit.proofs.Numbers.{at-both-ends, flat-flat, flat-same}
 use Rattle.cb_fit.proofs.Places.{drop_past, drop_to}
 use Rattle.cb_fit.proofs.Rows.{all-of-ones, cuts-together, nothing-follows, ones-before, ones_then, shorter, step, too-short}
-use Rattle.cb_fit.specs.Internal.{Begun, after_ones, endings, takes_length, with_group}
+use Rattle.cb_fit.specs.Internal.{Begun, after_ones, begun_at, begun_if, endings, env_after, takes_length, with_group}
 use Rattle.cb_fit.specs.Ways.{Taken, after_cuts, after_segment, each_followed_by, numbers, ways_of_row, with_length}
+use Rattle.cb_fit.specs.declared.search.Search.{Search}
 
 abbrev pub grown_to : Begun → ℕ → ℕ → Bindings → Begun
 grown_to b n k grown = record { cuts = b.cuts ++ (n ∷ replicate k 1); left = drop k (drop n b.left); env = grown }
@@ -41,6 +43,25 @@ pub none-made : (c : Constraint) (os : List Constraint) (fields : List Single) (
 none-made c os fields cuts from to env h e =
     none-of (grown_to (record { cuts = cuts; left = drop from fields; env = env }) (to - from) (length os)) (after_ones os (drop (to - from) (drop from fields)))
     (after_segment c (take (to - from) (drop from fields)) env) (λ g. ap (λ x. after_ones os x g) (drop_to fields from to h) ∙ e g)
+
+-- nor where the constraint for the segment holds and those for one field don't
+pub none-after : (c : Constraint) (os : List Constraint) (fields : List Single) (cuts : List ℕ) (from to : ℕ) (env grown : Bindings)
+    → from ≤ to → after_segment c (slice_range fields from to) env ≡ Some grown → after_ones os (drop to fields) grown ≡ None
+    → with_group c os (record { cuts = cuts; left = drop from fields; env = env }) (to - from) ≡ []
+none-after c os fields cuts from to env grown h s o =
+    ap (λ x. option_to_list (option_map (grown_to (record { cuts = cuts; left = drop from fields; env = env }) (to - from) (length os)) (option_and_then (after_ones os (drop (to - from) (drop from fields))) x))) s
+    ∙ (ap (λ x. option_to_list (option_map (grown_to (record { cuts = cuts; left = drop from fields; env = env }) (to - from) (length os)) (after_ones os x grown))) (drop_to fields from to h)
+    ∙ ap (λ x. option_to_list (option_map (grown_to (record { cuts = cuts; left = drop from fields; env = env }) (to - from) (length os)) x)) o)
+
+-- the same by what a test said of those for one field
+pub group-taken : (s : Search) (c : Constraint) (os : List Constraint) (fields : List Single) (cuts mid new : List ℕ) (from to at : ℕ) (holds : Bool)
+    → from ≤ to → at ≡ to + length os → mid ≡ cuts ++ (to - from) ∷ [] → (holds ≡ true → new ≡ mid ++ replicate (length os) 1)
+    → after_segment c (slice_range fields from to) (env_after s cuts) ≡ Some (env_after s mid) → Meets holds (env_after s new) (after_ones os (drop to fields) (env_after s mid))
+    → with_group c os (begun_at s fields cuts from) (to - from) ≡ begun_if holds (begun_at s fields new at)
+group-taken s c os fields cuts mid new from to at true h e m n seg met =
+    made c os fields cuts new from to at (env_after s cuts) (env_after s mid) (env_after s new) h e
+    (n refl ∙ (ap (λ xs. xs ++ replicate (length os) 1) m ∙ append_assoc cuts ((to - from) ∷ []) (replicate (length os) 1))) seg met
+group-taken s c os fields cuts mid new from to at false h e m n seg met = none-after c os fields cuts from to (env_after s cuts) (env_after s mid) h seg met
 
 -- what becomes of it
 pub after-group : (rest os : List Constraint) (b : Begun) (n : ℕ) (after : Option Bindings)
@@ -101,14 +122,6 @@ as-wanted false n m h = omega arith
 -- nothing becomes of one with too few fields left
 pub nothing-becomes : (c : Constraint) (cs : List Constraint) (b : Begun) → length b.left < fields_wanted cs → endings (c ∷ cs) b ≡ []
 nothing-becomes c cs b h = ap (map (after_cuts b.cuts)) (too-short (c ∷ cs) b.left b.env (as-wanted c.segment (length b.left) (fields_wanted cs) h))
-
--- nothing comes of one after which fields are left
-pub not_ended : (fields : List Single) (at : ℕ) (cuts : List ℕ) (env : Bindings) → at < length fields → endings [] (record { cuts = cuts; left = drop at fields; env = env }) ≡ []
-not_ended fields at cuts env h = ap (λ ts. map (after_cuts cuts) ts) (left-over (drop at fields) env (longer fields at 0 (omega arith)))
-  where
-    left-over : (fs : List Single) (env : Bindings) → 0 < length fs → ways_of_row [] fs env ≡ []
-    left-over [] env h = absurd (omega arith)
-    left-over (f ∷ fs) env h = refl
 
 -- a choice, which is for all that becomes of the beginning
 pub no-segments : (os rest : List Constraint) → segments_wanted os ≡ 0 → rest ≡ [] → segments_wanted (os ++ rest) ≡ 0

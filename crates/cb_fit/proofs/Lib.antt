@@ -1,5 +1,4 @@
 mod AllGiven
-mod Alone
 mod ByCuts
 mod Choices
 mod CutsFix
@@ -16,9 +15,9 @@ mod Parted
 mod Places
 mod Related
 mod Rows
-mod RunLaws
 mod Segments
 mod Splits
+mod Standing
 mod Takes
 mod Trailing
 mod Tries

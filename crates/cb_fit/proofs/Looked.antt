@@ -123,12 +123,5 @@ lengths_never_fit p f env e = by (bytes_eq p.relation f.relation)
     by true = ap (map (way_with p.parts env)) (parts-never_taken p.parts f.content env e)
     by false = refl
 
--- the rows that may take their fields, one by one
-pub first_slot_may : (s : SlotValue) (ss : List SlotValue) (slots : List (List ℕ × Value)) → may_take_slots (s ∷ ss) slots ≡ true → may_take_slot s slots ≡ true
-first_slot_may s ss slots e = (both-true (may_take_slot s slots) (may_take_slots ss slots) e).0
-
 pub other_slots_may : (s : SlotValue) (ss : List SlotValue) (slots : List (List ℕ × Value)) → may_take_slots (s ∷ ss) slots ≡ true → may_take_slots ss slots ≡ true
 other_slots_may s ss slots e = (both-true (may_take_slot s slots) (may_take_slots ss slots) e).1
-
-pub slot_row_may : (s : SlotValue) (slots : List (List ℕ × Value)) (v : Value) → slot_at s.place slots ≡ Some v → may_take_slot s slots ≡ true → may_take_row s.row (fields_in v) ≡ true
-slot_row_may s slots v e h = sym (ap (λ o. option_map_or (λ w. may_take_row s.row (fields_in w)) o false) e) ∙ h

@@ -60,3 +60,9 @@ pub no_place : {X : Type 0} (f : ℕ → List X) (at from to : ℕ) → at ≤ f
 no_place f at from to a b e h =
     places-split f at from to (to - from) (to + 1 - from) 1 a b refl (omega arith)
     ∙ (ap (λ xs. xs ++ flat_map f (numbers (to - at) 1)) e ∙ h)
+
+pub no-numbers : {X : Type 0} (f : ℕ → List X) (n k : ℕ) → flat_map f (numbers n (k - k)) ≡ []
+no-numbers f n k = ap (λ m. flat_map f (numbers n m)) none
+  where
+    none : k - k ≡ 0
+    none = omega arith

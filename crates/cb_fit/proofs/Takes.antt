@@ -1,5 +1,5 @@
 -- What a returned place and a returned answer say.
-use Rattle.std.proofs.Common.{◌≡◌, ◌∙◌, ◌&&◌, Bool, true, false, ℕ, List, [], ◌∷◌, Option, None, Some, Result, Ok, Err, IfOk, OnOk, IfSome, is_some, ap, refl, rules, subst, sym}
+use Rattle.std.proofs.Common.{◌≡◌, ◌∙◌, ◌&&◌, Bool, true, false, List, [], ◌∷◌, Option, None, Some, Result, Ok, Err, IfOk, OnOk, ap, refl, rules, sym}
 use Rattle.std.specs.Option.{option_and_then}
 use Rattle.cb_constraints.specs.Constraints.{Constraint}
 use Rattle.cb_constraints.specs.Holding.{Meets, after_demand, may_hold}
@@ -8,29 +8,32 @@ use Rattle.cb_exprs.specs.Bindings.{Bindings}
 use Rattle.cb_facts.specs.Values.{value_of_field}
 use Rattle.cb_facts.specs.declared.single.Single.{Single}
 use Rattle.cb_facts.specs.declared.value.Value.{Value}
-use Rattle.cb_fit.specs.Internal.FieldLists.{IsFirst}
+use Rattle.cb_cuts.specs.FieldLists.{IsFirst}
 use Rattle.cb_fit.specs.Internal.{after_ones, may_take}
-
-pub some-place : (o : Option ℕ) (at n : ℕ) → o ≡ Some at → IfSome o (λ a. a ≡ n) → at ≡ n
-some-place o at n e h = subst (λ p. IfSome p (λ a. a ≡ n)) e h
-
-pub some-met : (o : Option ℕ) (at : ℕ) (env : Bindings) (after : Option Bindings) → o ≡ Some at → Meets (is_some o) env after → after ≡ Some env
-some-met o at env after e h = subst (λ p. Meets (is_some p) env after) e h
 
 pub is-met : (b : Bool) (env : Bindings) (after : Option Bindings) → b ≡ true → Meets b env after → after ≡ Some env
 is-met true env after e h = h
 is-met false env after e h = search rules
 
+pub not-met : (b : Bool) (env : Bindings) (after : Option Bindings) → b ≡ false → Meets b env after → after ≡ None
+not-met false env after e h = h
+not-met true env after e h = let never : true ≡ false = e in cc
+
 pub on-ok : {A E P Q : Type 0} (r : Result A E) → (P → Q) → OnOk r P → OnOk r Q
 on-ok (Ok x) f h = f h
 on-ok (Err e) f h = h
 
+pub ok-then : {A E : Type 0} (r : Result A E) {P Q : A → Type 0} → ((a : A) → P a → Q a) → IfOk r P → IfOk r Q
+ok-then (Ok a) f h = f a h
+ok-then (Err e) f h = h
+
+pub ok-with : {A E : Type 0} (r : Result A E) {P Q R : A → Type 0} → ((a : A) → P a → Q a → R a) → IfOk r P → IfOk r Q → IfOk r R
+ok-with (Ok a) f h i = f a h i
+ok-with (Err e) f h i = h
+
 pub ok-same : {A E X : Type 0} (r : Result A E) (f : A → X) {x y : X} → x ≡ y → IfOk r (λ a. f a ≡ x) → IfOk r (λ a. f a ≡ y)
 ok-same (Ok a) f e h = h ∙ e
 ok-same (Err b) f e h = h
-
-pub none-met : (o : Option ℕ) (env : Bindings) (after : Option Bindings) → o ≡ None → Meets (is_some o) env after → after ≡ None
-none-met o env after e h = subst (λ p. Meets (is_some p) env after) e h
 
 -- what constants rule out takes nothing
 pub nothing-taken : (cs : List Constraint) (fs : List Single) (env : Bindings) → may_take cs fs ≡ false → after_ones cs fs env ≡ None
@@ -56,9 +59,6 @@ may-both : (c : Constraint) (cs : List Constraint) (v : Value) (others fields : 
 may-both c cs v others fields first e =
     let both = both-true (may_hold c.demand (value_of_field first.0)) (may_take cs others) (sym (ap (may_take (c ∷ cs)) first.1) ∙ e) in
     (ap (may_hold c.demand) first.2 ∙ both.0, both.1)
-
-pub may_first : (c : Constraint) (cs : List Constraint) (v : Value) (others fields : List Single) → IsFirst v others fields → may_take (c ∷ cs) fields ≡ true → may_hold c.demand v ≡ true
-may_first c cs v others fields first e = (may-both c cs v others fields first e).0
 
 pub may_others : (c : Constraint) (cs : List Constraint) (v : Value) (others fields : List Single) → IsFirst v others fields → may_take (c ∷ cs) fields ≡ true → may_take cs others ≡ true
 may_others c cs v others fields first e = (may-both c cs v others fields first e).1

@@ -1,24 +1,25 @@
--- What only the code needs. What a search for ways keeps: how far each has got with a row.
+-- What only the code needs. How far a search for ways has got with a row.
 pub mod Choices
-pub mod FieldLists
-pub mod GivenValues
-pub mod Runs
+pub mod Standing
 use Rattle.std.specs.Prelude.{◌==◌, ◌&&◌, ◌||◌, ◌-◌, ℕ, Bool, true, false, List, [], ◌∷◌, ◌++◌, Option, Some, None, map, length, take, drop, nat_le, option_map, option_to_list, replicate, if◌then◌else◌}
 use Rattle.std.specs.List.{list_all}
 use Rattle.std.specs.Option.{option_and_then, option_map_or}
+use Rattle.cb_constraints.specs.Binders.{constraints_in}
 use Rattle.cb_constraints.specs.Constraints.{Constraint}
 use Rattle.cb_constraints.specs.Holding.{after_demand, may_hold}
+use Rattle.cb_constraints.specs.Known.{bindings_after}
 use Rattle.cb_constraints.specs.PatternValues.{Parts, SlotValue}
 use Rattle.cb_constraints.specs.PatternValues as pattern
 use Rattle.cb_constraints.specs.Rows.{after_segments, before_segments, fields_wanted, segments_wanted}
+use Rattle.cb_cuts.specs.Values.{values_taken}
 use Rattle.cb_exprs.specs.Bindings.{Bindings}
-use Rattle.cb_facts.specs.Facts.{FactContent}
+use Rattle.cb_facts.specs.Facts.{FactContent, content_of}
 use Rattle.cb_facts.specs.Facts as fact
 use Rattle.cb_facts.specs.Values.{fields_in, value_of_field}
 use Rattle.cb_facts.specs.declared.single.Single.{Single}
 use Rattle.cb_facts.specs.declared.value.Value.{Value}
 use Rattle.cb_fit.specs.Ways.{Taken, after_cuts, after_segment, slot_at, ways_of_row}
-use Rattle.cb_fit.specs.declared.beginning.Beginning as program
+use Rattle.cb_fit.specs.declared.search.Search as program
 
 -- the beginning of a way in a row: the lengths of the segments so far, in all rows, the fields of the row that are left, and
 -- what variables have
@@ -27,13 +28,22 @@ pub record Begun : Type 0 where
   pub left : List Single
   pub env : Bindings
 
--- the one that has got so far with these fields
-abbrev pub begun_of : List Single → program.Beginning → Begun
-begun_of fields b = record { cuts = b.cuts; left = drop b.at fields; env = b.env }
+-- what variables have after segments of these lengths
+abbrev pub env_after : program.Search → List ℕ → Bindings
+env_after s cuts = bindings_after (constraints_in s.body.now) (values_taken s.body.now (content_of s.content.now) cuts) s.before.now
+
+-- the one after segments of these lengths, so many fields into a row
+abbrev pub begun_at : program.Search → List Single → List ℕ → ℕ → Begun
+begun_at s fields cuts at = record { cuts = cuts; left = drop at fields; env = env_after s cuts }
 
 -- the same between two rows
-abbrev pub taken_of : program.Beginning → Taken
-taken_of b = record { cuts = b.cuts; env = b.env }
+abbrev pub taken_by : program.Search → List ℕ → Taken
+taken_by s cuts = record { cuts = cuts; env = env_after s cuts }
+
+-- it, if a test says so
+abbrev pub begun_if : Bool → Begun → List Begun
+begun_if true b = b ∷ []
+begun_if false b = []
 
 -- all that it becomes, with these constraints still to come
 abbrev pub endings : List Constraint → Begun → List Taken

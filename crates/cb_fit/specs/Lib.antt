@@ -1,4 +1,3 @@
-pub mod Bound
 pub mod Internal
 pub mod Laws
 pub mod Meters

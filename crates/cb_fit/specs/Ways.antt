@@ -13,7 +13,7 @@ use Rattle.cb_facts.specs.Values.{fields_in, value_of_field}
 use Rattle.cb_facts.specs.declared.single.Single.{Single}
 use Rattle.cb_facts.specs.declared.value.Value.{Value}
 use Rattle.cb_facts.specs.declared.value.Value.TheVariants as value
-use Rattle.cb_fit.specs.Bound.{newly_bound}
+use Rattle.cb_constraints.specs.Bound.{newly_bound}
 
 -- what constraints took: the lengths of their segments, one for each, and what variables have after them
 pub record Taken : Type 0 where

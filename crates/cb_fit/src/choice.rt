@@ -1,31 +1,37 @@
 //! Choices of where a segment ends.
-ghost use Rattle.std.specs.Prelude.{◌≡◌, ◌≢◌, ◌∷◌, [], ◌+◌, ◌-◌, ◌<◌, ◌≤◌, IfOk, IfSome, MatchOption, flat_map, length, map};
+ghost use Rattle.std.specs.Prelude.{◌≡◌, ◌≢◌, ◌∷◌, ◌++◌, [], ℕ, List, true, ◌+◌, ◌-◌, ◌<◌, ◌≤◌, IfOk, IfSome, MatchOption, OnOk, flat_map, length, map, replicate};
 ghost use Rattle.cb_constraints.specs.Constraints.{constraint_of};
 ghost use Rattle.cb_constraints.specs.Rows.{segments_wanted};
 ghost use Rattle.cb_constraints.specs.PartValues.{asked_slot};
-ghost use Rattle.cb_fit.specs.Internal.{begun_of, endings};
-ghost use Rattle.cb_fit.specs.Internal.Choices.{IsChoice, IsRest, choice_endings, group_from, segments_in, tries, most_tries};
-ghost use Rattle.cb_fit.specs.Internal.FieldLists.{row_fields};
+ghost use Rattle.cb_cuts.specs.FieldLists.{row_fields};
+ghost use Rattle.cb_fit.specs.Internal.{begun_at, begun_if, endings};
+ghost use Rattle.cb_fit.specs.Internal.Choices.{IsChoice, IsIn, IsRest, KeepsFirst, choice_endings, cuts_before, group_from, most_tries, segments_in, tries};
+ghost use Rattle.cb_fit.specs.Internal.Standing.{AreNext, IsAt};
 
-use crate::beginning::Beginning;
-use crate::look::Look;
 use crate::rest::{Rest, split_ones};
+use crate::search::Search;
 use cb_constraints::{Constraint, SlotRow, count_leading};
+use cb_cuts::{Cuts, Fields};
 use cb_forms::NoMemory;
 
-/// A segment that may end at a place, or at each of those after it up to the last.
+/// A segment that may end at a place, or at each of those after it up to the last. What was taken before it stands in the
+/// lengths that the search keeps.
 #[derive(Drop)]
 pub(crate) struct Choice<'a> {
     /// The fields of the row.
-    pub(crate) look: Look<'a>,
-    /// What was taken before the segment.
-    pub(crate) begun: Beginning,
+    pub(crate) fields: Fields<'a>,
+    /// The number of the constraint: how many were before it in the pattern.
+    pub(crate) number: usize,
+    /// How many fields of the row were taken before it.
+    pub(crate) at: usize,
     /// The constraint for the segment.
     pub(crate) constraint: &'a Constraint,
     /// Those for one field that follow it.
     pub(crate) ones: &'a [Constraint],
     /// The others of the row.
-    pub(crate) rest: Rest<'a>,
+    pub(crate) rest: &'a [Constraint],
+    /// How many fields these want.
+    pub(crate) wanted: usize,
     /// The rows of slots that follow.
     pub(crate) rows: &'a [SlotRow],
     /// The first place where the segment may end.
@@ -38,85 +44,103 @@ impl<'a> Choice<'a> {
     /// The choice for the first of these constraints, if enough fields are left for all of them. A segment that no other follows
     /// has to take all that is left.
     pub(crate) fn new(
-        look: Look<'a>,
-        begun: Beginning,
+        fields: Fields<'a>,
+        number: usize,
         rest: Rest<'a>,
         rows: &'a [SlotRow],
     ) -> Option<Choice<'a>>
         requires some { rest.constraints.now ≢ [] }
         requires rest { IsRest rest }
-        requires within { begun.at ≤ length (row_fields look.fields) }
-        ensures ways { MatchOption result
+        requires within { rest.at ≤ length (row_fields fields) }
+        ensures ways { (s : Search) (before : List ℕ) → MatchOption result
             (endings (map constraint_of rest.entry.constraints.now)
-            (begun_of (row_fields look.entry.fields) begun) ≡ [])
-            (λ c. choice_endings c ≡ endings (map constraint_of rest.entry.constraints.now)
-            (begun_of (row_fields look.entry.fields) begun)) }
+            (begun_at s (row_fields fields.entry) before rest.entry.at) ≡ [])
+            (λ c. choice_endings s before c ≡ endings (map constraint_of rest.entry.constraints.now)
+            (begun_at s (row_fields fields.entry) before rest.entry.at)) }
+        ensures inside { (s : Search) (before : List ℕ) → number ≡ length before
+            → IsAt s (row_fields fields.entry) before rest.entry.at
+            (map constraint_of rest.entry.constraints.now)
+            → AreNext s (length before + length rest.entry.constraints.now)
+            (map asked_slot rows.now)
+            → IfSome result (IsIn s before) }
         ensures rows { IfSome result (λ c. c.rows.now ≡ rows.now) }
-        ensures open { IfSome result IsChoice }
+        ensures number { IfSome result (λ c. c.number ≡ number) }
+        ensures choice { IfSome result IsChoice }
         ensures tries { IfSome result (λ c. tries c ≤ most_tries
             (segments_wanted (map constraint_of rest.entry.constraints.now)
             + segments_in (map asked_slot rows.now))) }
     {
         let (constraint, following) = rest.constraints.split_first()?;
         let (ones, after) = split_ones(following, count_leading(following));
-        let len = look.fields.len();
-        if len - begun.at < rest.wanted {
+        let len = fields.len();
+        if len - rest.at < rest.wanted {
             return None;
         }
         let last = len - rest.wanted;
-        let to = first_end(after, begun.at, last);
+        let to = first_end(after, rest.at, last);
         Some(Choice {
-            look,
-            begun,
+            fields,
+            number,
+            at: rest.at,
             constraint,
             ones,
-            rest: Rest {
-                constraints: after,
-                wanted: rest.wanted - ones.len(),
-            },
+            rest: after,
+            wanted: rest.wanted - ones.len(),
             rows,
             to,
             last,
         })
     }
 
-    /// The first place where the segment may end so that it and the constraints for one field that follow it hold, and the
-    /// beginning with them.
-    pub(crate) fn take(&self) -> Result<Option<(usize, Beginning)>, NoMemory>
-        requires { IsChoice self.now }
-        ensures order { IfOk result (λ end. IfSome end (λ p. self.now.to ≤ p.0)) }
-        ensures last { IfOk result (λ end. IfSome end (λ p. p.0 ≤ self.now.last)) }
-        ensures within { IfOk result (λ end. IfSome end (λ p. p.1.at
-            ≤ length (row_fields self.now.look.fields))) }
-        ensures place { IfOk result (λ end. IfSome end (λ p. p.1.at
-            ≡ p.0 + length self.now.ones.now)) }
+    /// The first place where the segment may end so that it and the constraints for one field that follow it hold; then their
+    /// lengths stand after those before the segment.
+    pub(crate) fn take(
+        &self,
+        search: Search<'a>,
+        cuts: &mut Cuts,
+    ) -> Result<Option<usize>, NoMemory>
+        requires choice { IsChoice self.now }
+        requires inside { IsIn search (cuts_before self.now cuts.old) self.now }
+        ensures order { IfOk result (λ end. IfSome end (λ to. self.now.to ≤ to)) }
+        ensures last { IfOk result (λ end. IfSome end (λ to. to ≤ self.now.last)) }
+        ensures cuts { IfOk result (λ end. IfSome end (λ to. cuts.new
+            ≡ cuts_before self.now cuts.old
+            ++ ((to - self.now.at) ∷ replicate (length self.now.ones.now) 1))) }
+        ensures keeps { OnOk result (KeepsFirst self.now.number cuts.old cuts.new) }
         ensures taken { IfOk result (λ end. MatchOption end
-            (group_from self.now self.now.to (self.now.last + 1 - self.now.to) ≡ [])
-            (λ p. group_from self.now self.now.to (self.now.last + 1 - self.now.to)
-            ≡ begun_of (row_fields self.now.look.fields) p.1
-            ∷ group_from self.now (p.0 + 1) (self.now.last - p.0))) }
+            (group_from search.entry (cuts_before self.now cuts.old) self.now self.now.to
+            (self.now.last + 1 - self.now.to) ≡ [])
+            (λ to. group_from search.entry (cuts_before self.now cuts.old) self.now self.now.to
+            (self.now.last + 1 - self.now.to)
+            ≡ begun_at search.entry (row_fields self.now.fields) cuts.new
+            (to + length self.now.ones.now)
+            ∷ group_from search.entry (cuts_before self.now cuts.old) self.now (to + 1)
+            (self.now.last - to))) }
     {
         for to in self.to..=self.last {
-            if let Some(begun) = self.take_up_to(to)? {
-                return Ok(Some((to, begun)));
+            cuts.truncate(self.number);
+            if self.take_up_to(search, to, cuts)? {
+                return Ok(Some(to));
             }
         }
         Ok(None)
     }
 
-    /// The beginning with a segment that ends at a place, and with the constraints for one field that follow it, if they hold.
-    fn take_up_to(&self, to: usize) -> Result<Option<Beginning>, NoMemory>
-        requires open { IsChoice self.now }
+    /// Whether the segment may end at a place so that it and the constraints for one field that follow it hold; then their
+    /// lengths come after these.
+    fn take_up_to(&self, search: Search<'a>, to: usize, cuts: &mut Cuts) -> Result<bool, NoMemory>
+        requires choice { IsChoice self.now }
+        requires inside { IsIn search cuts.old self.now }
         requires order { self.now.to ≤ to }
         requires last { to ≤ self.now.last }
-        ensures within { IfOk result (λ b. IfSome b (λ b. b.at
-            ≤ length (row_fields self.now.look.fields))) }
-        ensures place { IfOk result (λ b. IfSome b (λ b. b.at ≡ to + length self.now.ones.now)) }
-        ensures taken { IfOk result (λ b. MatchOption b (group_from self.now to 1 ≡ [])
-            (λ b. group_from self.now to 1 ≡ begun_of (row_fields self.now.look.fields) b ∷ [])) }
+        ensures cuts { IfOk result (λ holds. holds ≡ true → cuts.new
+            ≡ cuts.old ++ ((to - self.now.at) ∷ replicate (length self.now.ones.now) 1)) }
+        ensures keeps { OnOk result (KeepsFirst (length cuts.old) cuts.old cuts.new) }
+        ensures taken { IfOk result (λ holds. group_from search.entry cuts.old self.now to 1
+            ≡ begun_if holds (begun_at search.entry (row_fields self.now.fields) cuts.new
+            (to + length self.now.ones.now))) }
     {
-        self.look
-            .take_group(self.constraint, self.ones, &self.begun, to)
+        search.take_group(self.fields, self.constraint, self.ones, self.at, to, cuts)
     }
 }
 

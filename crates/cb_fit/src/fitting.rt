@@ -1,21 +1,23 @@
 //! All ways in which a pattern fits a fact.
 ghost use Rattle.std.specs.Prelude.{◌≡◌, IfOk, map};
 ghost use Rattle.cb_constraints.specs.PartValues.{asked_parts, asked_slot};
+ghost use Rattle.cb_constraints.specs.PatternValues.{fields as fields_parts, slots as slots_parts};
 ghost use Rattle.cb_facts.specs.Facts.{content_of};
+ghost use Rattle.cb_facts.specs.Facts as fact;
 ghost use Rattle.cb_fit.specs.Internal.Choices.{as_ways};
 ghost use Rattle.cb_fit.specs.Meters.{one_test_more};
 ghost use Rattle.cb_fit.specs.WayValues.{way_of};
 ghost use Rattle.cb_fit.specs.Ways.{way_with, ways, ways_of_parts, ways_of_row, ways_of_slots};
 
-use crate::beginning::Beginning;
-use crate::fields::Fields;
 use crate::lengths::take_lengths;
+use crate::may_take::may_take_row;
 use crate::meter::Meter;
 use crate::pattern::Pattern;
 use crate::search::Search;
 use crate::slots::may_take_slots;
 use crate::way::Way;
-use cb_constraints::{Parts, Row, SlotRow};
+use cb_constraints::{Body, Parts, Row, SlotRow};
+use cb_cuts::{Cuts, Fields};
 use cb_exprs::Env;
 use cb_facts::{Content, Fact, Multifield};
 use cb_forms::NoMemory;
@@ -43,36 +45,37 @@ pub fn fit<T>(
     ensures ways { IfOk result (λ all. map way_of all.items ≡ ways pattern.now fact.now env.now) }
     ensures counted { meter.new ≡ one_test_more meter.old }
 {
-    let parts = pattern.open(meter);
-    if !take_lengths(parts, fact.content()) {
+    let body = pattern.open(meter);
+    if !take_lengths(body.parts(), fact.content()) {
         return Ok(Vec::new(alloc));
     }
     if pattern.relation().as_slice() != fact.relation() {
         return Ok(Vec::new(alloc));
     }
-    search_parts(alloc, constants, parts, fact.content(), env)
+    search_body(alloc, constants, body, fact.content(), env)
 }
 
 /// All ways to take what a pattern asks of the content of a fact.
-fn search_parts(
+fn search_body(
     alloc: Global,
     constants: &Constants,
-    parts: &Parts,
+    body: &Body,
     content: &Content,
     env: &Env,
 ) -> Result<Vec<Way>, NoMemory>
     ensures { IfOk result (λ all. map way_of all.items
-        ≡ map (way_with (asked_parts parts.now) env.now)
-        (ways_of_parts (asked_parts parts.now) (content_of content.now) env.now)) }
+        ≡ map (way_with body.now env.now)
+        (ways_of_parts body.now (content_of content.now) env.now)) }
 {
-    match (parts, content) {
+    match (body.parts(), content) {
         (Parts::Fields(row), Content::Fields(fields)) => {
             let search = Search {
                 alloc,
                 constants,
-                parts,
-                before: env,
+                body,
+                content,
                 slots: &[],
+                before: env,
             };
             search_fields(search, row, fields)
         }
@@ -80,9 +83,10 @@ fn search_parts(
             let search = Search {
                 alloc,
                 constants,
-                parts,
-                before: env,
+                body,
+                content,
                 slots,
+                before: env,
             };
             search_slots(search, rows)
         }
@@ -91,39 +95,42 @@ fn search_parts(
 }
 
 /// The same of the fields of an ordered fact.
-#[tactic(auto, using(crate::proofs::InTurn::from_start, crate::proofs::Looked::never_taken))]
+#[tactic(auto, using(crate::proofs::Looked::never_taken))]
 fn search_fields<'a>(
     search: Search<'a>,
     row: &'a Row,
     fields: &'a Multifield,
 ) -> Result<Vec<Way>, NoMemory>
+    requires row { search.body.now ≡ fields_parts row.now }
+    requires content { content_of search.content.now ≡ fact.fields fields.now }
     ensures { IfOk result (λ all. map way_of all.items
         ≡ as_ways search.entry (ways_of_row row.now fields.now search.entry.before.now)) }
 {
-    let look = search.look(Fields::All(fields));
     let mut all = Vec::new(search.alloc);
-    if !look.may_take_row(row) {
+    if !may_take_row(Fields::All(fields), row) {
         return Ok(all);
     }
-    let begun = Beginning::new(search.alloc, search.before)?;
-    let next = search.begin_fields(row, look, begun, &mut all)?;
-    search.run(next, &mut all)?;
+    let mut cuts = Cuts::new(search.alloc);
+    let next = search.begin_fields(row, Fields::All(fields), &mut cuts, &mut all)?;
+    search.run(next, &mut cuts, &mut all)?;
     Ok(all)
 }
 
 /// The same of the slots of a template's fact.
-#[tactic(auto, using(crate::proofs::InTurn::from_start_alone, crate::proofs::Looked::slots_never_taken))]
+#[tactic(auto, using(crate::proofs::Looked::slots_never_taken))]
 fn search_slots<'a>(search: Search<'a>, rows: &'a [SlotRow]) -> Result<Vec<Way>, NoMemory>
+    requires rows { search.body.now ≡ slots_parts (map asked_slot rows.now) }
+    requires content { content_of search.content.now ≡ fact.slots search.slots.now }
     ensures { IfOk result (λ all. map way_of all.items
         ≡ as_ways search.entry (ways_of_slots (map asked_slot rows.now)
         search.entry.slots.now search.entry.before.now)) }
 {
     let mut all = Vec::new(search.alloc);
-    if !may_take_slots(search.alloc, search.constants, rows, search.slots) {
+    if !may_take_slots(rows, search.slots) {
         return Ok(all);
     }
-    let begun = Beginning::new(search.alloc, search.before)?;
-    let next = search.begin_rows(rows, begun, &mut all)?;
-    search.run(next, &mut all)?;
+    let mut cuts = Cuts::new(search.alloc);
+    let next = search.begin_rows(rows, &mut cuts, &mut all)?;
+    search.run(next, &mut cuts, &mut all)?;
     Ok(all)
 }

@@ -3,22 +3,20 @@ ghost use Rattle.std.specs.Prelude.{◌≡◌, ◌++◌, ◌∷◌, ◌+◌, ◌
 ghost use Rattle.cb_constraints.specs.Constraints.{constraint_of};
 ghost use Rattle.cb_constraints.specs.Rows.{segments_wanted};
 ghost use Rattle.cb_constraints.specs.PartValues.{asked_slot};
-ghost use Rattle.cb_fit.specs.Internal.{begun_of, endings, may_take_row, may_take_slots, taken_of};
-ghost use Rattle.cb_fit.specs.Internal.Choices.{IsOpen, IsRest, as_ways, followed_by_rows, kept_with, segments_in, tries, most_tries};
-ghost use Rattle.cb_fit.specs.Internal.FieldLists.{row_fields};
+ghost use Rattle.cb_cuts.specs.FieldLists.{row_fields};
+ghost use Rattle.cb_fit.specs.Internal.{begun_at, endings, env_after, may_take_row, may_take_slots, taken_by};
+ghost use Rattle.cb_fit.specs.Internal.Choices.{IsOpen, IsRest, KeepsFirst, as_ways, followed_by_rows, kept_with, most_tries, segments_in, tries};
+ghost use Rattle.cb_fit.specs.Internal.Standing.{AreNext, IsAt};
 ghost use Rattle.cb_fit.specs.WayValues.{way_of};
 ghost use Rattle.cb_fit.specs.Ways.{after_cuts, ways_of_row};
 
-use crate::beginning::Beginning;
 use crate::choice::Choice;
-use crate::fields::Fields;
-use crate::given::newly_bound;
-use crate::look::Look;
 use crate::rest::Rest;
 use crate::search::Search;
 use crate::slots::slot_value;
 use crate::way::Way;
-use cb_constraints::{Row, SlotRow};
+use cb_constraints::{Row, SlotRow, newly_bound};
+use cb_cuts::{Cuts, Fields};
 use cb_forms::NoMemory;
 
 impl<'a> Search<'a> {
@@ -26,30 +24,36 @@ impl<'a> Search<'a> {
     /// the way where no segment follows.
     pub(crate) fn go_on(
         self,
-        look: Look<'a>,
+        fields: Fields<'a>,
         rest: Rest<'a>,
         rows: &'a [SlotRow],
-        begun: Beginning,
+        cuts: &mut Cuts,
         kept: &mut Vec<Way>,
     ) -> Result<Option<Choice<'a>>, NoMemory>
         requires rest { IsRest rest }
-        requires within { begun.at ≤ length (row_fields look.fields) }
-        requires ended { rest.constraints.now ≡ [] → begun.at ≡ length (row_fields look.fields) }
+        requires within { rest.at ≤ length (row_fields fields) }
+        requires ended { rest.constraints.now ≡ [] → rest.at ≡ length (row_fields fields) }
         requires rows { may_take_slots (map asked_slot rows.now) self.slots.now ≡ true }
-        ensures ways { IfOk result (λ next. kept_with self.entry kept.new.items next
+        requires place { IsAt self (row_fields fields) cuts.old rest.at
+            (map constraint_of rest.constraints.now) }
+        requires next { AreNext self (length cuts.old + length rest.constraints.now)
+            (map asked_slot rows.now) }
+        ensures ways { IfOk result (λ next. kept_with self.entry cuts.new kept.new.items next
             ≡ map way_of kept.old.items
             ++ as_ways self.entry (followed_by_rows (map asked_slot rows.now) self.entry.slots.now
             (endings (map constraint_of rest.entry.constraints.now)
-            (begun_of (row_fields look.entry.fields) begun)))) }
-        ensures open { IfOk result (λ next. IfSome next (IsOpen self.entry.slots.now)) }
+            (begun_at self.entry (row_fields fields.entry) cuts.old rest.entry.at)))) }
+        ensures open { IfOk result (λ next. IfSome next (IsOpen self.entry cuts.new)) }
+        ensures keeps { OnOk result (KeepsFirst (length cuts.old) cuts.old cuts.new) }
+        ensures order { IfOk result (λ next. IfSome next (λ c. length cuts.old ≤ c.number)) }
         ensures tries { IfOk result (λ next. IfSome next (λ c. tries c ≤ most_tries
             (segments_wanted (map constraint_of rest.entry.constraints.now)
             + segments_in (map asked_slot rows.now)))) }
     {
         if !rest.constraints.is_empty() {
-            return Ok(Choice::new(look, begun, rest, rows));
+            return Ok(Choice::new(fields, cuts.len(), rest, rows));
         }
-        self.begin_rows(rows, begun, kept)
+        self.begin_rows(rows, cuts, kept)
     }
 
     /// Begins the rows of slots, which may take their fields, up to the first with a segment: returns the choice of that, or
@@ -57,45 +61,49 @@ impl<'a> Search<'a> {
     pub(crate) fn begin_rows(
         self,
         rows: &'a [SlotRow],
-        begun: Beginning,
+        cuts: &mut Cuts,
         kept: &mut Vec<Way>,
     ) -> Result<Option<Choice<'a>>, NoMemory>
-        requires { may_take_slots (map asked_slot rows.now) self.slots.now ≡ true }
-        ensures ways { IfOk result (λ next. kept_with self.entry kept.new.items next
+        requires may { may_take_slots (map asked_slot rows.now) self.slots.now ≡ true }
+        requires next { AreNext self (length cuts.old) (map asked_slot rows.now) }
+        ensures ways { IfOk result (λ next. kept_with self.entry cuts.new kept.new.items next
             ≡ map way_of kept.old.items
             ++ as_ways self.entry (followed_by_rows (map asked_slot rows.now) self.entry.slots.now
-            (taken_of begun ∷ []))) }
-        ensures open { IfOk result (λ next. IfSome next (IsOpen self.entry.slots.now)) }
+            (taken_by self.entry cuts.old ∷ []))) }
+        ensures open { IfOk result (λ next. IfSome next (IsOpen self.entry cuts.new)) }
+        ensures keeps { OnOk result (KeepsFirst (length cuts.old) cuts.old cuts.new) }
+        ensures order { IfOk result (λ next. IfSome next (λ c. length cuts.old ≤ c.number)) }
         ensures tries { IfOk result (λ next. IfSome next (λ c. tries c
             ≤ most_tries (segments_in (map asked_slot rows.now)))) }
     {
-        let mut begun = begun;
         let mut left = rows;
         while let Some((row, others)) = left.split_first() {
             let Some(value) = slot_value(self.slots, row.place) else {
                 return Ok(None);
             };
-            let look = self.look(Fields::Slot(value));
-            let Some(rest) = look.begin_row(&row.row, &mut begun)? else {
+            let fields = Fields::Slot(value);
+            let Some(rest) = self.begin_row(&row.row, fields, cuts)? else {
                 return Ok(None);
             };
             if !rest.constraints.is_empty() {
-                return Ok(Choice::new(look, begun, rest, others));
+                return Ok(Choice::new(fields, cuts.len(), rest, others));
             }
             left = others;
         }
-        self.keep(begun, kept)?;
+        self.keep(cuts, kept)?;
         Ok(None)
     }
 
-    /// Keeps the way that a beginning has become.
-    fn keep(self, begun: Beginning, kept: &mut Vec<Way>) -> Result<(), NoMemory>
+    /// Keeps the way of segments with these lengths, one for each constraint of the pattern.
+    fn keep(self, cuts: &Cuts, kept: &mut Vec<Way>) -> Result<(), NoMemory>
+        requires { AreNext self (length cuts.now) [] }
         ensures { OnOk result (map way_of kept.new.items
-            ≡ map way_of kept.old.items ++ as_ways self.entry (taken_of begun ∷ [])) }
+            ≡ map way_of kept.old.items ++ as_ways self.entry (taken_by self.entry cuts.now ∷ [])) }
     {
-        let bound = newly_bound(self.alloc, self.parts, self.before, &begun.env)?;
+        let took = self.taken(cuts);
+        let bound = newly_bound(self.alloc, self.body, self.before, &took)?;
         kept.push(Way {
-            cuts: begun.cuts.to_vec(self.alloc)?,
+            cuts: cuts.to_vec(self.alloc)?,
             bound,
         })?;
         Ok(())
@@ -105,20 +113,21 @@ impl<'a> Search<'a> {
     pub(crate) fn begin_fields(
         self,
         row: &'a Row,
-        look: Look<'a>,
-        begun: Beginning,
+        fields: Fields<'a>,
+        cuts: &mut Cuts,
         kept: &mut Vec<Way>,
     ) -> Result<Option<Choice<'a>>, NoMemory>
-        requires { may_take_row row.now (row_fields look.fields) ≡ true }
-        ensures ways { IfOk result (λ next. kept_with self.entry kept.new.items next
-            ≡ map way_of kept.old.items ++ as_ways self.entry (map (after_cuts begun.cuts)
-            (ways_of_row row.now (row_fields look.entry.fields) begun.env))) }
-        ensures open { IfOk result (λ next. IfSome next (IsOpen self.entry.slots.now)) }
+        requires may { may_take_row row.now (row_fields fields) ≡ true }
+        requires place { IsAt self (row_fields fields) cuts.old 0 row.now }
+        requires next { AreNext self (length cuts.old + length row.now) [] }
+        ensures ways { IfOk result (λ next. kept_with self.entry cuts.new kept.new.items next
+            ≡ map way_of kept.old.items ++ as_ways self.entry (map (after_cuts cuts.old)
+            (ways_of_row row.now (row_fields fields.entry) (env_after self.entry cuts.old)))) }
+        ensures open { IfOk result (λ next. IfSome next (IsOpen self.entry cuts.new)) }
     {
-        let mut begun = begun;
-        let Some(rest) = look.begin_row(row, &mut begun)? else {
+        let Some(rest) = self.begin_row(row, fields, cuts)? else {
             return Ok(None);
         };
-        self.go_on(look, rest, &[], begun, kept)
+        self.go_on(fields, rest, &[], cuts, kept)
     }
 }

@@ -10,7 +10,7 @@ ghost use Rattle.cb_exprs.specs.Bindings.{Bindings, with_variables};
 ghost use Rattle.cb_facts.specs.Facts.{FactValue, ordered_fact};
 ghost use Rattle.cb_facts.specs.declared.single.Single.{Single};
 ghost use Rattle.cb_facts.specs.declared.value.Value.{Value};
-ghost use Rattle.cb_fit.specs.Bound.{newly_bound};
+ghost use Rattle.cb_constraints.specs.Bound.{newly_bound};
 ghost use Rattle.cb_fit.specs.Laws.{any_fields, of_length, of_one, one_field};
 ghost use Rattle.cb_fit.specs.Related.{Fits};
 ghost use Rattle.cb_fit.specs.Shapes.{HasShape, loose, loose_demand};

@@ -4,9 +4,9 @@ ghost use Rattle.cb_constraints.specs.PartValues.{asked_parts, asked_slot};
 ghost use Rattle.cb_facts.specs.Facts.{content_of};
 ghost use Rattle.cb_fit.specs.Internal.{slot_takes_length, slots_take_lengths, take_lengths, takes_length};
 
-use crate::fields::Fields;
 use crate::slots::slot_value;
 use cb_constraints::{Parts, Row, SlotRow};
+use cb_cuts::Fields;
 use cb_facts::{Content, Name, Value};
 
 /// Whether a pattern can take as many fields as the content of a fact has: those of an ordered fact, or those of each slot

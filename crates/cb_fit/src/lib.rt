@@ -3,16 +3,11 @@
 //! `docs/ARCHITECTURE.md` says where it belongs.
 #![tactic(auto)]
 
-mod beginning;
 mod choice;
-mod cuts;
-mod fields;
 mod fitting;
 mod following;
-mod given;
 pub mod laws;
 mod lengths;
-mod look;
 mod may_take;
 mod meter;
 mod open_choices;
@@ -20,6 +15,7 @@ mod pattern;
 mod rest;
 mod search;
 mod slots;
+mod taking;
 mod way;
 
 pub use fitting::fit;

@@ -1,11 +1,13 @@
 //! Patterns.
-ghost use Rattle.std.specs.Prelude.{◌≡◌};
+ghost use Rattle.std.specs.Prelude.{◌≡◌, IfOk};
 ghost use Rattle.cb_constraints.specs.PartValues.{asked_parts};
 ghost use Rattle.cb_fit.specs.Meters.{one_test_more};
 
 use crate::meter::Meter;
-use cb_constraints::Parts;
+use cb_constraints::{Body, Parts};
 use cb_facts::Name;
+use cb_forms::NoMemory;
+use std::alloc::Global;
 use std::marker::{Model, PhantomData};
 
 /// A pattern: the relation of the facts that it is for, and what it asks of them (`docs/LANGUAGE.md`, "Patterns").
@@ -17,7 +19,7 @@ use std::marker::{Model, PhantomData};
 #[derive(Drop)]
 pub struct Pattern<T> {
     relation: Name,
-    parts: Parts,
+    body: Body,
     mark: PhantomData<T>,
 }
 
@@ -25,26 +27,25 @@ impl<T> Model for Pattern<T> {
     ghost use Rattle.std.specs.Coded.{codes};
     ghost use Rattle.cb_constraints.specs.Internal.Codes.{pattern_code};
     ghost use Rattle.cb_constraints.specs.PatternValues.{PatternValue};
-    ghost use Rattle.cb_constraints.specs.PartValues.{asked_parts};
 
     ghost Value = { PatternValue };
 
     ghost coded = { pattern_code (Prim.hlevel codes) (Prim.hlevel codes) (Prim.hlevel codes) };
 
-    ghost view = { λ p. record { relation = p.relation; parts = asked_parts p.parts } };
+    ghost view = { λ p. record { relation = p.relation; parts = p.body } };
 }
 
 impl<T> Pattern<T> {
     /// A pattern for the facts of a relation, which asks these parts of their content: a row for the fields of ordered facts,
-    /// or rows for slots of the relation's template.
-    pub fn new(relation: Name, parts: Parts) -> Pattern<T>
-        ensures { result ≡ record { relation = relation; parts = asked_parts parts } }
+    /// or rows for slots of the relation's template. Growth is refused as `NoMemory`.
+    pub fn new(alloc: Global, relation: Name, parts: Parts) -> Result<Pattern<T>, NoMemory>
+        ensures { IfOk result (λ p. p ≡ record { relation = relation; parts = asked_parts parts }) }
     {
-        Pattern {
+        Ok(Pattern {
             relation,
-            parts,
+            body: Body::new(alloc, parts)?,
             mark: PhantomData,
-        }
+        })
     }
 
     /// The relation of the facts that it is for.
@@ -55,11 +56,11 @@ impl<T> Pattern<T> {
     }
 
     /// What it asks of a fact, for one test of the pattern: the meter goes up by one.
-    pub(crate) fn open(&self, meter: &mut Meter<T>) -> &Parts
-        ensures parts { asked_parts result.now ≡ self.now.parts }
+    pub(crate) fn open(&self, meter: &mut Meter<T>) -> &Body
+        ensures body { result.now ≡ self.now.parts }
         ensures counted { meter.new ≡ one_test_more meter.old }
     {
         meter.count();
-        &self.parts
+        &self.body
     }
 }

@@ -1,15 +1,16 @@
 //! What is left of a row.
-ghost use Rattle.std.specs.Prelude.{◌≡◌, ◌++◌, ◌≤◌, [], IfOk, IfSome, MatchOption, length, map, take, true};
+ghost use Rattle.std.specs.Prelude.{◌≡◌, ◌+◌, ◌++◌, ◌≤◌, [], IfOk, IfSome, MatchOption, OnOk, length, map, take, true};
 ghost use Rattle.cb_constraints.specs.Constraints.{constraint_of};
 ghost use Rattle.cb_constraints.specs.Rows.{before_segments, segments_wanted};
-ghost use Rattle.cb_fit.specs.Internal.{begun_of, endings, may_take_row};
-ghost use Rattle.cb_fit.specs.Internal.Choices.{IsRest};
-ghost use Rattle.cb_fit.specs.Internal.FieldLists.{row_fields};
+ghost use Rattle.cb_cuts.specs.FieldLists.{row_fields};
+ghost use Rattle.cb_fit.specs.Internal.{begun_at, endings, env_after, may_take_row};
+ghost use Rattle.cb_fit.specs.Internal.Choices.{IsRest, KeepsFirst};
+ghost use Rattle.cb_fit.specs.Internal.Standing.{IsAt};
 ghost use Rattle.cb_fit.specs.Ways.{after_cuts, ways_of_row};
 
-use crate::beginning::Beginning;
-use crate::look::Look;
+use crate::search::Search;
 use cb_constraints::{Constraint, Row};
+use cb_cuts::{Cuts, Fields};
 use cb_forms::NoMemory;
 
 /// The constraints of a row from one for a segment on, or none.
@@ -18,40 +19,48 @@ pub(crate) struct Rest<'a> {
     pub(crate) constraints: &'a [Constraint],
     /// How many fields they want.
     pub(crate) wanted: usize,
+    /// How many fields those before them took.
+    pub(crate) at: usize,
 }
 
-impl Look<'_> {
+impl Search<'_> {
     /// Begins a row, which may take the fields: its constraints before the first segment take one field each, if they hold.
     /// Returns the others.
     pub(crate) fn begin_row<'r>(
         self,
         row: &'r Row,
-        begun: &mut Beginning,
+        fields: Fields<'_>,
+        cuts: &mut Cuts,
     ) -> Result<Option<Rest<'r>>, NoMemory>
-        requires { may_take_row row.now (row_fields self.fields) ≡ true }
+        requires may { may_take_row row.now (row_fields fields) ≡ true }
+        requires place { IsAt self (row_fields fields) cuts.old 0 row.now }
         ensures ways { IfOk result (λ rest. MatchOption rest
-            (ways_of_row row.now (row_fields self.entry.fields) begun.old.env ≡ [])
-            (λ r. map (after_cuts begun.old.cuts)
-            (ways_of_row row.now (row_fields self.entry.fields) begun.old.env)
+            (ways_of_row row.now (row_fields fields.entry) (env_after self.entry cuts.old) ≡ [])
+            (λ r. map (after_cuts cuts.old)
+            (ways_of_row row.now (row_fields fields.entry) (env_after self.entry cuts.old))
             ≡ endings (map constraint_of r.constraints.now)
-            (begun_of (row_fields self.entry.fields) begun.new))) }
+            (begun_at self.entry (row_fields fields.entry) cuts.new r.at))) }
+        ensures keeps { OnOk result (KeepsFirst (length cuts.old) cuts.old cuts.new) }
+        ensures place { IfOk result (λ rest. IfSome rest (λ r. IsAt self.entry
+            (row_fields fields.entry) cuts.new r.at (map constraint_of r.constraints.now))) }
+        ensures count { IfOk result (λ rest. IfSome rest (λ r.
+            length cuts.new + length r.constraints.now ≡ length cuts.old + length row.now)) }
         ensures rest { IfOk result (λ rest. IfSome rest IsRest) }
         ensures segments { IfOk result (λ rest. IfSome rest (λ r.
             segments_wanted (map constraint_of r.constraints.now) ≡ segments_wanted row.now)) }
         ensures within { IfOk result (λ rest. IfSome rest (λ r.
-            begun.new.at ≤ length (row_fields self.entry.fields))) }
+            r.at ≤ length (row_fields fields.entry))) }
         ensures ended { IfOk result (λ rest. IfSome rest (λ r. r.constraints.now ≡ []
-            → begun.new.at ≡ length (row_fields self.entry.fields))) }
+            → r.at ≡ length (row_fields fields.entry))) }
     {
         let (leading, constraints) = split_ones(row.constraints(), row.leading());
-        let Some(at) = self.take_ones(leading, 0, &mut begun.env)? else {
+        if !self.take_ones(fields, leading, 0, cuts)? {
             return Ok(None);
-        };
-        begun.cuts.add_ones(leading.len())?;
-        begun.at = at;
+        }
         Ok(Some(Rest {
             constraints,
             wanted: row.fields() - leading.len(),
+            at: leading.len(),
         }))
     }
 }

@@ -4,7 +4,7 @@ use Rattle.std.proofs.lemmas.List.{append-nil}
 use Rattle.std.proofs.lemmas.Slice.Eq.{bytes_eq-Decides}
 use Rattle.std.specs.Str.{bytes_eq}
 use Rattle.cb_expr_forms.specs.Scopes.{is_known}
-use Rattle.cb_fit.specs.Bound.{each_once}
+use Rattle.cb_constraints.specs.Bound.{each_once}
 use Rattle.cb_rule_forms.specs.Internal.{with_names}
 use Rattle.cb_rule_forms.specs.Mentions.{with_name}
 

@@ -2,7 +2,7 @@
 use Rattle.std.specs.Prelude.{◌++◌, ℕ, List, [], ◌∷◌, map}
 use Rattle.std.specs.List.{flat_map}
 use Rattle.cb_exprs.specs.Terms.{Term, constant, variable, global, call, assert, retract, bind, bind_global, choose, repeat, actions, printout, print, println, Terms, no_terms, term, terms}
-use Rattle.cb_fit.specs.Bound.{each_once}
+use Rattle.cb_constraints.specs.Bound.{each_once}
 use Rattle.cb_rule_forms.specs.RuleValues.{Element, pattern}
 
 abbrev mutual

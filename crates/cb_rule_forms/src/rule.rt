@@ -172,9 +172,10 @@ fn close_patterns<T>(names: &Names, elements: Vec<ElementForm>) -> Result<Vec<Ce
 {
     let mut closed = Vec::new(names.alloc());
     for element in elements {
+        let pattern = Pattern::new(names.alloc(), element.relation, element.parts)?;
         closed.push(Ce::Pattern {
             address: element.address,
-            pattern: Pattern::new(element.relation, element.parts),
+            pattern,
         })?;
     }
     Ok(closed)

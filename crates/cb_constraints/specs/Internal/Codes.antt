@@ -88,7 +88,7 @@ module _ (value : Coded Value) (name : Coded (List ℕ)) (piece : Coded Piece) w
       (λ p. record { name = p.0.0; place = p.0.1; row = p.1 })
       (λ _. refl)
 
-  abbrev parts_code : Coded Parts
+  abbrev pub parts_code : Coded Parts
   parts_code = code_by PartsCases (coded⊎ row_code (coded_list slot_code)) parts_cases parts_from parts_back
 
   abbrev pub pattern_code : Coded PatternValue

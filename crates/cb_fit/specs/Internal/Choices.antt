@@ -1,12 +1,13 @@
 -- What a search for ways still has to try.
-use Rattle.std.specs.Prelude.{◌≡◌, ◌≤◌, ◌+◌, ◌-◌, ◌*◌, ◌^◌, ℕ, zero, suc, All, IsSomeAnd, true, List, [], ◌∷◌, ◌++◌, Option, Some, None, flat_map, length, map}
-use Rattle.cb_constraints.specs.Constraints.{constraint_of}
-use Rattle.cb_constraints.specs.PartValues.{asked_parts, asked_slot}
+use Rattle.std.specs.Prelude.{◌≡◌, ◌<◌, ◌≤◌, ◌+◌, ◌-◌, ◌*◌, ◌^◌, ℕ, zero, suc, IsSomeAnd, true, List, [], ◌∷◌, ◌++◌, Option, Some, None, flat_map, length, map, take}
+use Rattle.cb_constraints.specs.Constraints.{Constraint, constraint_of}
+use Rattle.cb_constraints.specs.PartValues.{asked_slot}
 use Rattle.cb_constraints.specs.PatternValues.{SlotValue}
 use Rattle.cb_constraints.specs.Rows.{before_segments, fields_wanted, segments_wanted}
+use Rattle.cb_cuts.specs.FieldLists.{row_fields}
 use Rattle.cb_facts.specs.declared.value.Value.{Value}
-use Rattle.cb_fit.specs.Internal.{Begun, begun_of, endings, may_take_slots, with_group}
-use Rattle.cb_fit.specs.Internal.FieldLists.{row_fields}
+use Rattle.cb_fit.specs.Internal.{Begun, begun_at, endings, may_take_slots, with_group}
+use Rattle.cb_fit.specs.Internal.Standing.{AreNext, IsAt}
 use Rattle.cb_fit.specs.WayValues.{way_of}
 use Rattle.cb_fit.specs.Ways.{Taken, WayValue, each_followed_by, numbers, way_with, ways_of_slots}
 use Rattle.cb_fit.specs.declared.choice.Choice as program
@@ -20,62 +21,100 @@ IsRest r = (before_segments (map constraint_of r.constraints.now) ≡ 0) × (r.w
 
 -- the ways that took these
 abbrev pub as_ways : program_search.Search → List Taken → List WayValue
-as_ways s ts = map (way_with (asked_parts s.parts.now) s.before.now) ts
+as_ways s ts = map (way_with s.body.now s.before.now) ts
 
 -- what the rows of slots make of these
 abbrev pub followed_by_rows : List SlotValue → List (List ℕ × Value) → List Taken → List Taken
 followed_by_rows rows slots ts = each_followed_by (ways_of_slots rows slots) ts
 
--- the beginnings with a segment that ends at a place, or at one of so many after it
-abbrev pub group_from : program.Choice → ℕ → ℕ → List Begun
-group_from c to count =
-    flat_map (with_group (constraint_of c.constraint.now) (map constraint_of c.ones.now) (begun_of (row_fields c.look.fields) c.begun)) (numbers (to - c.begun.at) count)
+-- the lengths before the segment of a choice, where a search keeps these
+abbrev pub cuts_before : program.Choice → List ℕ → List ℕ
+cuts_before c cuts = take c.number cuts
+
+-- the constraints of the row from that of the choice on
+abbrev pub constraints_from : program.Choice → List Constraint
+constraints_from c = constraint_of c.constraint.now ∷ (map constraint_of c.ones.now ++ map constraint_of c.rest.now)
+
+-- the beginnings with a segment that ends at a place, or at one of so many after it, where those lengths came before
+abbrev pub group_from : program_search.Search → List ℕ → program.Choice → ℕ → ℕ → List Begun
+group_from s before c to count =
+    flat_map (with_group (constraint_of c.constraint.now) (map constraint_of c.ones.now) (begun_at s (row_fields c.fields) before c.at)) (numbers (to - c.at) count)
 
 -- all that they become in the row
-abbrev pub choice_endings : program.Choice → List Taken
-choice_endings c = flat_map (endings (map constraint_of c.rest.constraints.now)) (group_from c c.to (c.last + 1 - c.to))
+abbrev pub choice_endings : program_search.Search → List ℕ → program.Choice → List Taken
+choice_endings s before c = flat_map (endings (map constraint_of c.rest.now)) (group_from s before c c.to (c.last + 1 - c.to))
 
 -- and with the rows of slots that follow
-abbrev pub choice_ways : List (List ℕ × Value) → program.Choice → List Taken
-choice_ways slots c = followed_by_rows (map asked_slot c.rows.now) slots (choice_endings c)
+abbrev pub choice_ways : program_search.Search → List ℕ → program.Choice → List Taken
+choice_ways s before c = followed_by_rows (map asked_slot c.rows.now) s.slots.now (choice_endings s before c)
 
--- the same, if there is a choice
-abbrev pub ways_if : List (List ℕ × Value) → Option program.Choice → List Taken
-ways_if slots None = []
-ways_if slots (Some c) = choice_ways slots c
+-- the same, if there is a choice, where a search keeps these lengths
+abbrev pub ways_if : program_search.Search → List ℕ → Option program.Choice → List Taken
+ways_if s cuts None = []
+ways_if s cuts (Some c) = choice_ways s (cuts_before c cuts) c
 
 -- the ways that are kept, and those that a choice becomes, if there is one
-abbrev pub kept_with : program_search.Search → List program_way.Way → Option program.Choice → List WayValue
-kept_with s kept next = map way_of kept ++ as_ways s (ways_if s.slots.now next)
+abbrev pub kept_with : program_search.Search → List ℕ → List program_way.Way → Option program.Choice → List WayValue
+kept_with s cuts kept next = map way_of kept ++ as_ways s (ways_if s cuts next)
 
 -- all that becomes of a choice where its segment ends after a place
-abbrev pub ways_after : List (List ℕ × Value) → program.Choice → ℕ → List Taken
-ways_after slots c to = followed_by_rows (map asked_slot c.rows.now) slots (flat_map (endings (map constraint_of c.rest.constraints.now)) (group_from c (to + 1) (c.last - to)))
+abbrev pub ways_after : program_search.Search → List ℕ → program.Choice → ℕ → List Taken
+ways_after s before c to = followed_by_rows (map asked_slot c.rows.now) s.slots.now (flat_map (endings (map constraint_of c.rest.now)) (group_from s before c (to + 1) (c.last - to)))
 
 -- all that choices become, of which the last is taken up first
-abbrev pub ways_left : List (List ℕ × Value) → List (Option program.Choice) → List Taken
-ways_left slots [] = []
-ways_left slots (c ∷ cs) = ways_left slots cs ++ ways_if slots c
+abbrev pub ways_left : program_search.Search → List ℕ → List (Option program.Choice) → List Taken
+ways_left s cuts [] = []
+ways_left s cuts (c ∷ cs) = ways_left s cuts cs ++ ways_if s cuts c
 
 -- a choice is as it was opened, or has fewer places left; where no other segment follows, it has one place, after which the
 -- constraints for one field take all fields that are left
 pub record IsChoice (c : program.Choice) : Type 0 where
   pub segment : (constraint_of c.constraint.now).segment ≡ true
   pub ones : segments_wanted (map constraint_of c.ones.now) ≡ 0
-  pub rest : IsRest c.rest
-  pub begun : c.begun.at ≤ c.to
+  pub rest : before_segments (map constraint_of c.rest.now) ≡ 0
+  pub wanted : c.wanted ≡ fields_wanted (map constraint_of c.rest.now)
+  pub begun : c.at ≤ c.to
   pub order : c.to ≤ c.last
-  pub within : c.last ≤ length (row_fields c.look.fields)
-  pub alone : c.rest.constraints.now ≡ [] → c.to ≡ c.last
-  pub ended : c.rest.constraints.now ≡ [] → c.last + length c.ones.now ≡ length (row_fields c.look.fields)
+  pub within : c.last + length c.ones.now ≤ length (row_fields c.fields)
+  pub room : c.last + length c.ones.now < 2 ^ 64
+  pub alone : c.rest.now ≡ [] → c.to ≡ c.last
+  pub ended : c.rest.now ≡ [] → c.last + length c.ones.now ≡ length (row_fields c.fields)
+
+-- its constraint is the one that comes after those lengths, and its rows come after the row
+pub record IsIn (s : program_search.Search) (before : List ℕ) (c : program.Choice) : Type 0 where
+  pub number : c.number ≡ length before
+  pub place : IsAt s (row_fields c.fields) before c.at (constraints_from c)
+  pub next : AreNext s (length before + length (constraints_from c)) (map asked_slot c.rows.now)
 
 -- and the rows that follow it may take the fields of their slots
-abbrev pub IsOpen : List (List ℕ × Value) → program.Choice → Type 0
-IsOpen slots c = IsChoice c × (may_take_slots (map asked_slot c.rows.now) slots ≡ true)
+pub record IsOpen (s : program_search.Search) (cuts : List ℕ) (c : program.Choice) : Type 0 where
+  pub choice : IsChoice c
+  pub inside : IsIn s (cuts_before c cuts) c
+  pub rows : may_take_slots (map asked_slot c.rows.now) s.slots.now ≡ true
 
--- each of them is so
-abbrev pub AreOpen : List (List ℕ × Value) → List (Option program.Choice) → Type 0
-AreOpen slots cs = All (λ c. IsSomeAnd c (IsOpen slots)) cs
+-- the number of the constraint of a choice, if there is one
+abbrev pub constraint_number : Option program.Choice → ℕ
+constraint_number None = 0
+constraint_number (Some c) = c.number
+
+-- each has its constraint after so many at least
+abbrev pub AreFrom : ℕ → List (Option program.Choice) → Type 0
+AreFrom n [] = Unit {0}
+AreFrom n (c ∷ cs) = (n ≤ constraint_number c) × AreFrom n cs
+
+-- and after so many at most
+abbrev pub AreUpTo : ℕ → List (Option program.Choice) → Type 0
+AreUpTo n [] = Unit {0}
+AreUpTo n (c ∷ cs) = (constraint_number c ≤ n) × AreUpTo n cs
+
+-- each of them is so, and those that were opened later stand no earlier in the pattern
+abbrev pub AreOpen : program_search.Search → List ℕ → List (Option program.Choice) → Type 0
+AreOpen s cuts [] = Unit {0}
+AreOpen s cuts (c ∷ cs) = IsSomeAnd c (IsOpen s cuts) × AreFrom (constraint_number c) cs × AreOpen s cuts cs
+
+-- the first so many lengths stayed as they were
+abbrev pub KeepsFirst : ℕ → List ℕ → List ℕ → Type 0
+KeepsFirst n old new = (take n new ≡ take n old) × (n ≤ length new)
 
 -- how many constraints for a segment are in these rows
 abbrev pub segments_in : List SlotValue → ℕ
@@ -89,11 +128,11 @@ most_tries (suc more) = 2 ^ 64 * suc (most_tries more)
 
 -- nor than this after an end of a choice's segment
 abbrev pub tries_after : program.Choice → ℕ → ℕ
-tries_after c to = (c.last - to) * suc (most_tries (segments_wanted (map constraint_of c.rest.constraints.now) + segments_in (map asked_slot c.rows.now)))
+tries_after c to = (c.last - to) * suc (most_tries (segments_wanted (map constraint_of c.rest.now) + segments_in (map asked_slot c.rows.now)))
 
 -- nor than this for a choice
 abbrev pub tries : program.Choice → ℕ
-tries c = (c.last + 1 - c.to) * suc (most_tries (segments_wanted (map constraint_of c.rest.constraints.now) + segments_in (map asked_slot c.rows.now)))
+tries c = (c.last + 1 - c.to) * suc (most_tries (segments_wanted (map constraint_of c.rest.now) + segments_in (map asked_slot c.rows.now)))
 
 -- the same, if there is a choice
 abbrev pub tries_if : Option program.Choice → ℕ

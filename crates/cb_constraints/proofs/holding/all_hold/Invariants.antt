@@ -5,6 +5,6 @@ use Rattle.cb_constraints.specs.Holding.{check_holds, tested_value}
 use Rattle.cb_constraints.proofs.holding.all_hold.Given as goal
 
 abbrev pub invariant-loop-check : goal.invariant-loop-check
-invariant-loop-check l =
-    list_all (check_holds (tested_value l.tested) l.env) (map check_of (drop l.check-index l.checks))
-    ≡ list_all (check_holds (tested_value l.tested) l.env) (map check_of l.checks)
+invariant-loop-check g l =
+    list_all (check_holds (tested_value l.tested) (g.B.Bound.before l.bound l.at)) (map check_of (drop l.check-index l.checks))
+    ≡ list_all (check_holds (tested_value l.tested) (g.B.Bound.before l.bound l.at)) (map check_of l.checks)

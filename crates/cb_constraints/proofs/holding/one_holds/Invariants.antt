@@ -4,6 +4,6 @@ use Rattle.cb_constraints.specs.Holding.{one_holds, tested_value}
 use Rattle.cb_constraints.proofs.holding.one_holds.Given as goal
 
 abbrev pub invariant-loop-alternative : goal.invariant-loop-alternative
-invariant-loop-alternative l =
-    one_holds (map (λ cs. map check_of cs.items) (drop l.alternative-index l.alternatives)) (tested_value l.tested) l.env
-    ≡ one_holds (map (λ cs. map check_of cs.items) l.alternatives) (tested_value l.tested) l.env
+invariant-loop-alternative g l =
+    one_holds (map (λ cs. map check_of cs.items) (drop l.alternative-index l.alternatives)) (tested_value l.tested) (g.B.Bound.before l.bound l.at)
+    ≡ one_holds (map (λ cs. map check_of cs.items) l.alternatives) (tested_value l.tested) (g.B.Bound.before l.bound l.at)

@@ -1,9 +1,15 @@
 use Rattle.std.proofs.Common.{◌≡◌, ◌∙◌, ◌++◌, ◌∷◌, [], ap, map, rules, sym}
 use Rattle.std.proofs.lemmas.List.{append-nil}
-use Rattle.cb_fit.proofs.Choices.{last-tries, last-ways}
+use Rattle.cb_fit.proofs.Choices.{last-tries, last-ways, taken-up}
 use Rattle.cb_fit.specs.Internal.Choices.{as_ways, ways_left}
 use Rattle.cb_fit.specs.WayValues.{way_of}
 use Rattle.cb_fit.proofs.search.Search.run_from.Goals as goal
+
+pub step-requires : goal.step-requires
+step-requires c =
+    let last : c.loop-next.choices.items ≡ c.pop.new.self.items ++ c.in-Some.next ∷ [] = search rules in
+    let up = taken-up c.args.self c.loop-next.cuts c.loop-next.choices.items c.pop.new.self.items c.in-Some.next last c.loop-next.invariant.0 in
+    record { choice = up.choice; «open» = up.others; order = up.order }
 
 pub loop-next-smaller : goal.loop-next-smaller
 loop-next-smaller c =
@@ -15,11 +21,11 @@ loop-next-preserved c =
     let last : c.loop-next.choices.items ≡ c.pop.new.self.items ++ c.in-Some.next ∷ [] = search rules in (
       c.in_ok-step.ensures.open,
       c.in_ok-step.ensures.ways
-          ∙ (ap (λ xs. map way_of c.loop-next.kept.items ++ as_ways c.args.self xs) (last-ways c.args.self.slots.now c.loop-next.choices.items c.pop.new.self.items c.in-Some.next last)
+          ∙ (ap (λ xs. map way_of c.loop-next.kept.items ++ as_ways c.args.self xs) (last-ways c.args.self c.loop-next.cuts c.loop-next.choices.items c.pop.new.self.items c.in-Some.next last)
           ∙ c.loop-next.invariant.1),
     )
 
 pub returns : goal.returns
 returns c =
     let none : c.loop-next.choices.items ≡ [] = search rules in
-    sym (ap (λ cs. map way_of c.loop-next.kept.items ++ as_ways c.args.self (ways_left c.args.self.slots.now cs)) none ∙ append-nil (map way_of c.loop-next.kept.items)) ∙ c.loop-next.invariant.1
+    sym (ap (λ cs. map way_of c.loop-next.kept.items ++ as_ways c.args.self (ways_left c.args.self c.loop-next.cuts cs)) none ∙ append-nil (map way_of c.loop-next.kept.items)) ∙ c.loop-next.invariant.1

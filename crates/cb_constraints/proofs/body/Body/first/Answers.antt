@@ -1,0 +1,19 @@
+use Rattle.std.proofs.Common.{◌∙◌, ap}
+use Rattle.std.specs.List.{slice_get}
+use Rattle.std.specs.Map.{lookup}
+use Rattle.std.specs.Option.{option_and_then, option_map}
+use Rattle.std.specs.Str.{bytes_eq}
+use Rattle.cb_constraints.specs.Binders.{constraints_in, first_place, places}
+use Rattle.cb_constraints.specs.PartValues.{asked_parts}
+use Rattle.cb_constraints.proofs.PlaceLaws.{found, looked_up}
+use Rattle.cb_constraints.proofs.body.Body.first.Goals as goal
+use Rattle.cb_templates.specs.Places.{place_in}
+
+pub returns : goal.returns
+returns c =
+    c.find_place.ensures
+    ∙ (ap (λ es. option_and_then (λ i. option_map (λ e. e.1) (slice_get es i)) (place_in c.self.inside.table.names c.args.name.now)) c.as_slice.ensures.value
+    ∙ (found c.args.name.now c.self.inside.table.names c.self.inside.table.variables.items c.self.invariant.0
+    ∙ (ap (lookup (bytes_eq c.args.name.now)) c.self.invariant.1
+    ∙ (looked_up c.args.name.now (places 0 (constraints_in (asked_parts c.self.inside.parts)))
+    ∙ ap (λ p. first_place c.args.name.now (constraints_in p)) c.self.view_is))))

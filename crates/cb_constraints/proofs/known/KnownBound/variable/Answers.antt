@@ -1,0 +1,23 @@
+use Rattle.std.proofs.Common.{◌≡◌, ◌∙◌, None, Some, ap, rules, sym}
+use Rattle.std.proofs.lemmas.Result.{IfOk-weaker}
+use Rattle.cb_constraints.specs.Binders.{constraints_in, first_place}
+use Rattle.cb_constraints.specs.Holding.{tested_value}
+use Rattle.cb_constraints.specs.Known.{taken_if}
+use Rattle.cb_constraints.proofs.KnownLaws.{found_at_place, found_before}
+use Rattle.cb_constraints.proofs.known.KnownBound.variable.Goals as goal
+use Rattle.cb_exprs.specs.Bindings.{value_at}
+
+pub returns-in-Some : goal.returns-in-Some
+returns-in-Some g c =
+    let had : value_at c.args.name.now c.args.self.now.before.now.variables ≡ Some c.in_ok-clone.field-0 = search rules in
+    sym (found_before c.args.name.now (constraints_in c.args.self.now.body.now) (g.V.Took.values c.args.self.now.took.now) (tested_value c.args.self.now.tested) c.args.self.now.before.now c.args.check c.in_ok-clone.field-0 had)
+
+pub returns : goal.returns
+returns g c =
+    let none : value_at c.args.name.now c.args.self.now.before.now.variables ≡ None = search rules in
+    let place : c.first.result ≡ first_place c.args.name.now (constraints_in c.args.self.now.body.now) = search rules in
+    IfOk-weaker c.value_at_place.result _ _
+    (λ found is. is
+    ∙ (ap (λ p. taken_if (g.V.Took.values c.args.self.now.took.now) (tested_value c.args.self.now.tested) c.args.check p) place
+    ∙ sym (found_at_place c.args.name.now (constraints_in c.args.self.now.body.now) (g.V.Took.values c.args.self.now.took.now) (tested_value c.args.self.now.tested) c.args.self.now.before.now c.args.check none)))
+    c.value_at_place.ensures

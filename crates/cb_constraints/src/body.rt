@@ -1,0 +1,121 @@
+//! What a pattern asks, with the places of its variables.
+ghost use Rattle.std.specs.Prelude.{◌≡◌, IfOk, map, slice_get};
+ghost use Rattle.std.specs.Option.{option_and_then, option_map};
+ghost use Rattle.cb_constraints.specs.Binders.{constraints_in, first_place, places, sites_in};
+ghost use Rattle.cb_constraints.specs.Internal.{HasTable};
+ghost use Rattle.cb_constraints.specs.Internal.Tables.{first_places};
+ghost use Rattle.cb_constraints.specs.PartValues.{asked_parts, asked_slot};
+ghost use Rattle.cb_constraints.specs.PatternValues.{fields, slots};
+ghost use Rattle.cb_templates.specs.Places.{place_in};
+
+use crate::parts::{Parts, SlotRow};
+use crate::place::Place;
+use crate::row::Row;
+use crate::site::Site;
+use crate::table::Table;
+use cb_facts::Name;
+use cb_forms::NoMemory;
+use cb_templates::Places;
+use std::alloc::Global;
+use std::marker::Model;
+
+/// What a pattern asks of the content of a fact, with the places where its variables may first take values and the sites of its
+/// constraints.
+///
+/// Contracts see what it asks.
+#[derive(Drop)]
+pub struct Body {
+    parts: Parts,
+    table: Table,
+}
+
+impl Model for Body {
+    ghost use Rattle.cb_constraints.specs.Internal.Codes.{parts_code};
+    ghost use Rattle.cb_constraints.specs.PatternValues.{Parts as Asked};
+    ghost use Rattle.cb_constraints.specs.PartValues.{asked_parts};
+    ghost use Rattle.cb_constraints.specs.Internal.{HasTable};
+    ghost use Rattle.std.specs.Coded.{codes};
+
+    ghost Value = { Asked };
+
+    ghost coded = { parts_code (Prim.hlevel codes) (Prim.hlevel codes) (Prim.hlevel codes) };
+
+    ghost view = { λ b. asked_parts b.parts };
+
+    ghost invariant = { λ b. HasTable b.table (asked_parts b.parts) };
+}
+
+impl Body {
+    /// A body that asks this. Growth is refused as `NoMemory`.
+    pub fn new(alloc: Global, parts: Parts) -> Result<Body, NoMemory>
+        ensures { IfOk result (λ b. b ≡ asked_parts parts) }
+    {
+        let table = make_table(alloc, &parts)?;
+        Ok(Body { parts, table })
+    }
+
+    /// What it asks.
+    pub fn parts(&self) -> &Parts
+        ensures { asked_parts result.now ≡ self.now }
+    {
+        &self.parts
+    }
+
+    /// Where a variable may first take a value, or `None` where none of its occurrences gives it one.
+    pub fn first(&self, name: &Name) -> Option<Place>
+        ensures { result ≡ first_place name.now (constraints_in self.now) }
+    {
+        find_place(&self.table.names, self.table.variables.as_slice(), name)
+    }
+
+    /// The variables that may take a value, each once with its first place, in the order in which they are written.
+    pub(crate) fn variables(&self) -> &[(Name, Place)]
+        ensures { result.now ≡ first_places (places 0 (constraints_in self.now)) }
+    {
+        self.table.variables.as_slice()
+    }
+
+    /// Where the constraint with this number stands, or `None` after the last.
+    pub fn site(&self, constraint: usize) -> Option<Site>
+        ensures { result ≡ slice_get (sites_in self.now) constraint }
+    {
+        self.table.sites.get(constraint).copied()
+    }
+}
+
+/// The table of what a pattern asks.
+fn make_table(alloc: Global, parts: &Parts) -> Result<Table, NoMemory>
+    ensures { IfOk result (λ t. HasTable t (asked_parts parts.now)) }
+{
+    match parts {
+        Parts::Fields(row) => table_of_row(alloc, row),
+        Parts::Slots(rows) => table_of_rows(alloc, rows.as_slice()),
+    }
+}
+
+/// That of an ordered pattern.
+fn table_of_row(alloc: Global, row: &Row) -> Result<Table, NoMemory>
+    ensures { IfOk result (λ t. HasTable t (fields row.now)) }
+{
+    let mut table = Table::new(alloc);
+    table.add_row(row.constraints(), 0)?;
+    Ok(table)
+}
+
+/// That of a pattern for the facts of a template.
+fn table_of_rows(alloc: Global, rows: &[SlotRow]) -> Result<Table, NoMemory>
+    ensures { IfOk result (λ t. HasTable t (slots (map asked_slot rows.now))) }
+{
+    let mut table = Table::new(alloc);
+    table.add_rows(rows)?;
+    Ok(table)
+}
+
+/// The place of the variable with the number of a name.
+fn find_place(names: &Places, variables: &[(Name, Place)], name: &Name) -> Option<Place>
+    ensures { result ≡ option_and_then (λ i. option_map (λ e. e.1) (slice_get variables.now i))
+        (place_in names.now name.now) }
+{
+    let at = names.find(name)?;
+    variables.get(at).map(|variable| variable.1)
+}

@@ -1,0 +1,57 @@
+//! The variables to which a way gives values.
+ghost use Rattle.std.specs.Prelude.{◌≡◌, ◌<◌, ◌≤◌, ◌++◌, IfOk, OnOk, length, slice_get};
+ghost use Rattle.cb_constraints.specs.Binders.{constraints_in};
+ghost use Rattle.cb_constraints.specs.Bound.{given_if, newly_bound};
+ghost use Rattle.cb_constraints.specs.Known.{bindings_after};
+ghost use Rattle.cb_exprs.specs.Bindings.{value_at};
+
+use crate::body::Body;
+use crate::known::Took;
+use crate::place::Place;
+use cb_exprs::Env;
+use cb_facts::{Name, Value};
+use cb_forms::NoMemory;
+use std::alloc::Global;
+
+/// The variables that had no value before a pattern and take one by it, each once, in the order in which the pattern first names
+/// them, with the values that its constraints took.
+///
+/// Growth is refused as `NoMemory`, and so is a count of sharers that is full.
+pub fn newly_bound<V: Took>(
+    alloc: Global,
+    body: &Body,
+    before: &Env,
+    took: &V,
+) -> Result<Vec<(Name, Value)>, NoMemory>
+    requires { length (constraints_in body.now) ≤ length (V.values took.now) }
+    ensures { IfOk result (λ bound. bound.items ≡ newly_bound body.now before.now
+        (bindings_after (constraints_in body.now) (V.values took.now) before.now)) }
+{
+    let variables = body.variables();
+    let mut bound = Vec::new(alloc);
+    for (name, place) in variables {
+        give(&mut bound, name, *place, before, took)?;
+    }
+    Ok(bound)
+}
+
+/// Adds a variable with the value that was taken at its place, if it had none before.
+fn give<V: Took>(
+    bound: &mut Vec<(Name, Value)>,
+    name: &Name,
+    place: Place,
+    before: &Env,
+    took: &V,
+) -> Result<(), NoMemory>
+    requires { place.constraint < length (V.values took.now) }
+    ensures { OnOk result (bound.new.items ≡ bound.old.items
+        ++ given_if name.now (value_at name.now before.now.variables)
+        (slice_get (V.values took.now) place.constraint)) }
+{
+    if before.get(name).is_some() {
+        return Ok(());
+    }
+    let value = took.value(place.constraint)?;
+    bound.push((name.clone()?, value))?;
+    Ok(())
+}

@@ -1,0 +1,7 @@
+mod Alone
+mod CutLaws
+mod FrontLaws
+mod LengthLaws
+mod PartLaws
+mod SpanLaws
+mod ValueLaws

@@ -1,0 +1,4 @@
+pub mod FieldLists
+pub mod Lemmas
+pub mod Lengths
+pub mod Values
