@@ -1,7 +1,8 @@
 -- What was added to an empty table is all that it has.
 use Rattle.std.proofs.Common.{◌≡◌, ◌∙◌, ◌++◌, ℕ, List, [], ap, length}
 use Rattle.cb_constraints.proofs.PlaceLaws.{all_added}
-use Rattle.cb_constraints.specs.Binders.{constraints_in, places, sites_from, sites_in, sites_of}
+use Rattle.cb_constraints.specs.Binders.{constraints_in}
+use Rattle.cb_constraints.specs.Internal.Places.{places, sites_from, sites_in, sites_of}
 use Rattle.cb_constraints.specs.Constraints.{Constraint}
 use Rattle.cb_constraints.specs.Internal.{HasTable}
 use Rattle.cb_constraints.specs.Internal.Tables.{Grows, with_places}

@@ -7,11 +7,12 @@ use Rattle.std.specs.List.{list_any, slice_get}
 use Rattle.std.specs.Map.{lookup}
 use Rattle.std.specs.Option.{option_map, option_map_or, option_or}
 use Rattle.std.specs.Str.{bytes_eq}
-use Rattle.cb_constraints.specs.Binders.{binder, binders, binders_in, binders_of, constraints_in, first_place, places, places_for, places_of}
+use Rattle.cb_constraints.specs.Binders.{binder, binders, binders_in, binders_of, constraints_in}
+use Rattle.cb_constraints.specs.Internal.Places.{first_place, places, places_for, places_of}
 use Rattle.cb_constraints.specs.Bound.{binders_in_parts, each_once, given, given_if, newly_bound}
 use Rattle.cb_constraints.specs.Constraints.{Check, Demand, nothing, each, either, Constraint}
 use Rattle.cb_constraints.specs.Internal.Tables.{first_places}
-use Rattle.cb_constraints.specs.Known.{given_to_all, bindings_after, bindings_before, taken_if}
+use Rattle.cb_constraints.specs.Internal.Known.{given_to_all, bindings_after, bindings_before, taken_if}
 use Rattle.cb_constraints.specs.PatternValues.{Parts, fields, slots, SlotValue}
 use Rattle.cb_constraints.specs.declared.place.Place.{Place}
 use Rattle.cb_constraints.proofs.KnownLaws.{after-one, found_at_place, if-so, look-both, look-names, next-places}

@@ -7,9 +7,10 @@ use Rattle.std.specs.List.{list_any}
 use Rattle.std.specs.Map.{lookup}
 use Rattle.std.specs.Option.{option_map, option_map_or, option_or}
 use Rattle.std.specs.Str.{bytes_eq}
-use Rattle.cb_constraints.specs.Binders.{binder, binders, binders_before, binders_of, first_place, places, places_for, places_of}
+use Rattle.cb_constraints.specs.Binders.{binder, binders, binders_of}
+use Rattle.cb_constraints.specs.Internal.Places.{binders_before, first_place, places, places_for, places_of}
 use Rattle.cb_constraints.specs.Constraints.{Check, Demand, nothing, each, either, Constraint}
-use Rattle.cb_constraints.specs.Known.{given_to, given_to_all, bindings_before, taken_at, taken_if}
+use Rattle.cb_constraints.specs.Internal.Known.{given_to, given_to_all, bindings_before, taken_at, taken_if}
 use Rattle.cb_constraints.specs.declared.place.Place.{Place}
 use Rattle.cb_exprs.specs.Bindings.{Bindings, value_at, with_variable}
 use Rattle.cb_exprs.specs.contracts.cited.LawsCited.TheImpl as exprs_laws

@@ -1,44 +1,44 @@
 -- A test with `~` holds where the test alone doesn't.
-use Rattle.std.proofs.Common.{◌≡◌, ◌∙◌, Bool, true, false, [], None, Some, ap, not, refl, sym}
-use Rattle.std.specs.Option.{option_and_then, option_map_or}
+use Rattle.std.proofs.Common.{◌≡◌, ◌∙◌, Bool, true, false, [], None, Option, Some, ap, not, refl, sym}
+use Rattle.std.specs.Option.{is_some, option_and_then}
 use Rattle.cb_constraints.specs.Constraints.{Test, constant, variable, predicate, return_value}
-use Rattle.cb_constraints.specs.Holding.{after_checks, after_demand, provided, test_holds}
-use Rattle.cb_constraints.specs.Laws.{TakesNoValue, only, opposite, plain}
-use Rattle.cb_exprs.specs.Bindings.{Bindings, with_variable}
+use Rattle.cb_constraints.specs.Holding.{after_checks, after_demand, after_test, provided, test_holds}
+use Rattle.cb_constraints.specs.Laws.{only, opposite, plain}
+use Rattle.cb_constraints.specs.Lemmas.{held_if_some}
+use Rattle.cb_exprs.specs.Bindings.{Bindings}
 use Rattle.cb_facts.specs.declared.value.Value.{Value}
-use Rattle.cb_functions.specs.Comparison.{same}
 
--- the test alone, where it takes no value
-alone : (t : Test) (v : Value) (env : Bindings) → TakesNoValue t env → after_demand (only (plain t)) v env ≡ option_and_then (after_checks [] v) (provided (test_holds t v env) env)
-alone (constant w) v env h = refl
-alone (variable x) v env (w, e) =
-    ap (λ o. option_and_then (after_checks [] v) (option_map_or (λ u. provided (same v u) env) o (Some (with_variable x v env)))) e
-    ∙ sym (ap (λ o. option_and_then (after_checks [] v) (provided (option_map_or (same v) o false) env)) e)
-alone (predicate t) v env h = refl
-alone (return_value t) v env h = refl
+-- what is left where no check follows
+none-follows : (o : Option Bindings) (v : Value) → option_and_then (after_checks [] v) o ≡ o
+none-follows None v = refl
+none-follows (Some env) v = refl
 
-none-if : (b : Bool) (v : Value) (env : Bindings) → option_and_then (after_checks [] v) (provided b env) ≡ None → option_and_then (after_checks [] v) (provided (not b) env) ≡ Some env
-none-if true v env e = absurd (apart e)
+none-held : (o : Option Bindings) (b : Bool) → is_some o ≡ b → o ≡ None → b ≡ false
+none-held None b is e = sym is
+none-held (Some env) b is e = absurd (apart e)
   where
     apart : Some env ≡ None → ⊥
     apart d = cc
-none-if false v env e = refl
 
-some-if : (b : Bool) (v : Value) (env grown : Bindings) → option_and_then (after_checks [] v) (provided b env) ≡ Some grown → option_and_then (after_checks [] v) (provided (not b) env) ≡ None
-some-if true v env grown e = refl
-some-if false v env grown e = absurd (apart e)
+some-held : (o : Option Bindings) (b : Bool) (grown : Bindings) → is_some o ≡ b → o ≡ Some grown → b ≡ true
+some-held None b grown is e = absurd (apart e)
   where
     apart : None ≡ Some grown → ⊥
     apart d = cc
+some-held (Some env) b grown is e = sym is
 
-with-tilde : (t : Test) (v : Value) (env : Bindings) → after_demand (only (opposite t)) v env ≡ option_and_then (after_checks [] v) (provided (not (test_holds t v env)) env)
-with-tilde (constant w) v env = refl
-with-tilde (variable x) v env = refl
-with-tilde (predicate t) v env = refl
-with-tilde (return_value t) v env = refl
+with-tilde : (t : Test) (v : Value) (env : Bindings) → after_demand (only (opposite t)) v env ≡ provided (not (test_holds t v env)) env
+with-tilde (constant w) v env = none-follows (provided (not (test_holds (constant w) v env)) env) v
+with-tilde (variable x) v env = none-follows (provided (not (test_holds (variable x) v env)) env) v
+with-tilde (predicate e) v env = none-follows (provided (not (test_holds (predicate e) v env)) env) v
+with-tilde (return_value e) v env = none-follows (provided (not (test_holds (return_value e) v env)) env) v
 
-pub opposite-holds : (t : Test) (v : Value) (env : Bindings) → TakesNoValue t env → after_demand (only (plain t)) v env ≡ None → after_demand (only (opposite t)) v env ≡ Some env
-opposite-holds t v env h e = with-tilde t v env ∙ none-if (test_holds t v env) v env (sym (alone t v env h) ∙ e)
+pub opposite-holds : (t : Test) (v : Value) (env : Bindings) → after_demand (only (plain t)) v env ≡ None → after_demand (only (opposite t)) v env ≡ Some env
+opposite-holds t v env e =
+    let fails = none-held (after_test false t v env) (test_holds t v env) (held_if_some (plain t) v env) (sym (none-follows (after_test false t v env) v) ∙ e) in
+    with-tilde t v env ∙ ap (λ b. provided (not b) env) fails
 
-pub opposite-fails : (t : Test) (v : Value) (env grown : Bindings) → TakesNoValue t env → after_demand (only (plain t)) v env ≡ Some grown → after_demand (only (opposite t)) v env ≡ None
-opposite-fails t v env grown h e = with-tilde t v env ∙ some-if (test_holds t v env) v env grown (sym (alone t v env h) ∙ e)
+pub opposite-fails : (t : Test) (v : Value) (env grown : Bindings) → after_demand (only (plain t)) v env ≡ Some grown → after_demand (only (opposite t)) v env ≡ None
+opposite-fails t v env grown e =
+    let holds = some-held (after_test false t v env) (test_holds t v env) grown (held_if_some (plain t) v env) (sym (none-follows (after_test false t v env) v) ∙ e) in
+    with-tilde t v env ∙ ap (λ b. provided (not b) env) holds

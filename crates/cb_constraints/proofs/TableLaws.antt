@@ -1,7 +1,7 @@
 -- The table of a pattern's variables grows by one constraint after another.
 use Rattle.std.proofs.Common.{arith, ◌≡◌, ◌∙◌, ◌++◌, ◌∷◌, ◌+◌, ℕ, suc, List, [], ap, length, map, refl, sym}
 use Rattle.std.proofs.lemmas.List.{append-nil, append_assoc, length-append, length-map}
-use Rattle.cb_constraints.specs.Binders.{places, places_for, sites_of}
+use Rattle.cb_constraints.specs.Internal.Places.{places, places_for, sites_of}
 use Rattle.cb_constraints.specs.Constraints.{Constraint}
 use Rattle.cb_constraints.proofs.PlaceLaws.{with_both}
 use Rattle.cb_constraints.specs.Internal.Tables.{Going, Grows, IsNamed, with_places}

@@ -1,6 +1,6 @@
 -- The value at a place, by the number of the place's constraint.
 use Rattle.std.proofs.Common.{arith, ◌≡◌, ◌<◌, ℕ, zero, suc, List, [], ◌∷◌, None, Some, length, nat_lt, refl, slice_index_or, if◌then◌else◌}
-use Rattle.cb_constraints.specs.Known.{taken_at}
+use Rattle.cb_constraints.specs.Internal.Known.{taken_at}
 use Rattle.cb_facts.specs.declared.value.Value.{Value}
 
 pub taken_before : (vs : List Value) (v : Value) (i m k : ℕ) (d : Value) → m < length vs → taken_at vs v i m k ≡ Some (slice_index_or vs m d)

@@ -1,11 +1,7 @@
--- Which variables constraints may give a value, and where they first do.
-use Rattle.std.specs.Prelude.{◌+◌, ℕ, suc, length, Bool, false, List, [], ◌∷◌, ◌++◌, Option, Some, None, flat_map, map, take}
-use Rattle.std.specs.Map.{lookup}
-use Rattle.std.specs.Str.{bytes_eq}
+-- Which variables constraints may give a value.
+use Rattle.std.specs.Prelude.{ℕ, Bool, false, List, [], ◌∷◌, Some, None, flat_map}
 use Rattle.cb_constraints.specs.Constraints.{Test, variable, Check, Demand, nothing, each, either, Constraint}
 use Rattle.cb_constraints.specs.PatternValues.{Parts, fields, slots, SlotValue}
-use Rattle.cb_constraints.specs.declared.place.Place.{Place}
-use Rattle.cb_constraints.specs.declared.site.Site.{Site}
 
 -- the variable that a check without `~` may give a value
 abbrev pub binder : Bool → Test → List (List ℕ)
@@ -29,44 +25,3 @@ binders_in cs = flat_map (λ c. binders c.demand) cs
 abbrev pub constraints_in : Parts → List Constraint
 constraints_in (fields row) = row
 constraints_in (slots rows) = flat_map (λ s. s.row) rows
-
--- the variables that the checks before the one with this number may give a value
-abbrev pub binders_before : ℕ → Demand → List (List ℕ)
-binders_before i nothing = []
-binders_before i (each cs) = binders_of (take i cs)
-binders_before i (either None alternatives) = []
-binders_before i (either (Some x) alternatives) = take i (x ∷ [])
-
--- the variables that checks may give a value, each with its place: the number of the constraint and that of the check
-abbrev pub places_of : ℕ → ℕ → List Check → List (List ℕ × Place)
-places_of n k [] = []
-places_of n k (c ∷ cs) = map (λ x. (x, record { constraint = n; check = k })) (binder c.negated c.test) ++ places_of n (suc k) cs
-
-abbrev pub places_for : ℕ → Demand → List (List ℕ × Place)
-places_for n nothing = []
-places_for n (each cs) = places_of n 0 cs
-places_for n (either None alternatives) = []
-places_for n (either (Some x) alternatives) = (x, record { constraint = n; check = 0 }) ∷ []
-
--- the same of constraints, of which the first has this number
-abbrev pub places : ℕ → List Constraint → List (List ℕ × Place)
-places n [] = []
-places n (c ∷ cs) = places_for n c.demand ++ places (suc n) cs
-
--- where a variable may first take a value
-abbrev pub first_place : List ℕ → List Constraint → Option Place
-first_place x cs = lookup (bytes_eq x) (places 0 cs)
-
--- where the constraints of a row stand, which has this number and begins at this constraint
-abbrev pub sites_of : ℕ → ℕ → List Constraint → List Site
-sites_of r n cs = map (λ c. record { row = r; start = n; takes_segment = c.segment }) cs
-
--- the same of rows one after another
-abbrev pub sites_from : ℕ → ℕ → List SlotValue → List Site
-sites_from r n [] = []
-sites_from r n (s ∷ ss) = sites_of r n s.row ++ sites_from (suc r) (n + length s.row) ss
-
--- where the constraints of a pattern stand
-abbrev pub sites_in : Parts → List Site
-sites_in (fields row) = sites_of 0 0 row
-sites_in (slots rows) = sites_from 0 0 rows

@@ -23,10 +23,10 @@ abbrev pub value_if_any : Result Value Fault → Option Value
 value_if_any (Ok v) = Some v
 value_if_any (Err f) = None
 
--- what is asked of the value holds, where variables have these values
+-- what is asked of the value holds, where variables have these values; one for a variable without a value holds of any
 abbrev pub test_holds : Test → Value → Bindings → Bool
 test_holds (constant w) v env = same v w
-test_holds (variable x) v env = option_map_or (same v) (value_at x env.variables) false
+test_holds (variable x) v env = option_map_or (same v) (value_at x env.variables) true
 test_holds (predicate e) v env = option_map_or is_true (value_if_any (value_of e env)) false
 test_holds (return_value e) v env = option_map_or (same v) (value_if_any (value_of e env)) false
 
@@ -110,7 +110,7 @@ Follows before (each cs) v = FollowFrom before 0 cs v
 Follows before (either None alternatives) v = Unit {0}
 Follows before (either (Some x) alternatives) v = IfSome (after_variable x v (before 0)) (λ grown. before 1 ≡ grown)
 
--- how many checks of a constraint may give a variable a value: those joined by `&`, or the variable that is set apart
+-- how many checks see what those before them gave: those joined by `&`, or the variable that is set apart before alternatives
 abbrev pub checks_in : Demand → ℕ
 checks_in nothing = 0
 checks_in (each cs) = length cs

@@ -1,9 +1,12 @@
--- What only the code needs: which constants stand among checks.
+-- What only the code needs: which constants stand among checks, and what the table of a pattern has.
 pub mod Codes
+pub mod Known
+pub mod Places
 pub mod Tables
 use Rattle.std.specs.Prelude.{◌≡◌, Bool, List}
 use Rattle.std.specs.List.{list_all}
-use Rattle.cb_constraints.specs.Binders.{constraints_in, places, sites_in}
+use Rattle.cb_constraints.specs.Binders.{constraints_in}
+use Rattle.cb_constraints.specs.Internal.Places.{places, sites_in}
 use Rattle.cb_constraints.specs.Constraints.{Check}
 use Rattle.cb_constraints.specs.Holding.{is_constant}
 use Rattle.cb_constraints.specs.Internal.Tables.{IsNamed, first_places}

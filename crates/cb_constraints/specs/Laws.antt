@@ -1,9 +1,8 @@
 -- What the laws of constraints speak of.
-use Rattle.std.specs.Prelude.{◌≡◌, true, false, List, [], ◌∷◌, Some, None, All, Contains}
-use Rattle.std.specs.Bool.{⊤}
-use Rattle.cb_constraints.specs.Constraints.{Test, constant, variable, predicate, return_value, Check, Demand, each, either}
+use Rattle.std.specs.Prelude.{◌≡◌, true, false, List, [], ◌∷◌, None, All, Contains}
+use Rattle.cb_constraints.specs.Constraints.{Test, Check, Demand, each, either}
 use Rattle.cb_constraints.specs.Holding.{check_holds}
-use Rattle.cb_exprs.specs.Bindings.{Bindings, value_at}
+use Rattle.cb_exprs.specs.Bindings.{Bindings}
 use Rattle.cb_facts.specs.declared.value.Value.{Value}
 
 -- a test without `~`
@@ -21,13 +20,6 @@ only c = each (c ∷ [])
 -- a constraint of alternatives
 abbrev pub any_of_these : List (List Check) → Demand
 any_of_these alternatives = either None alternatives
-
--- a test by which no variable takes a value: each but that for a variable that has none yet
-abbrev pub TakesNoValue : Test → Bindings → Type 0
-TakesNoValue (constant w) env = ⊤
-TakesNoValue (variable x) env = (w : Value) × (value_at x env.variables ≡ Some w)
-TakesNoValue (predicate e) env = ⊤
-TakesNoValue (return_value e) env = ⊤
 
 -- there is an alternative of which each check holds
 abbrev pub OneHolds : List (List Check) → Value → Bindings → Type 0

@@ -1,12 +1,12 @@
 -- Lemmas under the laws that other crates cite; no contract names what is here. A constraint that holds may hold.
 pub mod FollowLaws
-use Rattle.std.proofs.Common.{◌≡◌, ◌∙◌, ◌&&◌, ◌||◌, ℕ, IfSome, is_some, Bool, true, false, List, [], ◌∷◌, Option, None, Some, ap, refl, subst, sym}
+use Rattle.std.proofs.Common.{◌≡◌, ◌∙◌, ◌&&◌, ◌||◌, ℕ, IfSome, is_some, Bool, true, false, List, [], ◌∷◌, Option, None, Some, ap, not, refl, subst, sym}
 use Rattle.std.specs.List.{list_all, list_any}
-use Rattle.std.specs.Option.{option_and_then}
+use Rattle.std.specs.Option.{option_and_then, option_map_or}
 use Rattle.cb_constraints.specs.Constraints.{Test, constant, variable, predicate, return_value, Check, Demand, nothing, each, either}
 use Rattle.cb_constraints.specs.Holding.{Meets, after_check, after_checks, after_demand, after_test, check_holds, constant_holds, constants_hold, is_constant, may_hold, one_holds, opposite_if, provided, after_variable, test_holds}
 use Rattle.cb_constraints.specs.Internal.{are_of_constants, is_of_constants}
-use Rattle.cb_exprs.specs.Bindings.{Bindings}
+use Rattle.cb_exprs.specs.Bindings.{Bindings, value_at, with_variable}
 use Rattle.cb_facts.specs.declared.value.Value.{Value}
 use Rattle.cb_functions.specs.Comparison.{same}
 
@@ -110,6 +110,28 @@ constants_decide [] v env e = refl
 constants_decide (cs ∷ more) v env e =
     let w = both-true (is_of_constants cs) (are_of_constants more) e in
     ap (λ t. t || one_holds more v env) (checks-decide cs v env w.0) ∙ ap (λ t. constants_hold v cs || t) (constants_decide more v env w.1)
+
+-- a check holds just where the others joined to it by `&` are looked at
+some-provided : (b : Bool) (env : Bindings) → is_some (provided b env) ≡ b
+some-provided true env = refl
+some-provided false env = refl
+
+pub held_if_some : (c : Check) (v : Value) (env : Bindings) → is_some (after_check c v env) ≡ check_holds v env c
+held_if_some c v env = of c.negated c.test
+  where
+    agreed : (x : List ℕ) (o : Option Value) → is_some (option_map_or (λ w. provided (same v w) env) o (Some (with_variable x v env))) ≡ option_map_or (same v) o true
+    agreed x None = refl
+    agreed x (Some w) = some-provided (same v w) env
+
+    of : (negated : Bool) (t : Test) → is_some (after_test negated t v env) ≡ opposite_if negated (test_holds t v env)
+    of true (constant w) = some-provided (not (same v w)) env
+    of true (variable x) = some-provided (not (option_map_or (same v) (value_at x env.variables) true)) env
+    of true (predicate e) = some-provided (opposite_if true (test_holds (predicate e) v env)) env
+    of true (return_value e) = some-provided (opposite_if true (test_holds (return_value e) v env)) env
+    of false (constant w) = some-provided (same v w) env
+    of false (variable x) = agreed x (value_at x env.variables)
+    of false (predicate e) = some-provided (test_holds (predicate e) v env) env
+    of false (return_value e) = some-provided (test_holds (return_value e) v env) env
 
 -- a variable set apart agrees, and then an alternative has to hold
 pub set_apart_meets : (x : List ℕ) (alternatives : List (List Check)) (v : Value) (before : ℕ → Bindings) (holds : Bool)

@@ -3,7 +3,6 @@ pub mod Bound
 pub mod Constraints
 pub mod Holding
 pub mod Internal
-pub mod Known
 pub mod Laws
 pub mod Lemmas
 pub mod PartValues

@@ -1,7 +1,8 @@
 //! What a pattern asks, with the places of its variables.
 ghost use Rattle.std.specs.Prelude.{◌≡◌, IfOk, map, slice_get};
 ghost use Rattle.std.specs.Option.{option_and_then, option_map};
-ghost use Rattle.cb_constraints.specs.Binders.{constraints_in, first_place, places, sites_in};
+ghost use Rattle.cb_constraints.specs.Binders.{constraints_in};
+ghost use Rattle.cb_constraints.specs.Internal.Places.{first_place, places, sites_in};
 ghost use Rattle.cb_constraints.specs.Internal.{HasTable};
 ghost use Rattle.cb_constraints.specs.Internal.Tables.{first_places};
 ghost use Rattle.cb_constraints.specs.PartValues.{asked_parts, asked_slot};

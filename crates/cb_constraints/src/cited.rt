@@ -5,7 +5,7 @@ ghost use Rattle.cb_constraints.specs.Lemmas as may;
 ghost use Rattle.cb_constraints.specs.Lemmas.FollowLaws as follow;
 ghost use Rattle.cb_constraints.specs.Constraints.{Constraint, Demand};
 ghost use Rattle.cb_constraints.specs.Holding.{Follows, after_demand, checks_in, may_hold};
-ghost use Rattle.cb_constraints.specs.Known.{bindings_after, bindings_before};
+ghost use Rattle.cb_constraints.specs.Internal.Known.{bindings_after, bindings_before};
 ghost use Rattle.cb_exprs.specs.Bindings.{Bindings};
 ghost use Rattle.cb_facts.specs.declared.value.Value.{Value};
 

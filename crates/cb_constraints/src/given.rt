@@ -2,7 +2,7 @@
 ghost use Rattle.std.specs.Prelude.{◌≡◌, ◌<◌, ◌≤◌, ◌++◌, IfOk, OnOk, length, slice_get};
 ghost use Rattle.cb_constraints.specs.Binders.{constraints_in};
 ghost use Rattle.cb_constraints.specs.Bound.{given_if, newly_bound};
-ghost use Rattle.cb_constraints.specs.Known.{bindings_after};
+ghost use Rattle.cb_constraints.specs.Internal.Known.{bindings_after};
 ghost use Rattle.cb_exprs.specs.Bindings.{value_at};
 
 use crate::body::Body;

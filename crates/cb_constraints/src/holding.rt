@@ -124,6 +124,7 @@ fn meets_each<B: Bound>(
 }
 
 /// Whether the check with this number holds; one for a constant is known to hold.
+#[tactic(auto, using(crate::specs::Lemmas::held_if_some))]
 fn meets_one<B: Bound>(
     alloc: Global,
     constants: &Constants,
@@ -139,11 +140,6 @@ fn meets_one<B: Bound>(
 {
     if let Test::Constant(_) = &check.test {
         return Ok(true);
-    }
-    if !check.is_negated {
-        if let Test::Variable(name) = &check.test {
-            return agrees(name, tested, bound, at);
-        }
     }
     check_holds(alloc, constants, check, tested, bound, at)
 }
@@ -240,7 +236,7 @@ fn all_hold<B: Bound>(
     Ok(true)
 }
 
-/// Whether a check holds as it is; no variable takes a value.
+/// Whether a check holds.
 fn check_holds<B: Bound>(
     alloc: Global,
     constants: &Constants,
@@ -270,10 +266,7 @@ fn test_holds<B: Bound>(
 {
     match test {
         Test::Constant(value) => Ok(tested.is(value)),
-        Test::Variable(name) => Ok(match bound.variable(name, at)? {
-            Some(value) => tested.is(&value),
-            None => false,
-        }),
+        Test::Variable(name) => agrees(name, tested, bound, at),
         Test::Predicate(expr) => Ok(match value_if_any(alloc, constants, expr, bound, at)? {
             Some(value) => is_true(&value),
             None => false,

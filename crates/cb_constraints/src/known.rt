@@ -2,7 +2,7 @@
 ghost use Rattle.std.specs.Prelude.{◌≡◌, ◌<◌, List, IfOk, length, option_copied, slice_index_or};
 ghost use Rattle.cb_constraints.specs.Binders.{constraints_in};
 ghost use Rattle.cb_constraints.specs.Holding.{tested_value};
-ghost use Rattle.cb_constraints.specs.Known.{bindings_before, taken_at, taken_if};
+ghost use Rattle.cb_constraints.specs.Internal.Known.{bindings_before, taken_at, taken_if};
 ghost use Rattle.cb_exprs.specs.Bindings.{value_at};
 ghost use Rattle.cb_facts.specs.declared.value.Value.{Value as Val};
 
@@ -47,7 +47,7 @@ pub struct Known<'a, V> {
 impl<'a, V: Took> Bound for Known<'a, V> {
     ghost use Rattle.cb_constraints.specs.Binders.{constraints_in};
     ghost use Rattle.cb_constraints.specs.Holding.{tested_value};
-    ghost use Rattle.cb_constraints.specs.Known.{bindings_before};
+    ghost use Rattle.cb_constraints.specs.Internal.Known.{bindings_before};
 
     ghost before = { λ k i. bindings_before (constraints_in k.body.now) (V.values k.took.now) (tested_value k.tested) k.before.now i };
 

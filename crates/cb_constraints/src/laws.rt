@@ -3,7 +3,7 @@ ghost use Rattle.std.specs.Prelude.{◌≡◌, ◌∷◌, ℕ, List, Option, Non
 ghost use Rattle.std.specs.Option.{option_and_then};
 ghost use Rattle.cb_constraints.specs.Constraints.{Check, Demand, Test, constant, each, either, nothing, predicate, return_value, variable};
 ghost use Rattle.cb_constraints.specs.Holding.{after_demand, may_hold, test_holds};
-ghost use Rattle.cb_constraints.specs.Laws.{OneHolds, TakesNoValue, any_of_these, only, opposite, plain};
+ghost use Rattle.cb_constraints.specs.Laws.{OneHolds, any_of_these, only, opposite, plain};
 ghost use Rattle.cb_eval.specs.Evaluation.{value_of};
 ghost use Rattle.cb_exprs.specs.Bindings.{Bindings, value_at, with_variable};
 ghost use Rattle.cb_exprs.specs.Terms.{Term};
@@ -82,13 +82,13 @@ pub fn the_first_check_comes_first()
         → after_demand (each (c ∷ cs)) v env ≡ after_demand (each cs) v grown }
 {}
 
-/// `~t` holds just where `t` alone doesn't, of each test that takes no value: a constant, a variable that has a value, a
-/// predicate or a return value.
+/// `~t` holds just where `t` alone doesn't, of each test; a variable without a value takes the value by itself, and so doesn't
+/// hold after `~`.
 pub fn the_opposite_holds_where_the_test_alone_does_not()
-    ensures holds { (t : Test) (v : Value) (env : Bindings) → TakesNoValue t env
+    ensures holds { (t : Test) (v : Value) (env : Bindings)
         → after_demand (only (plain t)) v env ≡ None
         → after_demand (only (opposite t)) v env ≡ Some env }
-    ensures fails { (t : Test) (v : Value) (env grown : Bindings) → TakesNoValue t env
+    ensures fails { (t : Test) (v : Value) (env grown : Bindings)
         → after_demand (only (plain t)) v env ≡ Some grown
         → after_demand (only (opposite t)) v env ≡ None }
 {}

@@ -1,6 +1,7 @@
 //! The variables of a pattern, each with its first place, and the sites of its constraints, as they are found.
 ghost use Rattle.std.specs.Prelude.{◌≡◌, ◌∷◌, [], OnOk, flat_map, length, map};
-ghost use Rattle.cb_constraints.specs.Binders.{binder, places, places_for, places_of, sites_from, sites_of};
+ghost use Rattle.cb_constraints.specs.Binders.{binder};
+ghost use Rattle.cb_constraints.specs.Internal.Places.{places, places_for, places_of, sites_from, sites_of};
 ghost use Rattle.cb_constraints.specs.Constraints.{check_of, constraint_of, demand_of};
 ghost use Rattle.cb_constraints.specs.Internal.Tables.{Grows, IsNamed};
 ghost use Rattle.cb_constraints.specs.PartValues.{asked_slot};

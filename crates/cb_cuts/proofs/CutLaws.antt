@@ -2,8 +2,8 @@
 use Rattle.std.proofs.Common.{arith, ◌≡◌, ◌∙◌, ◌++◌, ◌+◌, ◌-◌, ◌≤◌, ℕ, zero, suc, List, [], ◌∷◌, ap, length, refl, replicate, subst, sym, take}
 use Rattle.std.proofs.lemmas.List.{append-nil, append_assoc, length-append, length-replicate, length-take}
 use Rattle.std.specs.List.{flat_map}
-use Rattle.cb_cuts.specs.Lengths.{BeginsBeyond, HasTotals, IsFront, all_lengths, last_count, last_fields, segment_lengths}
-use Rattle.cb_cuts.specs.Values.{fields_taken}
+use Rattle.cb_cuts.specs.Internal.Lengths.{BeginsBeyond, HasTotals, IsFront, all_lengths, last_count, last_fields, segment_lengths}
+use Rattle.cb_cuts.specs.Internal.Values.{fields_taken}
 use Rattle.cb_cuts.specs.declared.cuts.Segment.{Segment}
 
 parted : (s : Segment) (ss : List Segment) (ones : ℕ) → all_lengths (s ∷ ss) ones ≡ replicate s.ones 1 ++ s.length ∷ all_lengths ss ones

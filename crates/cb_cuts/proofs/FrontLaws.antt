@@ -4,7 +4,7 @@ use Rattle.std.proofs.lemmas.List.{append-nil, append_assoc, take-append-drop}
 use Rattle.std.proofs.lemmas.Bool.{leb-false}
 use Rattle.std.specs.List.Sorted.{IsNonDecreasingBy, IsPartitionPoint}
 use Rattle.cb_cuts.proofs.LengthLaws.{last_count_of}
-use Rattle.cb_cuts.specs.Lengths.{BeginsBeyond, HasTotals, IsFront, last_count}
+use Rattle.cb_cuts.specs.Internal.Lengths.{BeginsBeyond, HasTotals, IsFront, last_count}
 use Rattle.cb_cuts.specs.declared.cuts.Segment.{Segment}
 
 pub whole_front : (count : ℕ) (all : List Segment) → IsFront count all all

@@ -2,7 +2,7 @@
 use Rattle.std.proofs.Common.{arith, ◌≡◌, ◌∙◌, ◌++◌, ◌+◌, ℕ, suc, List, [], ◌∷◌, ap, length, refl, replicate, sym}
 use Rattle.std.proofs.lemmas.Grind.{flat_map-append}
 use Rattle.std.proofs.lemmas.List.{append-nil, append_assoc, length-append, length-replicate, replicate-append-replicate}
-use Rattle.cb_cuts.specs.Lengths.{HasTotals, IsNext, all_lengths, last_count, last_fields, segment_lengths}
+use Rattle.cb_cuts.specs.Internal.Lengths.{HasTotals, IsNext, all_lengths, last_count, last_fields, segment_lengths}
 use Rattle.cb_cuts.specs.declared.cuts.Segment.{Segment}
 use Rattle.std.specs.List.{flat_map}
 

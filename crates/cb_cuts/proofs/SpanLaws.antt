@@ -1,6 +1,6 @@
 -- Where a segment begins and how long it is.
 use Rattle.std.proofs.Common.{arith, ◌≡◌, ◌∙◌, ◌+◌, ◌<◌, ◌≤◌, ℕ, zero, suc, List, [], ◌∷◌, ap, get_or, length, min, refl, sym, take}
-use Rattle.cb_cuts.specs.Values.{fields_taken}
+use Rattle.cb_cuts.specs.Internal.Values.{fields_taken}
 
 nothing : (k : ℕ) (xs : List ℕ) → xs ≡ [] → take k xs ≡ []
 nothing zero xs e = refl

@@ -2,9 +2,9 @@
 use Rattle.std.proofs.Common.{arith, ◌≡◌, ◌∙◌, ◌++◌, ◌<◌, ℕ, zero, suc, List, [], ◌∷◌, ap, get_or, length, min, slice_index_or, sym, take}
 use Rattle.std.proofs.lemmas.List.{append-nil, append_assoc, length-take}
 use Rattle.std.specs.List.{slice_get}
-use Rattle.cb_constraints.specs.Binders.{sites_in}
+use Rattle.cb_constraints.specs.Internal.Places.{sites_in}
 use Rattle.cb_constraints.specs.PatternValues.{Parts}
-use Rattle.cb_cuts.specs.Values.{next_value, value_at_site, values_after, values_taken}
+use Rattle.cb_cuts.specs.Internal.Values.{next_value, value_at_site, values_after, values_taken}
 use Rattle.cb_facts.specs.Facts.{FactContent}
 use Rattle.cb_facts.specs.declared.value.Value.{Value}
 

@@ -2,10 +2,10 @@
 use Rattle.std.proofs.Common.{◌≡◌, ◌∙◌, ◌++◌, ◌-◌, ℕ, zero, suc, List, [], ◌∷◌, Some, ap, drop, length, refl, sym, take}
 use Rattle.std.proofs.lemmas.List.{append-nil, append_assoc}
 use Rattle.std.specs.List.{slice_get}
-use Rattle.cb_constraints.specs.Binders.{sites_in}
+use Rattle.cb_constraints.specs.Internal.Places.{sites_in}
 use Rattle.cb_constraints.specs.PatternValues.{Parts}
 use Rattle.cb_constraints.specs.declared.site.Site.{Site}
-use Rattle.cb_cuts.specs.Values.{fields_of_row, fields_taken, next_value, value_at_site, value_taken, values_after, values_taken}
+use Rattle.cb_cuts.specs.Internal.Values.{fields_of_row, fields_taken, next_value, value_at_site, value_taken, values_after, values_taken}
 use Rattle.cb_facts.specs.Facts.{FactContent}
 
 module _ (parts : Parts) (content : FactContent) where

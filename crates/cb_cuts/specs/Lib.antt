@@ -1,4 +1,2 @@
-pub mod FieldLists
+pub mod Internal
 pub mod Lemmas
-pub mod Lengths
-pub mod Values

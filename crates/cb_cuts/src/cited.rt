@@ -1,11 +1,11 @@
 //! Laws of the values that were taken, for the proofs of other crates. Unlike the contract of a function, a law of a trait can
 //! be cited where nothing is called.
 ghost use Rattle.std.specs.Prelude.{◌≡◌, ◌+◌, ◌-◌, ◌++◌, ◌∷◌, ℕ, [], List, drop, length, take};
-ghost use Rattle.cb_constraints.specs.Binders.{sites_in};
+ghost use Rattle.cb_constraints.specs.Internal.Places.{sites_in};
 ghost use Rattle.cb_constraints.specs.PatternValues.{Parts};
 ghost use Rattle.cb_constraints.specs.declared.site.Site.{Site};
 ghost use Rattle.cb_cuts.specs.Lemmas as value;
-ghost use Rattle.cb_cuts.specs.Values.{fields_of_row, fields_taken, next_value, value_taken, values_taken};
+ghost use Rattle.cb_cuts.specs.Internal.Values.{fields_of_row, fields_taken, next_value, value_taken, values_taken};
 ghost use Rattle.cb_facts.specs.Facts.{FactContent};
 
 /// The laws, each under its name.

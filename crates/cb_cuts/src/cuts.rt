@@ -1,7 +1,7 @@
 //! The lengths of segments.
 ghost use Rattle.std.specs.Prelude.{◌≡◌, ◌+◌, ◌-◌, ◌<◌, ◌≤◌, ◌++◌, ◌∷◌, ◌^◌, [], IfOk, IfSome, MatchOption, None, OnOk, flat_map, get_or, length, replicate, take};
-ghost use Rattle.cb_cuts.specs.Values.{fields_taken};
-ghost use Rattle.cb_cuts.specs.Lengths.{HasTotals, IsFront, IsNext, all_lengths, last_count, last_fields, segment_lengths};
+ghost use Rattle.cb_cuts.specs.Internal.Values.{fields_taken};
+ghost use Rattle.cb_cuts.specs.Internal.Lengths.{HasTotals, IsFront, IsNext, all_lengths, last_count, last_fields, segment_lengths};
 
 use cb_forms::NoMemory;
 use smallvec::SmallVec;
@@ -46,7 +46,7 @@ pub struct Cuts {
 
 impl Model for Cuts {
     ghost use Rattle.std.specs.Prelude.{◌≡◌, ◌++◌, ℕ, List, length, replicate};
-    ghost use Rattle.cb_cuts.specs.Lengths.{HasTotals, all_lengths};
+    ghost use Rattle.cb_cuts.specs.Internal.Lengths.{HasTotals, all_lengths};
 
     ghost Value = { List ℕ };
 

@@ -1,9 +1,9 @@
 //! The values that the constraints of a pattern took of a fact.
 ghost use Rattle.std.specs.Prelude.{◌≡◌, ◌<◌, [], IfOk, MatchOption, Some, drop, get_or, length, map, min, option_copied, slice_get, take};
-ghost use Rattle.cb_constraints.specs.Binders.{sites_in};
+ghost use Rattle.cb_constraints.specs.Internal.Places.{sites_in};
 ghost use Rattle.cb_constraints.specs.PartValues.{asked_parts, asked_slot};
-ghost use Rattle.cb_cuts.specs.FieldLists.{row_fields};
-ghost use Rattle.cb_cuts.specs.Values.{fields_of_row, first_fields, first_row_fields, value_at_site, value_taken};
+ghost use Rattle.cb_cuts.specs.Internal.FieldLists.{row_fields};
+ghost use Rattle.cb_cuts.specs.Internal.Values.{fields_of_row, first_fields, first_row_fields, value_at_site, value_taken};
 ghost use Rattle.cb_facts.specs.Facts.{content_of};
 
 use crate::cuts::{Cuts, Span};
@@ -59,7 +59,7 @@ impl Taken<'_> {
 }
 
 impl Took for Taken<'_> {
-    ghost use Rattle.cb_cuts.specs.Values.{values_taken};
+    ghost use Rattle.cb_cuts.specs.Internal.Values.{values_taken};
     ghost use Rattle.cb_facts.specs.Facts.{content_of};
 
     ghost values = { λ t. values_taken t.body.now (content_of t.content.now) t.cuts.now };

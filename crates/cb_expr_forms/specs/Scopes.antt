@@ -39,8 +39,8 @@ may_use_globals side.Actions = true
 abbrev pub names_of : Values → List (List ℕ)
 names_of values = map (λ entry. entry.0) values
 
--- The variables that are known, of those that have a value at the top level and of those given besides. In a `defglobal`
--- and a `deffacts` none is; the left side of a rule needs none.
+-- The variables that are known, of those that have a value at the top level and of those given besides. In a `defglobal`, a
+-- `deffacts` and a salience none is; the left side of a rule needs none.
 abbrev pub known_on : Side → List (List ℕ) → List (List ℕ) → List (List ℕ)
 known_on side.Top valued given = valued ++ given
 known_on side.Plain valued given = []
@@ -51,7 +51,8 @@ known_on side.Actions valued given = given
 abbrev pub scope_on : Side → List (List ℕ) → List (List ℕ) → List (List ℕ) → Templates → Scope
 scope_on on valued given globals templates = record { side = on; variables = known_on on valued given; globals = globals; templates = templates }
 
--- In a construct: no variable is known, and besides the globals that have a value these, which the construct has given.
+-- In a construct or a salience: no variable is known, and besides the globals that have a value these, which the construct has
+-- given.
 abbrev pub plain_scope : Templates → Bindings → List (List ℕ) → Scope
 plain_scope templates env given = record { side = side.Plain; variables = []; globals = names_of env.globals ++ given; templates = templates }
 

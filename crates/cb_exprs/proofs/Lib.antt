@@ -1,3 +1,2 @@
 mod Ordered
-mod RecentLaws
 mod Trees

@@ -1,5 +1,5 @@
 -- The pairs of a tree that was made.
-use Rattle.std.proofs.Common.{◌≡◌, ◌∙◌, IfOk, OnErr, OnOk, Result, Ok, Err, subst, sym}
+use Rattle.std.proofs.Common.{◌≡◌, ◌∙◌, IfOk, OnOk, Result, Ok, Err}
 use Rattle.cb_exprs.specs.Bindings.{Values}
 use Rattle.cb_exprs.specs.Internal.Trees.{IsOrdered, pairs_of}
 use Rattle.cb_exprs.specs.declared.tree.Tree.{Tree}
@@ -13,8 +13,3 @@ made_in_order (Err e) old made new h is = h
 pub on_ok_then : {A E : Type 0} (r : Result A E) (P Q : Type 0) → OnOk r P → (P → Q) → OnOk r Q
 on_ok_then (Ok a) P Q h then = then h
 on_ok_then (Err e) P Q h then = h
-
--- a tree stays in order where it was put so, or stays as it was
-pub kept_in_order : {A E : Type 0} (r : Result A E) (old put new : Values) → OnOk r (IsOrdered old → new ≡ put) → OnErr r (new ≡ old) → IsOrdered old → IsOrdered put → IsOrdered new
-kept_in_order (Ok a) old put new ok err s t = subst IsOrdered (sym (ok s)) t
-kept_in_order (Err e) old put new ok err s t = subst IsOrdered (sym err) s

@@ -1,6 +1,5 @@
 -- What only the code needs.
 pub mod Codes
-pub mod Recent
 pub mod Trees
 use Rattle.std.specs.Prelude.{refl, ℕ, List}
 use Rattle.std.specs.Coded.{Coded, code_by, coded×}

@@ -3,7 +3,6 @@ ghost use Rattle.std.specs.Prelude.{◌≡◌, [], None, IfOk, OnOk, OnErr, opti
 ghost use Rattle.cb_exprs.specs.Bindings.{no_bindings, value_at, with_global, with_variable, with_variables, without_variable};
 
 use crate::values::Values;
-use crate::variables::Variables;
 use cb_facts::{Name, Value};
 use cb_forms::NoMemory;
 use std::alloc::{AllocError, Global};
@@ -12,15 +11,14 @@ use std::marker::Model;
 /// The values that variables and global variables have. A variable and a global variable of the same name are
 /// distinct.
 ///
-/// The first eight variables that take a value stand in the value itself, and are looked through; all others are found in
-/// logarithmic time, whatever the names are. A clone copies those eight and shares all others until one of the two changes:
-/// it takes no memory, and is refused only where a count of sharers is full.
+/// Each is found in logarithmic time, whatever the names are. A clone shares all of them until one of the two changes: it takes
+/// no memory, and is refused only where a count of sharers is full.
 ///
 /// Contracts see the pairs of a name and its value, those of the variables and those of the globals, each in the order of
 /// the names.
 #[derive(Drop)]
 pub struct Env {
-    variables: Variables,
+    variables: Values,
     globals: Values,
 }
 
@@ -48,7 +46,7 @@ impl Env {
         ensures { result ≡ no_bindings }
     {
         Env {
-            variables: Variables::new(alloc),
+            variables: Values::new(alloc),
             globals: Values::new(alloc),
         }
     }
@@ -61,8 +59,8 @@ impl Env {
     }
 
     /// Gives a variable a value, in place of the one that it has, if it has one. Growth is refused as `NoMemory`, and then
-    /// nothing has changed. The first eight variables take no memory. A variable of a loop, which is given one value after
-    /// another, takes none from the second time on, unless a clone shares the way to it.
+    /// nothing has changed. A variable of a loop, which is given one value after another, takes no memory from the second time
+    /// on, unless a clone shares the way to it.
     pub fn set(&mut self, name: &Name, value: Value) -> Result<(), NoMemory>
         ensures ok { OnOk result (self.new ≡ with_variable name.now value self.old) }
         ensures err { OnErr result (self.new ≡ self.old) }
@@ -71,8 +69,7 @@ impl Env {
     }
 
     /// A copy in which these variables are set, in order; of two values for one variable the later counts. It shares with
-    /// the original what it does not change, and the first eight variables that are given a value in it take no memory.
-    /// Growth is refused as `NoMemory`.
+    /// the original what it does not change. Growth is refused as `NoMemory`.
     pub fn with(&self, bindings: Vec<(Name, Value)>) -> Result<Env, NoMemory>
         ensures ok { IfOk result (λ env. env ≡ with_variables bindings.items self.now) }
     {
@@ -80,7 +77,6 @@ impl Env {
         for (name, value) in bindings {
             env.set(&name, value)?;
         }
-        env.variables.settle()?;
         Ok(env)
     }
 
@@ -98,7 +94,7 @@ impl Env {
     pub fn drop_variables(&mut self, alloc: Global)
         ensures { self.new ≡ record { variables = []; globals = self.old.globals } }
     {
-        self.variables = Variables::new(alloc);
+        self.variables = Values::new(alloc);
     }
 
     /// The value of a global variable, or `None` where it has none.

@@ -14,7 +14,6 @@ pub mod laws;
 mod lookup;
 mod tree;
 mod values;
-mod variables;
 
 pub use channel::Channel;
 pub use env::Env;

@@ -1,5 +1,5 @@
 //! The values that names have.
-ghost use Rattle.std.specs.Prelude.{◌≡◌, [], None, IfErr, OnErr, OnOk, option_copied};
+ghost use Rattle.std.specs.Prelude.{◌≡◌, [], None, OnErr, OnOk, option_copied};
 ghost use Rattle.cb_exprs.specs.Bindings.{value_at, with_value, without_value};
 
 use crate::tree::Tree;
@@ -61,16 +61,6 @@ impl Values {
         self.by_name.get(name)
     }
 
-    /// Writes a value in place of the one that a name has. Where the name has none, or a clone shares the way to it, the value is
-    /// returned and nothing has changed. It takes no memory.
-    pub(crate) fn write(&mut self, name: &Name, value: Value) -> Result<(), Value>
-        ensures ok { OnOk result (self.new ≡ with_value name.now value self.old) }
-        ensures err { OnErr result (self.new ≡ self.old) }
-        ensures back { IfErr result (λ v. v ≡ value) }
-    {
-        self.by_name.write(name, value)
-    }
-
     /// Gives a name a value, in place of the one that it has, if it has one. Growth is refused as `NoMemory`, and then
     /// nothing has changed; a name that has a value takes no memory where no clone shares the way to it.
     pub(crate) fn set(&mut self, name: &Name, value: Value) -> Result<(), NoMemory>
@@ -85,12 +75,16 @@ impl Values {
         Ok(())
     }
 
-    /// Takes the value of a name away, if it has one. Growth is refused as `NoMemory`, and then nothing has changed.
+    /// Takes the value of a name away, if it has one. Growth is refused as `NoMemory`, and then nothing has changed; a name that
+    /// has no value takes no memory.
     pub(crate) fn unset(&mut self, name: &Name) -> Result<(), NoMemory>
         ensures taken { OnOk result (self.new ≡ without_value name.now self.old) }
         ensures gone { OnOk result (value_at name.now self.new ≡ None) }
         ensures err { OnErr result (self.new ≡ self.old) }
     {
+        if self.get(name).is_none() {
+            return Ok(());
+        }
         let by_name = self.by_name.without(self.alloc, name)?;
         self.by_name = by_name;
         Ok(())

@@ -84,14 +84,14 @@ one_alternative = refl
 no_alternative : all_ways apart (symbol x ∷ []) ≡ []
 no_alternative = refl
 
--- (p red|?y) and (p blue), (p ~?y) and (p blue), where ?y has no value: a test for it doesn't hold, and with `~` it does
+-- (p red|?y) and (p blue), (p ~?y) and (p blue), where ?y has no value: a test for it holds and gives none, and with `~` it doesn't
 abbrev or_y : List Constraint
 or_y = record { segment = false; demand = either None ((is red ∷ []) ∷ (is (variable y) ∷ []) ∷ []) } ∷ []
 
-without_a_value : all_ways or_y (symbol (codes "blue") ∷ []) ≡ []
+without_a_value : all_ways or_y (symbol (codes "blue") ∷ []) ≡ record { cuts = 1 ∷ []; bound = [] } ∷ []
 without_a_value = refl
 
-differs_without_a_value : all_ways (one (differs (variable y) ∷ []) ∷ []) (symbol (codes "blue") ∷ []) ≡ record { cuts = 1 ∷ []; bound = [] } ∷ []
+differs_without_a_value : all_ways (one (differs (variable y) ∷ []) ∷ []) (symbol (codes "blue") ∷ []) ≡ []
 differs_without_a_value = refl
 
 -- (p $?x ?x) and (p red red): a multifield is never its one field

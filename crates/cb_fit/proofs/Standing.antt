@@ -4,16 +4,17 @@ use Rattle.std.proofs.Math.Seq.{take-length}
 use Rattle.std.specs.List.{flat_map}
 use Rattle.std.proofs.lemmas.List.{append-nil, append_assoc, drop-drop, drop_all, length-append, length-drop, length-map, length-take, map-append, take-append-le, take-take}
 use Rattle.std.specs.Option.{option_and_then}
-use Rattle.cb_constraints.specs.Binders.{constraints_in, sites_from, sites_in, sites_of}
+use Rattle.cb_constraints.specs.Binders.{constraints_in}
+use Rattle.cb_constraints.specs.Internal.Places.{sites_from, sites_in, sites_of}
 use Rattle.cb_constraints.specs.Constraints.{Constraint, Demand, constraint_of, nothing}
 use Rattle.cb_constraints.specs.declared.constraint.Constraint as program
 use Rattle.cb_constraints.specs.Holding.{Meets, after_demand, checks_in}
-use Rattle.cb_constraints.specs.Known.{bindings_after, bindings_before}
+use Rattle.cb_constraints.specs.Internal.Known.{bindings_after, bindings_before}
 use Rattle.cb_constraints.specs.PatternValues.{Parts, SlotValue}
 use Rattle.cb_constraints.specs.PatternValues as pattern
 use Rattle.cb_constraints.specs.declared.site.Site.{Site}
 use Rattle.cb_constraints.specs.contracts.cited.LawsCited.TheImpl as constraints_laws
-use Rattle.cb_cuts.specs.Values.{fields_of_row, fields_taken, first_fields, first_row_fields, next_value, value_taken, values_taken}
+use Rattle.cb_cuts.specs.Internal.Values.{fields_of_row, fields_taken, first_fields, first_row_fields, next_value, value_taken, values_taken}
 use Rattle.cb_cuts.specs.contracts.cited.LawsCited.TheImpl as cuts_laws
 use Rattle.cb_exprs.specs.Bindings.{Bindings}
 use Rattle.cb_facts.specs.Facts.{FactContent, content_of}
@@ -22,7 +23,7 @@ use Rattle.cb_facts.specs.Values.{fields_in}
 use Rattle.cb_facts.specs.declared.single.Single.{Single}
 use Rattle.cb_facts.specs.declared.value.Value.{Value}
 use Rattle.cb_facts.specs.declared.value.Value.TheVariants as value
-use Rattle.cb_cuts.specs.FieldLists.{IsFirst}
+use Rattle.cb_cuts.specs.Internal.FieldLists.{IsFirst}
 use Rattle.cb_fit.proofs.Rows.{is-one}
 use Rattle.cb_fit.specs.Internal.{after_ones, env_after}
 use Rattle.cb_fit.specs.Internal.Choices.{KeepsFirst}

@@ -7,11 +7,11 @@ use Rattle.std.specs.Option.{option_and_then, option_map_or}
 use Rattle.cb_constraints.specs.Binders.{constraints_in}
 use Rattle.cb_constraints.specs.Constraints.{Constraint}
 use Rattle.cb_constraints.specs.Holding.{after_demand, may_hold}
-use Rattle.cb_constraints.specs.Known.{bindings_after}
+use Rattle.cb_constraints.specs.Internal.Known.{bindings_after}
 use Rattle.cb_constraints.specs.PatternValues.{Parts, SlotValue}
 use Rattle.cb_constraints.specs.PatternValues as pattern
 use Rattle.cb_constraints.specs.Rows.{after_segments, before_segments, fields_wanted, segments_wanted}
-use Rattle.cb_cuts.specs.Values.{values_taken}
+use Rattle.cb_cuts.specs.Internal.Values.{values_taken}
 use Rattle.cb_exprs.specs.Bindings.{Bindings}
 use Rattle.cb_facts.specs.Facts.{FactContent, content_of}
 use Rattle.cb_facts.specs.Facts as fact

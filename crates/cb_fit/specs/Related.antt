@@ -11,7 +11,8 @@ use Rattle.cb_facts.specs.declared.single.Single.{Single}
 use Rattle.cb_facts.specs.declared.value.Value.{Value}
 use Rattle.cb_fit.specs.Ways.{after_segment, slot_at}
 
--- each constraint holds of the segment in its place, and sees what variables have after those before it
+-- there are as many segments as constraints, and each constraint holds of the segment in its place and sees what variables have
+-- after those before it
 abbrev pub HoldInTurn : List Constraint → List (List Single) → Bindings → Bindings → Type 0
 HoldInTurn [] [] before after = before ≡ after
 HoldInTurn [] (s ∷ ss) before after = ⊥

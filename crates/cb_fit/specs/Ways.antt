@@ -82,8 +82,8 @@ ways_of_parts (pattern.fields row) (fact.fields fs) env = ways_of_row row fs env
 ways_of_parts (pattern.slots rows) (fact.slots ss) env = ways_of_slots rows ss env
 ways_of_parts parts content env = []
 
--- a way: the lengths of the segments, of which a constraint for one field has the length 1, and the variables that have a
--- value by it, with these values
+-- a way: the lengths of the segments, of which a constraint for one field has the length 1, and the variables that had no
+-- value before and have one by it, with these values
 pub record WayValue : Type 0 where
   pub cuts : List ℕ
   pub bound : List (List ℕ × Value)

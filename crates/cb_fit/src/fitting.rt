@@ -27,7 +27,9 @@ use std::alloc::Global;
 /// All ways in which a pattern fits a fact, where variables have these values, in the order of the lengths of their segments
 /// (`docs/LANGUAGE.md`, "Patterns"). It tests the pattern once, so the meter goes up by one.
 ///
-/// The caller gives the variable of `?f <-` before the pattern, if it has one, its address in `env` first.
+/// The caller gives the variable of `?f <-` before the pattern, if it has one, its address in `env` first. Beside `|` and after
+/// `~` a variable takes no value, and one that has none there holds of any: so `env` is to have what the elements before the
+/// pattern gave.
 ///
 /// A slot's value is taken by the place that the slot has in the template by which the pattern was read; so a fact of a
 /// template is to be of that one.

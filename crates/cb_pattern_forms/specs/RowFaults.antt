@@ -35,14 +35,14 @@ abbrev pub begins_with_check : List Member → Bool
 begins_with_check [] = false
 begins_with_check (m ∷ ms) = is_check m
 
--- What is wrong with a member before these, which comes just after a check or doesn't. A connective stands between two checks.
+-- What is wrong with a member before these others, by whether a check comes just before it. A connective stands between two checks.
 abbrev pub member_faults : Scope → Bool → Member → List Member → List Fault
 member_faults s after (wildcard several) ms = []
 member_faults s after both ms = unless (after && begins_with_check ms) MalformedForm
 member_faults s after any_of ms = unless (after && begins_with_check ms) MalformedForm
 member_faults s after (check negated w) ms = written_faults s w
 
--- what is wrong with members, which come just after a check or don't
+-- what is wrong with members, by whether a check comes just before them
 abbrev pub row_faults : Scope → Bool → List Member → List Fault
 row_faults s after [] = []
 row_faults s after (m ∷ ms) = member_faults s after m ms ++ row_faults s (is_check m) ms

@@ -21,8 +21,8 @@ use cb_templates::Template;
 /// "Patterns"): its relation, and what it asks of the content of a fact.
 ///
 /// The relation may be any name, and so may the variables: the caller has to see whether it is a reserved word, and whether
-/// they are bound where an expression names them. Only in a scope of the left side of a rule are globals and calls with an
-/// effect CB13. Growth is refused as `NoMemory`.
+/// they are bound where they need a value. A global as a check is CB13; one in an expression, and a call with an effect, is so
+/// only in a scope of the left side of a rule. Growth is refused as `NoMemory`.
 pub fn read_pattern(
     names: &mut Names,
     scope: &Scope<'_>,

@@ -44,7 +44,7 @@ salience_in r = None
 abbrev pub salience_by : Templates → Bindings → Tree → Option ℤ
 salience_by templates env t = salience_in (value_of (expr_of templates t) env)
 
--- what is wrong with the salience, if a declaration has one: its expression names no variable, and may use the globals
+-- what is wrong with the salience of a declaration: there is no expression for it, or what is wrong with that, which may name globals and no variable
 abbrev pub salience_faults : Templates → Bindings → Option Tree → List Fault
 salience_faults templates env None = MalformedForm ∷ []
 salience_faults templates env (Some t) = faults_of (plain_scope templates env []) t ++ unless (is_some (salience_by templates env t)) BadSalience

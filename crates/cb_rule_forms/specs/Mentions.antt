@@ -1,4 +1,4 @@
--- The variables of a left side: which have a value where, and what is wrong with those that have none.
+-- The variables of a left side: which have a value where, and what is wrong: one needs a value and has none, or takes an address and has a value.
 use Rattle.std.specs.Prelude.{◌++◌, ℕ, Bool, false, not, List, [], ◌∷◌, Option, Some, None, map, if◌then◌else◌}
 use Rattle.std.specs.List.{flat_map}
 use Rattle.cb_constraints.specs.Constraints.{Test, constant, variable, predicate, return_value, Check, Demand, nothing, each, either, Constraint}

@@ -2,10 +2,11 @@
 use Rattle.std.proofs.Common.{arith, ◌≡◌, ◌∙◌, ◌++◌, ◌+◌, ℕ, zero, suc, Bool, true, false, IfSome, List, [], ◌∷◌, Option, None, Some, ap, drop, length, refl, sym, take}
 use Rattle.std.proofs.lemmas.List.{append-nil}
 use Rattle.std.specs.Option.{option_map_or}
-use Rattle.cb_constraints.specs.Binders.{binder, binders, binders_before, binders_of}
+use Rattle.cb_constraints.specs.Binders.{binder, binders, binders_of}
+use Rattle.cb_constraints.specs.Internal.Places.{binders_before}
 use Rattle.cb_constraints.specs.Constraints.{Test, constant, variable, predicate, return_value, Check, Demand, nothing, each, either, Constraint}
 use Rattle.cb_constraints.specs.Holding.{FollowFrom, Follows, after_check, after_test, after_variable, checks_in, opposite_if, provided, test_holds}
-use Rattle.cb_constraints.specs.Known.{given_to, given_to_all, bindings_after, bindings_before}
+use Rattle.cb_constraints.specs.Internal.Known.{given_to, given_to_all, bindings_after, bindings_before}
 use Rattle.cb_exprs.specs.Bindings.{Bindings, value_at, with_variable}
 use Rattle.cb_facts.specs.declared.value.Value.{Value}
 use Rattle.cb_functions.specs.Comparison.{same}

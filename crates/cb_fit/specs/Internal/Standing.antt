@@ -1,11 +1,12 @@
 -- Where a search stands: which constraints come next, and for which fields they are.
 use Rattle.std.specs.Prelude.{◌≡◌, ◌+◌, ◌≤◌, ℕ, suc, Bool, List, [], ◌∷◌, ◌++◌, drop, flat_map, length, take}
-use Rattle.cb_constraints.specs.Binders.{constraints_in, sites_from, sites_in, sites_of}
+use Rattle.cb_constraints.specs.Binders.{constraints_in}
+use Rattle.cb_constraints.specs.Internal.Places.{sites_from, sites_in, sites_of}
 use Rattle.cb_constraints.specs.Constraints.{Constraint, Demand}
 use Rattle.cb_constraints.specs.Holding.{Meets, after_demand}
 use Rattle.cb_constraints.specs.PatternValues.{Parts, SlotValue}
 use Rattle.cb_constraints.specs.declared.site.Site.{Site}
-use Rattle.cb_cuts.specs.Values.{fields_of_row, fields_taken, first_fields, next_value}
+use Rattle.cb_cuts.specs.Internal.Values.{fields_of_row, fields_taken, first_fields, next_value}
 use Rattle.cb_facts.specs.Facts.{FactContent, content_of}
 use Rattle.cb_facts.specs.declared.single.Single.{Single}
 use Rattle.cb_facts.specs.declared.value.Value.{Value}

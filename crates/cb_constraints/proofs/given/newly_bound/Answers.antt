@@ -1,7 +1,7 @@
 use Rattle.std.proofs.Common.{arith, ◌∙◌, ◌++◌, ◌<◌, ap, flat_map, length, map, slice_get}
 use Rattle.cb_constraints.specs.Binders.{constraints_in}
 use Rattle.cb_constraints.specs.Bound.{given, given_if, newly_bound}
-use Rattle.cb_constraints.specs.Known.{bindings_after}
+use Rattle.cb_constraints.specs.Internal.Known.{bindings_after}
 use Rattle.cb_exprs.specs.Bindings.{value_at}
 use Rattle.cb_constraints.proofs.GivenLaws.{all_given, at_its_place, first_within, given_after, given_ended, given_on}
 use Rattle.cb_constraints.proofs.given.newly_bound.Goals as goal

@@ -1,7 +1,7 @@
 use Rattle.std.proofs.Common.{◌≡◌, ◌++◌, drop, flat_map, map}
 use Rattle.cb_constraints.specs.Binders.{constraints_in}
 use Rattle.cb_constraints.specs.Bound.{given, newly_bound}
-use Rattle.cb_constraints.specs.Known.{bindings_after}
+use Rattle.cb_constraints.specs.Internal.Known.{bindings_after}
 use Rattle.cb_constraints.proofs.given.newly_bound.Given as goal
 
 abbrev pub invariant-loop-name : goal.invariant-loop-name

@@ -1,5 +1,5 @@
 use Rattle.std.proofs.Common.{length}
-use Rattle.cb_cuts.specs.Lengths.{IsFront}
+use Rattle.cb_cuts.specs.Internal.Lengths.{IsFront}
 use Rattle.cb_cuts.proofs.cuts.cut_back.Given as goal
 
 abbrev pub decreases-loop-segments : goal.decreases-loop-segments

@@ -1,6 +1,6 @@
 use Rattle.std.proofs.Common.{◌≡◌, ◌++◌, drop}
 use Rattle.std.specs.List.{flat_map}
-use Rattle.cb_cuts.specs.Lengths.{segment_lengths}
+use Rattle.cb_cuts.specs.Internal.Lengths.{segment_lengths}
 use Rattle.cb_cuts.proofs.cuts.lengths.Given as goal
 
 abbrev pub invariant-loop-segment : goal.invariant-loop-segment

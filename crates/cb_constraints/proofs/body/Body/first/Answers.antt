@@ -3,7 +3,8 @@ use Rattle.std.specs.List.{slice_get}
 use Rattle.std.specs.Map.{lookup}
 use Rattle.std.specs.Option.{option_and_then, option_map}
 use Rattle.std.specs.Str.{bytes_eq}
-use Rattle.cb_constraints.specs.Binders.{constraints_in, first_place, places}
+use Rattle.cb_constraints.specs.Binders.{constraints_in}
+use Rattle.cb_constraints.specs.Internal.Places.{first_place, places}
 use Rattle.cb_constraints.specs.PartValues.{asked_parts}
 use Rattle.cb_constraints.proofs.PlaceLaws.{found, looked_up}
 use Rattle.cb_constraints.proofs.body.Body.first.Goals as goal

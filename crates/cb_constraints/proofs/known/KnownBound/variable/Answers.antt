@@ -1,8 +1,9 @@
 use Rattle.std.proofs.Common.{◌≡◌, ◌∙◌, None, Some, ap, rules, sym}
 use Rattle.std.proofs.lemmas.Result.{IfOk-weaker}
-use Rattle.cb_constraints.specs.Binders.{constraints_in, first_place}
+use Rattle.cb_constraints.specs.Binders.{constraints_in}
+use Rattle.cb_constraints.specs.Internal.Places.{first_place}
 use Rattle.cb_constraints.specs.Holding.{tested_value}
-use Rattle.cb_constraints.specs.Known.{taken_if}
+use Rattle.cb_constraints.specs.Internal.Known.{taken_if}
 use Rattle.cb_constraints.proofs.KnownLaws.{found_at_place, found_before}
 use Rattle.cb_constraints.proofs.known.KnownBound.variable.Goals as goal
 use Rattle.cb_exprs.specs.Bindings.{value_at}

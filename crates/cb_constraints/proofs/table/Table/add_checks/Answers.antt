@@ -1,7 +1,8 @@
 use Rattle.std.proofs.Common.{arith, ◌≡◌, ◌∙◌, ◌+◌, ◌∷◌, [], refl, suc, ap, drop, map, rules, subst, sym}
 use Rattle.std.proofs.lemmas.List.{drop_more}
 use Rattle.cb_constraints.proofs.TableLaws.{going_begun, going_more}
-use Rattle.cb_constraints.specs.Binders.{binder, places_of}
+use Rattle.cb_constraints.specs.Binders.{binder}
+use Rattle.cb_constraints.specs.Internal.Places.{places_of}
 use Rattle.cb_constraints.specs.Constraints.{check_of}
 use Rattle.cb_constraints.specs.Internal.Tables.{Going, Grows}
 use Rattle.cb_constraints.proofs.table.Table.add_checks.Goals as goal

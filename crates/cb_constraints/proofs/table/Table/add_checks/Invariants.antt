@@ -1,5 +1,5 @@
 use Rattle.std.proofs.Common.{◌≡◌, [], drop, map}
-use Rattle.cb_constraints.specs.Binders.{places_of}
+use Rattle.cb_constraints.specs.Internal.Places.{places_of}
 use Rattle.cb_constraints.specs.Constraints.{check_of}
 use Rattle.cb_constraints.specs.Internal.Tables.{Going}
 use Rattle.cb_constraints.proofs.table.Table.add_checks.Given as goal

@@ -1,7 +1,7 @@
 use Rattle.std.proofs.Common.{◌≡◌, ◌∙◌, ◌+◌, ◌∷◌, ◌++◌, [], suc, ap, drop, length, map, refl, rules, subst, sym}
 use Rattle.std.proofs.lemmas.List.{append-nil, drop_more}
 use Rattle.cb_constraints.proofs.TableLaws.{counted_on, going_on}
-use Rattle.cb_constraints.specs.Binders.{places, places_for, sites_of}
+use Rattle.cb_constraints.specs.Internal.Places.{places, places_for, sites_of}
 use Rattle.cb_constraints.specs.Constraints.{constraint_of, demand_of}
 use Rattle.cb_constraints.specs.Internal.Tables.{Going, Grows}
 use Rattle.cb_constraints.specs.declared.site.Site.{Site}

@@ -1,5 +1,5 @@
 use Rattle.std.proofs.Common.{drop, length, map}
-use Rattle.cb_constraints.specs.Binders.{places, sites_of}
+use Rattle.cb_constraints.specs.Internal.Places.{places, sites_of}
 use Rattle.cb_constraints.specs.Constraints.{constraint_of}
 use Rattle.cb_constraints.specs.Internal.Tables.{Going}
 use Rattle.cb_constraints.proofs.table.Table.add_row.Given as goal

@@ -2,7 +2,7 @@ use Rattle.std.proofs.Common.{arith, ◌≡◌, ◌∙◌, ◌+◌, ◌∷◌, �
 use Rattle.std.proofs.lemmas.List.{drop_more}
 use Rattle.std.specs.List.{flat_map}
 use Rattle.cb_constraints.proofs.TableLaws.{counted_row, going_more, places_both}
-use Rattle.cb_constraints.specs.Binders.{places, sites_from, sites_of}
+use Rattle.cb_constraints.specs.Internal.Places.{places, sites_from, sites_of}
 use Rattle.cb_constraints.specs.Internal.Tables.{Going, Grows}
 use Rattle.cb_constraints.specs.PartValues.{asked_slot}
 use Rattle.cb_constraints.proofs.table.Table.add_rows.Goals as goal

@@ -1,6 +1,6 @@
 use Rattle.std.proofs.Common.{◌≡◌, drop, length, map}
 use Rattle.std.specs.List.{flat_map}
-use Rattle.cb_constraints.specs.Binders.{places, sites_from}
+use Rattle.cb_constraints.specs.Internal.Places.{places, sites_from}
 use Rattle.cb_constraints.specs.Internal.Tables.{Going}
 use Rattle.cb_constraints.specs.PartValues.{asked_slot}
 use Rattle.cb_constraints.proofs.table.Table.add_rows.Given as goal

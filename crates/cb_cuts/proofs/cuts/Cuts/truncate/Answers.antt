@@ -1,6 +1,6 @@
 use Rattle.std.proofs.Common.{arith, ◌≡◌, ◌∙◌, ◌-◌, ◌≤◌, ap, length, rules, sym}
 use Rattle.cb_cuts.proofs.CutLaws.{length_kept, totals_kept}
-use Rattle.cb_cuts.specs.Lengths.{all_lengths, last_count}
+use Rattle.cb_cuts.specs.Internal.Lengths.{all_lengths, last_count}
 use Rattle.cb_cuts.proofs.cuts.Cuts.truncate.Goals as goal
 
 pub invariant_of-self : goal.invariant_of-self

@@ -3,7 +3,7 @@ use Rattle.cb_constraints.specs.Binders.{constraints_in}
 use Rattle.cb_constraints.specs.Constraints.{constraint_of, demand_of}
 use Rattle.cb_constraints.specs.Holding.{Follows, Meets, after_demand, checks_in, tested_value}
 use Rattle.cb_constraints.specs.contracts.cited.LawsCited.TheImpl as constraints_laws
-use Rattle.cb_cuts.specs.Values.{values_taken}
+use Rattle.cb_cuts.specs.Internal.Values.{values_taken}
 use Rattle.cb_facts.specs.Facts.{content_of}
 use Rattle.cb_fit.proofs.Standing.{known-is, met-next, next-here}
 use Rattle.cb_fit.proofs.Takes.{ok-then}

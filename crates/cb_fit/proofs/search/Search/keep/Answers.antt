@@ -1,6 +1,6 @@
 use Rattle.std.proofs.Common.{◌∙◌, ap, length}
 use Rattle.cb_constraints.specs.Binders.{constraints_in}
-use Rattle.cb_cuts.specs.Values.{values_taken}
+use Rattle.cb_cuts.specs.Internal.Values.{values_taken}
 use Rattle.cb_cuts.specs.contracts.cited.LawsCited.TheImpl as cuts_laws
 use Rattle.cb_facts.specs.Facts.{content_of}
 use Rattle.cb_fit.proofs.Standing.{none-after}

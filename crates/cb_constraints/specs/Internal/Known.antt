@@ -1,7 +1,8 @@
 -- What variables have in the course of a test.
 use Rattle.std.specs.Prelude.{ℕ, zero, suc, List, [], ◌∷◌, Option, Some, None, nat_lt, if◌then◌else◌}
 use Rattle.std.specs.Option.{option_map_or}
-use Rattle.cb_constraints.specs.Binders.{binders, binders_before}
+use Rattle.cb_constraints.specs.Binders.{binders}
+use Rattle.cb_constraints.specs.Internal.Places.{binders_before}
 use Rattle.cb_constraints.specs.Constraints.{Constraint}
 use Rattle.cb_constraints.specs.declared.place.Place.{Place}
 use Rattle.cb_exprs.specs.Bindings.{Bindings, value_at, with_variable}

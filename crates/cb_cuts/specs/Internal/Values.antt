@@ -1,6 +1,6 @@
 -- The values that the constraints of a pattern took, by the lengths of their segments.
 use Rattle.std.specs.Prelude.{◌+◌, ◌-◌, ℕ, Bool, true, false, List, [], ◌∷◌, ◌++◌, Option, Some, None, drop, length, slice_get, take}
-use Rattle.cb_constraints.specs.Binders.{sites_in}
+use Rattle.cb_constraints.specs.Internal.Places.{sites_in}
 use Rattle.cb_constraints.specs.PatternValues.{Parts, SlotValue}
 use Rattle.cb_constraints.specs.PatternValues as pattern
 use Rattle.cb_constraints.specs.declared.site.Site.{Site}
