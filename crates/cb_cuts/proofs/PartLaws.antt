@@ -3,7 +3,7 @@ use Rattle.std.proofs.Common.{arith, ◌≡◌, ◌∙◌, ◌+◌, ◌<◌, ◌
 use Rattle.std.specs.List.{slice_get}
 use Rattle.cb_constraints.specs.PartValues.{asked_slot}
 use Rattle.cb_constraints.specs.declared.parts.SlotRow.{SlotRow}
-use Rattle.cb_cuts.specs.Internal.FieldLists.{IsFirst}
+use Rattle.cb_cuts.specs.Internal.{IsFirst}
 use Rattle.cb_cuts.specs.Internal.Values.{first_fields, first_row_fields, value_taken}
 use Rattle.cb_facts.specs.declared.single.Single.{Single}
 use Rattle.cb_facts.specs.declared.value.Value.{Value}

@@ -3,7 +3,7 @@ ghost use Rattle.std.specs.Prelude.{◌≡◌, false, ◌∷◌, ◌+◌, ◌<�
 ghost use Rattle.cb_constraints.specs.Holding.{tested_value};
 ghost use Rattle.cb_facts.specs.Values.{fields_in, is_multifield, value_of_field};
 ghost use Rattle.cb_facts.specs.declared.single.Single.{Single};
-ghost use Rattle.cb_cuts.specs.Internal.FieldLists.{IsFirst, row_fields};
+ghost use Rattle.cb_cuts.specs.Internal.{IsFirst, row_fields};
 
 use cb_constraints::Tested;
 use cb_facts::{Multifield, Value, splice};

@@ -2,7 +2,7 @@
 ghost use Rattle.std.specs.Prelude.{◌≡◌, ◌<◌, [], IfOk, MatchOption, Some, drop, get_or, length, map, min, option_copied, slice_get, take};
 ghost use Rattle.cb_constraints.specs.Internal.Places.{sites_in};
 ghost use Rattle.cb_constraints.specs.PartValues.{asked_parts, asked_slot};
-ghost use Rattle.cb_cuts.specs.Internal.FieldLists.{row_fields};
+ghost use Rattle.cb_cuts.specs.Internal.{row_fields};
 ghost use Rattle.cb_cuts.specs.Internal.Values.{fields_of_row, first_fields, first_row_fields, value_at_site, value_taken};
 ghost use Rattle.cb_facts.specs.Facts.{content_of};
 

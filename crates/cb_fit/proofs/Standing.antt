@@ -23,7 +23,7 @@ use Rattle.cb_facts.specs.Values.{fields_in}
 use Rattle.cb_facts.specs.declared.single.Single.{Single}
 use Rattle.cb_facts.specs.declared.value.Value.{Value}
 use Rattle.cb_facts.specs.declared.value.Value.TheVariants as value
-use Rattle.cb_cuts.specs.Internal.FieldLists.{IsFirst}
+use Rattle.cb_cuts.specs.Internal.{IsFirst}
 use Rattle.cb_fit.proofs.Rows.{is-one}
 use Rattle.cb_fit.specs.Internal.{after_ones, env_after}
 use Rattle.cb_fit.specs.Internal.Choices.{KeepsFirst}

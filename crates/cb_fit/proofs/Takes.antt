@@ -8,7 +8,7 @@ use Rattle.cb_exprs.specs.Bindings.{Bindings}
 use Rattle.cb_facts.specs.Values.{value_of_field}
 use Rattle.cb_facts.specs.declared.single.Single.{Single}
 use Rattle.cb_facts.specs.declared.value.Value.{Value}
-use Rattle.cb_cuts.specs.Internal.FieldLists.{IsFirst}
+use Rattle.cb_cuts.specs.Internal.{IsFirst}
 use Rattle.cb_fit.specs.Internal.{after_ones, may_take}
 
 pub is-met : (b : Bool) (env : Bindings) (after : Option Bindings) → b ≡ true → Meets b env after → after ≡ Some env

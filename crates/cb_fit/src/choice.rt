@@ -3,7 +3,7 @@ ghost use Rattle.std.specs.Prelude.{◌≡◌, ◌≢◌, ◌∷◌, ◌++◌, [
 ghost use Rattle.cb_constraints.specs.Constraints.{constraint_of};
 ghost use Rattle.cb_constraints.specs.Rows.{segments_wanted};
 ghost use Rattle.cb_constraints.specs.PartValues.{asked_slot};
-ghost use Rattle.cb_cuts.specs.Internal.FieldLists.{row_fields};
+ghost use Rattle.cb_cuts.specs.Internal.{row_fields};
 ghost use Rattle.cb_fit.specs.Internal.{begun_at, begun_if, endings};
 ghost use Rattle.cb_fit.specs.Internal.Choices.{IsChoice, IsIn, IsRest, KeepsFirst, choice_endings, cuts_before, group_from, most_tries, segments_in, tries};
 ghost use Rattle.cb_fit.specs.Internal.Standing.{AreNext, IsAt};

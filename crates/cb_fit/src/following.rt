@@ -3,7 +3,7 @@ ghost use Rattle.std.specs.Prelude.{◌≡◌, ◌++◌, ◌∷◌, ◌+◌, ◌
 ghost use Rattle.cb_constraints.specs.Constraints.{constraint_of};
 ghost use Rattle.cb_constraints.specs.Rows.{segments_wanted};
 ghost use Rattle.cb_constraints.specs.PartValues.{asked_slot};
-ghost use Rattle.cb_cuts.specs.Internal.FieldLists.{row_fields};
+ghost use Rattle.cb_cuts.specs.Internal.{row_fields};
 ghost use Rattle.cb_fit.specs.Internal.{begun_at, endings, env_after, may_take_row, may_take_slots, taken_by};
 ghost use Rattle.cb_fit.specs.Internal.Choices.{IsOpen, IsRest, KeepsFirst, as_ways, followed_by_rows, kept_with, most_tries, segments_in, tries};
 ghost use Rattle.cb_fit.specs.Internal.Standing.{AreNext, IsAt};

@@ -2,7 +2,7 @@
 //! any variable takes a value.
 ghost use Rattle.std.specs.Prelude.{◌≡◌, ◌≤◌, drop, length, map, take, true};
 ghost use Rattle.cb_constraints.specs.Constraints.{constraint_of};
-ghost use Rattle.cb_cuts.specs.Internal.FieldLists.{row_fields};
+ghost use Rattle.cb_cuts.specs.Internal.{row_fields};
 ghost use Rattle.cb_fit.specs.Internal.{after_last, may_take, may_take_back, may_take_front, may_take_row, takes_length};
 
 use crate::lengths::takes_length;

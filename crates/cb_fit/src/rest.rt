@@ -2,7 +2,7 @@
 ghost use Rattle.std.specs.Prelude.{◌≡◌, ◌+◌, ◌++◌, ◌≤◌, [], IfOk, IfSome, MatchOption, OnOk, length, map, take, true};
 ghost use Rattle.cb_constraints.specs.Constraints.{constraint_of};
 ghost use Rattle.cb_constraints.specs.Rows.{before_segments, segments_wanted};
-ghost use Rattle.cb_cuts.specs.Internal.FieldLists.{row_fields};
+ghost use Rattle.cb_cuts.specs.Internal.{row_fields};
 ghost use Rattle.cb_fit.specs.Internal.{begun_at, endings, env_after, may_take_row};
 ghost use Rattle.cb_fit.specs.Internal.Choices.{IsRest, KeepsFirst};
 ghost use Rattle.cb_fit.specs.Internal.Standing.{IsAt};

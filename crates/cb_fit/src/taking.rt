@@ -3,7 +3,7 @@ ghost use Rattle.std.specs.Prelude.{◌≡◌, ◌∷◌, ◌++◌, [], ◌+◌,
 ghost use Rattle.cb_constraints.specs.Constraints.{constraint_of, demand_of};
 ghost use Rattle.cb_constraints.specs.Holding.{Meets, may_hold, tested_value};
 ghost use Rattle.cb_constraints.specs.Rows.{segments_wanted};
-ghost use Rattle.cb_cuts.specs.Internal.FieldLists.{row_fields};
+ghost use Rattle.cb_cuts.specs.Internal.{row_fields};
 ghost use Rattle.cb_fit.specs.Internal.{after_ones, begun_at, begun_if, env_after, may_take, with_group};
 ghost use Rattle.cb_fit.specs.Internal.Choices.{KeepsFirst};
 ghost use Rattle.cb_fit.specs.Internal.Standing.{IsAt, ComesNext, TestsNext};

@@ -1,7 +1,7 @@
 use Rattle.std.proofs.Common.{◌≡◌, [], MatchOption, Some, rules, subst, sym}
 use Rattle.std.specs.List.{slice_get}
 use Rattle.cb_cuts.proofs.PartLaws.{a_row}
-use Rattle.cb_cuts.specs.Internal.FieldLists.{row_fields}
+use Rattle.cb_cuts.specs.Internal.{row_fields}
 use Rattle.cb_cuts.proofs.taken.find_slot.Goals as goal
 
 pub returns-in-Some : goal.returns-in-Some

@@ -2,7 +2,7 @@ use Rattle.std.proofs.Common.{arith, ◌≡◌, ◌∙◌, ◌+◌, ◌≤◌, a
 use Rattle.std.proofs.lemmas.Result.{IfOk-weaker}
 use Rattle.cb_constraints.specs.Holding.{tested_value}
 use Rattle.cb_cuts.proofs.PartLaws.{one_taken}
-use Rattle.cb_cuts.specs.Internal.FieldLists.{row_fields}
+use Rattle.cb_cuts.specs.Internal.{row_fields}
 use Rattle.cb_cuts.specs.Internal.Values.{value_taken}
 use Rattle.cb_cuts.proofs.taken.value_of_part.Goals as goal
 

@@ -4,7 +4,7 @@ use Rattle.cb_constraints.specs.Constraints.{constraint_of, demand_of}
 use Rattle.cb_constraints.specs.Holding.{Follows, Meets, after_demand, checks_in, tested_value}
 use Rattle.cb_constraints.specs.contracts.cited.LawsCited.TheImpl as constraints_laws
 use Rattle.cb_constraints.specs.Internal.Known.{bindings_before}
-use Rattle.cb_cuts.specs.Internal.FieldLists.{row_fields}
+use Rattle.cb_cuts.specs.Internal.{row_fields}
 use Rattle.cb_cuts.specs.Internal.Values.{values_taken}
 use Rattle.cb_facts.specs.Facts.{content_of}
 use Rattle.cb_facts.specs.declared.value.Value.TheVariants as value
