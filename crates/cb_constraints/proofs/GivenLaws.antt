@@ -1,7 +1,6 @@
 -- A variable that takes a value has that of its first place.
 use Rattle.std.proofs.Common.{arith, ◌≡◌, ◌∙◌, ◌++◌, ◌+◌, ◌<◌, ◌≤◌, ℕ, suc, Bool, true, false, All, List, [], ◌∷◌, Option, None, Some, ap, append-nil, append_assoc, drop, flat_map, length, map, refl, slice_index_or, subst, sym}
 use Rattle.std.proofs.lemmas.List.{drop_all, drop_more, map-append}
-use Rattle.std.proofs.lemmas.Grind.{flat_map-append}
 use Rattle.std.proofs.lemmas.Option.{slice_get-get_or}
 use Rattle.std.specs.List.{list_any, slice_get}
 use Rattle.std.specs.Map.{lookup}
@@ -9,11 +8,11 @@ use Rattle.std.specs.Option.{option_map, option_map_or, option_or}
 use Rattle.std.specs.Str.{bytes_eq}
 use Rattle.cb_constraints.specs.Binders.{binder, binders, binders_in, binders_of, constraints_in}
 use Rattle.cb_constraints.specs.Internal.Places.{first_place, places, places_for, places_of}
-use Rattle.cb_constraints.specs.Bound.{binders_in_parts, each_once, given, given_if, newly_bound}
+use Rattle.cb_constraints.specs.Bound.{each_once, given, given_if, newly_bound}
 use Rattle.cb_constraints.specs.Constraints.{Check, Demand, nothing, each, either, Constraint}
 use Rattle.cb_constraints.specs.Internal.Tables.{first_places}
 use Rattle.cb_constraints.specs.Internal.Known.{given_to_all, bindings_after, bindings_before, taken_if}
-use Rattle.cb_constraints.specs.PatternValues.{Parts, fields, slots, SlotValue}
+use Rattle.cb_constraints.specs.PatternValues.{Parts}
 use Rattle.cb_constraints.specs.declared.place.Place.{Place}
 use Rattle.cb_constraints.proofs.KnownLaws.{after-one, found_at_place, if-so, look-both, look-names, next-places}
 use Rattle.cb_constraints.proofs.PlaceLaws.{at_first, names_once}
@@ -124,20 +123,12 @@ names-in n (c ∷ cs) =
     ∙ (ap (λ xs. xs ++ map (λ e. e.0) (places (suc n) cs)) (names-for n c.demand)
     ∙ ap (λ ys. binders c.demand ++ ys) (names-in (suc n) cs))
 
-in-rows : (rows : List SlotValue) → binders_in (flat_map (λ s. s.row) rows) ≡ flat_map (λ s. binders_in s.row) rows
-in-rows [] = refl
-in-rows (s ∷ rows) = flat_map-append (λ c. binders c.demand) s.row (flat_map (λ r. r.row) rows) ∙ ap (λ ys. binders_in s.row ++ ys) (in-rows rows)
-
-in-parts : (parts : Parts) → binders_in (constraints_in parts) ≡ binders_in_parts parts
-in-parts (fields row) = refl
-in-parts (slots rows) = in-rows rows
-
 -- what the variables of a pattern are given is what is newly bound
 pub all_given : (parts : Parts) (before after : Bindings) (es : List (List ℕ × Place)) → es ≡ first_places (places 0 (constraints_in parts))
     → flat_map (given before after) (map (λ e. e.0) es) ≡ newly_bound parts before after
 all_given parts before after es e =
     ap (λ fs. flat_map (given before after) (map (λ f. f.0) fs)) e
-    ∙ ap (flat_map (given before after)) (names_once (places 0 (constraints_in parts)) ∙ ap each_once (names-in 0 (constraints_in parts) ∙ in-parts parts))
+    ∙ ap (flat_map (given before after)) (names_once (places 0 (constraints_in parts)) ∙ ap each_once (names-in 0 (constraints_in parts)))
 
 -- in turn, each with its first place
 pub at_its_place : (cs : List Constraint) (es : List (List ℕ × Place)) (i : ℕ) (e : List ℕ × Place) → es ≡ first_places (places 0 cs) → i < length es → e ≡ slice_index_or es i e

@@ -1,15 +1,10 @@
 -- The variables to which a way gives values.
 use Rattle.std.specs.Prelude.{ℕ, not, List, [], ◌∷◌, Option, Some, None, filter, flat_map}
 use Rattle.std.specs.Str.{bytes_eq}
-use Rattle.cb_constraints.specs.Binders.{binders_in}
-use Rattle.cb_constraints.specs.PatternValues.{Parts, fields, slots}
+use Rattle.cb_constraints.specs.Binders.{binders_in, constraints_in}
+use Rattle.cb_constraints.specs.PatternValues.{Parts}
 use Rattle.cb_exprs.specs.Bindings.{Bindings, value_at}
 use Rattle.cb_facts.specs.declared.value.Value.{Value}
-
--- the variables that a pattern may give a value, in the order in which they are written
-abbrev pub binders_in_parts : Parts → List (List ℕ)
-binders_in_parts (fields row) = binders_in row
-binders_in_parts (slots rows) = flat_map (λ s. binders_in s.row) rows
 
 -- these names, each once: of equal ones the first is kept
 abbrev pub each_once : List (List ℕ) → List (List ℕ)
@@ -26,4 +21,4 @@ given before after x = given_if x (value_at x before.variables) (value_at x afte
 
 -- the variables of a pattern that have no value before and have one after, each once, in the order in which they are written
 abbrev pub newly_bound : Parts → Bindings → Bindings → List (List ℕ × Value)
-newly_bound parts before after = flat_map (given before after) (each_once (binders_in_parts parts))
+newly_bound parts before after = flat_map (given before after) (each_once (binders_in (constraints_in parts)))

@@ -1,5 +1,6 @@
 -- What a way gives values, and what variables have then.
 use Rattle.std.proofs.Common.{◌≡◌, ◌∙◌, Bool, true, false, cond, ℕ, List, [], ◌∷◌, ◌++◌, Option, None, Some, ap, refl, subst, sym}
+use Rattle.std.proofs.lemmas.Grind.{flat_map-append}
 use Rattle.std.proofs.lemmas.List.{append-nil, append_assoc}
 use Rattle.std.specs.List.{flat_map}
 use Rattle.std.specs.Cmp.Lexicographic.{bytes_decides}
@@ -19,8 +20,8 @@ use Rattle.cb_functions.specs.Comparison.{same}
 use Rattle.cb_fit.proofs.Givings.{GivenSoFar, given_all, given_one, given_once, given_more}
 use Rattle.cb_fit.proofs.Segments.{then-some}
 use Rattle.cb_fit.proofs.WithoutVariables.{provided-if}
-use Rattle.cb_constraints.specs.Binders.{binder, binders, binders_in, binders_of}
-use Rattle.cb_constraints.specs.Bound.{binders_in_parts, newly_bound}
+use Rattle.cb_constraints.specs.Binders.{binder, binders, binders_in, binders_of, constraints_in}
+use Rattle.cb_constraints.specs.Bound.{newly_bound}
 use Rattle.cb_fit.specs.Related.{Fits, HoldInTurn, PartsFit, SlotsFit}
 use Rattle.cb_fit.specs.Ways.{segment_value}
 
@@ -134,21 +135,22 @@ turn-gives (c ∷ cs) (s ∷ ss) before after h =
     let w = then-some (λ v. after_demand c.demand v before) (segment_value c.segment s) h.0 h.1 in
     both (binders c.demand) (binders_in cs) before h.0 after (demand-gives c.demand w.0 before h.0 w.2) (turn-gives cs ss h.0 after h.2)
 
-slots-give : (ss : List SlotValue) (slots : List (List ℕ × Value)) (cuts : List ℕ) (before after : Bindings) → SlotsFit ss slots cuts before after → Step (flat_map (λ s. binders_in s.row) ss) before after
+slots-give : (ss : List SlotValue) (slots : List (List ℕ × Value)) (cuts : List ℕ) (before after : Bindings) → SlotsFit ss slots cuts before after → Step (binders_in (flat_map (λ s. s.row) ss)) before after
 slots-give [] slots cuts before after h = gives-none before after h.1
 slots-give (s ∷ ss) slots cuts before after (v, own, others, grown, is, joined, first, more) =
-    both (binders_in s.row) (flat_map (λ t. binders_in t.row) ss) before grown after (turn-gives s.row first.0 before grown first.3) (slots-give ss slots others grown after more)
+    subst (λ names. Step names before after) (sym (flat_map-append (λ c. binders c.demand) s.row (flat_map (λ t. t.row) ss)))
+    (both (binders_in s.row) (binders_in (flat_map (λ t. t.row) ss)) before grown after (turn-gives s.row first.0 before grown first.3) (slots-give ss slots others grown after more))
 
-parts-give : (p : Parts) (f : FactContent) (cuts : List ℕ) (before after : Bindings) → PartsFit p f cuts before after → Step (binders_in_parts p) before after
+parts-give : (p : Parts) (f : FactContent) (cuts : List ℕ) (before after : Bindings) → PartsFit p f cuts before after → Step (binders_in (constraints_in p)) before after
 parts-give (pattern.fields row) (fact.fields fs) cuts before after h = turn-gives row h.0 before after h.3
 parts-give (pattern.fields row) (fact.slots ss) cuts before after h = absurd h
 parts-give (pattern.slots rows) (fact.fields fs) cuts before after h = absurd h
 parts-give (pattern.slots rows) (fact.slots ss) cuts before after h = slots-give rows ss cuts before after h
 
-bound-gives : (p : Parts) (before after : Bindings) → Step (binders_in_parts p) before after → with_variables (newly_bound p before after) before ≡ after
+bound-gives : (p : Parts) (before after : Bindings) → Step (binders_in (constraints_in p)) before after → with_variables (newly_bound p before after) before ≡ after
 bound-gives p before after h =
     let w = h.1 after [] (λ x v e. e) in
-    ap (λ bound. with_variables bound before) (sym (given_once (binders_in_parts p) after (gave [] before))) ∙ ap (λ g. with_variables g.bound before) w.1 ∙ w.2
+    ap (λ bound. with_variables bound before) (sym (given_once (binders_in (constraints_in p)) after (gave [] before))) ∙ ap (λ g. with_variables g.bound before) w.1 ∙ w.2
 
 pub all-given : (p : PatternValue) (f : FactValue) (cuts : List ℕ) (before after : Bindings) → Fits p f cuts before after → with_variables (newly_bound p.parts before after) before ≡ after
 all-given p f cuts before after h = bound-gives p.parts before after (parts-give p.parts f.content cuts before after h.1)

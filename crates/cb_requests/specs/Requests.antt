@@ -11,15 +11,15 @@ use Rattle.cb_forms.specs.declared.fault.Fault.{Fault}
 use Rattle.cb_forms.specs.declared.fault.Fault.TheVariants.{WrongArguments, MalformedForm}
 use Rattle.cb_expr_forms.specs.Scopes.{plain_scope}
 use Rattle.cb_requests.specs.Reads.{top_scope, expr_in, facts_in, globals_in}
-use Rattle.cb_requests.specs.declared.command.Command.{Command}
-use Rattle.cb_requests.specs.declared.command.Command.TheVariants as program
+use Rattle.cb_requests.specs.declared.request.Request as asked
+use Rattle.cb_requests.specs.declared.request.Request.TheVariants as program
 use Rattle.cb_templates.specs.FaultLists.{unless_faulty}
 use Rattle.cb_templates.specs.Slots.{SlotShape}
 use Rattle.cb_templates.specs.TemplateFaults.{template_faults}
 use Rattle.cb_templates.specs.TemplateShapes.{template_shape}
 use Rattle.cb_templates.specs.Templates.{Templates, without_comment}
 use Rattle.cb_words.specs.Words.{head_of}
-use Rattle.cb_words.specs.declared.head.Command.{Command as Word}
+use Rattle.cb_words.specs.declared.head.Command.{Command}
 use Rattle.cb_words.specs.declared.head.Command.TheVariants as word
 use Rattle.cb_words.specs.declared.head.Construct.{Construct}
 use Rattle.cb_words.specs.declared.head.Construct.TheVariants as construct
@@ -40,8 +40,8 @@ pub data Request : Type 0 where
   reset : Request
   clear : Request
 
--- what a `Command` of the program asks for
-abbrev pub request_by : Command → Request
+-- what a `Request` of the program asks for
+abbrev pub request_by : asked.Request → Request
 request_by (program.Act expr) = act (term_of expr)
 request_by (program.DefineTemplate name template) = define_template (name, template)
 request_by (program.DefineDeffacts name facts) = define_deffacts name facts.items
@@ -73,13 +73,13 @@ construct_request templates env in_use construct.Deftemplate ts = template_reque
 construct_request templates env in_use construct.Deffacts ts = deffacts_request templates env (head_and_rest ts)
 construct_request templates env in_use construct.Defglobal ts = globals_request templates env ts
 
-abbrev pub named_request : Word → Request
+abbrev pub named_request : Command → Request
 named_request word.Facts = list_facts
 named_request word.Reset = reset
 named_request word.Clear = clear
 
 -- a command, which takes no arguments
-abbrev pub command_request : Word → Trees → Result Request Fault
+abbrev pub command_request : Command → Trees → Result Request Fault
 command_request name no_trees = Ok (named_request name)
 command_request name (tree t ts) = Err WrongArguments
 

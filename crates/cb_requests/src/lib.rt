@@ -3,12 +3,12 @@
 //! `docs/ARCHITECTURE.md` says where it belongs.
 #![tactic(auto)]
 
-mod command;
+mod context;
 mod fact_list;
 mod global_list;
-mod known;
 pub mod laws;
+mod request;
 mod top_expr;
 
-pub use command::{Command, read_command};
-pub use known::Known;
+pub use context::Context;
+pub use request::{Request, read_request};

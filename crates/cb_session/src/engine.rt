@@ -4,7 +4,7 @@ ghost use Rattle.cb_actions.specs.Went.{Quietly, Went, stop_extent};
 ghost use Rattle.cb_exprs.specs.Terms.{term_of};
 ghost use Rattle.cb_forms.specs.Trees.{atom, reading_of};
 ghost use Rattle.cb_io.specs.Output.{Puts};
-ghost use Rattle.cb_requests.specs.Requests as request;
+ghost use Rattle.cb_requests.specs.Requests as asked;
 ghost use Rattle.cb_requests.specs.Requests.{request_by};
 ghost use Rattle.cb_session.specs.Actions.{acted, performed, performed_and_shown, shown_line};
 ghost use Rattle.cb_session.specs.Internal.Executing.{Executes};
@@ -21,7 +21,7 @@ use cb_actions::{Break, Ended, Stop, World, put, put_text};
 use cb_exprs::{Expr, FactExpr, GlobalExpr};
 use cb_facts::{Name, Names, Value};
 use cb_forms::{Cut, Fault, Form, Item, Out, Sink, Token};
-use cb_requests::{Command, Known, read_command};
+use cb_requests::{Context, Request, read_request};
 use cb_templates::Template;
 use cb_working_memory::DeffactsTable;
 use std::alloc::Global;
@@ -151,24 +151,24 @@ impl Engine {
         ensures { Went K.writes out.old out.new self.new result
             (acted (reading_of item.now) self.old) }
     {
-        let known = Known {
+        let context = Context {
             relations: self.world.relations(),
             env: self.world.env(),
             memory: self.world.memory(),
             deffacts: &self.deffacts,
         };
-        match read_command(&mut self.names, &known, item) {
-            Ok(command) => self.perform_and_show(command, out),
+        match read_request(&mut self.names, &context, item) {
+            Ok(request) => self.perform_and_show(request, out),
             Err(refused) => Err(Break::from(refused)),
         }
     }
 
-    fn perform_and_show<K: Sink>(&mut self, command: Command, out: &mut Out<K>) -> Result<(), Break>
+    fn perform_and_show<K: Sink>(&mut self, request: Request, out: &mut Out<K>) -> Result<(), Break>
         requires { out.old.fault ≡ false }
         ensures { Went K.writes out.old out.new self.new result
-            (performed_and_shown (request_by command) self.old) }
+            (performed_and_shown (request_by request) self.old) }
     {
-        let value = self.perform(command, out)?;
+        let value = self.perform(request, out)?;
         show(self.alloc, value, out)?;
         Ok(())
     }
@@ -176,23 +176,23 @@ impl Engine {
     /// Does what a request asks for. The answer is its value, if it has one.
     fn perform<K: Sink>(
         &mut self,
-        command: Command,
+        request: Request,
         out: &mut Out<K>,
     ) -> Result<Option<Value>, Break>
         requires { out.old.fault ≡ false }
         ensures { Went K.writes out.old out.new self.new result
-            (performed (request_by command) self.old) }
+            (performed (request_by request) self.old) }
     {
-        match command {
-            Command::Act(expr) => self.carry_out(&expr, out),
-            Command::DefineTemplate(relation, template) => {
+        match request {
+            Request::Act(expr) => self.carry_out(&expr, out),
+            Request::DefineTemplate(relation, template) => {
                 self.define_template(relation, template)
             }
-            Command::DefineDeffacts(name, facts) => self.define_deffacts(name, facts),
-            Command::DefineGlobals(globals) => self.define_globals(globals),
-            Command::ListFacts => self.list_facts(out),
-            Command::Reset => self.reset(out),
-            Command::Clear => self.clear(),
+            Request::DefineDeffacts(name, facts) => self.define_deffacts(name, facts),
+            Request::DefineGlobals(globals) => self.define_globals(globals),
+            Request::ListFacts => self.list_facts(out),
+            Request::Reset => self.reset(out),
+            Request::Clear => self.clear(),
         }
     }
 
@@ -200,7 +200,7 @@ impl Engine {
     fn carry_out<K: Sink>(&mut self, expr: &Expr, out: &mut Out<K>) -> Result<Option<Value>, Break>
         requires { out.old.fault ≡ false }
         ensures { Went K.writes out.old out.new self.new result
-            (performed (request.act (term_of expr.now)) self.old) }
+            (performed (asked.act (term_of expr.now)) self.old) }
     {
         self.world.carry_out(expr, out)
     }
@@ -212,7 +212,7 @@ impl Engine {
         template: Template,
     ) -> Result<Option<Value>, Break>
         ensures { Quietly self.new result
-            (performed (request.define_template (relation, template)) self.old) }
+            (performed (asked.define_template (relation, template)) self.old) }
     {
         self.world.define_template(relation, template)
     }
@@ -220,7 +220,7 @@ impl Engine {
     /// Keeps facts under a name for `reset`.
     fn define_deffacts(&mut self, name: Name, facts: Vec<FactExpr>) -> Result<Option<Value>, Break>
         ensures { Quietly self.new result
-            (performed (request.define_deffacts name facts.items) self.old) }
+            (performed (asked.define_deffacts name facts.items) self.old) }
     {
         self.deffacts.define(name, facts)?;
         Ok(None)
@@ -229,7 +229,7 @@ impl Engine {
     /// Gives globals their values, and keeps the expressions for `reset`.
     fn define_globals(&mut self, globals: Vec<GlobalExpr>) -> Result<Option<Value>, Break>
         ensures { Quietly self.new result
-            (performed (request.define_globals globals.items) self.old) }
+            (performed (asked.define_globals globals.items) self.old) }
     {
         drop(self.world.define_globals(globals.as_slice())?);
         self.globals.define_all(globals)?;
@@ -240,7 +240,7 @@ impl Engine {
     fn list_facts<K: Sink>(&mut self, out: &mut Out<K>) -> Result<Option<Value>, Break>
         requires { out.old.fault ≡ false }
         ensures { Went K.writes out.old out.new self.new result
-            (performed request.list_facts self.old) }
+            (performed asked.list_facts self.old) }
     {
         put_fact_lines(self.alloc, self.world.memory().facts(), out)?;
         Ok(None)
@@ -250,7 +250,7 @@ impl Engine {
     fn reset<K: Sink>(&mut self, out: &mut Out<K>) -> Result<Option<Value>, Break>
         requires { out.old.fault ≡ false }
         ensures { Went K.writes out.old out.new self.new result
-            (performed request.reset self.old) }
+            (performed asked.reset self.old) }
     {
         reset_world(
             &mut self.world,
@@ -262,7 +262,7 @@ impl Engine {
 
     /// Forgets all but the turns that are left and whether a fault line was written.
     fn clear(&mut self) -> Result<Option<Value>, Break>
-        ensures { Quietly self.new result (performed request.clear self.old) }
+        ensures { Quietly self.new result (performed asked.clear self.old) }
     {
         self.world.clear();
         self.deffacts = DeffactsTable::new(self.alloc);

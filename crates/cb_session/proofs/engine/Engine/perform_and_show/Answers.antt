@@ -11,7 +11,7 @@ use Rattle.cb_session.proofs.engine.Engine.perform_and_show.Goals as goal
 pub returns-in_err-value : goal.returns-in_err-value
 returns-in_err-value g c =
     let r : c.from_residual.result ≡ Err c.in_err-value.field-0.0 = search rules in
-    actions_laws.ghosts.went_as _ _ _ g.K.Sink.writes _ _ _ _ _ _ _ r refl (actions_laws.ghosts.went_off _ _ _ _ g.K.Sink.writes _ _ _ c.in_err-value.field-0.0 (performed (request_by c.args.command) c.args.self.now) shown c.in_err-value.ensures)
+    actions_laws.ghosts.went_as _ _ _ g.K.Sink.writes _ _ _ _ _ _ _ r refl (actions_laws.ghosts.went_off _ _ _ _ g.K.Sink.writes _ _ _ c.in_err-value.field-0.0 (performed (request_by c.args.request) c.args.self.now) shown c.in_err-value.ensures)
 
 pub show-requires : goal.show-requires
 show-requires g c = io_laws.ghosts.puts_fine _ g.K.Sink.writes _ _ _ c.in_ok-value.ensures.puts
@@ -19,7 +19,7 @@ show-requires g c = io_laws.ghosts.puts_fine _ g.K.Sink.writes _ _ _ c.in_ok-val
 pub returns-in_err-show : goal.returns-in_err-show
 returns-in_err-show g c =
     let r : c.from_residual-in_err-show.result ≡ Err (break.Stop c.in_err-show.field-0.0) = search rules in
-    actions_laws.ghosts.went_as _ _ _ g.K.Sink.writes _ _ _ _ _ _ _ r refl (went_not_shown g.K.Sink.writes _ _ _ _ _ (request_by c.args.command) c.in_ok-value.value c.in_err-show.field-0.0 c.in_ok-value.ensures c.in_err-show.ensures)
+    actions_laws.ghosts.went_as _ _ _ g.K.Sink.writes _ _ _ _ _ _ _ r refl (went_not_shown g.K.Sink.writes _ _ _ _ _ (request_by c.args.request) c.in_ok-value.value c.in_err-show.field-0.0 c.in_ok-value.ensures c.in_err-show.ensures)
 
 pub returns : goal.returns
-returns g c = went_shown g.K.Sink.writes _ _ _ _ _ (request_by c.args.command) c.in_ok-value.value c.in_ok-value.ensures c.in_ok-show.ensures
+returns g c = went_shown g.K.Sink.writes _ _ _ _ _ (request_by c.args.request) c.in_ok-value.value c.in_ok-value.ensures c.in_ok-show.ensures

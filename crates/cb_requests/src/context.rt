@@ -9,7 +9,7 @@ use cb_working_memory::{DeffactsTable, WorkingMemory};
 
 /// The state that reading an item depends on.
 #[derive(Drop)]
-pub struct Known<'a> {
+pub struct Context<'a> {
     /// The templates.
     pub relations: &'a Relations,
     /// The variables and the globals that have a value.
@@ -20,7 +20,7 @@ pub struct Known<'a> {
     pub deffacts: &'a DeffactsTable,
 }
 
-impl Known<'_> {
+impl Context<'_> {
     /// Whether a relation is in use, so that no template may be defined for it: a fact that is there or one of a `deffacts`
     /// names it. It takes logarithmic time, whatever the relations are.
     pub(crate) fn is_in_use(&self, relation: &Name) -> bool
