@@ -4,6 +4,9 @@
 Each `rattle` process that the gate started is looked at every fifth of a second, by the system's own count of its
 processor time. Where it stands says what it is for: the proof of a crate, its tests, its must-fail edits, or a
 program. What a process takes after its last look is lost, so the sum falls short by some hundredths.
+
+After the parts come the must-fail edits, the most expensive first. "(seed)" is what the edits of a crate begin with, the
+crate proved once more, and "(?)" are its edits that were tried without it.
 """
 import collections
 import os
@@ -42,14 +45,26 @@ def looks(gate):
             continue
 
 
+def word_after(words, word):
+    """The word that follows this one, or "?" without it."""
+    return words[words.index(word) + 1] if word in words else "?"
+
+
 def part(folder, words):
-    """The crate, and what is done with it."""
-    crate = words[words.index("--crate-name") + 1] if "--crate-name" in words else "?"
+    """The crate, what is done with it, and which of its edits is tried: its place among them, or "seed" for what they begin with."""
+    crate = word_after(words, "--crate-name")
     if "rt-edit" in folder:
-        return crate, "edits"
+        return crate, "edits", os.path.basename(word_after(words, "--incremental"))
     if "--test" in words or crate.endswith("_tests"):
-        return crate, "tests"
-    return crate, "code"
+        return crate, "tests", ""
+    return crate, "code", ""
+
+
+def edit_name(crate, place):
+    """The file of the edit at a place. The gate numbers the edits of a crate in the order of their names."""
+    if not place.isdigit():
+        return f"({place})"
+    return sorted(name for name in os.listdir(f"crates/{crate}/must-fail") if name.endswith(".edit"))[int(place)]
 
 
 def main():
@@ -61,14 +76,19 @@ def main():
             seconds[pid, start] = spent
             parts[pid, start] = part(folder, words)
         time.sleep(0.2)
-    table = collections.Counter()
+    table, edits = collections.Counter(), collections.Counter()
     for key, spent in seconds.items():
-        table[parts[key]] += spent
+        crate, kind, place = parts[key]
+        table[crate, kind] += spent
+        if kind == "edits":
+            edits[crate, place] += spent
     for (crate, kind), spent in sorted(table.items(), key=lambda row: (row[0][1], row[0][0])):
         print(f"{kind:8} {crate:20} {spent / 60:7.1f} min")
     for kind in sorted({kind for _, kind in table}):
         print(f"{kind:8} {'all':20} {sum(s for (_, k), s in table.items() if k == kind) / 60:7.1f} min")
     print(f"{'all':29} {sum(table.values()) / 60:7.1f} min of processor time, {(time.time() - began) / 60:.1f} min on the clock")
+    for (crate, place), spent in edits.most_common():
+        print(f"{spent:8.1f} s  {crate} {edit_name(crate, place)}")
     return gate.returncode
 
 
