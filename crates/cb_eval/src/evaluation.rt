@@ -5,11 +5,12 @@ ghost use Rattle.cb_eval.specs.Evaluation.{value_of, values_of};
 ghost use Rattle.cb_eval.specs.Internal.{may_be_decided};
 ghost use Rattle.cb_eval.specs.Laws.{all_values};
 ghost use Rattle.cb_exprs.specs.Terms.{term_of, terms_of};
+ghost use Rattle.cb_exprs.specs.Terms as term;
 ghost use Rattle.cb_facts.specs.Results.{Returns, and_then};
 ghost use Rattle.cb_functions.specs.Applied.{applied};
 
 use cb_exprs::{Expr, Lookup};
-use cb_facts::{Refused, Value};
+use cb_facts::{Name, Refused, Value};
 use cb_forms::Fault;
 use cb_functions::{Constants, apply, decides};
 use cb_words::Function;
@@ -34,12 +35,8 @@ pub fn eval<L: Lookup>(
 {
     match expr {
         Expr::Constant(value) => Ok(value.clone()?),
-        Expr::Variable(name) => known
-            .variable(name)?
-            .ok_or(Refused::Fault(Fault::UnboundVariable)),
-        Expr::Global(name) => known
-            .global_variable(name)?
-            .ok_or(Refused::Fault(Fault::UnknownGlobal)),
+        Expr::Variable(name) => variable(known, name),
+        Expr::Global(name) => global_variable(known, name),
         Expr::Call(function, args) => call(alloc, constants, *function, args.as_slice(), known),
         Expr::Assert(_, _)
         | Expr::Retract(_)
@@ -52,6 +49,24 @@ pub fn eval<L: Lookup>(
         | Expr::Print(_)
         | Expr::Println(_) => Err(Refused::Fault(Fault::NotInProfile)),
     }
+}
+
+/// The value of a variable, or CB11 if it has none.
+fn variable<L: Lookup>(known: &L, name: &Name) -> Result<Value, Refused>
+    ensures { Returns result (value_of (term.variable name.now) (L.bindings known.now)) }
+{
+    known
+        .variable(name)?
+        .ok_or(Refused::Fault(Fault::UnboundVariable))
+}
+
+/// The value of a global variable, or CB12 if it has none.
+fn global_variable<L: Lookup>(known: &L, name: &Name) -> Result<Value, Refused>
+    ensures { Returns result (value_of (term.global name.now) (L.bindings known.now)) }
+{
+    known
+        .global_variable(name)?
+        .ok_or(Refused::Fault(Fault::UnknownGlobal))
 }
 
 /// What a function returns for the values of these arguments.
@@ -122,6 +137,23 @@ fn call_with_all<L: Lookup>(
             let second = eval(alloc, constants, second, known)?;
             apply(alloc, constants, function, &[first, second])
         }
+        _ => call_with_more(alloc, constants, function, args, known),
+    }
+}
+
+/// The same, where there may be three or four.
+#[cycle(evaluation)]
+fn call_with_more<L: Lookup>(
+    alloc: Global,
+    constants: &Constants,
+    function: Function,
+    args: &[Expr],
+    known: &L,
+) -> Result<Value, Refused>
+    ensures { Returns result
+        (and_then (all_values (terms_of args.now) (L.bindings known.now)) (applied function)) }
+{
+    match args {
         [first, second, third] => {
             let first = eval(alloc, constants, first, known)?;
             let second = eval(alloc, constants, second, known)?;
@@ -135,14 +167,27 @@ fn call_with_all<L: Lookup>(
             let fourth = eval(alloc, constants, fourth, known)?;
             apply(alloc, constants, function, &[first, second, third, fourth])
         }
-        _ => {
-            let mut values = Vec::new(alloc);
-            for arg in args {
-                values.push(eval(alloc, constants, arg, known)?)?;
-            }
-            apply(alloc, constants, function, values.as_slice())
-        }
+        _ => call_with_many(alloc, constants, function, args, known),
     }
+}
+
+/// The same for any number of them, in a vector.
+#[cycle(evaluation)]
+fn call_with_many<L: Lookup>(
+    alloc: Global,
+    constants: &Constants,
+    function: Function,
+    args: &[Expr],
+    known: &L,
+) -> Result<Value, Refused>
+    ensures { Returns result
+        (and_then (all_values (terms_of args.now) (L.bindings known.now)) (applied function)) }
+{
+    let mut values = Vec::new(alloc);
+    for arg in args {
+        values.push(eval(alloc, constants, arg, known)?)?;
+    }
+    apply(alloc, constants, function, values.as_slice())
 }
 
 /// Whether an argument may decide what a call of this function returns (see `cb_functions::decides`).

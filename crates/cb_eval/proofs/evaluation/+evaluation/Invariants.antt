@@ -13,5 +13,5 @@ invariant-call_until_decided-loop-arg g l =
     × (and_then (values_of l.function (option_to_list l.last) (terms_of (drop l.arg-index l.args)) (g.L.Lookup.bindings l.known)) (applied l.function)
     ≡ and_then (values_of l.function [] (terms_of l.args) (g.L.Lookup.bindings l.known)) (applied l.function))
 
-abbrev pub invariant-call_with_all-loop-arg : goal.invariant-call_with_all-loop-arg
-invariant-call_with_all-loop-arg g l = and_then (all_values (terms_of (drop l.arg-index l.args)) (g.L.Lookup.bindings l.known)) (λ vs. Ok (l.values.items ++ vs)) ≡ all_values (terms_of l.args) (g.L.Lookup.bindings l.known)
+abbrev pub invariant-call_with_many-loop-arg : goal.invariant-call_with_many-loop-arg
+invariant-call_with_many-loop-arg g l = and_then (all_values (terms_of (drop l.arg-index l.args)) (g.L.Lookup.bindings l.known)) (λ vs. Ok (l.values.items ++ vs)) ≡ all_values (terms_of l.args) (g.L.Lookup.bindings l.known)
