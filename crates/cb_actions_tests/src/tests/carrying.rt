@@ -112,13 +112,30 @@ fn first_wrong(alloc: Global, rows: &[(&str, u64, &str)]) -> Result<Option<usize
 
 /// What comes of the forms of a row.
 fn outcome_of(alloc: Global, text: &[u8], turns: u64) -> Result<Vec<u8>, Refused> {
+    let mut outcome = Vec::new(alloc);
+    add_row(alloc, text, turns, &mut outcome)?;
+    Ok(outcome)
+}
+
+/// Adds what comes of the forms of a row, in a world of its own.
+fn add_row(alloc: Global, text: &[u8], turns: u64, outcome: &mut Vec<u8>) -> Result<(), Refused> {
     let mut world = World::new(alloc, turns);
     define(alloc, &mut world, b"p (slot a) (slot b)")?;
-    let mut outcome = Vec::new(alloc);
-    for item in read_items(alloc, text)?.as_slice() {
-        add_item(alloc, &mut world, item, &mut outcome)?;
+    add_items(alloc, &mut world, text, outcome)
+}
+
+/// Adds what comes of the items of a text.
+fn add_items(
+    alloc: Global,
+    world: &mut World,
+    text: &[u8],
+    outcome: &mut Vec<u8>,
+) -> Result<(), Refused> {
+    let items = read_items(alloc, text)?;
+    for item in items.as_slice() {
+        add_item(alloc, world, item, outcome)?;
     }
-    Ok(outcome)
+    Ok(())
 }
 
 /// Defines a template.

@@ -1,22 +1,42 @@
 //! The values of expressions.
 use super::rows::{named, read};
 use cb_calc::{Constants, Env, eval};
-use cb_facts::{Refused, Value, quoted_text};
+use cb_facts::{Name, Refused, Value, quoted_text};
 use cb_forms::NoMemory;
 use std::alloc::Global;
+
+/// Gives a variable a value.
+fn set(alloc: Global, env: &mut Env, text: &str, number: i64) -> Result<(), NoMemory> {
+    let (name, value) = named(alloc, text, number)?;
+    env.set(&name, value)
+}
+
+/// Gives a global variable a value.
+fn set_global(alloc: Global, env: &mut Env, text: &str, number: i64) -> Result<(), NoMemory> {
+    let (name, value) = named(alloc, text, number)?;
+    env.set_global(&name, value)
+}
+
+/// Takes the value of a variable away.
+fn unset(alloc: Global, env: &mut Env, text: &str) -> Result<(), NoMemory> {
+    let name = Name::new(alloc, text.as_bytes())?;
+    env.unset(&name)
+}
+
+/// Makes `?x` 7 after it was 6, gives `?gone` a value and takes it away.
+fn set_variables(alloc: Global, env: &mut Env) -> Result<(), NoMemory> {
+    set(alloc, env, "x", 6)?;
+    set(alloc, env, "gone", 5)?;
+    set(alloc, env, "x", 7)?;
+    unset(alloc, env, "gone")
+}
 
 /// `?x` is 7 after it was 6, `?*g*` is 8 after it was 9, and `?gone` had a value.
 fn env(alloc: Global) -> Result<Env, NoMemory> {
     let mut env = Env::new(alloc);
-    for (text, number) in [("x", 6), ("gone", 5), ("x", 7)] {
-        let (name, value) = named(alloc, text, number)?;
-        env.set(&name, value)?;
-    }
-    for number in [9, 8] {
-        let (name, value) = named(alloc, "g", number)?;
-        env.set_global(&name, value)?;
-    }
-    env.unset(&named(alloc, "gone", 0)?.0)?;
+    set_variables(alloc, &mut env)?;
+    set_global(alloc, &mut env, "g", 9)?;
+    set_global(alloc, &mut env, "g", 8)?;
     Ok(env)
 }
 
@@ -66,10 +86,37 @@ const VALUES: [(&str, &str); 28] = [
     ("(str-cat a b c d e)", "\"abcde\""),
 ];
 
-fn shown(alloc: Global, constants: &Constants, env: &Env, text: &str) -> Result<Vec<u8>, Refused> {
+/// The value of an expression, or its first fault.
+fn outcome(alloc: Global, constants: &Constants, env: &Env, text: &str) -> Result<Value, Refused> {
     let expr = read(alloc, env, text.as_bytes())?;
-    let value = eval(alloc, constants, &expr, env)?;
-    Ok(quoted_text(alloc, &value)?)
+    eval(alloc, constants, &expr, env)
+}
+
+/// Whether it has this value.
+fn is_value(
+    alloc: Global,
+    constants: &Constants,
+    env: &Env,
+    text: &str,
+    want: &str,
+) -> Result<bool, Refused> {
+    let value = outcome(alloc, constants, env, text)?;
+    Ok(quoted_text(alloc, &value)?.as_slice() == want.as_bytes())
+}
+
+/// The first of these rows whose expression has another value.
+fn first_other_value(
+    alloc: Global,
+    constants: &Constants,
+    env: &Env,
+    rows: &[(&str, &str)],
+) -> Result<Option<usize>, Refused> {
+    for (i, (text, want)) in rows.iter().enumerate() {
+        if !is_value(alloc, constants, env, text, want)? {
+            return Ok(Some(i));
+        }
+    }
+    Ok(None)
 }
 
 fn first_wrong_value(
@@ -78,12 +125,7 @@ fn first_wrong_value(
     rows: &[(&str, &str)],
 ) -> Result<Option<usize>, Refused> {
     let constants = Constants::new(alloc)?;
-    for (i, (text, value)) in rows.iter().enumerate() {
-        if shown(alloc, &constants, env, text)?.as_slice() != value.as_bytes() {
-            return Ok(Some(i));
-        }
-    }
-    Ok(None)
+    first_other_value(alloc, &constants, env, rows)
 }
 
 #[test]
@@ -143,20 +185,25 @@ fn number_of(outcome: Result<Value, Refused>) -> u8 {
     }
 }
 
-fn outcome(alloc: Global, constants: &Constants, env: &Env, text: &str) -> Result<Value, Refused> {
-    let expr = read(alloc, env, text.as_bytes())?;
-    eval(alloc, constants, &expr, env)
+/// The first of these rows whose expression has no such fault.
+fn first_other_fault(
+    alloc: Global,
+    constants: &Constants,
+    env: &Env,
+    rows: &[(&str, u8)],
+) -> Option<usize> {
+    for (i, (text, number)) in rows.iter().enumerate() {
+        if number_of(outcome(alloc, constants, env, text)) != *number {
+            return Some(i);
+        }
+    }
+    None
 }
 
 fn first_wrong_fault(alloc: Global, rows: &[(&str, u8)]) -> Result<Option<usize>, Refused> {
     let constants = Constants::new(alloc)?;
     let env = env(alloc)?;
-    for (i, (text, number)) in rows.iter().enumerate() {
-        if number_of(outcome(alloc, &constants, &env, text)) != *number {
-            return Ok(Some(i));
-        }
-    }
-    Ok(None)
+    Ok(first_other_fault(alloc, &constants, &env, rows))
 }
 
 #[test]
@@ -178,11 +225,17 @@ fn nested(alloc: Global, depth: usize) -> Result<Vec<u8>, NoMemory> {
     Ok(text)
 }
 
-fn is_sum(alloc: Global, depth: usize, sum: i64) -> Result<bool, Refused> {
-    let constants = Constants::new(alloc)?;
+/// The value of so many sums.
+fn sum_of(alloc: Global, depth: usize) -> Result<Value, Refused> {
     let env = Env::new(alloc);
-    let expr = read(alloc, &env, nested(alloc, depth)?.as_slice())?;
-    Ok(eval(alloc, &constants, &expr, &env)? == Value::Int(sum))
+    let text = nested(alloc, depth)?;
+    let expr = read(alloc, &env, text.as_slice())?;
+    let constants = Constants::new(alloc)?;
+    eval(alloc, &constants, &expr, &env)
+}
+
+fn is_sum(alloc: Global, depth: usize, sum: i64) -> Result<bool, Refused> {
+    Ok(sum_of(alloc, depth)? == Value::Int(sum))
 }
 
 #[test]

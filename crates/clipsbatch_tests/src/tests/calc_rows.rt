@@ -1,7 +1,7 @@
 //! Expressions, variables, globals and loops. A word ends with the delimiter after it, so a word's step has that delimiter too.
 use super::rows::*;
 
-pub(super) const CALC_ROWS: [Row; 20] = [
+static CALC_ROWS: [Row; 20] = [
     Row {
         name: "a sum out of range",
         steps: &[
@@ -228,3 +228,8 @@ pub(super) const CALC_ROWS: [Row; 20] = [
         ..CLEAN
     },
 ];
+
+/// These rows.
+pub(super) fn calc_rows() -> &'static [Row] {
+    &CALC_ROWS
+}

@@ -1,7 +1,7 @@
 //! Templates and their facts: which fault comes first.
 use super::rows::*;
 
-pub(super) const FAULT_ROWS: [Row; 12] = [
+static FAULT_ROWS: [Row; 12] = [
     // A type is SYMBOL, STRING, INTEGER, NUMBER, LEXEME, or ?VARIABLE alone.
     Row {
         name: "types",
@@ -163,3 +163,8 @@ pub(super) const FAULT_ROWS: [Row; 12] = [
         ..FAULTY
     },
 ];
+
+/// These rows.
+pub(super) fn fault_rows() -> &'static [Row] {
+    &FAULT_ROWS
+}

@@ -2,7 +2,7 @@
 //! too.
 use super::rows::*;
 
-pub(super) const FIRST_ROWS: [Row; 21] = [
+static FIRST_ROWS: [Row; 21] = [
     Row {
         name: "an empty script",
         ..CLEAN
@@ -158,3 +158,8 @@ pub(super) const FIRST_ROWS: [Row; 21] = [
         ..CLEAN
     },
 ];
+
+/// These rows.
+pub(super) fn first_rows() -> &'static [Row] {
+    &FIRST_ROWS
+}

@@ -1,9 +1,8 @@
 //! Runs for which memory may be refused.
-use super::calc_rows::CALC_ROWS;
 use super::one_run::{Want, is_as_wanted, outcome_of, want_of};
 use super::pieces::joined;
 use super::rows::Row;
-use super::runs::ROWS;
+use super::runs::{SUBJECTS, rows_about};
 use cb_forms::{MemSink, MemSource, NoMemory, Out};
 use cb_run::{Cause, Outcome};
 use std::alloc::Global;
@@ -64,13 +63,13 @@ fn refused_of(alloc: Global, rows: &[Row]) -> Option<usize> {
 /// Whether all rows but one at most go as they should, and that one has memory refused.
 fn one_is_refused_at_most(alloc: Global) -> bool {
     let mut all = 0usize;
-    for rows in ROWS {
-        match refused_of(alloc, rows) {
+    for subject in SUBJECTS {
+        match refused_of(alloc, rows_about(subject)) {
             Some(refused) => all = all.saturating_add(refused),
             None => return false,
         }
     }
-    refused_of(alloc, &CALC_ROWS).is_some_and(|refused| all.saturating_add(refused) <= 1)
+    all <= 1
 }
 
 // `rt try --test --fail-alloc N` refuses the Nth growth of each test, and the other tests of these scripts fail then. Here

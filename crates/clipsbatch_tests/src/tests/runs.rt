@@ -1,19 +1,43 @@
 //! Each row however its script comes, and with each write and each read failing in turn.
 ghost use Rattle.std.specs.Prelude.{◌<◌};
 
-use super::calc_rows::CALC_ROWS;
-use super::fault_rows::FAULT_ROWS;
-use super::first_rows::FIRST_ROWS;
+use super::calc_rows::calc_rows;
+use super::fault_rows::fault_rows;
+use super::first_rows::first_rows;
 use super::one_run::{Want, goes, goes_in_blocks, want_of};
 use super::pieces::{TwoPieces, Whole, joined, steps_in, written_by};
 use super::rows::{AT_A_LIMIT, Row};
-use super::template_rows::TEMPLATE_ROWS;
+use super::template_rows::template_rows;
 use cb_forms::{MemSink, MemSource, NoMemory};
 use cb_run::{Cause, Outcome};
 use std::alloc::Global;
 
-/// All rows but those that compute.
-pub(super) const ROWS: [&[Row]; 3] = [&FIRST_ROWS, &TEMPLATE_ROWS, &FAULT_ROWS];
+/// What rows are about.
+#[derive(Clone, Copy)]
+pub(super) enum Subject {
+    First,
+    Templates,
+    Faults,
+    Computing,
+}
+
+/// All subjects.
+pub(super) const SUBJECTS: [Subject; 4] = [
+    Subject::First,
+    Subject::Templates,
+    Subject::Faults,
+    Subject::Computing,
+];
+
+/// The rows about a subject.
+pub(super) fn rows_about(subject: Subject) -> &'static [Row] {
+    match subject {
+        Subject::First => first_rows(),
+        Subject::Templates => template_rows(),
+        Subject::Faults => fault_rows(),
+        Subject::Computing => calc_rows(),
+    }
+}
 
 /// What is done with each row.
 #[derive(Clone, Copy)]
@@ -202,13 +226,13 @@ fn first_wrong(
 
 /// The name of the first of all rows that doesn't pass this trial.
 fn first_wrong_of_all(alloc: Global, trial: Trial) -> Result<Option<&'static str>, NoMemory> {
-    for rows in ROWS {
-        let wrong = first_wrong(alloc, rows, trial)?;
+    for subject in SUBJECTS {
+        let wrong = first_wrong(alloc, rows_about(subject), trial)?;
         if wrong.is_some() {
             return Ok(wrong);
         }
     }
-    first_wrong(alloc, &CALC_ROWS, trial)
+    Ok(None)
 }
 
 #[test]

@@ -1,7 +1,7 @@
 //! Templates, deffacts, and the commands that take facts away.
 use super::rows::*;
 
-pub(super) const TEMPLATE_ROWS: [Row; 12] = [
+static TEMPLATE_ROWS: [Row; 12] = [
     // Each slot of a template fact is shown, in the order of the template.
     Row {
         name: "shown slots",
@@ -175,3 +175,8 @@ pub(super) const TEMPLATE_ROWS: [Row; 12] = [
         ..FAULTY
     },
 ];
+
+/// These rows.
+pub(super) fn template_rows() -> &'static [Row] {
+    &TEMPLATE_ROWS
+}
