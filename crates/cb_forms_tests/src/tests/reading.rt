@@ -193,13 +193,25 @@ fn read_at_once(alloc: Global, text: &[u8]) -> Result<Shown, NoMemory> {
     Ok(shown)
 }
 
+/// Adds what one more byte cuts.
+fn add_step(cutter: &mut Cutter, byte: u8, shown: &mut Shown) -> Result<(), NoMemory> {
+    let cut = cutter.step(byte)?;
+    shown.add_cut(&cut)
+}
+
+/// Adds what the end cuts.
+fn add_end(cutter: &mut Cutter, shown: &mut Shown) -> Result<(), NoMemory> {
+    let end = cutter.end()?;
+    shown.add_some(end.as_ref())
+}
+
 /// The items of a text, read byte by byte.
 fn read_by_steps(alloc: Global, cutter: &mut Cutter, text: &[u8]) -> Result<Shown, NoMemory> {
     let mut shown = Shown::new(alloc);
     for byte in text {
-        shown.add_cut(&cutter.step(*byte)?)?;
+        add_step(cutter, *byte, &mut shown)?;
     }
-    shown.add_some(cutter.end()?.as_ref())?;
+    add_end(cutter, &mut shown)?;
     Ok(shown)
 }
 

@@ -1,7 +1,7 @@
 //! Growth that is refused. `rt try --test --fail-alloc N` refuses the Nth growth of each test; these pass however great N
 //! is.
 use super::shown::Shown;
-use cb_forms::{Cut, Cutter, NoMemory, read_items};
+use cb_forms::{Cut, Cutter, Item, NoMemory, read_items};
 use std::alloc::Global;
 
 const TEXT: &[u8] = b"(ab \"c\" (1)) ?x&d";
@@ -13,14 +13,28 @@ fn is_reported(had_failed: bool, has_failed: bool, is_err: bool) -> bool {
     has_failed == is_err && (is_err || !had_failed)
 }
 
+/// Adds what a byte has cut, if the call didn't fail.
+fn add_cut(shown: &mut Shown, cut: Result<Cut, NoMemory>) -> Result<(), NoMemory> {
+    match cut {
+        Ok(cut) => shown.add_cut(&cut),
+        Err(NoMemory) => Ok(()),
+    }
+}
+
+/// Adds what the end has cut, if the call didn't fail.
+fn add_end(shown: &mut Shown, end: Result<Option<Item>, NoMemory>) -> Result<(), NoMemory> {
+    match end {
+        Ok(item) => shown.add_some(item.as_ref()),
+        Err(NoMemory) => Ok(()),
+    }
+}
+
 /// One more byte, and whether its failure is reported so.
 fn step_is_reported(cutter: &mut Cutter, shown: &mut Shown, byte: u8) -> Result<bool, NoMemory> {
     let had_failed = cutter.failed();
     let cut = cutter.step(byte);
     let is_reported = is_reported(had_failed, cutter.failed(), cut.is_err());
-    if let Ok(cut) = cut {
-        shown.add_cut(&cut)?;
-    }
+    add_cut(shown, cut)?;
     Ok(is_reported)
 }
 
@@ -29,9 +43,7 @@ fn end_is_reported(cutter: &mut Cutter, shown: &mut Shown) -> Result<bool, NoMem
     let had_failed = cutter.failed();
     let end = cutter.end();
     let is_reported = is_reported(had_failed, cutter.failed(), end.is_err());
-    if let Ok(item) = end {
-        shown.add_some(item.as_ref())?;
-    }
+    add_end(shown, end)?;
     Ok(is_reported)
 }
 

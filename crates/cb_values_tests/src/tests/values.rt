@@ -216,13 +216,32 @@ fn shown(alloc: Global, names: &mut Names, form: &Form) -> Result<Vec<u8>, NoMem
     Ok(Vec::from_slice(alloc, b"none")?)
 }
 
-fn shown_constants(alloc: Global, text: &str) -> Result<Vec<u8>, Refused> {
+/// Adds the constant that a form is.
+fn add_constant(
+    alloc: Global,
+    names: &mut Names,
+    form: &Form,
+    shown_ones: &mut Vec<u8>,
+) -> Result<(), Refused> {
+    let one = shown(alloc, names, form)?;
+    shown_ones.extend_from_slice(one.as_slice())?;
+    shown_ones.push(b' ')?;
+    Ok(())
+}
+
+/// Adds the constants that the forms of a text are.
+fn add_constants(alloc: Global, text: &str, shown_ones: &mut Vec<u8>) -> Result<(), Refused> {
+    let forms = forms(alloc, text)?;
     let mut names = Names::new(alloc);
-    let mut shown_ones = Vec::new(alloc);
-    for form in forms(alloc, text)? {
-        shown_ones.extend_from_slice(shown(alloc, &mut names, &form)?.as_slice())?;
-        shown_ones.push(b' ')?;
+    for form in forms.as_slice() {
+        add_constant(alloc, &mut names, form, shown_ones)?;
     }
+    Ok(())
+}
+
+fn shown_constants(alloc: Global, text: &str) -> Result<Vec<u8>, Refused> {
+    let mut shown_ones = Vec::new(alloc);
+    add_constants(alloc, text, &mut shown_ones)?;
     Ok(shown_ones)
 }
 
