@@ -75,12 +75,16 @@ fn first_wrong(alloc: Global, rows: &[Row]) -> Option<usize> {
 /// Whether a script goes so.
 fn goes(alloc: Global, row: &Row) -> bool {
     match MemSink::new(alloc, 1000, 1000, None) {
-        Ok(sink) => {
-            let mut session = Session::new(alloc, LIMITS);
-            writes(&mut session, &mut Out::new(sink), row)
-        }
+        Ok(sink) => goes_with(alloc, sink, row),
         Err(_) => false,
     }
+}
+
+/// Whether it goes so in a session that writes to this sink.
+fn goes_with(alloc: Global, sink: MemSink, row: &Row) -> bool {
+    let mut out = Out::new(sink);
+    let mut session = Session::new(alloc, LIMITS);
+    writes(&mut session, &mut out, row)
 }
 
 /// Whether the session writes what it should, and ends so.

@@ -120,8 +120,18 @@ fn outcome_of(alloc: Global, text: &[u8], turns: u64) -> Result<Vec<u8>, Refused
 /// Adds what comes of the forms of a row, in a world of its own.
 fn add_row(alloc: Global, text: &[u8], turns: u64, outcome: &mut Vec<u8>) -> Result<(), Refused> {
     let mut world = World::new(alloc, turns);
-    define(alloc, &mut world, b"p (slot a) (slot b)")?;
-    add_items(alloc, &mut world, text, outcome)
+    add_forms(alloc, &mut world, text, outcome)
+}
+
+/// Adds what comes of forms, in a world with a template.
+fn add_forms(
+    alloc: Global,
+    world: &mut World,
+    text: &[u8],
+    outcome: &mut Vec<u8>,
+) -> Result<(), Refused> {
+    define(alloc, world, b"p (slot a) (slot b)")?;
+    add_items(alloc, world, text, outcome)
 }
 
 /// Adds what comes of the items of a text.

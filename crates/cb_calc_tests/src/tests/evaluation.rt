@@ -226,12 +226,22 @@ fn nested(alloc: Global, depth: usize) -> Result<Vec<u8>, NoMemory> {
 }
 
 /// The value of so many sums.
-fn sum_of(alloc: Global, depth: usize) -> Result<Value, Refused> {
-    let env = Env::new(alloc);
+fn nested_value(
+    alloc: Global,
+    constants: &Constants,
+    env: &Env,
+    depth: usize,
+) -> Result<Value, Refused> {
     let text = nested(alloc, depth)?;
-    let expr = read(alloc, &env, text.as_slice())?;
+    let expr = read(alloc, env, text.as_slice())?;
+    eval(alloc, constants, &expr, env)
+}
+
+/// The same where no variable has a value.
+fn sum_of(alloc: Global, depth: usize) -> Result<Value, Refused> {
     let constants = Constants::new(alloc)?;
-    eval(alloc, &constants, &expr, &env)
+    let env = Env::new(alloc);
+    nested_value(alloc, &constants, &env, depth)
 }
 
 fn is_sum(alloc: Global, depth: usize, sum: i64) -> Result<bool, Refused> {

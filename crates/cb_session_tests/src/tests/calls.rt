@@ -184,12 +184,16 @@ fn first_wrong_talk(alloc: Global, talks: &[Talk]) -> Option<usize> {
 /// Whether a talk goes so.
 fn is_answered(alloc: Global, talk: &Talk) -> bool {
     match MemSink::new(alloc, 1000, 1000, talk.fail_at) {
-        Ok(sink) => {
-            let mut session = Session::new(alloc, LIMITS);
-            all_go(&mut session, &mut Out::new(sink), talk.turns)
-        }
+        Ok(sink) => all_go_with(alloc, sink, talk.turns),
         Err(_) => false,
     }
+}
+
+/// Whether each turn goes so in a session that writes to this sink.
+fn all_go_with(alloc: Global, sink: MemSink, turns: &[Turn]) -> bool {
+    let mut out = Out::new(sink);
+    let mut session = Session::new(alloc, LIMITS);
+    all_go(&mut session, &mut out, turns)
 }
 
 /// Whether each turn goes so.
