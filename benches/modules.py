@@ -28,4 +28,5 @@ def main():
         print(f"{seconds:8.1f} s  {name}")
 
 
-main()
+if __name__ == "__main__":
+    main()
