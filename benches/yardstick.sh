@@ -1,7 +1,7 @@
 #!/usr/bin/env bash
 # Measures how fast this machine is for the gate: runs the gate of an early version, as it was then, and prints its minutes.
-# On the machine for which the budget was set it took 117 minutes of processor time and 38 by the clock, with 4 cores that
-# nothing else used. Run it on a quiet machine that has not run it before: what a machine keeps isn't done again.
+# When that version was new it took 117 minutes of processor time and 38 by the clock, on 4 cores that nothing else used. Run it
+# on a quiet machine that has not run it before: what a machine keeps isn't done again.
 set -euo pipefail
 cd "$(dirname "$0")/.."
 room=$(mktemp -d)
