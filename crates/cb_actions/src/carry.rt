@@ -1,16 +1,18 @@
 //! Carrying out expressions.
 ghost use Rattle.std.specs.Prelude.{◌≡◌, [], None, OnOk, Some, false};
 ghost use Rattle.cb_actions.specs.Actions.{carried, carried_all, carried_values};
+ghost use Rattle.cb_actions.specs.Acts.{give};
 ghost use Rattle.cb_actions.specs.Effects.{truth_of, valued};
 ghost use Rattle.cb_actions.specs.Internal.{items_answered};
-ghost use Rattle.cb_actions.specs.Went.{Went};
-ghost use Rattle.cb_exprs.specs.Terms.{call, term_of, terms_of};
+ghost use Rattle.cb_actions.specs.Went.{Quietly, Went};
+ghost use Rattle.cb_exprs.specs.Terms.{term_of, terms_of};
+ghost use Rattle.cb_exprs.specs.Terms as term;
 ghost use Rattle.cb_functions.specs.Constants.{false_symbol};
 
 use crate::act::{Break, Ended};
 use crate::world::{World, constant, ends};
-use cb_exprs::{Channel, Expr};
-use cb_facts::Value;
+use cb_exprs::{Channel, Expr, FactShape};
+use cb_facts::{Name, Value};
 use cb_forms::{Fault, Out, Sink};
 use cb_functions::{decides, is_true};
 use cb_words::Function;
@@ -36,49 +38,16 @@ impl World {
             Expr::Variable(name) => self.variable(name),
             Expr::Global(name) => self.global(name),
             Expr::Call(function, args) => self.carry_call(*function, args, out),
-            Expr::Assert(shape, parts) => {
-                let values = self.carry_values(None, parts, out)?;
-                self.assert(shape, values)
-            }
-            Expr::Retract(args) => {
-                let values = self.carry_values(None, args, out)?;
-                self.retract(values.as_slice())
-            }
-            Expr::Bind(name, value) => {
-                let value = self.carry_value(value, out)?;
-                self.bind(name, value)
-            }
-            Expr::BindGlobal(name, value) => {
-                let value = self.carry_value(value, out)?;
-                self.bind_global(name, value)
-            }
-            Expr::If(test, yes, no) => {
-                if self.holds(test, out)? {
-                    self.carry_out(yes, out)
-                } else {
-                    self.carry_out(no, out)
-                }
-            }
-            Expr::While(test, action) => {
-                while self.holds(test, out)? {
-                    self.take_turn()?;
-                    drop(self.carry_out(action, out)?);
-                }
-                Ok(Some(self.no()?))
-            }
+            Expr::Assert(shape, parts) => self.carry_assert(shape, parts, out),
+            Expr::Retract(args) => self.carry_retract(args, out),
+            Expr::Bind(name, value) => self.carry_bind(name, value, out),
+            Expr::BindGlobal(name, value) => self.carry_bind_global(name, value, out),
+            Expr::If(test, then_do, else_do) => self.carry_if(test, then_do, else_do, out),
+            Expr::While(test, action) => self.carry_while(test, action, out),
             Expr::Actions(actions) => self.carry_all(actions, out),
-            Expr::Printout(channel, args) => {
-                let values = self.carry_values(None, args, out)?;
-                self.print(*channel, values.as_slice(), out)
-            }
-            Expr::Print(args) => {
-                let values = self.carry_values(None, args, out)?;
-                self.print(Channel::Output, values.as_slice(), out)
-            }
-            Expr::Println(args) => {
-                let values = self.carry_values(None, args, out)?;
-                self.print_line(values.as_slice(), out)
-            }
+            Expr::Printout(channel, args) => self.carry_printout(*channel, args, out),
+            Expr::Print(args) => self.carry_printout(Channel::Output, args, out),
+            Expr::Println(args) => self.carry_println(args, out),
         }
     }
 
@@ -92,7 +61,7 @@ impl World {
     ) -> Result<Option<Value>, Break>
         requires { out.old.fault ≡ false }
         ensures went { Went K.writes out.old out.new self.new result
-            (carried (call function (terms_of args.now)) self.old) }
+            (carried (term.call function (terms_of args.now)) self.old) }
         ensures fine { OnOk result (out.new.fault ≡ false) }
     {
         // Most calls have two arguments, and need no vector.
@@ -106,6 +75,155 @@ impl World {
         }
         let values = self.carry_values(Some(function), args, out)?;
         self.call(function, values.as_slice())
+    }
+
+    /// Asserts a fact of this shape with the values of expressions.
+    #[cycle(carrying)]
+    fn carry_assert<K: Sink>(
+        &mut self,
+        shape: &FactShape,
+        parts: &[Expr],
+        out: &mut Out<K>,
+    ) -> Result<Option<Value>, Break>
+        requires { out.old.fault ≡ false }
+        ensures went { Went K.writes out.old out.new self.new result
+            (carried (term.assert shape.now (terms_of parts.now)) self.old) }
+        ensures fine { OnOk result (out.new.fault ≡ false) }
+    {
+        let values = self.carry_values(None, parts, out)?;
+        self.assert(shape, values)
+    }
+
+    /// Retracts the facts that the values of expressions name.
+    #[cycle(carrying)]
+    fn carry_retract<K: Sink>(
+        &mut self,
+        args: &[Expr],
+        out: &mut Out<K>,
+    ) -> Result<Option<Value>, Break>
+        requires { out.old.fault ≡ false }
+        ensures went { Went K.writes out.old out.new self.new result
+            (carried (term.retract (terms_of args.now)) self.old) }
+        ensures fine { OnOk result (out.new.fault ≡ false) }
+    {
+        let values = self.carry_values(None, args, out)?;
+        self.retract(values.as_slice())
+    }
+
+    /// Gives a variable the value of an expression.
+    #[cycle(carrying)]
+    fn carry_bind<K: Sink>(
+        &mut self,
+        name: &Name,
+        value: &Expr,
+        out: &mut Out<K>,
+    ) -> Result<Option<Value>, Break>
+        requires { out.old.fault ≡ false }
+        ensures went { Went K.writes out.old out.new self.new result
+            (carried (term.bind name.now (term_of value.now)) self.old) }
+        ensures fine { OnOk result (out.new.fault ≡ false) }
+    {
+        let value = self.carry_value(value, out)?;
+        self.bind(name, value)
+    }
+
+    /// Gives a global variable the value of an expression.
+    #[cycle(carrying)]
+    fn carry_bind_global<K: Sink>(
+        &mut self,
+        name: &Name,
+        value: &Expr,
+        out: &mut Out<K>,
+    ) -> Result<Option<Value>, Break>
+        requires { out.old.fault ≡ false }
+        ensures went { Went K.writes out.old out.new self.new result
+            (carried (term.bind_global name.now (term_of value.now)) self.old) }
+        ensures fine { OnOk result (out.new.fault ≡ false) }
+    {
+        let value = self.carry_value(value, out)?;
+        self.bind_global(name, value)
+    }
+
+    /// Carries out one of two expressions, as a test decides.
+    #[cycle(carrying)]
+    fn carry_if<K: Sink>(
+        &mut self,
+        test: &Expr,
+        then_do: &Expr,
+        else_do: &Expr,
+        out: &mut Out<K>,
+    ) -> Result<Option<Value>, Break>
+        requires { out.old.fault ≡ false }
+        ensures went { Went K.writes out.old out.new self.new result
+            (carried (term.choose (term_of test.now) (term_of then_do.now) (term_of else_do.now))
+            self.old) }
+        ensures fine { OnOk result (out.new.fault ≡ false) }
+    {
+        if self.holds(test, out)? {
+            self.carry_out(then_do, out)
+        } else {
+            self.carry_out(else_do, out)
+        }
+    }
+
+    /// Carries out an expression as long as a test holds, and takes a turn each time.
+    #[cycle(carrying)]
+    fn carry_while<K: Sink>(
+        &mut self,
+        test: &Expr,
+        action: &Expr,
+        out: &mut Out<K>,
+    ) -> Result<Option<Value>, Break>
+        requires { out.old.fault ≡ false }
+        ensures went { Went K.writes out.old out.new self.new result
+            (carried (term.repeat (term_of test.now) (term_of action.now)) self.old) }
+        ensures fine { OnOk result (out.new.fault ≡ false) }
+    {
+        while self.holds(test, out)? {
+            self.take_turn()?;
+            drop(self.carry_out(action, out)?);
+        }
+        self.end_loop()
+    }
+
+    /// What a loop returns whose test does not hold.
+    fn end_loop(&mut self) -> Result<Option<Value>, Break>
+        ensures { Quietly self.new result (give (Some false_symbol) self.old) }
+    {
+        Ok(Some(self.no()?))
+    }
+
+    /// Prints the values of expressions on a channel.
+    #[cycle(carrying)]
+    fn carry_printout<K: Sink>(
+        &mut self,
+        channel: Channel,
+        args: &[Expr],
+        out: &mut Out<K>,
+    ) -> Result<Option<Value>, Break>
+        requires { out.old.fault ≡ false }
+        ensures went { Went K.writes out.old out.new self.new result
+            (carried (term.printout channel (terms_of args.now)) self.old) }
+        ensures fine { OnOk result (out.new.fault ≡ false) }
+    {
+        let values = self.carry_values(None, args, out)?;
+        self.print(channel, values.as_slice(), out)
+    }
+
+    /// Prints the values of expressions on a line.
+    #[cycle(carrying)]
+    fn carry_println<K: Sink>(
+        &mut self,
+        line: &[Expr],
+        out: &mut Out<K>,
+    ) -> Result<Option<Value>, Break>
+        requires { out.old.fault ≡ false }
+        ensures went { Went K.writes out.old out.new self.new result
+            (carried (term.println (terms_of line.now)) self.old) }
+        ensures fine { OnOk result (out.new.fault ≡ false) }
+    {
+        let values = self.carry_values(None, line, out)?;
+        self.print_line(values.as_slice(), out)
     }
 
     /// The value of an expression; one that has none is CB17.

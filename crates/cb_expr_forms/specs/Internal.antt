@@ -13,7 +13,11 @@ use Rattle.cb_expr_forms.specs.declared.slot_form.SlotForm.{SlotForm}
 use Rattle.cb_expr_forms.specs.declared.slot_form.SlotForm.TheVariants as slot_form
 use Rattle.cb_expr_forms.specs.declared.scope.Side.{Side}
 use Rattle.cb_expr_forms.specs.declared.action_form.ActionForm.{ActionForm}
+use Rattle.cb_expr_forms.specs.declared.action_form.Effect.{Effect}
+use Rattle.cb_expr_forms.specs.declared.action_form.Effect.TheVariants as effect
 use Rattle.cb_expr_forms.specs.declared.action_form.ActionForm.TheVariants as program
+use Rattle.cb_expr_forms.specs.declared.build.KnownEffect.{KnownEffect}
+use Rattle.cb_expr_forms.specs.declared.build.KnownEffect.TheVariants as known
 use Rattle.cb_exprs.specs.FactTerms.{FactTerm}
 use Rattle.cb_exprs.specs.Terms.{Term, call, retract, bind, bind_global, choose, repeat, actions, printout, print, println, terms}
 use Rattle.cb_forms.specs.Members.{members}
@@ -39,25 +43,39 @@ while_expr templates test body = repeat (expr_of templates test) (actions (terms
 abbrev pub while_faults : Scope → Tree → Trees → List Fault
 while_faults s test body = faults_of s test ++ all_faults s body
 
+-- what a call makes of its values, and what is wrong with what it binds
+abbrev pub effect_expr : Effect → List Term → Term
+effect_expr effect.Retract ts = retract (terms ts)
+effect_expr (effect.Bind name) ts = bind name.now (as_one_value ts)
+effect_expr (effect.BindGlobal name) ts = bind_global name.now (as_one_value ts)
+effect_expr (effect.Printout on) ts = printout on (terms ts)
+effect_expr effect.Print ts = print (terms ts)
+effect_expr effect.Println ts = println (terms ts)
+
+abbrev pub effect_faults : Scope → Effect → List Fault
+effect_faults s (effect.Bind name) = token_faults s (token.Var name.now)
+effect_faults s (effect.BindGlobal name) = token_faults s (token.Global name.now)
+effect_faults s e = []
+
+-- the same of an effect whose variable is known
+abbrev pub known_expr : KnownEffect → List Term → Term
+known_expr known.Retract ts = retract (terms ts)
+known_expr (known.Bind name) ts = bind name (as_one_value ts)
+known_expr (known.BindGlobal name) ts = bind_global name (as_one_value ts)
+known_expr (known.Printout on) ts = printout on (terms ts)
+known_expr known.Print ts = print (terms ts)
+known_expr known.Println ts = println (terms ts)
+
+-- a call with an effect, and what is wrong with it
 abbrev pub plan_expr : Templates → ActionForm → Term
-plan_expr templates (program.Retract values) = retract (terms (exprs_of templates (members values.now)))
-plan_expr templates (program.Bind name values) = bind name.now (as_one_value (exprs_of templates (members values.now)))
-plan_expr templates (program.BindGlobal name values) = bind_global name.now (as_one_value (exprs_of templates (members values.now)))
+plan_expr templates (program.Of e values) = effect_expr e (exprs_of templates (members values.now))
 plan_expr templates (program.If test first second) = if_expr templates (tree_of test.now) (members first.now) (members second.now)
 plan_expr templates (program.While test body) = while_expr templates (tree_of test.now) (members body.now)
-plan_expr templates (program.Printout on values) = printout on (terms (exprs_of templates (members values.now)))
-plan_expr templates (program.Print values) = print (terms (exprs_of templates (members values.now)))
-plan_expr templates (program.Println values) = println (terms (exprs_of templates (members values.now)))
 
 abbrev pub plan_faults : Scope → ActionForm → List Fault
-plan_faults s (program.Retract values) = all_faults s (members values.now)
-plan_faults s (program.Bind name values) = token_faults s (token.Var name.now) ++ all_faults s (members values.now)
-plan_faults s (program.BindGlobal name values) = token_faults s (token.Global name.now) ++ all_faults s (members values.now)
+plan_faults s (program.Of e values) = effect_faults s e ++ all_faults s (members values.now)
 plan_faults s (program.If test first second) = if_faults s (tree_of test.now) (members first.now) (members second.now)
 plan_faults s (program.While test body) = while_faults s (tree_of test.now) (members body.now)
-plan_faults s (program.Printout on values) = all_faults s (members values.now)
-plan_faults s (program.Print values) = all_faults s (members values.now)
-plan_faults s (program.Println values) = all_faults s (members values.now)
 
 -- the actions of an `if`: those before the first `else`, and those after it
 pub record IsCutAtElse (all first second : Trees) : Type 0 where

@@ -19,22 +19,29 @@ use cb_words::Action;
 /// A call with an effect whose arguments are right in number and shape, by what of it is read next.
 #[derive(Clone, Copy)]
 pub(crate) enum ActionForm<'a> {
-    /// `(retract value ..)`
-    Retract(&'a [Form]),
-    /// `(bind ?name value ..)`, by the bytes of the name
-    Bind(&'a [u8], &'a [Form]),
-    /// `(bind ?*name* value ..)`, likewise
-    BindGlobal(&'a [u8], &'a [Form]),
+    /// An effect of these values.
+    Of(Effect<'a>, &'a [Form]),
     /// `(if test then action .. else action ..)`
     If(&'a Form, &'a [Form], &'a [Form]),
     /// `(while test do action ..)`
     While(&'a Form, &'a [Form]),
+}
+
+/// What a call does with the values of its arguments.
+#[derive(Clone, Copy)]
+pub(crate) enum Effect<'a> {
+    /// `(retract value ..)`
+    Retract,
+    /// `(bind ?name value ..)`, by the bytes of the name
+    Bind(&'a [u8]),
+    /// `(bind ?*name* value ..)`, likewise
+    BindGlobal(&'a [u8]),
     /// `(printout channel value ..)`
-    Printout(Channel, &'a [Form]),
+    Printout(Channel),
     /// `(print value ..)`
-    Print(&'a [Form]),
+    Print,
     /// `(println value ..)`
-    Println(&'a [Form]),
+    Println,
 }
 
 /// A call with an effect, by its arguments; `None` where their number or shape is wrong.
@@ -48,8 +55,8 @@ pub(crate) fn split_action<'a>(action: Action, args: &'a [Form]) -> Option<Actio
         Action::If => split_if(args),
         Action::While => split_while(args),
         Action::Printout => split_printout(args),
-        Action::Print => Some(ActionForm::Print(args)),
-        Action::Println => Some(ActionForm::Println(args)),
+        Action::Print => Some(ActionForm::Of(Effect::Print, args)),
+        Action::Println => Some(ActionForm::Of(Effect::Println, args)),
     }
 }
 
@@ -67,7 +74,7 @@ fn split_retract<'a>(args: &'a [Form]) -> Option<ActionForm<'a>>
     ensures { HasPlan Action.Retract (members args.now) result }
 {
     match args.split_first() {
-        Some(_) => Some(ActionForm::Retract(args)),
+        Some(_) => Some(ActionForm::Of(Effect::Retract, args)),
         None => None,
     }
 }
@@ -81,9 +88,11 @@ fn split_bind<'a>(args: &'a [Form]) -> Option<ActionForm<'a>>
     };
     match first {
         Form::Atom(Token::Var(name)) | Form::Atom(Token::MultiVar(name)) => {
-            Some(ActionForm::Bind(name.as_slice(), values))
+            Some(ActionForm::Of(Effect::Bind(name.as_slice()), values))
         }
-        Form::Atom(Token::Global(name)) => Some(ActionForm::BindGlobal(name.as_slice(), values)),
+        Form::Atom(Token::Global(name)) => {
+            Some(ActionForm::Of(Effect::BindGlobal(name.as_slice()), values))
+        }
         _ => None,
     }
 }
@@ -165,5 +174,5 @@ fn split_printout<'a>(args: &'a [Form]) -> Option<ActionForm<'a>>
 {
     let (first, values) = args.split_first()?;
     let channel = named_channel(first.symbol()?)?;
-    Some(ActionForm::Printout(channel, values))
+    Some(ActionForm::Of(Effect::Printout(channel), values))
 }

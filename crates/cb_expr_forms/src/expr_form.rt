@@ -1,24 +1,25 @@
 //! Expressions and facts as they are written.
-ghost use Rattle.std.specs.Prelude.{◌≡◌, ℕ, List, [], map};
+ghost use Rattle.std.specs.Prelude.{◌≡◌, ◌++◌, ◌∷◌, ℕ, List, [], map};
 ghost use Rattle.std.specs.Option.{option_and_then};
-ghost use Rattle.cb_expr_forms.specs.Actions.{as_one_value};
-ghost use Rattle.cb_expr_forms.specs.ExprFaults.{all_faults, are_filled, fact_faults, facts_faults, faults_of, list_faults, slots_faults, token_faults, type_faults, values_faults};
-ghost use Rattle.cb_expr_forms.specs.ExprForms.{assertions, expr_of, exprs_of, fact_of, list_expr, slot_exprs, slot_names, token_expr};
+ghost use Rattle.cb_expr_forms.specs.ExprFaults.{all_faults, fact_faults, facts_faults, faults_of, list_faults, slot_faults, slots_faults, values_faults};
+ghost use Rattle.cb_expr_forms.specs.ExprForms.{assertions, expr_of, exprs_of, fact_of, given_slot, list_expr, slot_exprs, slot_name, slot_names};
 ghost use Rattle.cb_templates.specs.FaultLists.{ReadsAs};
-ghost use Rattle.cb_expr_forms.specs.Internal.{filling_expr, filling_faults, if_expr, if_faults, plan_expr, plan_faults, value_faults, while_expr, while_faults};
+ghost use Rattle.cb_expr_forms.specs.Internal.{effect_expr, effect_faults, filling_expr, filling_faults, if_expr, if_faults, plan_expr, plan_faults, value_faults, while_expr, while_faults};
 ghost use Rattle.cb_exprs.specs.Terms.{Term, term_of};
 ghost use Rattle.cb_forms.specs.Members.{members};
 ghost use Rattle.cb_forms.specs.Trees.{tree_of};
 
-use crate::action_form::ActionForm;
+use crate::action_form::{ActionForm, Effect};
+use crate::build::{add, boxed, build_call, build_if, build_while, know_effect};
 use crate::call_form::{CallForm, split_call};
-use crate::name_list::NameList;
 use crate::scope::Scope;
-use crate::slot_form::{SlotForm, split_fact, split_slot};
-use crate::words::{begins_with_list, is_symbol};
+use crate::slot_form::{SlotForm, split_fact};
+use crate::slot_values::SlotValues;
+use crate::token_form::read_token;
+use crate::value_form::{check_equals, fit_type};
 use cb_exprs::{Expr, FactExpr, FactShape};
-use cb_facts::{Name, Names, Refused, Value};
-use cb_forms::{Fault, Form, Token};
+use cb_facts::{Name, Names, Refused};
+use cb_forms::Form;
 use cb_templates::{Slot, Template};
 use cb_words::Function;
 
@@ -32,46 +33,6 @@ pub fn read_expr(names: &mut Names, scope: &Scope<'_>, form: &Form) -> Result<Ex
         Form::Atom(token) => read_token(names, scope, token),
         Form::List(forms) => read_list(names, scope, forms),
     }
-}
-
-fn read_token(names: &mut Names, scope: &Scope<'_>, token: &Token) -> Result<Expr, Refused>
-    ensures { ReadsAs term_of result (token_faults scope.now token.now) (token_expr token.now) }
-{
-    match token {
-        Token::Var(name) | Token::MultiVar(name) => {
-            Ok(Expr::Variable(known_variable(names, scope, name.as_slice())?))
-        }
-        Token::Global(name) => Ok(Expr::Global(known_global(names, scope, name.as_slice())?)),
-        _ => match Value::constant(names, token)? {
-            Some(value) => Ok(Expr::Constant(value)),
-            None => Err(Refused::Fault(Fault::MalformedForm)),
-        },
-    }
-}
-
-/// The name of a variable that may stand there.
-fn known_variable(names: &mut Names, scope: &Scope<'_>, name: &[u8]) -> Result<Name, Refused>
-    ensures { ReadsAs (λ n. n) result (token_faults scope.now (Token.Var name.now)) name.now }
-{
-    let name = names.name(name)?;
-    if !scope.takes_variable(&name) {
-        return Err(Refused::Fault(Fault::UnboundVariable));
-    }
-    Ok(name)
-}
-
-/// The same of a global variable.
-fn known_global(names: &mut Names, scope: &Scope<'_>, name: &[u8]) -> Result<Name, Refused>
-    ensures { ReadsAs (λ n. n) result (token_faults scope.now (Token.Global name.now)) name.now }
-{
-    if !scope.side.may_use_globals() {
-        return Err(Refused::Fault(Fault::NotOnLeftSide));
-    }
-    let name = names.name(name)?;
-    if !scope.knows_global(&name) {
-        return Err(Refused::Fault(Fault::UnknownGlobal));
-    }
-    Ok(name)
 }
 
 #[cycle(reading)]
@@ -98,33 +59,37 @@ fn read_action(
         (plan_expr scope.now.templates action.entry) }
 {
     match action {
-        ActionForm::Retract(values) => Ok(Expr::Retract(read_exprs(names, scope, values)?)),
-        ActionForm::Bind(name, values) => {
-            let name = known_variable(names, scope, name)?;
-            Ok(Expr::Bind(name, read_joined(names, scope, values)?))
-        }
-        ActionForm::BindGlobal(name, values) => {
-            let name = known_global(names, scope, name)?;
-            Ok(Expr::BindGlobal(name, read_joined(names, scope, values)?))
-        }
+        ActionForm::Of(effect, values) => read_effect(names, scope, effect, values),
         ActionForm::If(test, yes, no) => read_if(names, scope, test, yes, no),
         ActionForm::While(test, actions) => read_while(names, scope, test, actions),
-        ActionForm::Printout(channel, values) => {
-            Ok(Expr::Printout(channel, read_exprs(names, scope, values)?))
-        }
-        ActionForm::Print(values) => Ok(Expr::Print(read_exprs(names, scope, values)?)),
-        ActionForm::Println(values) => Ok(Expr::Println(read_exprs(names, scope, values)?)),
     }
 }
 
-/// The value of several expressions.
+/// A call with an effect of these values.
 #[cycle(reading)]
-fn read_joined(names: &mut Names, scope: &Scope<'_>, forms: &[Form]) -> Result<Box<Expr>, Refused>
-    ensures { ReadsAs (λ e. term_of e.value) result (all_faults scope.now (members forms.now))
-        (as_one_value (exprs_of scope.now.templates (members forms.now))) }
+fn read_effect(
+    names: &mut Names,
+    scope: &Scope<'_>,
+    effect: Effect<'_>,
+    values: &[Form],
+) -> Result<Expr, Refused>
+    ensures { ReadsAs term_of result
+        (effect_faults scope.now effect.entry ++ all_faults scope.now (members values.now))
+        (effect_expr effect.entry (exprs_of scope.now.templates (members values.now))) }
 {
-    let exprs = read_exprs(names, scope, forms)?;
-    Ok(Box::new(names.alloc(), join(exprs))?)
+    let effect = know_effect(names, scope, effect)?;
+    let values = read_exprs(names, scope, values)?;
+    build_call(names.alloc(), effect, values)
+}
+
+/// The expression that a form is, in a box.
+#[cycle(reading)]
+fn read_boxed(names: &mut Names, scope: &Scope<'_>, form: &Form) -> Result<Box<Expr>, Refused>
+    ensures { ReadsAs (λ e. term_of e.value) result (faults_of scope.now (tree_of form.now))
+        (expr_of scope.now.templates (tree_of form.now)) }
+{
+    let expr = read_expr(names, scope, form)?;
+    boxed(names.alloc(), expr)
 }
 
 #[cycle(reading)]
@@ -139,11 +104,10 @@ fn read_if(
         (if_faults scope.now (tree_of test.now) (members yes.now) (members no.now))
         (if_expr scope.now.templates (tree_of test.now) (members yes.now) (members no.now)) }
 {
-    let alloc = names.alloc();
-    let test = Box::new(alloc, read_expr(names, scope, test)?)?;
-    let yes = Box::new(alloc, Expr::Actions(read_exprs(names, scope, yes)?))?;
-    let no = Box::new(alloc, Expr::Actions(read_exprs(names, scope, no)?))?;
-    Ok(Expr::If(test, yes, no))
+    let test = read_boxed(names, scope, test)?;
+    let yes = read_exprs(names, scope, yes)?;
+    let no = read_exprs(names, scope, no)?;
+    build_if(names.alloc(), test, yes, no)
 }
 
 #[cycle(reading)]
@@ -157,10 +121,9 @@ fn read_while(
         (while_faults scope.now (tree_of test.now) (members actions.now))
         (while_expr scope.now.templates (tree_of test.now) (members actions.now)) }
 {
-    let alloc = names.alloc();
-    let test = Box::new(alloc, read_expr(names, scope, test)?)?;
-    let actions = Box::new(alloc, Expr::Actions(read_exprs(names, scope, actions)?))?;
-    Ok(Expr::While(test, actions))
+    let test = read_boxed(names, scope, test)?;
+    let actions = read_exprs(names, scope, actions)?;
+    build_while(names.alloc(), test, actions)
 }
 
 /// The expressions that forms are in this scope, or the first fault.
@@ -175,7 +138,7 @@ pub fn read_exprs(
 {
     let mut exprs = Vec::with_capacity(names.alloc(), forms.len())?;
     for form in forms {
-        exprs.push(read_expr(names, scope, form)?)?;
+        add(&mut exprs, read_expr(names, scope, form)?)?;
     }
     Ok(exprs)
 }
@@ -189,7 +152,7 @@ fn read_facts(names: &mut Names, scope: &Scope<'_>, forms: &[Form]) -> Result<Ve
 {
     let mut facts = Vec::with_capacity(names.alloc(), forms.len())?;
     for form in forms {
-        facts.push(read_fact(names, scope, form)?.into_expr())?;
+        add(&mut facts, read_fact(names, scope, form)?.into_expr())?;
     }
     Ok(facts)
 }
@@ -229,17 +192,33 @@ fn read_slots(
           slot_exprs scope.now.templates template.now (members forms.now),
         ) }
 {
-    let mut given = NameList::new(names.alloc());
-    let mut values = Vec::with_capacity(names.alloc(), forms.len())?;
+    let mut given = SlotValues::new(names.alloc(), forms.len())?;
     for form in forms {
-        let slot = split_slot(names, template, &given, form)?;
-        values.push(read_slot(names, scope, slot)?)?;
-        given.push(slot.name())?;
+        read_given(names, scope, template, &mut given, form)?;
     }
-    if !are_filled(template.slots(), &given) {
-        return Err(Refused::Fault(Fault::FactDoesNotFit));
-    }
-    Ok((given.into_vec(), values))
+    given.filled(template.slots())
+}
+
+/// Adds the slot that a form gives, and the expression of its value.
+#[cycle(reading)]
+fn read_given(
+    names: &mut Names,
+    scope: &Scope<'_>,
+    template: &Template,
+    given: &mut SlotValues,
+    form: &Form,
+) -> Result<(), Refused>
+    ensures { ReadsAs {V = List (List ℕ) × List Term}
+        (λ _. (given.new.names, map term_of given.new.values.items)) result
+        (slot_faults scope.now template.now given.old.names (tree_of form.now)) (
+          given.old.names ++ slot_name (tree_of form.now) ∷ [],
+          map term_of given.old.values.items
+              ++ given_slot scope.now.templates template.now (tree_of form.now) ∷ [],
+        ) }
+{
+    let slot = given.next(names, template, form)?;
+    let value = read_slot(names, scope, slot)?;
+    given.add(value)
 }
 
 /// The value of a slot.
@@ -272,7 +251,10 @@ fn read_values(
     let mut values = Vec::with_capacity(names.alloc(), forms.len())?;
     let mut rest = forms;
     while let Some((first, following)) = rest.split_first() {
-        values.push(read_value(names, scope, slot, first, following)?)?;
+        add(
+            &mut values,
+            read_value(names, scope, slot, first, following)?,
+        )?;
         rest = following;
     }
     Ok(values)
@@ -291,51 +273,7 @@ fn read_value(
         (value_faults scope.now (option_and_then (λ s. s.now.types) slot.entry) (tree_of form.now) (members following.now))
         (expr_of scope.now.templates (tree_of form.now)) }
 {
-    if is_symbol(form, b"=") && begins_with_list(following) {
-        return Err(Refused::Fault(Fault::NotInProfile));
-    }
+    check_equals(form, following)?;
     let value = read_expr(names, scope, form)?;
-    check_type(slot, &value)?;
-    Ok(value)
-}
-
-/// Whether a value may stand in a slot by its types: what is computed may be anything.
-fn check_type(slot: Option<&Slot>, value: &Expr) -> Result<(), Refused>
-    ensures { ReadsAs (λ _. tt {0}) result
-        (type_faults (option_and_then (λ s. s.now.types) slot.entry) (term_of value.now)) tt }
-{
-    let Some(slot) = slot else {
-        return Ok(());
-    };
-    match value {
-        Expr::Constant(value) => {
-            if !slot.allows_all(value)? {
-                return Err(Refused::Fault(Fault::ValueNotAllowed));
-            }
-            Ok(())
-        }
-        _ => Ok(()),
-    }
-}
-
-/// The value of several expressions: a multifield, unless there is one.
-fn join(exprs: Vec<Expr>) -> Expr
-    ensures { term_of result ≡ as_one_value (map term_of exprs.items) }
-{
-    let mut exprs = exprs;
-    if exprs.len() == 1 {
-        if let Some(expr) = exprs.pop() {
-            return expr;
-        }
-    }
-    Expr::Call(Function::Create, exprs)
-}
-
-/// Whether each slot is given or has a default.
-fn are_filled(slots: &[Slot], given: &NameList) -> bool
-    ensures { result ≡ are_filled slots.now given.now }
-{
-    slots
-        .iter()
-        .all(|slot| given.has(slot.name()) || slot.default().is_some())
+    fit_type(slot, value)
 }

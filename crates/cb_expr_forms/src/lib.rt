@@ -5,12 +5,16 @@
 
 mod action_form;
 mod bound;
+mod build;
 mod call_form;
 mod expr_form;
 pub mod laws;
 mod name_list;
 mod scope;
 mod slot_form;
+mod slot_values;
+mod token_form;
+mod value_form;
 mod variables;
 mod words;
 

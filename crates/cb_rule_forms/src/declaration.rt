@@ -1,20 +1,26 @@
 //! The salience that a rule declares.
-ghost use Rattle.std.specs.Prelude.{◌≡◌, None, Ok, Some, MatchOption, is_some, pos};
+ghost use Rattle.std.specs.Prelude.{◌≡◌, [], None, Ok, Some, MatchOption, pos};
 ghost use Rattle.std.specs.Option.{option_and_then, unwrap_or};
-ghost use Rattle.cb_templates.specs.FaultLists.{ReadsAs, unless};
+ghost use Rattle.cb_templates.specs.FaultLists.{ReadsAs};
+ghost use Rattle.cb_eval.specs.Evaluation.{value_of};
+ghost use Rattle.cb_expr_forms.specs.ExprFaults.{faults_of};
+ghost use Rattle.cb_expr_forms.specs.ExprForms.{expr_of};
+ghost use Rattle.cb_expr_forms.specs.Scopes.{plain_scope};
+ghost use Rattle.cb_exprs.specs.Terms.{term_of};
 ghost use Rattle.cb_forms.specs.Members.{call_of, members};
-ghost use Rattle.cb_forms.specs.declared.fault.Fault.TheVariants.{BadSalience};
 ghost use Rattle.cb_forms.specs.Trees.{tree_of};
-ghost use Rattle.cb_rule_forms.specs.Declarations.{declaration_faults, has_other, is_other, only_of, salience_by, salience_faults, salience_form, salience_in};
+ghost use Rattle.cb_rule_forms.specs.Declarations.{declaration_faults, has_other, is_other, only_of, salience_by, salience_faults, salience_form};
+ghost use Rattle.cb_rule_forms.specs.Internal.{IsSalience};
 
 use crate::sections::members_after;
 use cb_eval::eval;
 use cb_expr_forms::{NameList, Scope, Side, read_expr};
-use cb_exprs::Env;
+use cb_exprs::{Env, Expr};
 use cb_facts::{Names, Refused, Value};
 use cb_forms::{Fault, Form};
 use cb_functions::Constants;
 use cb_templates::Relations;
+use std::alloc::Global;
 
 // The salience of a rule is from -10000 to 10000.
 const GREATEST_SALIENCE: i64 = 10_000;
@@ -96,6 +102,21 @@ fn read_salience(
         (salience_faults relations.now env.now (Some (tree_of form.now)))
         (unwrap_or (salience_by relations.now env.now (tree_of form.now)) (pos 0)) }
 {
+    let expr = read_plain(names, relations, env, form)?;
+    eval_salience(names.alloc(), constants, env, &expr)
+}
+
+/// The expression of a salience, which may name globals and no variable, or its first fault.
+fn read_plain(
+    names: &mut Names,
+    relations: &Relations,
+    env: &Env,
+    form: &Form,
+) -> Result<Expr, Refused>
+    ensures { ReadsAs term_of result
+        (faults_of (plain_scope relations.now env.now []) (tree_of form.now))
+        (expr_of relations.now (tree_of form.now)) }
+{
     let none = NameList::new(names.alloc());
     let scope = Scope {
         side: Side::Plain,
@@ -104,8 +125,19 @@ fn read_salience(
         given: &none,
         relations,
     };
-    let expr = read_expr(names, &scope, form)?;
-    match eval(names.alloc(), constants, &expr, env) {
+    read_expr(names, &scope, form)
+}
+
+/// The salience that an expression has, or the fault where it has none.
+fn eval_salience(
+    alloc: Global,
+    constants: &Constants,
+    env: &Env,
+    expr: &Expr,
+) -> Result<i64, Refused>
+    ensures { IsSalience result (value_of (term_of expr.now) env.now) }
+{
+    match eval(alloc, constants, expr, env) {
         Ok(value) => check_salience(value),
         Err(Refused::NoMemory) => Err(Refused::NoMemory),
         Err(Refused::Fault(_)) => Err(Refused::Fault(Fault::BadSalience)),
@@ -114,8 +146,7 @@ fn read_salience(
 
 /// The salience that a value is, or the fault where it is none.
 fn check_salience(value: Value) -> Result<i64, Refused>
-    ensures { ReadsAs (λ n. n) result (unless (is_some (salience_in (Ok value))) BadSalience)
-        (unwrap_or (salience_in (Ok value)) (pos 0)) }
+    ensures { IsSalience result (Ok value) }
 {
     match value {
         Value::Int(number) if LEAST_SALIENCE <= number && number <= GREATEST_SALIENCE => Ok(number),

@@ -1,13 +1,14 @@
 //! Rules.
-ghost use Rattle.std.specs.Prelude.{◌≡◌, ◌∷◌, [], IfOk, Some, map, option_map};
+ghost use Rattle.std.specs.Prelude.{◌≡◌, ◌++◌, ◌∷◌, [], IfOk, List, Some, map, option_map};
 ghost use Rattle.cb_templates.specs.FaultLists.{ReadsAs};
-ghost use Rattle.cb_exprs.specs.Terms.{term_of};
+ghost use Rattle.cb_expr_forms.specs.ExprForms.{exprs_of};
+ghost use Rattle.cb_exprs.specs.Terms.{Term, term_of};
 ghost use Rattle.cb_forms.specs.Members.{members};
 ghost use Rattle.cb_rule_forms.specs.Declarations.{declared_faults, salience_of};
 ghost use Rattle.cb_rule_forms.specs.Internal.{form_value};
 ghost use Rattle.cb_rule_forms.specs.Elements.{elements_faults, elements_of, written_in};
-ghost use Rattle.cb_rule_forms.specs.RuleValues.{element_value, rule_value};
-ghost use Rattle.cb_rule_forms.specs.Rules.{is_pattern, layout_of, left_scope, rule_faults, rule_of, rule_with, sections_faults, sections_rule};
+ghost use Rattle.cb_rule_forms.specs.RuleValues.{Element, element_value, rule_value};
+ghost use Rattle.cb_rule_forms.specs.Rules.{branch_faults, branch_of, is_pattern, layout_of, left_scope, rule_faults, rule_of, rule_with, sections_faults, sections_rule};
 ghost use Rattle.cb_rule_forms.specs.Internal.SectionPlaces.{sections_seen};
 
 use crate::actions::read_actions;
@@ -91,10 +92,13 @@ fn read_sections<T>(
         (sections_rule relations.now env.now (Some (sections_seen sections.entry))) }
 {
     let salience = read_salience(names, constants, relations, env, sections.declared)?;
-    let elements = read_left_side(names, relations, env, sections.elements)?;
-    let mut known = NameList::new(names.alloc());
-    bind_branch(&mut known, elements.as_slice())?;
-    let actions = read_actions(names, relations, env, known, sections.actions)?;
+    let (elements, actions) = read_sides(
+        names,
+        relations,
+        env,
+        sections.elements,
+        sections.actions,
+    )?;
     Ok(build_rule(names, sections.name, salience, elements, actions)?)
 }
 
@@ -111,11 +115,7 @@ fn build_rule<T>(
 {
     let relations = find_relations(names.alloc(), elements.as_slice(), actions.as_slice())?;
     let name = names.name(name)?;
-    let branch = close_patterns(names, elements)?;
-    let mut layouts = Vec::new(names.alloc());
-    layouts.push(lay_out(names.alloc(), branch.as_slice())?)?;
-    let mut branches = Vec::new(names.alloc());
-    branches.push(branch)?;
+    let (branches, layouts) = close_branches(names, elements)?;
     Ok(Rule {
         name,
         salience,
@@ -124,6 +124,31 @@ fn build_rule<T>(
         actions,
         relations,
     })
+}
+
+/// The one branch of these elements, and its layout.
+fn close_branches<T>(
+    names: &Names,
+    elements: Vec<ElementForm>,
+) -> Result<(Vec<Vec<Ce<T>>>, Vec<Vec<bool>>), NoMemory>
+    ensures { IfOk result (λ made.
+        (map (λ branch. map element_value branch.items) made.0.items
+        ≡ map form_value elements.items ∷ [])
+        × (map (λ layout. layout.items) made.1.items
+        ≡ layout_of (map form_value elements.items) ∷ [])) }
+{
+    let branch = close_patterns(names, elements)?;
+    let layout = lay_out(names.alloc(), branch.as_slice())?;
+    Ok((only(names.alloc(), branch)?, only(names.alloc(), layout)?))
+}
+
+/// This item alone.
+fn only<X: Drop>(alloc: Global, item: X) -> Result<Vec<X>, NoMemory>
+    ensures { IfOk result (λ items. items.items ≡ item ∷ []) }
+{
+    let mut items = Vec::new(alloc);
+    items.push(item)?;
+    Ok(items)
 }
 
 /// The salience of a rule: 0, unless it declares another; or the first fault of its declaration.
@@ -142,6 +167,28 @@ fn read_salience(
         Some(forms) => read_declaration(names, constants, relations, env, forms),
         None => Ok(0),
     }
+}
+
+/// The elements of a left side and the actions, or the first fault of the elements, of their variables, or of the actions.
+fn read_sides(
+    names: &mut Names,
+    relations: &Relations,
+    env: &Env,
+    left: &[Form],
+    right: &[Form],
+) -> Result<(Vec<ElementForm>, Vec<Expr>), Refused>
+    ensures { ReadsAs {V = List Element × List Term}
+        (λ sides. (map form_value sides.0.items, map term_of sides.1.items)) result
+        (elements_faults (left_scope relations.now env.now) (written_in (members left.now))
+        ++ branch_faults relations.now env.now (branch_of relations.now (members left.now))
+        (members right.now))
+        (branch_of relations.now (members left.now), exprs_of relations.now (members right.now)) }
+{
+    let elements = read_left_side(names, relations, env, left)?;
+    let mut known = NameList::new(names.alloc());
+    bind_branch(&mut known, elements.as_slice())?;
+    let actions = read_actions(names, relations, env, known, right)?;
+    Ok((elements, actions))
 }
 
 /// The elements of a left side, or their first fault.

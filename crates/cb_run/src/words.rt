@@ -2,13 +2,13 @@
 ghost use Rattle.std.specs.Prelude.{◌≡◌, ◌≤◌, Some, IfOk, IfErr, map, true, false, codes};
 ghost use Rattle.clap.specs.Words.{FailsBy, IsPlainArg, fault_of, found_of, kind_of, rule_of, takes};
 ghost use Rattle.cb_run.specs.Commands.{limit_of, limits_app, number_rule};
-ghost use Rattle.cb_run.specs.Internal.{IsNumberOption, option_or};
+ghost use Rattle.cb_run.specs.Internal.{AreLimitsIn, HaveNumbers, IsNumberOption, TakesTheLimits, option_or};
 
 use cb_session::Limits;
 use clap::builder::ValueParser;
 use clap::error::ErrorKind;
 use clap::{Arg, ArgAction, ArgMatches, Command, Error};
-use std::alloc::Global;
+use std::alloc::{AllocError, Global};
 
 /// Reads the limits from the program's words, its name first. An option that isn't given has its default: 1,048,576 bytes
 /// an item, 1,000,000 firings, 10,000,000 turns.
@@ -30,23 +30,38 @@ pub fn read_words<'a>(alloc: Global, words: &'a [&'a str]) -> Result<Limits, Err
     // Words that `clap` refuses are refused, by an error of its kind.
     ensures kinds { FailsBy (fault_of limits_app (map (λ w. w.now) words.entry.now)) result }
 {
+    let command = limits_command(alloc)?;
+    match command.try_get_matches_from(words) {
+        Ok(matches) => Ok(found_limits(&matches)),
+        Err(error) => Err(error),
+    }
+}
+
+// The program's command, with an option for each limit.
+fn limits_command<'a>(alloc: Global) -> Result<Command<'a>, AllocError>
+    ensures { IfOk result TakesTheLimits }
+{
     let command = Command::new(alloc, "clipsbatch")
         .about(ABOUT)
         .arg(number(alloc, "max-form", FORM_HELP, 1, 16_777_216))?
         .arg(number(alloc, "max-firings", FIRINGS_HELP, 0, 1_000_000_000_000))?
         .arg(number(alloc, "max-turns", TURNS_HELP, 0, 1_000_000_000_000))?;
-    let matches = match command.try_get_matches_from(words) {
-        Ok(matches) => matches,
-        Err(error) => return Err(error),
-    };
-    let max_form = limit(&matches, "max-form", 1_048_576, 1, 16_777_216);
-    let max_firings = limit(&matches, "max-firings", 1_000_000, 0, 1_000_000_000_000);
-    let max_turns = limit(&matches, "max-turns", 10_000_000, 0, 1_000_000_000_000);
-    Ok(Limits {
+    Ok(command)
+}
+
+// The limits that the options give, or their defaults.
+fn found_limits(matches: &ArgMatches<'_>) -> Limits
+    requires { HaveNumbers (found_of matches.now) }
+    ensures { AreLimitsIn (found_of matches.now) result }
+{
+    let max_form = limit(matches, "max-form", 1_048_576, 1, 16_777_216);
+    let max_firings = limit(matches, "max-firings", 1_000_000, 0, 1_000_000_000_000);
+    let max_turns = limit(matches, "max-turns", 10_000_000, 0, 1_000_000_000_000);
+    Limits {
         max_form: max_form as usize,
         max_firings,
         max_turns,
-    })
+    }
 }
 
 static ABOUT: &str =

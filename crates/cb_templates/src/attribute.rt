@@ -4,7 +4,7 @@ ghost use Rattle.std.specs.List.{list_any};
 ghost use Rattle.cb_forms.specs.Members.{call_of, head_and_rest, members, symbol_of};
 ghost use Rattle.cb_forms.specs.Trees.{tree_of};
 ghost use Rattle.cb_facts.specs.Results.{Returns, Settles};
-ghost use Rattle.cb_templates.specs.Internal.SlotReads.{attribute_by, attributes_after, default_constant, default_constants, default_of, multi_default, no_attributes, one_default, some_types, type_by, types_after, types_of};
+ghost use Rattle.cb_templates.specs.Internal.SlotReads.{attribute_by, attributes_after, default_constant, default_constants, default_of, multi_default, default_added, no_attributes, one_default, some_types, types_added, type_by, types_after, types_of};
 ghost use Rattle.cb_templates.specs.SlotForms.{is_variable, is_variable_form, is_variable_token, no_call, no_constant};
 ghost use Rattle.cb_templates.specs.Slots.{with_type};
 ghost use Rattle.cb_templates.specs.contracts.slot_type.SlotTypePartialEq.TheImpl as type_eq;
@@ -48,44 +48,60 @@ pub(crate) fn read_attributes(
         default: None,
     };
     for form in forms {
-        attributes = with_attribute(names, is_multi, attributes, form)?;
+        add_attribute(names, is_multi, &mut attributes, form)?;
     }
     Ok(attributes)
 }
 
-/// The attributes with one more.
-fn with_attribute(
+/// Adds the attribute that a form is, if it isn't given yet, or finds its first fault.
+fn add_attribute(
     names: &mut Names,
     is_multi: bool,
-    attributes: Attributes,
+    attributes: &mut Attributes,
     form: &Form,
-) -> Result<Attributes, Refused>
-    ensures { Returns result (attribute_by is_multi attributes (call_of (tree_of form.now))) }
+) -> Result<(), Refused>
+    ensures { Settles (λ _. attributes.new) result
+        (attribute_by is_multi attributes.old (call_of (tree_of form.now))) }
 {
     let Some((name, forms)) = form.call() else {
         return Err(Refused::Fault(Fault::MalformedForm));
     };
     if name == b"type".as_slice() {
-        if attributes.types.is_some() {
-            return Err(Refused::Fault(Fault::MalformedForm));
-        }
-        let types = Some(read_types(names.alloc(), forms)?);
-        return Ok(Attributes {
-            types,
-            default: attributes.default,
-        });
+        return add_types(names.alloc(), attributes, forms);
     }
     if name == b"default".as_slice() {
-        if attributes.default.is_some() {
-            return Err(Refused::Fault(Fault::MalformedForm));
-        }
-        let default = Some(read_default(names, is_multi, forms)?);
-        return Ok(Attributes {
-            types: attributes.types,
-            default,
-        });
+        return add_default(names, is_multi, attributes, forms);
     }
     Err(Refused::Fault(Fault::NotInProfile))
+}
+
+/// Adds the attribute `type`, by the forms after it.
+fn add_types(alloc: Global, attributes: &mut Attributes, forms: &[Form]) -> Result<(), Refused>
+    ensures { Settles (λ _. attributes.new) result
+        (types_added attributes.old (members forms.now)) }
+{
+    if attributes.types.is_some() {
+        return Err(Refused::Fault(Fault::MalformedForm));
+    }
+    attributes.types = Some(read_types(alloc, forms)?);
+    Ok(())
+}
+
+/// Adds the attribute `default`, likewise.
+fn add_default(
+    names: &mut Names,
+    is_multi: bool,
+    attributes: &mut Attributes,
+    forms: &[Form],
+) -> Result<(), Refused>
+    ensures { Settles (λ _. attributes.new) result
+        (default_added is_multi attributes.old (members forms.now)) }
+{
+    if attributes.default.is_some() {
+        return Err(Refused::Fault(Fault::MalformedForm));
+    }
+    attributes.default = Some(read_default(names, is_multi, forms)?);
+    Ok(())
 }
 
 /// What `type` says, by the forms after it.

@@ -21,14 +21,9 @@ abbrev mutual
 
 -- how many there are in what is read next
 abbrev pub plan_size : ActionForm → ℕ
-plan_size (program.Retract values) = trees_size (members values.now)
-plan_size (program.Bind name values) = trees_size (members values.now)
-plan_size (program.BindGlobal name values) = trees_size (members values.now)
+plan_size (program.Of e values) = trees_size (members values.now)
 plan_size (program.If test first second) = tree_size (tree_of test.now) + (trees_size (members first.now) + trees_size (members second.now))
 plan_size (program.While test body) = tree_size (tree_of test.now) + trees_size (members body.now)
-plan_size (program.Printout on values) = trees_size (members values.now)
-plan_size (program.Print values) = trees_size (members values.now)
-plan_size (program.Println values) = trees_size (members values.now)
 
 abbrev pub called_size : CallForm → ℕ
 called_size (called.Function f args) = trees_size (members args.now)

@@ -70,12 +70,19 @@ with_types a ts = record { types = Some ts; default = a.default }
 abbrev pub with_default : Attributes → SlotDefault → Attributes
 with_default a d = record { types = a.types; default = Some d }
 
--- one attribute more, by its head and what follows; each is given at most once
+-- these with `type`, or with `default`, by what follows its head; each is given at most once
+abbrev pub types_added : Attributes → Trees → Result Attributes Fault
+types_added a ts = if is_some a.types then Err MalformedForm else ok_then (with_types a) (types_of ts)
+
+abbrev pub default_added : Bool → Attributes → Trees → Result Attributes Fault
+default_added is_multi a ts = if is_some a.default then Err MalformedForm else ok_then (with_default a) (default_of is_multi ts)
+
+-- one attribute more, by its head and what follows
 abbrev pub attribute_by : Bool → Attributes → Option (List ℕ × Trees) → Result Attributes Fault
 attribute_by is_multi a None = Err MalformedForm
 attribute_by is_multi a (Some (name, ts)) =
-    if bytes_eq name (codes "type") then (if is_some a.types then Err MalformedForm else ok_then (with_types a) (types_of ts)) else (
-    if bytes_eq name (codes "default") then (if is_some a.default then Err MalformedForm else ok_then (with_default a) (default_of is_multi ts)) else
+    if bytes_eq name (codes "type") then types_added a ts else (
+    if bytes_eq name (codes "default") then default_added is_multi a ts else
     Err NotInProfile)
 
 -- the attributes of a slot, after those that were given

@@ -1,7 +1,7 @@
 //! Expressions, variables, globals and loops. A word ends with the delimiter after it, so a word's step has that delimiter too.
 use super::rows::*;
 
-static CALC_ROWS: [Row; 20] = [
+static CALC_ROWS: [Row; 9] = [
     Row {
         name: "a sum out of range",
         steps: &[
@@ -14,82 +14,6 @@ static CALC_ROWS: [Row; 20] = [
         name: "symbols that look like others",
         steps: &[(b"(create$ $ 1- <= \"q\")", b"($ 1- <= \"q\")\n")],
         ..CLEAN
-    },
-    // A global that is bound has its initial value again after a reset.
-    Row {
-        name: "a global",
-        steps: &[
-            (b"(defglobal ?*n* = 1)", b""),
-            (b"(bind ?*n* 5)", b"5\n"),
-            (b"?*n*(", b"5\n"),
-            (b"reset)", b""),
-        ],
-        rest: (b"?*n*", b"1\n"),
-        ..CLEAN
-    },
-    Row {
-        name: "a loop",
-        steps: &[
-            (b"(bind ?i 0)", b"0\n"),
-            (b"(while (< ?i 3) do (bind ?i (+ ?i 1)))", b"FALSE\n"),
-        ],
-        rest: (b"?i", b"3\n"),
-        ..CLEAN
-    },
-    Row {
-        name: "a loop of too many turns",
-        steps: &[
-            (b"(bind ?i 0)", b"0\n"),
-            (b"(while (< ?i 3) do (bind ?i (+ ?i 1)))", CB93),
-        ],
-        rest: (b"?i", b""),
-        max_turns: 2,
-        ..LIMITED
-    },
-    Row {
-        name: "a loop of the most turns",
-        steps: &[
-            (b"(bind ?i 0)", b"0\n"),
-            (b"(while (< ?i 3) do (bind ?i (+ ?i 1)))", b"FALSE\n"),
-        ],
-        rest: (b"?i", b"3\n"),
-        max_turns: 3,
-        ..CLEAN
-    },
-    Row {
-        name: "a loop of no turn",
-        steps: &[(b"(while FALSE)", b"FALSE\n")],
-        max_turns: 0,
-        ..CLEAN
-    },
-    // All loops of a script have the turns together, and `reset` and `clear` give none back.
-    Row {
-        name: "turns of several loops",
-        steps: &[
-            (b"(bind ?i 0)", b"0\n"),
-            (
-                b"(while (< ?i 2) do (bind ?i (+ ?i 1)) (print ?i))",
-                b"12FALSE\n",
-            ),
-            (b"(reset)(clear)", b""),
-            (b"(print a)", b"a"),
-            (
-                b"(while TRUE (print \"x\"))",
-                b"x[CB93] loop limit reached\n",
-            ),
-        ],
-        max_turns: 3,
-        ..LIMITED
-    },
-    // What an item has written before a limit stands.
-    Row {
-        name: "a limit within a call",
-        steps: &[
-            (b"(print 1)", b"1"),
-            (b"(println \"x\" (while TRUE))", CB93),
-        ],
-        max_turns: 2,
-        ..LIMITED
     },
     Row {
         name: "facts that fit no template",
@@ -157,6 +81,97 @@ static CALC_ROWS: [Row; 20] = [
         ],
         ..FAULTY
     },
+    Row {
+        name: "printed values",
+        steps: &[
+            (b"(println \"a\" (+ 1 1))", b"a2\n"),
+            (b"(print b crlf \"c\")", b"b\nc"),
+            (b"(println)", b"\n"),
+        ],
+        ..CLEAN
+    },
+];
+
+static LOOP_ROWS: [Row; 6] = [
+    Row {
+        name: "a loop",
+        steps: &[
+            (b"(bind ?i 0)", b"0\n"),
+            (b"(while (< ?i 3) do (bind ?i (+ ?i 1)))", b"FALSE\n"),
+        ],
+        rest: (b"?i", b"3\n"),
+        ..CLEAN
+    },
+    Row {
+        name: "a loop of too many turns",
+        steps: &[
+            (b"(bind ?i 0)", b"0\n"),
+            (b"(while (< ?i 3) do (bind ?i (+ ?i 1)))", CB93),
+        ],
+        rest: (b"?i", b""),
+        max_turns: 2,
+        ..LIMITED
+    },
+    Row {
+        name: "a loop of the most turns",
+        steps: &[
+            (b"(bind ?i 0)", b"0\n"),
+            (b"(while (< ?i 3) do (bind ?i (+ ?i 1)))", b"FALSE\n"),
+        ],
+        rest: (b"?i", b"3\n"),
+        max_turns: 3,
+        ..CLEAN
+    },
+    Row {
+        name: "a loop of no turn",
+        steps: &[(b"(while FALSE)", b"FALSE\n")],
+        max_turns: 0,
+        ..CLEAN
+    },
+    // All loops of a script have the turns together, and `reset` and `clear` give none back.
+    Row {
+        name: "turns of several loops",
+        steps: &[
+            (b"(bind ?i 0)", b"0\n"),
+            (
+                b"(while (< ?i 2) do (bind ?i (+ ?i 1)) (print ?i))",
+                b"12FALSE\n",
+            ),
+            (b"(reset)(clear)", b""),
+            (b"(print a)", b"a"),
+            (
+                b"(while TRUE (print \"x\"))",
+                b"x[CB93] loop limit reached\n",
+            ),
+        ],
+        max_turns: 3,
+        ..LIMITED
+    },
+    // What an item has written before a limit stands.
+    Row {
+        name: "a limit within a call",
+        steps: &[
+            (b"(print 1)", b"1"),
+            (b"(println \"x\" (while TRUE))", CB93),
+        ],
+        max_turns: 2,
+        ..LIMITED
+    },
+];
+
+static GLOBAL_ROWS: [Row; 5] = [
+    // A global that is bound has its initial value again after a reset.
+    Row {
+        name: "a global",
+        steps: &[
+            (b"(defglobal ?*n* = 1)", b""),
+            (b"(bind ?*n* 5)", b"5\n"),
+            (b"?*n*(", b"5\n"),
+            (b"reset)", b""),
+        ],
+        rest: (b"?*n*", b"1\n"),
+        ..CLEAN
+    },
     // A later global of a form sees the earlier ones, and a reset evaluates both anew.
     Row {
         name: "globals of one form",
@@ -166,15 +181,6 @@ static CALC_ROWS: [Row; 20] = [
             (b"(reset)", b""),
         ],
         rest: (b"?*b*", b"6\n"),
-        ..CLEAN
-    },
-    Row {
-        name: "printed values",
-        steps: &[
-            (b"(println \"a\" (+ 1 1))", b"a2\n"),
-            (b"(print b crlf \"c\")", b"b\nc"),
-            (b"(println)", b"\n"),
-        ],
         ..CLEAN
     },
     // A fault in a `defglobal` leaves every global as it was.
@@ -229,7 +235,17 @@ static CALC_ROWS: [Row; 20] = [
     },
 ];
 
-/// These rows.
+/// Expressions: their values and their faults.
 pub(super) fn calc_rows() -> &'static [Row] {
     &CALC_ROWS
+}
+
+/// Loops, and the limit of their turns.
+pub(super) fn loop_rows() -> &'static [Row] {
+    &LOOP_ROWS
+}
+
+/// Global variables, and what lasts until `reset` and `clear`.
+pub(super) fn global_rows() -> &'static [Row] {
+    &GLOBAL_ROWS
 }

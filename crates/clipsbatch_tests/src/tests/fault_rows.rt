@@ -1,7 +1,7 @@
 //! Templates and their facts: which fault comes first.
 use super::rows::*;
 
-static FAULT_ROWS: [Row; 12] = [
+static TEMPLATE_FAULT_ROWS: [Row; 8] = [
     // A type is SYMBOL, STRING, INTEGER, NUMBER, LEXEME, or ?VARIABLE alone.
     Row {
         name: "types",
@@ -106,6 +106,9 @@ static FAULT_ROWS: [Row; 12] = [
         ],
         ..FAULTY
     },
+];
+
+static FACT_FAULT_ROWS: [Row; 4] = [
     // Wildcards and connectives in facts.
     Row {
         name: "wildcards in facts",
@@ -164,7 +167,12 @@ static FAULT_ROWS: [Row; 12] = [
     },
 ];
 
-/// These rows.
-pub(super) fn fault_rows() -> &'static [Row] {
-    &FAULT_ROWS
+/// The faults of a template.
+pub(super) fn template_fault_rows() -> &'static [Row] {
+    &TEMPLATE_FAULT_ROWS
+}
+
+/// The faults of a template's facts.
+pub(super) fn fact_fault_rows() -> &'static [Row] {
+    &FACT_FAULT_ROWS
 }

@@ -2,7 +2,7 @@
 //! too.
 use super::rows::*;
 
-static FIRST_ROWS: [Row; 21] = [
+static ITEM_ROWS: [Row; 10] = [
     Row {
         name: "an empty script",
         ..CLEAN
@@ -72,6 +72,9 @@ static FIRST_ROWS: [Row; 21] = [
         steps: &[(b"a)", b"a\n[CB02] unmatched closing parenthesis\n")],
         ..FAULTY
     },
+];
+
+static COMMAND_ROWS: [Row; 11] = [
     Row {
         name: "constants",
         steps: &[
@@ -159,7 +162,12 @@ static FIRST_ROWS: [Row; 21] = [
     },
 ];
 
-/// These rows.
-pub(super) fn first_rows() -> &'static [Row] {
-    &FIRST_ROWS
+/// How items are cut, and the limit of their length.
+pub(super) fn item_rows() -> &'static [Row] {
+    &ITEM_ROWS
+}
+
+/// Values, facts and printed lines.
+pub(super) fn command_rows() -> &'static [Row] {
+    &COMMAND_ROWS
 }

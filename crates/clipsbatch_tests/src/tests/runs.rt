@@ -1,13 +1,13 @@
 //! Each row however its script comes, and with each write and each read failing in turn.
 ghost use Rattle.std.specs.Prelude.{◌<◌};
 
-use super::calc_rows::calc_rows;
-use super::fault_rows::fault_rows;
-use super::first_rows::first_rows;
+use super::calc_rows::{calc_rows, global_rows, loop_rows};
+use super::fault_rows::{fact_fault_rows, template_fault_rows};
+use super::first_rows::{command_rows, item_rows};
 use super::one_run::{Want, goes, goes_in_blocks, want_of};
 use super::pieces::{TwoPieces, Whole, joined, steps_in, written_by};
 use super::rows::{AT_A_LIMIT, Row};
-use super::template_rows::template_rows;
+use super::template_rows::{fact_rows, template_rows};
 use cb_forms::{MemSink, MemSource, NoMemory};
 use cb_run::{Cause, Outcome};
 use std::alloc::Global;
@@ -15,27 +15,42 @@ use std::alloc::Global;
 /// What rows are about.
 #[derive(Clone, Copy)]
 pub(super) enum Subject {
-    First,
+    Items,
+    Commands,
     Templates,
-    Faults,
+    Facts,
+    TemplateFaults,
+    FactFaults,
     Computing,
+    Loops,
+    Globals,
 }
 
 /// All subjects.
-pub(super) const SUBJECTS: [Subject; 4] = [
-    Subject::First,
+pub(super) const SUBJECTS: [Subject; 9] = [
+    Subject::Items,
+    Subject::Commands,
     Subject::Templates,
-    Subject::Faults,
+    Subject::Facts,
+    Subject::TemplateFaults,
+    Subject::FactFaults,
     Subject::Computing,
+    Subject::Loops,
+    Subject::Globals,
 ];
 
 /// The rows about a subject.
 pub(super) fn rows_about(subject: Subject) -> &'static [Row] {
     match subject {
-        Subject::First => first_rows(),
+        Subject::Items => item_rows(),
+        Subject::Commands => command_rows(),
         Subject::Templates => template_rows(),
-        Subject::Faults => fault_rows(),
+        Subject::Facts => fact_rows(),
+        Subject::TemplateFaults => template_fault_rows(),
+        Subject::FactFaults => fact_fault_rows(),
         Subject::Computing => calc_rows(),
+        Subject::Loops => loop_rows(),
+        Subject::Globals => global_rows(),
     }
 }
 

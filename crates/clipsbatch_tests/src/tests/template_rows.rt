@@ -1,7 +1,7 @@
 //! Templates, deffacts, and the commands that take facts away.
 use super::rows::*;
 
-static TEMPLATE_ROWS: [Row; 12] = [
+static TEMPLATE_ROWS: [Row; 6] = [
     // Each slot of a template fact is shown, in the order of the template.
     Row {
         name: "shown slots",
@@ -90,6 +90,9 @@ static TEMPLATE_ROWS: [Row; 12] = [
         ],
         ..FAULTY
     },
+];
+
+static FACT_ROWS: [Row; 6] = [
     // Indices go on after facts that are gone.
     Row {
         name: "indices after gone facts",
@@ -176,7 +179,12 @@ static TEMPLATE_ROWS: [Row; 12] = [
     },
 ];
 
-/// These rows.
+/// Templates, their slots and their defaults.
 pub(super) fn template_rows() -> &'static [Row] {
     &TEMPLATE_ROWS
+}
+
+/// Facts that come and go, and `deffacts`.
+pub(super) fn fact_rows() -> &'static [Row] {
+    &FACT_ROWS
 }

@@ -11,6 +11,9 @@ use Rattle.cb_expr_forms.proofs.expr_form.+reading.Given as goal
 abbrev pub decreases-read_expr : goal.decreases-read_expr
 decreases-read_expr l = 8 * tree_size (tree_of l.form.now)
 
+abbrev pub decreases-read_boxed : goal.decreases-read_boxed
+decreases-read_boxed l = 8 * tree_size (tree_of l.form.now) + 1
+
 abbrev pub decreases-read_value : goal.decreases-read_value
 decreases-read_value l = 8 * tree_size (tree_of l.form.now) + 1
 
@@ -20,8 +23,8 @@ decreases-read_fact l = 8 * tree_size (tree_of l.form.now) + 1
 abbrev pub decreases-read_exprs : goal.decreases-read_exprs
 decreases-read_exprs l = 8 * trees_size (members l.forms.now) + 1
 
-abbrev pub decreases-read_joined : goal.decreases-read_joined
-decreases-read_joined l = 8 * trees_size (members l.forms.now) + 2
+abbrev pub decreases-read_effect : goal.decreases-read_effect
+decreases-read_effect l = 8 * trees_size (members l.values.now) + 2
 
 abbrev pub decreases-read_facts : goal.decreases-read_facts
 decreases-read_facts l = 8 * trees_size (members l.forms.now) + 2
@@ -44,6 +47,9 @@ decreases-read_slot l = 8 * filling_size l.slot + 3
 abbrev pub decreases-read_slots : goal.decreases-read_slots
 decreases-read_slots l = 8 * trees_size (members l.forms.now) + 4
 
+abbrev pub decreases-read_given : goal.decreases-read_given
+decreases-read_given l = 8 * tree_size (tree_of l.form.now) + 1
+
 abbrev pub decreases-read_list : goal.decreases-read_list
 decreases-read_list l = 8 * trees_size (members l.forms.now) + 4
 
@@ -59,9 +65,9 @@ invariant-read_facts-loop-form l =
 
 abbrev pub invariant-read_slots-loop-form : goal.invariant-read_slots-loop-form
 invariant-read_slots-loop-form l =
-    (slots_faults l.scope l.template l.given (members (drop l.form-index l.forms)) ≡ slots_faults l.scope l.template [] (members l.forms))
-    × (l.given ++ slot_names (members (drop l.form-index l.forms)) ≡ slot_names (members l.forms))
-    × (map term_of l.values.items ++ slot_exprs l.scope.templates l.template (members (drop l.form-index l.forms)) ≡ slot_exprs l.scope.templates l.template (members l.forms))
+    (slots_faults l.scope l.template l.given.names (members (drop l.form-index l.forms)) ≡ slots_faults l.scope l.template [] (members l.forms))
+    × (l.given.names ++ slot_names (members (drop l.form-index l.forms)) ≡ slot_names (members l.forms))
+    × (map term_of l.given.values.items ++ slot_exprs l.scope.templates l.template (members (drop l.form-index l.forms)) ≡ slot_exprs l.scope.templates l.template (members l.forms))
 
 abbrev pub invariant-read_values-loop-first : goal.invariant-read_values-loop-first
 invariant-read_values-loop-first l =

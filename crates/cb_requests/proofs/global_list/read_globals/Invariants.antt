@@ -6,7 +6,7 @@ use Rattle.cb_requests.proofs.global_list.read_globals.Given as goal
 
 abbrev pub invariant-loop-first : goal.invariant-loop-first
 invariant-loop-first l =
-    after_those l.globals.items (globals_in l.relations l.env l.given (members l.rest)) ≡ globals_in l.relations l.env [] (members l.forms)
+    after_those l.read.globals.items (globals_in l.relations l.env l.read.given (members l.rest)) ≡ globals_in l.relations l.env [] (members l.forms)
 
 abbrev pub decreases-loop-first : goal.decreases-loop-first
 decreases-loop-first l = length l.rest
