@@ -1,0 +1,93 @@
+//! Matchers.
+ghost use Rattle.std.specs.Prelude.{◌≡◌, None, false, true, IfOk, IsErr, IsSome, OnOk, is_err};
+ghost use Rattle.cb_rules.specs.Elements.{branches_of};
+ghost use Rattle.cb_facts.specs.FactLists.{IsAbsent, fact_at};
+ghost use Rattle.cb_matches.specs.Changes.{IsAbove, IsDelta, IsRestart};
+ghost use Rattle.cb_matches.specs.Networks.{bindings_of, restarted, with_one, with_rule, without_one, without_rule};
+
+use crate::delta::Delta;
+use crate::key::Key;
+use cb_rules::Ce;
+use cb_exprs::Env;
+use cb_facts::{Fact, FactList};
+use cb_fit::Meter;
+use cb_forms::NoMemory;
+
+/// What has rules and facts, and keeps which facts match which rules.
+///
+/// Each call that changes these answers which matches went and which came, in the order of their keys. `T` is the mark of the
+/// meters that it counts the tests of patterns with: it has no `T`, so it can make none of its own.
+///
+/// Growth is refused as `NoMemory`. From then on each such call is refused, and nothing is promised of the others but `failed`.
+pub trait Matcher<T> {
+    ghost use Rattle.std.specs.Prelude.{Bool};
+    ghost use Rattle.cb_matches.specs.Networks.{Network};
+
+    // the rules and the facts
+    ghost network: { Self → Network };
+
+    // a call that changes them was refused
+    ghost is_failed: { Self → Bool };
+
+    /// Adds a rule, with a number above those that are there.
+    fn add_rule(
+        &mut self,
+        id: u64,
+        branches: Vec<Vec<Ce<T>>>,
+        meter: &mut Meter<T>,
+    ) -> Result<Delta, NoMemory>
+        requires { IsAbove id (network self.old).rules }
+        ensures network { OnOk result
+            (network self.new ≡ with_rule id (branches_of branches.items) (network self.old)) }
+        ensures delta { IfOk result
+            (IsDelta (network self.old) (with_rule id (branches_of branches.items) (network self.old))) }
+        ensures failed { is_failed self.new ≡ is_err result }
+        ensures once { is_failed self.old ≡ true → IsErr result };
+
+    /// Takes a rule away, if there is one with this number.
+    fn drop_rule(&mut self, id: u64) -> Result<Delta, NoMemory>
+        ensures network { OnOk result (network self.new ≡ without_rule id (network self.old)) }
+        ensures delta { IfOk result
+            (IsDelta (network self.old) (without_rule id (network self.old))) }
+        ensures failed { is_failed self.new ≡ is_err result }
+        ensures once { is_failed self.old ≡ true → IsErr result };
+
+    /// Adds a fact under an index that no fact has, which is equal to no fact that is there.
+    fn assert(&mut self, ix: u64, fact: Fact, meter: &mut Meter<T>) -> Result<Delta, NoMemory>
+        requires free { fact_at (network self.old).facts ix ≡ None }
+        requires absent { IsAbsent (network self.old).facts fact }
+        ensures network { OnOk result (network self.new ≡ with_one ix fact (network self.old)) }
+        ensures delta { IfOk result
+            (IsDelta (network self.old) (with_one ix fact (network self.old))) }
+        ensures failed { is_failed self.new ≡ is_err result }
+        ensures once { is_failed self.old ≡ true → IsErr result };
+
+    /// Takes a fact away.
+    fn retract(&mut self, ix: u64, meter: &mut Meter<T>) -> Result<Delta, NoMemory>
+        requires { IsSome (fact_at (network self.old).facts ix) }
+        ensures network { OnOk result (network self.new ≡ without_one ix (network self.old)) }
+        ensures delta { IfOk result
+            (IsDelta (network self.old) (without_one ix (network self.old))) }
+        ensures failed { is_failed self.new ≡ is_err result }
+        ensures once { is_failed self.old ≡ true → IsErr result };
+
+    /// Takes all facts away. The matches over no facts all come anew, and nothing is told of those that went.
+    fn restart(&mut self, meter: &mut Meter<T>) -> Result<Delta, NoMemory>
+        ensures network { OnOk result (network self.new ≡ restarted (network self.old)) }
+        ensures delta { IfOk result (IsRestart (restarted (network self.old))) }
+        ensures failed { is_failed self.new ≡ is_err result }
+        ensures once { is_failed self.old ≡ true → IsErr result };
+
+    /// What variables have by the match with this key, nothing where there is none.
+    fn bindings(&self, key: &Key) -> Result<Env, NoMemory>
+        requires { is_failed self.now ≡ false }
+        ensures { IfOk result (λ env. env ≡ bindings_of (network self.now) key.now) };
+
+    /// The facts.
+    fn facts(&self) -> &FactList
+        ensures { result.now ≡ (network self.now).facts };
+
+    /// Whether a call that changes the rules or the facts was refused.
+    fn failed(&self) -> bool
+        ensures { result ≡ is_failed self.now };
+}
