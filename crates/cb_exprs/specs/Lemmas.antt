@@ -3,7 +3,7 @@ pub mod ValueLaws
 use Rattle.std.proofs.Common.{◌≡◌, ◌∙◌, ℕ, List, ap, sym, Vec, Global}
 use Rattle.std.specs.Prelude.{Box}
 use Rattle.cb_exprs.specs.Shapes.{Shape}
-use Rattle.cb_exprs.specs.Terms.{Term, constant, variable, global, call, assert, retract, bind, bind_global, choose, repeat, actions, printout, print, println, term_of, term_step, terms_of}
+use Rattle.cb_exprs.specs.Terms.{Term, constant, variable, global, call, assert, retract, bind, bind_global, choose, repeat, actions, printout, print, println, halt, term_of, term_step, terms_of}
 use Rattle.cb_exprs.specs.declared.channel.Channel.{Channel}
 use Rattle.cb_exprs.specs.declared.expr.Expr.{Expr}
 use Rattle.cb_exprs.specs.declared.expr.Expr.TheFolds.{fold-roll-Expr}
@@ -54,3 +54,6 @@ of_print v = ap term_of (sym (is.rolls-Print v)) ∙ fold-roll-Expr Term term_st
 
 pub of_println : (v : Vec Expr Global) → term_of (views.Println v) ≡ println (terms_of v.items)
 of_println v = ap term_of (sym (is.rolls-Println v)) ∙ fold-roll-Expr Term term_step (expr.Println v)
+
+pub of_halt : term_of is.Halt ≡ halt
+of_halt = ap term_of (sym is.rolls-Halt) ∙ fold-roll-Expr Term term_step expr.Halt

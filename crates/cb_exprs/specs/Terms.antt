@@ -28,6 +28,7 @@ mutual
     printout : Channel → Terms → Term
     print : Terms → Term
     println : Terms → Term
+    halt : Term
 
   pub data Terms : Type 0 where
     no_terms : Terms
@@ -53,6 +54,7 @@ term_step (program.Actions ts) = actions (terms ts.items)
 term_step (program.Printout on ts) = printout on (terms ts.items)
 term_step (program.Print ts) = print (terms ts.items)
 term_step (program.Println ts) = println (terms ts.items)
+term_step program.Halt = halt
 
 abbrev pub term_of : Expr → Term
 term_of = fold-Expr Term term_step

@@ -7,7 +7,7 @@ ghost use Rattle.cb_exprs.specs.Lemmas as kinds;
 ghost use Rattle.cb_exprs.specs.Lemmas.ValueLaws as values;
 ghost use Rattle.cb_exprs.specs.Bindings.{Values, value_at, with_value};
 ghost use Rattle.cb_exprs.specs.Shapes.{Shape};
-ghost use Rattle.cb_exprs.specs.Terms.{constant, variable, global, call, assert, retract, bind, bind_global, choose, repeat, actions, printout, print, println, term_of, terms_of};
+ghost use Rattle.cb_exprs.specs.Terms.{constant, variable, global, call, assert, retract, bind, bind_global, choose, repeat, actions, printout, print, println, halt, term_of, terms_of};
 ghost use Rattle.cb_exprs.specs.declared.channel.Channel.{Channel};
 ghost use Rattle.cb_exprs.specs.declared.expr.Expr.{Expr};
 ghost use Rattle.cb_exprs.specs.declared.expr.Expr.TheVariants as is;
@@ -55,6 +55,9 @@ pub trait Cited {
 
     ghost of_println: { (v : Vec Expr Global)
         → term_of (views.Println v) ≡ println (terms_of v.items) };
+
+    ghost of_halt: { term_of is.Halt ≡ halt };
+
     /// The value of a name after one was given a value.
     ghost value_at_with_value: { (values : Values) (q name : List ℕ) (v : Value)
         → value_at q (with_value name v values)
@@ -95,6 +98,8 @@ impl Cited for Laws {
     ghost of_print = { kinds.of_print };
 
     ghost of_println = { kinds.of_println };
+
+    ghost of_halt = { kinds.of_halt };
 
     ghost value_at_with_value = { values.value_at-with_value };
 

@@ -7,6 +7,7 @@ use cb_facts::{Name, Value};
 use cb_forms::NoMemory;
 use std::alloc::{AllocError, Global};
 use std::marker::Model;
+use std::mem;
 
 /// The values that variables and global variables have. A variable and a global variable of the same name are
 /// distinct.
@@ -95,6 +96,15 @@ impl Env {
         ensures { self.new ≡ record { variables = []; globals = self.old.globals } }
     {
         self.variables = Values::new(alloc);
+    }
+
+    /// Gives the variables the values that they have in another, and those of the other the values that they had here. The
+    /// globals of both keep theirs.
+    pub fn swap_variables(&mut self, other: &mut Env)
+        ensures here { self.new ≡ record { variables = other.old.variables; globals = self.old.globals } }
+        ensures there { other.new ≡ record { variables = self.old.variables; globals = other.old.globals } }
+    {
+        mem::swap(&mut self.variables, &mut other.variables);
     }
 
     /// The value of a global variable, or `None` where it has none.

@@ -36,4 +36,6 @@ pub enum Expr {
     Print(Vec<Expr>),
     /// `(println value ..)`
     Println(Vec<Expr>),
+    /// `(halt)`
+    Halt,
 }

@@ -3,7 +3,7 @@ ghost use Rattle.std.specs.Prelude.{◌≡◌, ◌≢◌, ℕ, List, Some, Box, 
 ghost use Rattle.std.specs.declared.alloc.Global.{Global};
 ghost use Rattle.cb_exprs.specs.Bindings.{Bindings, Values, value_at, with_global, with_value, with_variable, without_value, without_variable};
 ghost use Rattle.cb_exprs.specs.Shapes.{Shape};
-ghost use Rattle.cb_exprs.specs.Terms.{constant, variable, global, call, assert, retract, bind, bind_global, choose, repeat, actions, printout, print, println, term_of, terms_of};
+ghost use Rattle.cb_exprs.specs.Terms.{constant, variable, global, call, assert, retract, bind, bind_global, choose, repeat, actions, printout, print, println, halt, term_of, terms_of};
 ghost use Rattle.cb_exprs.specs.declared.channel.Channel.{Channel};
 ghost use Rattle.cb_exprs.specs.declared.expr.Expr.{Expr};
 ghost use Rattle.cb_exprs.specs.declared.expr.Expr.TheVariants as kind;
@@ -38,6 +38,7 @@ pub fn each_expression_is_its_term()
         ≡ print (terms_of v.items) }
     ensures is_println { (v : Vec Expr Global) → term_of (kind_of.Println v)
         ≡ println (terms_of v.items) }
+    ensures is_halt { term_of kind.Halt ≡ halt }
 {}
 
 /// A name has the value that it was given last.

@@ -18,7 +18,8 @@ abbrev pub constructs : Rows
 constructs =
     (codes "deftemplate", head.Construct construct.Deftemplate) ∷
     (codes "deffacts", head.Construct construct.Deffacts) ∷
-    (codes "defglobal", head.Construct construct.Defglobal) ∷ []
+    (codes "defglobal", head.Construct construct.Defglobal) ∷
+    (codes "defrule", head.Construct construct.Defrule) ∷ []
 
 -- functions with an effect
 abbrev pub action_words : Rows
@@ -30,14 +31,23 @@ action_words =
     (codes "while", head.Action action.While) ∷
     (codes "printout", head.Action action.Printout) ∷
     (codes "print", head.Action action.Print) ∷
-    (codes "println", head.Action action.Println) ∷ []
+    (codes "println", head.Action action.Println) ∷
+    (codes "halt", head.Action action.Halt) ∷ []
 
 -- commands
 abbrev pub commands : Rows
 commands =
     (codes "facts", head.Command command.Facts) ∷
     (codes "reset", head.Command command.Reset) ∷
-    (codes "clear", head.Command command.Clear) ∷ []
+    (codes "clear", head.Command command.Clear) ∷
+    (codes "run", head.Command command.Run) ∷
+    (codes "agenda", head.Command command.Agenda) ∷
+    (codes "rules", head.Command command.Rules) ∷
+    (codes "undefrule", head.Command command.Undefrule) ∷
+    (codes "watch", head.Command command.Watch) ∷
+    (codes "unwatch", head.Command command.Unwatch) ∷
+    (codes "set-strategy", head.Command command.SetStrategy) ∷
+    (codes "exit", head.Command command.Exit) ∷ []
 
 -- functions without an effect
 abbrev pub functions : Rows
@@ -78,13 +88,7 @@ functions =
     (codes "evenp", head.Function function.Evenp) ∷
     (codes "oddp", head.Function function.Oddp) ∷ []
 
--- words that are known and not carried out yet
-abbrev pub planned_words : List (List ℕ)
-planned_words =
-    codes "defrule" ∷ codes "run" ∷ codes "agenda" ∷ codes "rules" ∷ codes "undefrule" ∷ codes "watch" ∷
-    codes "unwatch" ∷ codes "set-strategy" ∷ codes "exit" ∷ codes "halt" ∷ []
-
--- other words of CLIPS that are known and not carried out
+-- words of CLIPS that are known and not carried out
 abbrev pub refused_words : List (List ℕ)
 refused_words =
     codes "/" ∷ codes "**" ∷ codes "float" ∷ codes "integer" ∷ codes "round" ∷ codes "sqrt" ∷ codes "random" ∷
@@ -104,7 +108,7 @@ refused_words =
 
 -- every word
 abbrev pub words : Rows
-words = constructs ++ (action_words ++ (commands ++ (functions ++ map (λ word. (word, head.Refused)) (planned_words ++ refused_words))))
+words = constructs ++ (action_words ++ (commands ++ (functions ++ map (λ word. (word, head.Refused)) refused_words)))
 
 -- what the word names as the head of a list, if it names anything
 unfoldable pub head_of : List ℕ → Option Head

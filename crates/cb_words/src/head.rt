@@ -25,6 +25,8 @@ pub enum Construct {
     Deffacts,
     /// `defglobal`
     Defglobal,
+    /// `defrule`
+    Defrule,
 }
 
 /// A command.
@@ -36,6 +38,22 @@ pub enum Command {
     Reset,
     /// `clear`
     Clear,
+    /// `run`
+    Run,
+    /// `agenda`
+    Agenda,
+    /// `rules`
+    Rules,
+    /// `undefrule`
+    Undefrule,
+    /// `watch`
+    Watch,
+    /// `unwatch`
+    Unwatch,
+    /// `set-strategy`
+    SetStrategy,
+    /// `exit`
+    Exit,
 }
 
 /// A function with an effect.
@@ -57,4 +75,6 @@ pub enum Action {
     Print,
     /// `println`
     Println,
+    /// `halt`
+    Halt,
 }

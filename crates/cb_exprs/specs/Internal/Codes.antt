@@ -3,7 +3,7 @@ use Rattle.std.specs.Prelude.{◌≡◌, ℕ, List, [], ◌∷◌, refl}
 use Rattle.std.specs.Coded.{Coded, code_by, coded_list}
 use Rattle.std.proofs.Common.{◌∙◌, ap}
 use Rattle.cb_exprs.specs.Shapes.{Shape}
-use Rattle.cb_exprs.specs.Terms.{Term, constant, variable, global, call, assert, retract, bind, bind_global, choose, repeat, actions, printout, print, println, Terms, no_terms, term}
+use Rattle.cb_exprs.specs.Terms.{Term, constant, variable, global, call, assert, retract, bind, bind_global, choose, repeat, actions, printout, print, println, halt, Terms, no_terms, term}
 use Rattle.cb_exprs.specs.declared.channel.Channel.{Channel}
 use Rattle.cb_facts.specs.declared.value.Value.{Value}
 use Rattle.cb_words.specs.declared.function.Function.{Function}
@@ -23,6 +23,7 @@ pub data Piece : Type 0 where
   a_printout : Channel → Piece
   a_print : Piece
   a_println : Piece
+  a_halt : Piece
   no_more : Piece
   one_more : Piece
 
@@ -43,6 +44,7 @@ abbrev mutual
   term_pieces (printout on ts) rest = pieces_of_all ts (a_printout on ∷ rest)
   term_pieces (print ts) rest = pieces_of_all ts (a_print ∷ rest)
   term_pieces (println ts) rest = pieces_of_all ts (a_println ∷ rest)
+  term_pieces halt rest = a_halt ∷ rest
 
   pub pieces_of_all : Terms → List Piece → List Piece
   pieces_of_all no_terms rest = no_more ∷ rest
@@ -72,6 +74,7 @@ with_piece an_actions ones (ts ∷ lists) = with_term (actions ts) ones lists
 with_piece (a_printout on) ones (ts ∷ lists) = with_term (printout on ts) ones lists
 with_piece a_print ones (ts ∷ lists) = with_term (print ts) ones lists
 with_piece a_println ones (ts ∷ lists) = with_term (println ts) ones lists
+with_piece a_halt ones lists = with_term halt ones lists
 with_piece no_more ones lists = record { ones = ones; lists = no_terms ∷ lists }
 with_piece one_more (t ∷ ones) (ts ∷ lists) = record { ones = ones; lists = term t ts ∷ lists }
 with_piece p ones lists = record { ones = ones; lists = lists }
@@ -98,6 +101,7 @@ mutual
   one_is (printout on ts) rest ones lists = all_are ts (a_printout on ∷ rest) ones lists
   one_is (print ts) rest ones lists = all_are ts (a_print ∷ rest) ones lists
   one_is (println ts) rest ones lists = all_are ts (a_println ∷ rest) ones lists
+  one_is halt rest ones lists = refl
 
   all_are : (ts : Terms) (rest : List Piece) (ones : List Term) (lists : List Terms) → put_together (pieces_of_all ts rest) ones lists ≡ put_together rest ones (ts ∷ lists)
   all_are no_terms rest ones lists = refl

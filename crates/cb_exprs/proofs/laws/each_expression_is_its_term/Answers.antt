@@ -1,4 +1,4 @@
-use Rattle.cb_exprs.specs.Lemmas.{of_constant, of_variable, of_global, of_call, of_assert, of_retract, of_bind, of_bind_global, of_if, of_while, of_actions, of_printout, of_print, of_println}
+use Rattle.cb_exprs.specs.Lemmas.{of_constant, of_variable, of_global, of_call, of_assert, of_retract, of_bind, of_bind_global, of_if, of_while, of_actions, of_printout, of_print, of_println, of_halt}
 use Rattle.cb_exprs.proofs.laws.each_expression_is_its_term.Goals as goal
 
 pub returns-clause-is_constant : goal.returns-clause-is_constant
@@ -42,3 +42,6 @@ returns-clause-is_print c = of_print
 
 pub returns-clause-is_println : goal.returns-clause-is_println
 returns-clause-is_println c = of_println
+
+pub returns-clause-is_halt : goal.returns-clause-is_halt
+returns-clause-is_halt c = of_halt
