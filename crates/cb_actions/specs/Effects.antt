@@ -1,13 +1,17 @@
 -- What each kind of action does with the values that it is given.
-use Rattle.std.specs.Prelude.{ℕ, zero, suc, Bool, true, false, List, [], ◌∷◌, ◌++◌, Option, Some, None, codes, if◌then◌else◌}
+use Rattle.std.specs.Prelude.{ℕ, ℤ, pos, negsuc, is_some, ◌+◌, nat_lt, zero, suc, Bool, true, false, List, [], ◌∷◌, ◌++◌, Option, Some, None, codes, if◌then◌else◌}
 use Rattle.std.specs.List.{list_all}
-use Rattle.cb_actions.specs.Acts.{Act, give, stop, give_or_fault, become, ◌>>=◌}
+use Rattle.std.specs.Map.{keys_of}
+use Rattle.std.specs.Str.{bytes_eq}
+use Rattle.cb_actions.specs.Acts.{Act, each, give, stop, give_or_fault, become, ◌>>=◌}
+use Rattle.cb_actions.specs.Changes.{come_line, gone_line, moved}
 use Rattle.cb_actions.specs.Printing.{printed_values}
 use Rattle.cb_actions.specs.Worlds.{World}
 use Rattle.cb_actions.specs.declared.act.Ended.TheVariants as ended
-use Rattle.cb_actions.specs.declared.act.Limit.TheVariants.{Indices, Turns}
+use Rattle.cb_actions.specs.declared.act.Limit.TheVariants.{Numbers, Turns}
 use Rattle.cb_exprs.specs.Bindings.{value_at, with_variable, with_global}
 use Rattle.cb_exprs.specs.Shapes.{Shape}
+use Rattle.cb_facts.specs.FactLists.{fact_at}
 use Rattle.cb_facts.specs.Facts.{FactValue}
 use Rattle.cb_facts.specs.declared.value.Value.{Value}
 use Rattle.cb_facts.specs.declared.value.Value.TheVariants as value
@@ -17,7 +21,7 @@ use Rattle.cb_functions.specs.Applied.{applied}
 use Rattle.cb_functions.specs.Logic.{is_true, decides}
 use Rattle.cb_templates.specs.Building.{Given, PartValues, field_values, slot_values, built}
 use Rattle.cb_words.specs.declared.function.Function.{Function}
-use Rattle.cb_working_memory.specs.WorkingMemory.{Memory, asserted_one, is_retractable, retracted_all}
+use Rattle.cb_working_memory.specs.WorkingMemory.{greatest_index, grown, index_of, without}
 
 -- a value that is there, or this fault
 abbrev pub found : Fault → Option Value → Act World (Option Value)
@@ -66,26 +70,60 @@ abbrev pub parts_of : Option (List (List ℕ)) → List Value → PartValues
 parts_of None vs = field_values vs
 parts_of (Some names) vs = slot_values (each_given names vs)
 
--- After a fact was asserted: its address. Where no index was left, the script ends.
-abbrev pub addressed : Memory × Option ℕ → Act World (Option Value)
-addressed (m, Some ix) s = give (Some (value.Fact ix)) (record s { memory = m })
-addressed (m, None) s = stop (ended.Limit Indices) (record s { memory = m })
+-- one fact more, with the next index
+abbrev pub added_next : FactValue → Act World (Unit {0})
+added_next fact s = moved (grown fact s.memory) (come_line s (s.memory.last + 1) fact) s
+
+-- The address of a fact: of an equal one that is there, or of the next, which is added; where no index is left, the script ends.
+abbrev pub added_beside : FactValue → Option ℕ → Act World (Option Value)
+added_beside fact (Some ix) s = give (Some (value.Fact ix)) s
+added_beside fact None s = if nat_lt s.memory.last greatest_index then (added_next fact >>= (λ _. give (Some (value.Fact (s.memory.last + 1))))) s else stop (ended.Limit Numbers) s
 
 abbrev pub fact_added : FactValue → Act World (Option Value)
-fact_added fact s = addressed (asserted_one s.memory fact) s
+fact_added fact s = added_beside fact (index_of s.memory.network.facts fact) s
 
 -- a fact of this shape is built of these values and asserted
 abbrev pub asserted : Shape → List Value → Act World (Option Value)
 asserted shape vs s = (give_or_fault (built s.templates shape.relation (parts_of shape.slots vs)) >>= fact_added) s
 
--- after facts were retracted: whether each index was one that a fact had
-abbrev pub taken : Memory × Bool → Act World (Option Value)
-taken (m, true) s = become (record s { memory = m }) s
-taken (m, false) s = stop (ended.Fault NoSuchFact) (record s { memory = m })
+-- the fact with the index goes, if there is one
+abbrev pub gone_if : ℕ → Option FactValue → Act World (Unit {0})
+gone_if ix None s = give tt s
+gone_if ix (Some f) s = moved (without ix s.memory) (gone_line s ix (Some f)) s
 
--- the facts that these values name are retracted; a value of another kind is reported before any is
+abbrev pub fact_gone : ℕ → Act World (Unit {0})
+fact_gone ix s = gone_if ix (fact_at s.memory.network.facts ix) s
+
+-- the same, where there is to be one
+abbrev pub fact_taken : ℕ → Act World (Unit {0})
+fact_taken ix s = if is_some (fact_at s.memory.network.facts ix) then fact_gone ix s else stop (ended.Fault NoSuchFact) s
+
+-- the index that a number is
+abbrev pub index_named : ℤ → Option ℕ
+index_named (pos ix) = Some ix
+index_named (negsuc n) = None
+
+abbrev pub taken_by : Option ℕ → Act World (Unit {0})
+taken_by None s = stop (ended.Fault NoSuchFact) s
+taken_by (Some ix) s = fact_taken ix s
+
+-- What a value says is retracted: an address, which is passed over where no fact has it, or an index. Any other value, which is `*`
+-- wherever values are checked first, is all facts.
+abbrev pub retracted_one : Value → Act World (Unit {0})
+retracted_one (value.Fact ix) s = fact_gone ix s
+retracted_one (value.Int n) s = taken_by (index_named n) s
+retracted_one v s = each fact_gone (keys_of s.memory.network.facts) s
+
+-- the value says which facts to retract: an address, an index or `*`
+abbrev pub is_retractable : Value → Bool
+is_retractable (value.Fact ix) = true
+is_retractable (value.Int n) = true
+is_retractable (value.Symbol name) = bytes_eq name (codes "*")
+is_retractable v = false
+
+-- the facts that values say are retracted, if each value can say one
 abbrev pub retracted : List Value → Act World (Option Value)
-retracted vs s = if list_all is_retractable vs then taken (retracted_all s.memory vs) s else stop (ended.Fault WrongType) s
+retracted vs s = if list_all is_retractable vs then (each retracted_one vs >>= (λ _. give None)) s else stop (ended.Fault WrongType) s
 
 -- a variable has this value now, and so has a global variable
 abbrev pub bound : List ℕ → Value → Act World (Option Value)
@@ -93,6 +131,10 @@ bound x v s = give (Some v) (record s { env = with_variable x v s.env })
 
 abbrev pub global_bound : List ℕ → Value → Act World (Option Value)
 global_bound x v s = give (Some v) (record s { env = with_global x v s.env })
+
+-- the run ends after the rule that fires now
+abbrev pub halted : Act World (Option Value)
+halted s = become (record s { is_halted = true }) s
 
 -- values on a line
 abbrev pub printed_line : List Value → List ℕ

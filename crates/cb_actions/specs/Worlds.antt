@@ -1,28 +1,43 @@
 -- What actions see and change.
-use Rattle.std.specs.Prelude.{ℕ, []}
+use Rattle.std.specs.Prelude.{ℕ, ℤ, Bool, false, List, []}
+use Rattle.cb_actions.specs.declared.watched.Watched.{Watched}
+use Rattle.cb_agenda.specs.Agendas.{AgendaValue, empty_agenda}
+use Rattle.cb_exprs.specs.Terms.{Terms}
 use Rattle.cb_exprs.specs.Bindings.{Bindings, no_bindings}
-use Rattle.cb_templates.specs.Templates.{Templates}
 use Rattle.cb_working_memory.specs.WorkingMemory.{Memory, empty_memory}
+use Rattle.cb_templates.specs.Templates.{Templates}
 
--- the facts, the templates, the values of the variables and the globals, and how many turns are left to all loops together
+-- What is kept of a rule besides what it asks: its number and name, its salience, the relations that its patterns and actions
+-- name, of each branch which of its members outside tests are patterns and which are groups, and its actions.
+pub record RuleInfo : Type 0 where
+  pub id : ℕ
+  pub name : List ℕ
+  pub salience : ℤ
+  pub relations : List (List ℕ)
+  pub layouts : List (List Bool)
+  pub actions : Terms
+
+abbrev pub unwatched : Watched
+unwatched = record { facts = false; rules = false; activations = false }
+
+-- The rules and the facts, the matches that are due, what is kept of the rules, what is watched, the templates, the values of the
+-- variables and the globals, how many turns are left to all loops together, how many firings are left, and whether a `halt` was met
+-- in this run.
 pub record World : Type 0 where
   pub memory : Memory
+  pub agenda : AgendaValue
+  pub rules : List RuleInfo
+  pub watched : Watched
   pub templates : Templates
   pub env : Bindings
   pub turns : ℕ
+  pub firings : ℕ
+  pub is_halted : Bool
 
--- no facts, no templates and no values, and so many turns
-abbrev pub first_world : ℕ → World
-first_world turns = record { memory = empty_memory; templates = []; env = no_bindings; turns = turns }
+-- no rules, no facts, no templates and no values, and so many turns and firings
+abbrev pub first_world : ℕ → ℕ → World
+first_world turns firings = record { memory = empty_memory; agenda = empty_agenda; rules = []; watched = unwatched; templates = []; env = no_bindings; turns = turns; firings = firings; is_halted = false }
 
 -- no variable has a value
 abbrev pub without_variables : World → World
 without_variables s = record s { env = record { variables = []; globals = s.env.globals } }
-
--- no facts, and the next index is 1
-abbrev pub without_facts : World → World
-without_facts s = record s { memory = empty_memory }
-
--- all but the turns is as at first
-abbrev pub cleared : World → World
-cleared s = first_world s.turns

@@ -15,9 +15,11 @@ use cb_exprs::{Channel, Expr, FactShape};
 use cb_facts::{Name, Value};
 use cb_forms::{Fault, Out, Sink};
 use cb_functions::{decides, is_true};
+use cb_matches::Matcher;
+use cb_working_memory::Mark;
 use cb_words::Function;
 
-impl World {
+impl<M: Matcher<Mark>> World<M> {
     /// Carries out an expression. The answer is its value, if it has one.
     ///
     /// What it writes is put as it goes, so that what comes before a fault or a limit stands. Growth is refused as
@@ -48,6 +50,7 @@ impl World {
             Expr::Printout(channel, args) => self.carry_printout(*channel, args, out),
             Expr::Print(args) => self.carry_printout(Channel::Output, args, out),
             Expr::Println(args) => self.carry_println(args, out),
+            Expr::Halt => self.halt(),
         }
     }
 
@@ -91,7 +94,7 @@ impl World {
         ensures fine { OnOk result (out.new.fault ≡ false) }
     {
         let values = self.carry_values(None, parts, out)?;
-        self.assert(shape, values)
+        self.assert(shape, values, out)
     }
 
     /// Retracts the facts that the values of expressions name.
@@ -107,7 +110,7 @@ impl World {
         ensures fine { OnOk result (out.new.fault ≡ false) }
     {
         let values = self.carry_values(None, args, out)?;
-        self.retract(values.as_slice())
+        self.retract(values.as_slice(), out)
     }
 
     /// Gives a variable the value of an expression.
@@ -279,7 +282,7 @@ impl World {
 
     /// Expressions, one after another. The answer is the last one's, and FALSE where there is none.
     #[cycle(carrying)]
-    fn carry_all<K: Sink>(
+    pub(crate) fn carry_all<K: Sink>(
         &mut self,
         exprs: &[Expr],
         out: &mut Out<K>,

@@ -11,9 +11,10 @@ use crate::world::World;
 use cb_exprs::FactExpr;
 use cb_facts::Value;
 use cb_forms::{Out, Sink};
-use cb_working_memory::DeffactsTable;
+use cb_matches::Matcher;
+use cb_working_memory::{DeffactsTable, Mark};
 
-impl World {
+impl<M: Matcher<Mark>> World<M> {
     /// Asserts the facts of each `deffacts`, in order, up to the first that ends with a fault or at a limit. Returns no
     /// value.
     pub fn assert_deffacts<K: Sink>(
@@ -59,6 +60,6 @@ impl World {
         ensures fine { OnOk result (out.new.fault ≡ false) }
     {
         let values = self.carry_values(None, fact.values(), out)?;
-        self.assert(fact.shape(), values)
+        self.assert(fact.shape(), values, out)
     }
 }

@@ -8,8 +8,10 @@ use crate::act::Break;
 use crate::world::World;
 use cb_exprs::{Env, GlobalExpr};
 use cb_facts::{Refused, Value};
+use cb_matches::Matcher;
+use cb_working_memory::Mark;
 
-impl World {
+impl<M: Matcher<Mark>> World<M> {
     /// Gives global variables the values of their expressions, each evaluated with the values of those before it. Returns
     /// no value.
     ///

@@ -5,17 +5,28 @@
 
 mod act;
 mod carry;
+mod change;
 pub mod cited;
 mod deffacts;
+mod define;
 mod globals;
 pub mod laws;
+mod lines;
 mod output;
 mod print;
+mod restart;
+mod retract;
+mod rules;
+mod run;
 mod stop;
+mod watched;
 mod world;
 
 pub use act::{Break, Ended, Limit};
 pub use output::{put, put_text};
 pub use print::{put_printed, put_values};
+pub use rules::{DefinedRule, Layout};
 pub use stop::Stop;
+pub use watched::Watched;
+pub use cb_working_memory::Mark;
 pub use world::World;

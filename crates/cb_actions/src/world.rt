@@ -3,26 +3,31 @@ ghost use Rattle.std.specs.Prelude.{◌≡◌, [], false, IfOk, OnOk, Some, ◌�
 ghost use Rattle.cb_facts.specs.Results.{Returns};
 ghost use Rattle.cb_eval.specs.Evaluation.{value_of};
 ghost use Rattle.cb_exprs.specs.Terms.{term_of};
-ghost use Rattle.cb_actions.specs.Acts.{give, write};
+ghost use Rattle.cb_actions.specs.Acts.{give, give_or_fault, write};
 ghost use Rattle.cb_actions.specs.Definitions.{template_defined};
-ghost use Rattle.cb_actions.specs.Effects.{fact_added, asserted, bound, called, each_given, ends, global_bound, global_looked_up, looked_up, parts_of, printed_line, retracted, turn};
+ghost use Rattle.cb_actions.specs.Effects.{asserted, bound, called, each_given, ends, global_bound, global_looked_up, looked_up, parts_of, printed_line, turn};
 ghost use Rattle.cb_actions.specs.Printing.{printed};
 ghost use Rattle.cb_actions.specs.Went.{Quietly, Went};
-ghost use Rattle.cb_actions.specs.Worlds.{World as State, cleared, first_world, without_facts, without_variables};
+ghost use Rattle.cb_actions.specs.Worlds.{World as State, first_world, without_variables};
 ghost use Rattle.cb_functions.specs.Constants.{false_symbol};
-ghost use Rattle.cb_templates.specs.Building.{part_values};
+ghost use Rattle.cb_matches.specs.Networks.{empty_network};
+ghost use Rattle.cb_templates.specs.Building.{built, part_values};
 
 use crate::act::{Break, Ended, Limit};
 use crate::output::put;
 use crate::print::{put_printed, put_values};
+use crate::rules::DefinedRule;
+use crate::watched::Watched;
+use cb_agenda::Agenda;
 use cb_eval::eval;
 use cb_exprs::{Channel, Env, Expr, FactShape};
 use cb_facts::{Fact, Name, Refused, Value};
 use cb_forms::{Fault, NoMemory, Out, Sink};
 use cb_functions::{Constants, apply, decides};
+use cb_matches::Matcher;
+use cb_working_memory::{Mark, WorkingMemory};
 use cb_templates::{GivenSlot, Parts, Relations, Template, build_fact};
 use cb_words::Function;
-use cb_working_memory::{WorkingMemory, are_retractable};
 use std::alloc::Global;
 use std::marker::Model;
 
@@ -30,49 +35,62 @@ use std::marker::Model;
 ///
 /// Contracts see the record of the facts, the templates, the values, and the turns that are left.
 #[derive(Drop)]
-pub struct World {
-    alloc: Global,
+pub struct World<M: Matcher<Mark>> {
+    pub(crate) alloc: Global,
     /// The symbols that functions return, made when the first is wanted.
     constants: Option<Constants>,
-    memory: WorkingMemory,
-    relations: Relations,
-    env: Env,
+    pub(crate) memory: WorkingMemory<M>,
+    pub(crate) agenda: Agenda,
+    pub(crate) rules: Vec<DefinedRule>,
+    pub(crate) watched: Watched,
+    pub(crate) relations: Relations,
+    pub(crate) env: Env,
     turns: u64,
+    pub(crate) firings: u64,
+    pub(crate) is_halted: bool,
 }
 
-impl Model for World {
+impl<M: Matcher<Mark>> Model for World<M> {
+    ghost use Rattle.std.specs.Coded.{codes};
     ghost use Rattle.cb_actions.specs.Worlds.{World as State};
+    ghost use Rattle.cb_actions.specs.Internal.{world_code};
+    ghost use Rattle.cb_working_memory.specs.Internal.WorkingMemories.{memory_code};
 
     ghost Value = { State };
 
-    ghost view = { λ w. record { memory = w.memory; templates = w.relations; env = w.env; turns = w.turns } };
+    ghost coded = { world_code (memory_code (Prim.hlevel codes) (Prim.hlevel codes) (Prim.hlevel codes) (Prim.hlevel codes)) (Prim.hlevel codes) (Prim.hlevel codes) (Prim.hlevel codes) (Prim.hlevel codes) (Prim.hlevel codes) (Prim.hlevel codes) };
+
+    ghost view = { λ w. record { memory = w.memory; agenda = w.agenda; rules = w.rules.items; watched = w.watched; templates = w.relations; env = w.env; turns = w.turns; firings = w.firings; is_halted = w.is_halted } };
 }
 
-impl World {
-    /// No facts, no templates and no values, and this many turns for loops. It takes no memory yet.
-    pub fn new(alloc: Global, turns: u64) -> World
-        ensures { result ≡ first_world turns }
+impl<M: Matcher<Mark>> World<M> {
+    /// No rules, no facts, no templates and no values, and this many turns for loops and firings. It takes no memory yet.
+    pub fn new(alloc: Global, matcher: M, turns: u64, firings: u64) -> World<M>
+        requires { M.network matcher ≡ empty_network }
+        ensures { result ≡ first_world turns firings }
     {
         World {
             alloc,
             constants: None,
-            memory: WorkingMemory::new(alloc),
+            memory: WorkingMemory::new(alloc, matcher),
+            agenda: Agenda::new(alloc),
+            rules: Vec::new(alloc),
+            watched: Watched {
+                facts: false,
+                rules: false,
+                activations: false,
+            },
             relations: Relations::new(alloc),
             env: Env::new(alloc),
             turns,
+            firings,
+            is_halted: false,
         }
     }
 
     /// The allocator.
     pub(crate) fn alloc(&self) -> Global {
         self.alloc
-    }
-
-    /// The facts.
-    pub fn memory(&self) -> &WorkingMemory
-        ensures { result.now ≡ self.now.memory }
-    {
-        &self.memory
     }
 
     /// The templates.
@@ -106,22 +124,6 @@ impl World {
         ensures { self.new ≡ without_variables self.old }
     {
         self.env.drop_variables(self.alloc);
-    }
-
-    /// Takes all facts away. The next index is 1.
-    pub fn drop_facts(&mut self)
-        ensures { self.new ≡ without_facts self.old }
-    {
-        self.memory = WorkingMemory::new(self.alloc);
-    }
-
-    /// Takes the facts, the templates and all values away. The turns that are left stay.
-    pub fn clear(&mut self)
-        ensures { self.new ≡ cleared self.old }
-    {
-        self.memory = WorkingMemory::new(self.alloc);
-        self.relations = Relations::new(self.alloc);
-        self.env = Env::new(self.alloc);
     }
 
     /// The value of an expression without an effect, as `cb_eval::eval` returns it.
@@ -198,40 +200,30 @@ impl World {
     }
 
     /// Asserts a fact of this shape with these values. The answer is its address.
-    pub(crate) fn assert(
+    pub(crate) fn assert<K: Sink>(
         &mut self,
         shape: &FactShape,
         values: Vec<Value>,
+        out: &mut Out<K>,
     ) -> Result<Option<Value>, Break>
-        ensures { Quietly self.new result (asserted shape.now values.items self.old) }
+        requires { out.old.fault ≡ false }
+        ensures went { Went K.writes out.old out.new self.new result
+            (asserted shape.now values.items self.old) }
+        ensures fine { OnOk result (out.new.fault ≡ false) }
+    {
+        let fact = self.build(shape, values)?;
+        self.add(fact, out)
+    }
+
+    /// The fact of this shape with these values.
+    fn build(&self, shape: &FactShape, values: Vec<Value>) -> Result<Fact, Break>
+        ensures { Quietly self.now result (give_or_fault
+            (built self.now.templates shape.now.relation (parts_of shape.now.slots values.items)) self.now) }
     {
         let parts = parts_of(self.alloc, shape, values)?;
         let relation = shape.relation().clone()?;
         let fact = build_fact(self.alloc, &self.relations, relation, parts)?;
-        self.add(fact)
-    }
-
-    /// Asserts a fact. The answer is its address.
-    fn add(&mut self, fact: Fact) -> Result<Option<Value>, Break>
-        ensures { Quietly self.new result (fact_added fact self.old) }
-    {
-        match self.memory.assert_one(fact)? {
-            Some(ix) => Ok(Some(Value::Fact(ix))),
-            None => Err(Break::Ended(Ended::Limit(Limit::Indices))),
-        }
-    }
-
-    /// Retracts the facts that values name.
-    pub(crate) fn retract(&mut self, values: &[Value]) -> Result<Option<Value>, Break>
-        ensures { Quietly self.new result (retracted values.now self.old) }
-    {
-        if !are_retractable(values) {
-            return Err(Break::Ended(Ended::Fault(Fault::WrongType)));
-        }
-        if !self.memory.retract_all(values) {
-            return Err(Break::Ended(Ended::Fault(Fault::NoSuchFact)));
-        }
-        Ok(None)
+        Ok(fact)
     }
 
     /// Gives a variable a value, which is the answer.

@@ -12,11 +12,7 @@ use Rattle.cb_facts.specs.FactLists.{IndexedFacts, IsFactBase, fact_at, with_fac
 use Rattle.cb_facts.specs.Facts.{FactValue}
 use Rattle.cb_facts.specs.RelationCounts.{Counts, HasOneLess, HasOneMore, IsEmpty, count_of, one_if}
 use Rattle.cb_working_memory.proofs.Counting.{made_counted}
-use Rattle.cb_working_memory.specs.Internal.Namings.{IsCountOf}
-use Rattle.cb_working_memory.specs.Internal.WorkingMemories.{IsLessBy}
-
-abbrev pub AreCounted : Counts → IndexedFacts → Type 0
-AreCounted counts facts = IsCountOf (λ f. f.relation) counts (values_of facts)
+use Rattle.cb_working_memory.specs.Internal.WorkingMemories.{AreCounted, IsLessBy}
 
 abbrev names : List ℕ → FactValue → ℕ
 names q f = one_if (bytes_eq f.relation q)

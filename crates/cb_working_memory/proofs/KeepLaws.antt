@@ -1,10 +1,10 @@
 -- What is asserted takes nothing away: the facts that are there keep their indices, and a new fact has an index that none had.
-use Rattle.std.proofs.Common.{◌≡◌, ◌≢◌, ◌+◌, ◌∙◌, ℕ, Bool, true, false, [], ◌∷◌, Option, Some, None, Ordering, Less, Equal, Greater, refl, sym, ap, arith, nat_lt, cond, if◌then◌else◌}
+use Rattle.std.proofs.Common.{◌≡◌, ◌≢◌, ◌+◌, ◌∙◌, ℕ, Bool, true, false, [], ◌∷◌, Option, Some, None, Ordering, Less, Equal, Greater, refl, sym, ap, arith, cond}
 use Rattle.std.specs.BTreeMap.{is_at}
 use Rattle.std.specs.Ordering.{is_eq, nat_cmp, match_ordering}
 use Rattle.cb_facts.specs.contracts.cited.LawsCited.TheImpl as facts_laws
 use Rattle.cb_working_memory.specs.Laws.{NoneAfter, Keeps}
-use Rattle.cb_working_memory.specs.WorkingMemory.{Memory, greatest_index, grown, asserted_beside, asserted_one, index_of}
+use Rattle.cb_working_memory.specs.WorkingMemory.{Memory, grown}
 use Rattle.std.proofs.lemmas.Bool.{false_from_ne_true}
 use Rattle.cb_facts.specs.FactLists.{IndexedFacts, fact_at, with_fact}
 use Rattle.cb_facts.specs.Facts.{FactValue}
@@ -26,24 +26,10 @@ elsewhere : (facts : IndexedFacts) (ix q : ℕ) (fact : FactValue) → q ≢ ix 
 elsewhere [] ix q fact apart = ap (λ t. cond t (Some fact) None) (not_at q ix apart)
 elsewhere ((i, there) ∷ facts) ix q fact apart = elsewhere_by facts ix i q fact there (nat_cmp ix i) refl apart (elsewhere facts ix q fact apart)
 
-itself : (m : Memory) → NoneAfter m → Keeps m m
-itself m none = record { rises = omega arith; same = λ ix upto. refl; none_after = none }
-
-one_more : (m : Memory) (fact : FactValue) → NoneAfter m → Keeps m (grown m fact)
-one_more m fact none = record {
-  rises = omega arith;
-  same = λ ix upto. elsewhere m.facts (m.last + 1) ix fact (λ e. omega arith);
-  none_after = λ ix above. elsewhere m.facts (m.last + 1) ix fact (λ e. omega arith) ∙ none ix (omega arith);
-}
-
-one_if : (m : Memory) (fact : FactValue) (room : Bool) → NoneAfter m → Keeps m (if◌then◌else◌ {A = Memory × Option ℕ} room (grown m fact, Some (m.last + 1)) (m, None)).0
-one_if m fact true none = one_more m fact none
-one_if m fact false none = itself m none
-
-one : (m : Memory) (fact : FactValue) (at : Option ℕ) → NoneAfter m → Keeps m (asserted_beside m fact at).0
-one m fact (Some ix) none = itself m none
-one m fact None none = one_if m fact (nat_lt m.last greatest_index) none
-
 -- An assertion changes nothing up to the last index.
-pub keeps_others : (m : Memory) (fact : FactValue) → NoneAfter m → Keeps m (asserted_one m fact).0
-keeps_others m fact none = one m fact (index_of m.facts fact) none
+pub keeps_others : (m : Memory) (fact : FactValue) → NoneAfter m → Keeps m (grown fact m)
+keeps_others m fact none = record {
+  rises = omega arith;
+  same = λ ix upto. elsewhere m.network.facts (m.last + 1) ix fact (λ e. omega arith);
+  none_after = λ ix above. elsewhere m.network.facts (m.last + 1) ix fact (λ e. omega arith) ∙ none ix (omega arith);
+}

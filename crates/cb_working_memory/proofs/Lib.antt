@@ -1,7 +1,7 @@
 mod CountedLaws
 mod Counting
-mod Examples
 mod GroupCountLaws
 mod GroupLaws
+mod IndexLaws
 mod KeepLaws
-mod MemoryLaws
+mod RuleLaws

@@ -5,11 +5,11 @@ use Rattle.cb_working_memory.specs.WorkingMemory.{Memory}
 
 -- no fact has an index after the last one
 abbrev pub NoneAfter : Memory → Type 0
-NoneAfter m = (ix : ℕ) → m.last < ix → fact_at m.facts ix ≡ None
+NoneAfter m = (ix : ℕ) → m.last < ix → fact_at m.network.facts ix ≡ None
 
 -- Up to the last index nothing has changed, so the facts keep their indices, and what was added has indices after it. The
 -- last index doesn't fall, and there is no fact after it.
 pub record Keeps (m n : Memory) : Type 0 where
   pub rises : m.last ≤ n.last
-  pub same : (ix : ℕ) → ix ≤ m.last → fact_at n.facts ix ≡ fact_at m.facts ix
+  pub same : (ix : ℕ) → ix ≤ m.last → fact_at n.network.facts ix ≡ fact_at m.network.facts ix
   pub none_after : NoneAfter n

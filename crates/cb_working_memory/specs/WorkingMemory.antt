@@ -1,19 +1,16 @@
--- The working memory: facts, asserted and retracted one after another.
-use Rattle.std.specs.Prelude.{ℕ, ◌+◌, Bool, true, false, List, [], ◌∷◌, Option, Some, None, codes, pos, negsuc, is_some, nat_lt, if◌then◌else◌}
-use Rattle.std.specs.Str.{bytes_eq}
-use Rattle.cb_facts.specs.FactLists.{IndexedFacts, fact_at, with_fact, without_fact}
+-- The working memory: rules and facts, and the numbers that were given last.
+use Rattle.std.specs.Prelude.{◌≡◌, ◌<◌, ◌≤◌, ◌+◌, ℕ, List, [], ◌∷◌, Option, Some, None, IsSome, if◌then◌else◌}
+use Rattle.cb_rules.specs.Elements.{Elements}
+use Rattle.cb_facts.specs.FactLists.{IndexedFacts, fact_at}
 use Rattle.cb_facts.specs.Facts.{FactValue, fact_eq}
-use Rattle.cb_facts.specs.declared.value.Value.{Value}
-use Rattle.cb_facts.specs.declared.value.Value.TheVariants as value
+use Rattle.cb_matches.specs.Changes.{IsDelta}
+use Rattle.cb_matches.specs.Networks as network
+use Rattle.cb_matches.specs.Networks.{Network, empty_network, with_one, without_one, with_rule, without_rule}
+use Rattle.cb_matches.specs.declared.delta.Delta.{Delta}
+use Rattle.cb_working_memory.specs.declared.asserted.Asserted.{Asserted}
+use Rattle.cb_working_memory.specs.declared.asserted.Asserted.TheVariants.{There, Added, NoIndex}
 
--- the facts that are there, by their indices, and the index that was given last
-pub record Memory : Type 0 where
-  pub facts : IndexedFacts
-  pub last : ℕ
-
-abbrev pub empty_memory : Memory
-empty_memory = record { facts = []; last = 0 }
-
+-- the greatest index of a fact, and the greatest number of a rule
 abbrev pub greatest_index : ℕ
 greatest_index = 9223372036854775807
 
@@ -22,44 +19,45 @@ abbrev pub index_of : IndexedFacts → FactValue → Option ℕ
 index_of [] fact = None
 index_of ((ix, there) ∷ facts) fact = if fact_eq there fact then Some ix else index_of facts fact
 
--- one fact more, with the next index
-abbrev pub grown : Memory → FactValue → Memory
-grown m fact = record { facts = with_fact m.facts (m.last + 1) fact; last = m.last + 1 }
+-- the rules and the facts, the index that was given last, and the number of a rule that was
+pub record Memory : Type 0 where
+  pub network : Network
+  pub last : ℕ
+  pub last_rule : ℕ
 
--- The memory after the assertion of a fact, and the fact's index: the one that an equal fact had, or the next. There is none
--- where no index is left.
-abbrev pub asserted_beside : Memory → FactValue → Option ℕ → Memory × Option ℕ
-asserted_beside m fact (Some ix) = (m, Some ix)
-asserted_beside m fact None = if nat_lt m.last greatest_index then (grown m fact, Some (m.last + 1)) else (m, None)
+-- no rules and no facts
+abbrev pub empty_memory : Memory
+empty_memory = record { network = empty_network; last = 0; last_rule = 0 }
 
-abbrev pub asserted_one : Memory → FactValue → Memory × Option ℕ
-asserted_one m fact = asserted_beside m fact (index_of m.facts fact)
+-- one fact more, with the next index, and one less
+abbrev pub grown : FactValue → Memory → Memory
+grown fact m = record { network = with_one (m.last + 1) fact m.network; last = m.last + 1; last_rule = m.last_rule }
 
--- without the fact with the index
-abbrev pub without : Memory → ℕ → Memory
-without m ix = record { facts = without_fact m.facts ix; last = m.last }
+abbrev pub without : ℕ → Memory → Memory
+without ix m = record { network = without_one ix m.network; last = m.last; last_rule = m.last_rule }
 
--- the value says which facts to retract: an address, an index or `*`
-abbrev pub is_retractable : Value → Bool
-is_retractable (value.Fact ix) = true
-is_retractable (value.Int n) = true
-is_retractable (value.Symbol name) = bytes_eq name (codes "*")
-is_retractable v = false
+-- one rule more, with the next number, and one less
+abbrev pub with_next_rule : List Elements → Memory → Memory
+with_next_rule branches m = record { network = with_rule (m.last_rule + 1) branches m.network; last = m.last; last_rule = m.last_rule + 1 }
 
--- The memory without the facts that a value says, or `None` where it is an index that no fact has. An address that no fact
--- has is passed over. Any other value, which is `*` wherever values are checked first, is all facts.
-abbrev pub retracted_one : Memory → Value → Option Memory
-retracted_one m (value.Fact ix) = Some (without m ix)
-retracted_one m (value.Int (pos ix)) = if is_some (fact_at m.facts ix) then Some (without m ix) else None
-retracted_one m (value.Int (negsuc n)) = None
-retracted_one m v = Some (record { facts = []; last = m.last })
+abbrev pub without_one_rule : ℕ → Memory → Memory
+without_one_rule id m = record { network = without_rule id m.network; last = m.last; last_rule = m.last_rule }
 
--- what follows a retraction
-abbrev pub after_retracted : Memory → Option Memory → (Memory → Memory × Bool) → Memory × Bool
-after_retracted m None next = (m, false)
-after_retracted m (Some n) next = next n
+-- no facts, and the next index is 1; and no rules either, whose numbers go on
+abbrev pub restarted : Memory → Memory
+restarted m = record { network = network.restarted m.network; last = 0; last_rule = m.last_rule }
 
--- Values retracted, one after another, up to the first index that no fact has, and whether every index had a fact.
-abbrev pub retracted_all : Memory → List Value → Memory × Bool
-retracted_all m [] = (m, true)
-retracted_all m (v ∷ vs) = after_retracted m (retracted_one m v) (λ n. retracted_all n vs)
+abbrev pub cleared : Memory → Memory
+cleared m = record { network = empty_network; last = 0; last_rule = m.last_rule }
+
+-- what came of the assertion of a fact, where the memory was `old` and is `new`
+abbrev pub Asserts : Memory → FactValue → Memory → Asserted → Type 0
+Asserts old fact new (There ix) = (index_of old.network.facts fact ≡ Some ix) × (new ≡ old)
+Asserts old fact new (Added ix delta) =
+    (index_of old.network.facts fact ≡ None) × (old.last < greatest_index) × (ix ≡ old.last + 1) × (new ≡ grown fact old) × IsDelta old.network (grown fact old).network delta
+Asserts old fact new NoIndex = (index_of old.network.facts fact ≡ None) × (greatest_index ≤ old.last) × (new ≡ old)
+
+-- what came of the retraction of the fact with an index
+abbrev pub Retracts : Memory → ℕ → Memory → Option Delta → Type 0
+Retracts old ix new None = (fact_at old.network.facts ix ≡ None) × (new ≡ old)
+Retracts old ix new (Some delta) = IsSome (fact_at old.network.facts ix) × (new ≡ without ix old) × IsDelta old.network (without ix old).network delta

@@ -3,7 +3,7 @@ ghost use Rattle.std.specs.Prelude.{◌≡◌, ℕ, None, Some};
 ghost use Rattle.cb_facts.specs.FactLists.{IndexedFacts, IsAbsent, IsFactBase, fact_at};
 ghost use Rattle.cb_facts.specs.Facts.{FactValue};
 ghost use Rattle.cb_working_memory.specs.Laws.{Keeps, NoneAfter};
-ghost use Rattle.cb_working_memory.specs.WorkingMemory.{Memory, asserted_one, index_of};
+ghost use Rattle.cb_working_memory.specs.WorkingMemory.{Memory, grown, index_of};
 
 /// Where the indices rise and no two facts are equal, a fact is found at the index at which it stands, and at none where it
 /// is absent.
@@ -14,9 +14,8 @@ pub fn a_fact_is_found_at_its_index()
         → IsFactBase facts → IsAbsent facts fact → index_of facts fact ≡ None }
 {}
 
-/// Where no fact has an index after the one given last, a fact that is asserted takes no fact away and changes no index,
-/// and if it is added, it has an index after that one; then again no fact has an index after the last. (A fact that is
-/// equal to one that is there is not added.)
-pub fn what_is_asserted_keeps_the_others()
-    ensures { (m : Memory) (fact : FactValue) → NoneAfter m → Keeps m (asserted_one m fact).0 }
+/// Where no fact has an index after the one given last, a fact that is added takes no fact away and changes no index, and it
+/// has an index after that one; then again no fact has an index after the last.
+pub fn what_is_added_keeps_the_others()
+    ensures { (m : Memory) (fact : FactValue) → NoneAfter m → Keeps m (grown fact m) }
 {}

@@ -1,152 +1,266 @@
 //! The working memory.
-ghost use Rattle.std.specs.Prelude.{◌≡◌, ◌≤◌, [], false, None, Some, IfOk, is_some, if◌then◌else◌};
-ghost use Rattle.std.specs.List.{list_any, list_all};
+ghost use Rattle.std.specs.Prelude.{◌≡◌, ◌<◌, ◌+◌, IfOk, OnOk, Some, None, if◌then◌else◌, false, is_err, nat_eq, nat_lt, not, option_copied};
+ghost use Rattle.std.specs.List.{filter, list_any};
 ghost use Rattle.std.specs.Str.{bytes_eq};
-ghost use Rattle.cb_working_memory.specs.WorkingMemory.{asserted_one, empty_memory, is_retractable, retracted_all, retracted_one, without};
-ghost use Rattle.cb_facts.specs.FactLists.{fact_at};
+ghost use Rattle.cb_rules.specs.Elements.{branches_of};
+ghost use Rattle.cb_matches.specs.Changes.{IsDelta, IsRestart};
+ghost use Rattle.cb_matches.specs.Networks.{bindings_of, empty_network};
+ghost use Rattle.cb_working_memory.specs.Internal.WorkingMemories.{IsLessBy, without_rules};
+ghost use Rattle.cb_working_memory.specs.WorkingMemory.{Asserts, Retracts, cleared, empty_memory, greatest_index, restarted, with_next_rule, without_one_rule};
 
-use crate::counted_facts::CountedFacts;
-use cb_facts::{Fact, FactList, Name, Value};
+use crate::asserted::Asserted;
+use crate::mark::Mark;
+use cb_exprs::Env;
+use cb_facts::{Fact, FactList, Name, RelationCounts};
+use cb_fit::Meter;
 use cb_forms::NoMemory;
+use cb_matches::{Delta, Key, Matcher};
+use cb_rules::Ce;
 use std::alloc::Global;
 use std::marker::Model;
 
-/// The greatest index that a fact may have.
+/// The greatest index that a fact may have, and the greatest number that a rule may have.
 const GREATEST_INDEX: u64 = 9_223_372_036_854_775_807;
 
-/// The facts that are there, by their indices, and the index that was given last.
+/// Rules and facts, and the numbers that were given last.
 ///
 /// After `NoMemory` it may be any.
 #[derive(Drop)]
-pub struct WorkingMemory {
+pub struct WorkingMemory<M: Matcher<Mark>> {
     alloc: Global,
-    facts: CountedFacts,
+    matcher: M,
+    /// Counts the tests of patterns that assertions and retractions make.
+    meter: Meter<Mark>,
+    /// Counts the others.
+    other_meter: Meter<Mark>,
+    /// How many facts name each relation.
+    counts: RelationCounts,
+    /// The numbers of the rules, in order.
+    numbers: Vec<u64>,
     last: u64,
+    last_rule: u64,
 }
 
-impl Model for WorkingMemory {
+impl<M: Matcher<Mark>> Model for WorkingMemory<M> {
+    ghost use Rattle.std.specs.Prelude.{◌≡◌, false};
+    ghost use Rattle.std.specs.Coded.{codes};
+    ghost use Rattle.cb_working_memory.specs.Internal.WorkingMemories.{AreKept, memory_code};
     ghost use Rattle.cb_working_memory.specs.WorkingMemory.{Memory};
-    ghost use Rattle.cb_working_memory.specs.Internal.WorkingMemories.{IsLastOf};
 
     ghost Value = { Memory };
 
-    ghost view = { λ m. record { facts = m.facts; last = m.last } };
+    ghost coded = { memory_code (Prim.hlevel codes) (Prim.hlevel codes) (Prim.hlevel codes) (Prim.hlevel codes) };
 
-    ghost invariant = { λ m. IsLastOf m.facts m.last };
+    ghost view = { λ m. record { network = M.network m.matcher; last = m.last; last_rule = m.last_rule } };
+
+    ghost invariant = { λ m. M.is_failed m.matcher ≡ false → AreKept m.counts m.numbers.items m.last m.last_rule (M.network m.matcher) };
 }
 
-impl WorkingMemory {
-    /// No facts, and the next index is 1.
-    pub fn new(alloc: Global) -> WorkingMemory
+impl<M: Matcher<Mark>> WorkingMemory<M> {
+    /// The rules and facts of a matcher that has none. The next index is 1, and so is the number of the next rule. It takes no
+    /// memory yet.
+    pub fn new(alloc: Global, matcher: M) -> WorkingMemory<M>
+        requires { M.network matcher ≡ empty_network }
         ensures { result ≡ empty_memory }
     {
         WorkingMemory {
             alloc,
-            facts: CountedFacts::new(alloc),
+            matcher,
+            meter: Meter::new(Mark),
+            other_meter: Meter::new(Mark),
+            counts: RelationCounts::new(alloc),
+            numbers: Vec::new(alloc),
             last: 0,
+            last_rule: 0,
         }
     }
 
     /// The facts.
     pub fn facts(&self) -> &FactList
-        ensures { result.now ≡ self.now.facts }
+        ensures { result.now ≡ self.now.network.facts }
     {
-        self.facts.facts()
-    }
-
-    /// Asserts a fact and returns its index, or `None` if none is left; then nothing has changed.
-    pub fn assert_one(&mut self, fact: Fact) -> Result<Option<u64>, NoMemory>
-        ensures { IfOk result (λ ix. asserted_one self.old fact ≡ (self.new, ix)) }
-    {
-        if let Some(ix) = self.facts.find(&fact) {
-            return Ok(Some(ix));
-        }
-        if self.last >= GREATEST_INDEX {
-            return Ok(None);
-        }
-        let ix = self.last + 1;
-        self.facts.add(ix, fact)?;
-        self.last = ix;
-        Ok(Some(ix))
-    }
-
-    /// Retracts the facts that values name, one after another, up to an index that no fact has. The answer says whether
-    /// every index had a fact.
-    pub fn retract_all(&mut self, values: &[Value]) -> bool
-        ensures { retracted_all self.old values.now ≡ (self.new, result) }
-    {
-        for value in values {
-            if !self.retract_one(value) {
-                return false;
-            }
-        }
-        true
-    }
-
-    /// Retracts what a value says. The answer is false, and nothing has changed, where it is an index that no fact has.
-    fn retract_one(&mut self, value: &Value) -> bool
-        ensures gone { retracted_one self.old value.now ≡ (if result then Some self.new else None) }
-        ensures still { result ≡ false → self.new ≡ self.old }
-    {
-        match value {
-            Value::Fact(ix) => self.drop_fact(*ix),
-            Value::Int(number) => match u64::try_from(*number) {
-                Ok(ix) => return self.retract_index(ix),
-                Err(_) => return false,
-            },
-            _ => self.drop_facts(),
-        }
-        true
-    }
-
-    /// Retracts the fact with an index. The answer is false, and nothing has changed, where there is none.
-    fn retract_index(&mut self, ix: u64) -> bool
-        ensures there { result ≡ is_some (fact_at self.old.facts ix) }
-        ensures gone { self.new ≡ (if result then without self.old ix else self.old) }
-    {
-        if self.facts.get(ix).is_none() {
-            return false;
-        }
-        self.drop_fact(ix);
-        true
-    }
-
-    /// Takes the fact with an index away, if there is one.
-    fn drop_fact(&mut self, ix: u64)
-        ensures { self.new ≡ without self.old ix }
-    {
-        self.facts.remove(ix);
-    }
-
-    /// Takes all facts away. Indices go on after the last.
-    fn drop_facts(&mut self)
-        ensures { self.new ≡ record { facts = []; last = self.old.last } }
-    {
-        self.facts = CountedFacts::new(self.alloc);
+        self.matcher.facts()
     }
 
     /// Whether a fact names a relation. It takes logarithmic time, whatever the relations are.
-    pub fn mentions(&self, relation: &Name) -> bool
-        ensures { result ≡ list_any
-            (λ entry. bytes_eq entry.1.relation relation.now) self.now.facts }
+    pub fn mentions(&self, relation: &Name) -> Result<bool, NoMemory>
+        ensures { IfOk result (λ it. it
+            ≡ list_any (λ entry. bytes_eq entry.1.relation relation.now) self.now.network.facts) }
     {
-        self.facts.mentions(relation)
+        if self.matcher.failed() {
+            return Err(NoMemory);
+        }
+        Ok(self.counts.count(relation) > 0)
+    }
+
+    /// What variables have by the match with this key.
+    pub fn bindings(&self, key: &Key) -> Result<Env, NoMemory>
+        ensures { IfOk result (λ env. env ≡ bindings_of self.now.network key.now) }
+    {
+        if self.matcher.failed() {
+            return Err(NoMemory);
+        }
+        self.matcher.bindings(key)
+    }
+
+    /// Asserts a fact.
+    pub fn assert_one(&mut self, fact: Fact) -> Result<Asserted, NoMemory>
+        ensures { IfOk result (Asserts self.old fact self.new) }
+    {
+        if self.matcher.failed() {
+            return Err(NoMemory);
+        }
+        let _count = self.matcher.facts().len();
+        if let Some(ix) = self.matcher.facts().find(&fact) {
+            return Ok(Asserted::There(ix));
+        }
+        if self.last >= GREATEST_INDEX {
+            return Ok(Asserted::NoIndex);
+        }
+        let relation = fact.relation_name().clone()?;
+        self.counts.add(&relation)?;
+        let ix = self.last + 1;
+        let delta = self.matcher.assert(ix, fact, &mut self.meter)?;
+        self.last = ix;
+        Ok(Asserted::Added(ix, delta))
+    }
+
+    /// The index that the next fact gets, if one is left.
+    pub fn next_index(&self) -> Option<u64>
+        ensures { result ≡ (if nat_lt self.now.last greatest_index then Some (self.now.last + 1) else None) }
+    {
+        if self.last >= GREATEST_INDEX {
+            return None;
+        }
+        Some(self.last + 1)
+    }
+
+    /// Retracts the fact with an index, and returns what went and came. Where there is none, nothing changes.
+    pub fn retract_one(&mut self, ix: u64) -> Result<Option<Delta>, NoMemory>
+        ensures { IfOk result (Retracts self.old ix self.new) }
+    {
+        if self.matcher.failed() {
+            return Err(NoMemory);
+        }
+        let fact = self.matcher.facts().get(ix);
+        if fact.is_none() {
+            return Ok(None);
+        }
+        discount(&mut self.counts, fact);
+        let delta = self.matcher.retract(ix, &mut self.meter)?;
+        Ok(Some(delta))
+    }
+
+    /// Whether a number is left for a rule.
+    pub fn has_rule_number(&self) -> bool
+        ensures { result ≡ nat_lt self.now.last_rule greatest_index }
+    {
+        self.last_rule < GREATEST_INDEX
+    }
+
+    /// The number that the next rule gets.
+    pub fn next_rule(&self) -> u64
+        requires { self.now.last_rule < greatest_index }
+        ensures { result ≡ self.now.last_rule + 1 }
+    {
+        self.last_rule + 1
+    }
+
+    /// Adds a rule, with the next number.
+    pub fn add_rule(&mut self, branches: Vec<Vec<Ce<Mark>>>) -> Result<Delta, NoMemory>
+        requires { self.old.last_rule < greatest_index }
+        ensures rule { OnOk result
+            (self.new ≡ with_next_rule (branches_of branches.items) self.old) }
+        ensures delta { IfOk result (IsDelta self.old.network
+            (with_next_rule (branches_of branches.items) self.old).network) }
+    {
+        if self.matcher.failed() {
+            return Err(NoMemory);
+        }
+        let id = self.last_rule + 1;
+        self.numbers.push(id)?;
+        let delta = self.matcher.add_rule(id, branches, &mut self.other_meter)?;
+        self.last_rule = id;
+        Ok(delta)
+    }
+
+    /// Takes a rule away, if there is one with this number.
+    pub fn drop_rule(&mut self, id: u64) -> Result<Delta, NoMemory>
+        ensures rule { OnOk result (self.new ≡ without_one_rule id self.old) }
+        ensures delta { IfOk result
+            (IsDelta self.old.network (without_one_rule id self.old).network) }
+    {
+        if self.matcher.failed() {
+            return Err(NoMemory);
+        }
+        let numbers = without_number(self.alloc, self.numbers.as_slice(), id)?;
+        let delta = self.matcher.drop_rule(id)?;
+        self.numbers = numbers;
+        Ok(delta)
+    }
+
+    /// Takes all facts away. The next index is 1, and the matches over no facts come anew.
+    pub fn restart(&mut self) -> Result<Delta, NoMemory>
+        ensures memory { OnOk result (self.new ≡ restarted self.old) }
+        ensures delta { IfOk result (IsRestart (restarted self.old).network) }
+    {
+        if self.matcher.failed() {
+            return Err(NoMemory);
+        }
+        let delta = self.matcher.restart(&mut self.other_meter)?;
+        self.counts = RelationCounts::new(self.alloc);
+        self.last = 0;
+        Ok(delta)
+    }
+
+    /// Takes all rules and all facts away. The next index is 1, and the numbers of rules go on.
+    pub fn clear(&mut self) -> Result<(), NoMemory>
+        ensures { OnOk result (self.new ≡ cleared self.old) }
+    {
+        if self.matcher.failed() {
+            return Err(NoMemory);
+        }
+        drop_rules(&mut self.matcher, self.numbers.as_slice())?;
+        drop(self.matcher.restart(&mut self.other_meter)?);
+        self.numbers = Vec::new(self.alloc);
+        self.counts = RelationCounts::new(self.alloc);
+        self.last = 0;
+        Ok(())
     }
 }
 
-/// Whether values say which facts to retract.
-pub fn are_retractable(values: &[Value]) -> bool
-    ensures { result ≡ list_all is_retractable values.now }
+/// Takes the rules with these numbers away.
+fn drop_rules<M: Matcher<Mark>>(matcher: &mut M, numbers: &[u64]) -> Result<(), NoMemory>
+    requires { M.is_failed matcher.old ≡ false }
+    ensures rules { OnOk result
+        (M.network matcher.new ≡ without_rules numbers.now (M.network matcher.old)) }
+    ensures failed { M.is_failed matcher.new ≡ is_err result }
 {
-    values.iter().all(is_retractable)
+    for number in numbers {
+        drop(matcher.drop_rule(*number)?);
+    }
+    Ok(())
 }
 
-fn is_retractable(value: &Value) -> bool
-    ensures { result ≡ is_retractable value.now }
+/// The numbers but for this one.
+fn without_number(alloc: Global, numbers: &[u64], id: u64) -> Result<Vec<u64>, NoMemory>
+    ensures { IfOk result (λ kept. kept.items ≡ filter (λ n. not (nat_eq id n)) numbers.now) }
 {
-    match value {
-        Value::Fact(_) | Value::Int(_) => true,
-        Value::Symbol(name) => name.as_slice() == b"*".as_slice(),
-        _ => false,
+    let mut kept = Vec::new(alloc);
+    for number in numbers {
+        if id != *number {
+            kept.push(*number)?;
+        }
+    }
+    Ok(kept)
+}
+
+/// Counts a fact less, if there is one.
+fn discount(counts: &mut RelationCounts, fact: Option<&Fact>)
+    ensures { IsLessBy (option_copied fact.entry) counts.old counts.new }
+{
+    match fact {
+        Some(fact) => counts.remove(fact.relation_name()),
+        None => {}
     }
 }

@@ -1,20 +1,25 @@
 -- Turns: they never rise, and the number of tests that a loop is defined by does not matter.
-use Rattle.std.proofs.Common.{◌≡◌, ◌<◌, ◌≤◌, ℕ, zero, suc, Bool, true, false, List, [], ◌∷◌, ◌++◌, if◌then◌else◌, Option, Some, None, Result, Ok, Err, refl, ap, arith}
+use Rattle.std.proofs.Common.{◌≡◌, ◌<◌, ◌≤◌, ℕ, zero, suc, Bool, true, false, List, [], ◌∷◌, ◌++◌, if◌then◌else◌, codes, length, nat_lt, is_some, ◌+◌, ◌-◌, option_map, Option, Some, None, Result, Ok, Err, refl, ap, arith}
 use Rattle.std.specs.List.{list_all}
-use Rattle.cb_actions.specs.Acts.{Act, after_writing, become, follow, give, stop, give_or_fault, ◌>>=◌}
+use Rattle.cb_actions.specs.Acts.{Act, Effect, after_writing, become, each, follow, give, stop, give_or_fault, ◌>>=◌}
 use Rattle.cb_actions.specs.Actions.{carried, carried_all, carried_values, round, rounds}
 use Rattle.cb_actions.specs.Lemmas.{falls_then}
 use Rattle.cb_actions.specs.Definitions.{all_asserted, all_evaluated, globals_after, globals_defined, one_evaluated, template_defined}
-use Rattle.cb_actions.specs.Effects.{found, wanted, valued, truth_of, ends, called, fact_added, addressed, asserted, taken, retracted, bound, global_bound, chosen, turn, turn_of}
+use Rattle.cb_actions.specs.Effects.{found, wanted, valued, truth_of, ends, called, fact_added, fact_gone, gone_if, added_beside, added_next, asserted, retracted, retracted_one, index_named, taken_by, bound, global_bound, chosen, turn, turn_of}
 use Rattle.cb_actions.specs.Internal.{Falls, turns_left}
-use Rattle.cb_actions.specs.Worlds.{World}
+use Rattle.cb_actions.specs.Lines.{rule_numbered}
+use Rattle.cb_actions.specs.Runs.{acted, actions_of, added_rule, all_gone, cleared_world, defined_rule, dropped_rule, due_by, fire_line, fired, forgotten, in_scope, next_due, numbered, ran, replaced, restarted_world, rule_named, run, spent, started_anew, unless_halted, with_variables_of, without_all, without_facts}
+use Rattle.cb_actions.specs.declared.act.Limit.TheVariants.{Firings}
+use Rattle.cb_rules.specs.Elements.{Elements}
+use Rattle.cb_matches.specs.Networks.{all_keys, bindings_of}
+use Rattle.cb_actions.specs.Worlds.{RuleInfo, World}
 use Rattle.cb_actions.specs.declared.act.Ended.{Ended}
 use Rattle.cb_actions.specs.declared.act.Ended.TheVariants as ended
 use Rattle.cb_eval.specs.Evaluation.{value_of}
-use Rattle.cb_exprs.specs.Bindings.{value_at}
+use Rattle.cb_exprs.specs.Bindings.{Bindings, value_at}
 use Rattle.cb_exprs.specs.FactTerms.{FactTerm}
 use Rattle.cb_exprs.specs.GlobalTerms.{GlobalTerm}
-use Rattle.cb_exprs.specs.Terms.{Term, constant, variable, global, call, assert, retract, bind, bind_global, choose, repeat, actions, printout, print, println, Terms, no_terms, term}
+use Rattle.cb_exprs.specs.Terms.{Term, constant, variable, global, call, assert, retract, bind, bind_global, choose, repeat, actions, printout, print, println, halt, Terms, no_terms, term}
 use Rattle.cb_facts.specs.declared.value.Value.{Value}
 use Rattle.cb_forms.specs.declared.fault.Fault.{Fault}
 use Rattle.cb_forms.specs.declared.fault.Fault.TheVariants.{UnboundVariable, UnknownGlobal, WrongType}
@@ -24,8 +29,21 @@ use Rattle.cb_functions.specs.Logic.{is_true}
 use Rattle.cb_templates.specs.Building.{built}
 use Rattle.cb_templates.specs.Slots.{SlotShape}
 use Rattle.cb_words.specs.declared.function.Function.{Function}
-use Rattle.cb_working_memory.specs.WorkingMemory.{Memory, asserted_one, is_retractable, retracted_all}
-use Rattle.cb_actions.specs.Effects.{parts_of}
+use Rattle.cb_working_memory.specs.WorkingMemory.{greatest_index, index_of}
+use Rattle.cb_actions.specs.Changes.{activation_lines, moved, rescheduled, scheduled, tell, told, come_line, gone_line}
+use Rattle.cb_agenda.specs.Agendas.{has_stamps, popped}
+use Rattle.cb_facts.specs.Facts.{FactValue}
+use Rattle.cb_facts.specs.declared.value.Value.TheVariants as value
+use Rattle.cb_matches.specs.Changes.{keys_come, keys_gone}
+use Rattle.cb_matches.specs.Keys.{KeyValue}
+use Rattle.cb_working_memory.specs.WorkingMemory.{Memory, grown, restarted, with_next_rule, without, without_one_rule}
+use Rattle.cb_facts.specs.FactLists.{fact_at}
+use Rattle.std.specs.Map.{keys_of}
+use Rattle.cb_actions.specs.Effects.{is_retractable, parts_of}
+
+if_falls : {A : Type 0} (b : Bool) (p q : Effect World A) (s : World) → p.state.turns ≤ s.turns → q.state.turns ≤ s.turns → (if b then p else q).state.turns ≤ s.turns
+if_falls true p q s f g = f
+if_falls false p q s f g = g
 
 chosen_falls : {A : Type 0} (b : Bool) (p q : Act World A) → Falls turns_left p → Falls turns_left q → Falls turns_left (chosen b p q)
 chosen_falls true p q f g s = f s
@@ -65,22 +83,59 @@ read_falls (Err f) s = omega arith
 called_falls : (f : Function) (vs : List Value) → Falls turns_left (called f vs)
 called_falls f vs = falls_then turns_left (give_or_fault (applied f vs)) (λ v. give (Some v)) (read_falls (applied f vs)) (λ v s. omega arith)
 
-addressed_falls : (o : Memory × Option ℕ) → Falls turns_left (addressed o)
-addressed_falls (m, Some ix) s = omega arith
-addressed_falls (m, None) s = omega arith
+scheduled_falls : (gone come : List KeyValue) → Falls turns_left (scheduled gone come)
+scheduled_falls gone come s = if_falls (has_stamps s.agenda (length come)) _ _ s (omega arith) (omega arith)
+
+rescheduled_falls : (gone come : List KeyValue) → Falls turns_left (rescheduled gone come)
+rescheduled_falls gone come s = falls_then turns_left (scheduled gone come) (λ _. tell (activation_lines s gone come)) (scheduled_falls gone come) (λ _ u. omega arith) s
+
+moved_falls : (next : Memory) (line : List ℕ) → Falls turns_left (moved next line)
+moved_falls next line s =
+    let h : (told line (keys_gone s.memory.network next.network) (keys_come s.memory.network next.network) (record s { memory = next })).state.turns ≤ s.turns
+    = falls_then turns_left (tell line) (λ _. rescheduled (keys_gone s.memory.network next.network) (keys_come s.memory.network next.network)) (λ u. omega arith)
+    (λ _. rescheduled_falls (keys_gone s.memory.network next.network) (keys_come s.memory.network next.network)) (record s { memory = next }) in
+    unfold moved in h
+
+next_falls : (fact : FactValue) → Falls turns_left (added_next fact)
+next_falls fact s = moved_falls (grown fact s.memory) (come_line s (s.memory.last + 1) fact) s
+
+beside_falls : (fact : FactValue) (o : Option ℕ) → Falls turns_left (added_beside fact o)
+beside_falls fact (Some ix) s = omega arith
+beside_falls fact None s =
+    if_falls (nat_lt s.memory.last greatest_index) _ _ s (falls_then turns_left (added_next fact) (λ _. give (Some (value.Fact (s.memory.last + 1)))) (next_falls fact) (λ _ u. omega arith) s) (omega arith)
+
+added_falls : (fact : FactValue) → Falls turns_left (fact_added fact)
+added_falls fact s = beside_falls fact (index_of s.memory.network.facts fact) s
+
+pub each_falls : {X : Type 0} (act : X → Act World (Unit {0})) (xs : List X) → ((x : X) → Falls turns_left (act x)) → Falls turns_left (each act xs)
+each_falls act [] h s = omega arith
+each_falls act (x ∷ xs) h s = falls_then turns_left (act x) (λ _. each act xs) (h x) (λ _. each_falls act xs h) s
+
+gone_if_falls : (ix : ℕ) (o : Option FactValue) → Falls turns_left (gone_if ix o)
+gone_if_falls ix None s = omega arith
+gone_if_falls ix (Some f) s = moved_falls (without ix s.memory) (gone_line s ix (Some f)) s
+
+gone_falls : (ix : ℕ) → Falls turns_left (fact_gone ix)
+gone_falls ix s = gone_if_falls ix (fact_at s.memory.network.facts ix) s
+
+taken_falls : (o : Option ℕ) → Falls turns_left (taken_by o)
+taken_falls None s = omega arith
+taken_falls (Some ix) s = if_falls (is_some (fact_at s.memory.network.facts ix)) _ _ s (gone_falls ix s) (omega arith)
+
+one_retracted_falls : (v : Value) → Falls turns_left (retracted_one v)
+one_retracted_falls (value.Fact ix) s = gone_falls ix s
+one_retracted_falls (value.Int n) s = taken_falls (index_named n) s
+one_retracted_falls (value.Symbol x) s = each_falls fact_gone (keys_of s.memory.network.facts) gone_falls s
+one_retracted_falls (value.Str x) s = each_falls fact_gone (keys_of s.memory.network.facts) gone_falls s
+one_retracted_falls (value.Multi x) s = each_falls fact_gone (keys_of s.memory.network.facts) gone_falls s
+
+retracted_falls : (vs : List Value) → Falls turns_left (retracted vs)
+retracted_falls vs s = if_falls (list_all is_retractable vs) _ _ s (falls_then turns_left (each retracted_one vs) (λ _. give None) (each_falls retracted_one vs one_retracted_falls) (λ _ u. omega arith) s) (omega arith)
 
 asserted_falls : (shape : _) (vs : List Value) → Falls turns_left (asserted shape vs)
 asserted_falls shape vs s =
     let r = built s.templates shape.relation (parts_of shape.slots vs) in
-    falls_then turns_left (give_or_fault r) fact_added (read_falls r) (λ fact u. addressed_falls (asserted_one u.memory fact) u) s
-
-taken_falls : (o : Memory × Bool) → Falls turns_left (taken o)
-taken_falls (m, true) s = omega arith
-taken_falls (m, false) s = omega arith
-
-retracted_if_falls : (b : Bool) (o : Memory × Bool) (s : World) → (if b then taken o s else stop (ended.Fault WrongType) s).state.turns ≤ s.turns
-retracted_if_falls true o s = taken_falls o s
-retracted_if_falls false o s = omega arith
+    falls_then turns_left (give_or_fault r) fact_added (read_falls r) added_falls s
 
 mutual
   pub never_rises : (t : Term) → Falls turns_left (carried t)
@@ -89,7 +144,7 @@ mutual
   never_rises (global x) s = found_falls UnknownGlobal (value_at x s.env.globals) s
   never_rises (call f ts) s = falls_then turns_left (carried_values (Some f) [] ts) (called f) (values_never_rise (Some f) [] ts) (called_falls f) s
   never_rises (assert shape ts) s = falls_then turns_left (carried_values None [] ts) (asserted shape) (values_never_rise None [] ts) (asserted_falls shape) s
-  never_rises (retract ts) s = falls_then turns_left (carried_values None [] ts) retracted (values_never_rise None [] ts) (λ vs u. retracted_if_falls (list_all is_retractable vs) (retracted_all u.memory vs) u) s
+  never_rises (retract ts) s = falls_then turns_left (carried_values None [] ts) retracted (values_never_rise None [] ts) retracted_falls s
   never_rises (bind x t) s = falls_then turns_left (valued (carried t)) (bound x) (valued_falls (carried t) (never_rises t)) (λ v u. omega arith) s
   never_rises (bind_global x t) s = falls_then turns_left (valued (carried t)) (global_bound x) (valued_falls (carried t) (never_rises t)) (λ v u. omega arith) s
   never_rises (choose t u w) s =
@@ -99,6 +154,7 @@ mutual
   never_rises (printout on ts) s = falls_then turns_left (carried_values None [] ts) _ (values_never_rise None [] ts) (λ vs u. omega arith) s
   never_rises (print ts) s = falls_then turns_left (carried_values None [] ts) _ (values_never_rise None [] ts) (λ vs u. omega arith) s
   never_rises (println ts) s = falls_then turns_left (carried_values None [] ts) _ (values_never_rise None [] ts) (λ vs u. omega arith) s
+  never_rises halt s = omega arith
 
   values_never_rise : (f : Option Function) (vs : List Value) (ts : Terms) → Falls turns_left (carried_values f vs ts)
   values_never_rise f vs no_terms s = omega arith
@@ -168,3 +224,72 @@ anew_falls (g ∷ gs) s = falls_then turns_left (one_evaluated g) (λ _. all_eva
 pub facts_fall : (fs : List FactTerm) → Falls turns_left (all_asserted fs)
 facts_fall [] s = omega arith
 facts_fall (f ∷ fs) s = falls_then turns_left (carried (assert f.shape f.values)) (λ _. all_asserted fs) (never_rises (assert f.shape f.values)) (λ _. facts_fall fs) s
+
+-- firings and runs
+in_scope_falls : {A : Type 0} (env : Bindings) (act : Act World A) → Falls turns_left act → Falls turns_left (in_scope env act)
+in_scope_falls env act f s = f (with_variables_of env s)
+
+acted_falls : (k : KeyValue) → Falls turns_left (acted k)
+acted_falls k s =
+    in_scope_falls (bindings_of s.memory.network k) (carried_all (Some false_symbol) (actions_of (rule_numbered k.rule s.rules))) (all_never_rise (Some false_symbol) (actions_of (rule_numbered k.rule s.rules))) s
+
+fired_falls : (n : ℕ) (k : KeyValue) → Falls turns_left (fired n k)
+fired_falls n k s = falls_then turns_left (tell (fire_line n k s)) (λ _. acted k) (λ u. omega arith) (λ _. acted_falls k) s
+
+spent_falls : (left n : ℕ) (k : KeyValue) → Falls turns_left (spent left n k)
+spent_falls left n k s = fired_falls n k (record s { firings = left })
+
+due_by_falls : (o : Option KeyValue) (next : KeyValue → Act World (Unit {0})) → ((k : KeyValue) → Falls turns_left (next k)) → Falls turns_left (due_by o next)
+due_by_falls None next h s = omega arith
+due_by_falls (Some k) next h s = h k s
+
+next_due_falls : (asked : Option ℕ) (next : KeyValue → Act World (Unit {0})) → ((k : KeyValue) → Falls turns_left (next k)) → Falls turns_left (next_due asked next)
+next_due_falls (Some zero) next h s = omega arith
+next_due_falls (Some (suc n)) next h s = due_by_falls (popped s.agenda).1 next h (record s { agenda = (popped s.agenda).0 })
+next_due_falls None next h s = due_by_falls (popped s.agenda).1 next h (record s { agenda = (popped s.agenda).0 })
+
+unless_falls : (next : Act World (Unit {0})) → Falls turns_left next → Falls turns_left (unless_halted next)
+unless_falls next h s = if_falls s.is_halted _ _ s (omega arith) (h s)
+
+ran_falls : (n : ℕ) (asked : Option ℕ) (done : ℕ) → Falls turns_left (ran n asked done)
+ran_falls zero asked done s = next_due_falls asked (λ k. stop (ended.Limit Firings)) (λ k u. omega arith) s
+ran_falls (suc n) asked done s =
+    next_due_falls asked (λ k. spent n (done + 1) k >>= (λ _. unless_halted (ran n (option_map (λ m. m - 1) asked) (done + 1))))
+    (λ k. falls_then turns_left (spent n (done + 1) k) (λ _. unless_halted (ran n (option_map (λ m. m - 1) asked) (done + 1))) (spent_falls n (done + 1) k)
+    (λ _. unless_falls (ran n (option_map (λ m. m - 1) asked) (done + 1)) (ran_falls n (option_map (λ m. m - 1) asked) (done + 1)))) s
+
+pub run_falls : (asked : Option ℕ) → Falls turns_left (run asked)
+run_falls asked s = ran_falls s.firings asked 0 (record s { is_halted = false })
+
+-- rules that are added, redefined and dropped
+dropped_falls : (id : ℕ) → Falls turns_left (dropped_rule id)
+dropped_falls id s = falls_then turns_left (moved (without_one_rule id s.memory) []) (λ _. forgotten id) (moved_falls (without_one_rule id s.memory) []) (λ _ u. omega arith) s
+
+replaced_falls : (o : Option ℕ) → Falls turns_left (replaced o)
+replaced_falls None s = omega arith
+replaced_falls (Some id) s = dropped_falls id s
+
+added_rule_falls : (r : RuleInfo) (branches : List Elements) → Falls turns_left (added_rule r branches)
+added_rule_falls r branches s =
+    if_falls (nat_lt s.memory.last_rule greatest_index) _ _ s (moved_falls (with_next_rule branches s.memory) [] (record s { rules = s.rules ++ numbered s r ∷ [] })) (omega arith)
+
+pub rule_falls : (r : RuleInfo) (branches : List Elements) → Falls turns_left (defined_rule r branches)
+rule_falls r branches s =
+    if_falls (nat_lt s.memory.last_rule greatest_index) _ _ s
+    (falls_then turns_left (replaced (option_map (λ it. it.id) (rule_named r.name s.rules))) (λ _. added_rule r branches) (replaced_falls (option_map (λ it. it.id) (rule_named r.name s.rules))) (λ _. added_rule_falls r branches) s)
+    (omega arith)
+
+-- everything dropped
+gone_lines_fall : Falls turns_left all_gone
+gone_lines_fall s = omega arith
+
+anew_falls_too : Falls turns_left started_anew
+anew_falls_too s = rescheduled_falls [] (all_keys (restarted s.memory).network) (without_facts s)
+
+pub restart_falls : Falls turns_left restarted_world
+restart_falls s = falls_then turns_left all_gone (λ _. started_anew) gone_lines_fall (λ _. anew_falls_too) s
+
+pub clear_falls : Falls turns_left cleared_world
+clear_falls s =
+    let next : Unit {0} → Act World (Unit {0}) = λ _ u. give tt (without_all u) in
+    falls_then turns_left all_gone next gone_lines_fall (λ _ u. omega arith) s

@@ -14,7 +14,7 @@ use Rattle.cb_actions.specs.Lemmas.ActLaws.{went_then, went_off, went_quietly, w
 use Rattle.cb_actions.proofs.CallLaws.{first_off, first_decides, second_off, both_then, call_off, call_then}
 use Rattle.cb_actions.proofs.LoopLaws.{all_then, all_off, values_then, values_end, values_off, values_refused, test_off, test_ends, turn_off, action_off, round_then, turns_fall}
 use Rattle.cb_actions.proofs.WentLaws.{went_unbegun, went_fine, went_ok, went_result, went_term}
-use Rattle.cb_exprs.specs.Terms.{constant, variable, global, call, assert, retract, bind, bind_global, choose, repeat, actions, printout, print, println, term_of, terms_of}
+use Rattle.cb_exprs.specs.Terms.{constant, variable, global, call, assert, retract, bind, bind_global, choose, repeat, actions, printout, print, println, halt, term_of, terms_of}
 use Rattle.cb_exprs.specs.contracts.cited.LawsCited.TheImpl as exprs_laws
 use Rattle.cb_facts.specs.declared.value.Value.{Value}
 use Rattle.cb_forms.specs.declared.fault.Fault.TheVariants.{WrongType}
@@ -112,7 +112,7 @@ carry_assert-returns-in_err-values-clause-went g t c =
 
 pub carry_assert-returns-clause-went : goal.carry_assert-returns-clause-went
 carry_assert-returns-clause-went g t c =
-    went_then g.K.Sink.writes _ _ _ _ _ _ _ _ (asserted c.args.shape.now) c.in_ok-values.ensures.went (went_quietly g.K.Sink.writes _ _ _ _ (went_fine g.K.Sink.writes _ _ _ _ _ c.in_ok-values.ensures.went) c.assert.ensures)
+    went_then g.K.Sink.writes _ _ _ _ _ _ _ _ (asserted c.args.shape.now) c.in_ok-values.ensures.went c.assert.ensures.went
 
 pub carry_retract-returns-in_err-values-clause-went : goal.carry_retract-returns-in_err-values-clause-went
 carry_retract-returns-in_err-values-clause-went g t c =
@@ -121,8 +121,8 @@ carry_retract-returns-in_err-values-clause-went g t c =
 
 pub carry_retract-returns-clause-went : goal.carry_retract-returns-clause-went
 carry_retract-returns-clause-went g t c =
-    let q : Quietly c.retract.new.self c.retract.result (retracted c.in_ok-values.values.items c.carry_values.new.self) = subst (λ it. Quietly c.retract.new.self c.retract.result (retracted it c.carry_values.new.self)) c.as_slice.ensures.value c.retract.ensures in
-    went_then g.K.Sink.writes _ _ _ _ _ _ _ _ retracted c.in_ok-values.ensures.went (went_quietly g.K.Sink.writes _ _ _ _ (went_fine g.K.Sink.writes _ _ _ _ _ c.in_ok-values.ensures.went) q)
+    let q : Went g.K.Sink.writes c.carry_values.new.out c.retract.new.out c.retract.new.self c.retract.result (retracted c.in_ok-values.values.items c.carry_values.new.self) = subst (λ it. Went g.K.Sink.writes c.carry_values.new.out c.retract.new.out c.retract.new.self c.retract.result (retracted it c.carry_values.new.self)) c.as_slice.ensures.value c.retract.ensures.went in
+    went_then g.K.Sink.writes _ _ _ _ _ _ _ _ retracted c.in_ok-values.ensures.went q
 
 pub carry_bind-returns-in_err-value-clause-went : goal.carry_bind-returns-in_err-value-clause-went
 carry_bind-returns-in_err-value-clause-went g t c =

@@ -1,0 +1,146 @@
+//! Rules that are added, redefined and dropped.
+ghost use Rattle.std.specs.Prelude.{◌≡◌, ◌<◌, ◌∷◌, ◌++◌, [], IfOk, OnOk, false, nat_eq, not, option_map};
+ghost use Rattle.std.specs.List.{filter};
+ghost use Rattle.cb_actions.specs.Runs.{added_rule, defined_rule, dropped_rule, numbered, replaced, rule_named};
+ghost use Rattle.cb_actions.specs.Went.{Went};
+ghost use Rattle.cb_rules.specs.Elements.{branches_of};
+ghost use Rattle.cb_matches.specs.Changes.{IsDelta};
+ghost use Rattle.cb_working_memory.specs.WorkingMemory.{greatest_index, with_next_rule, without_one_rule};
+
+use crate::act::{Break, Ended, Limit};
+use crate::rules::{DefinedRule, find_named};
+use crate::world::World;
+use cb_rules::Ce;
+use cb_facts::Name;
+use cb_forms::{NoMemory, Out, Sink};
+use cb_matches::{Delta, Matcher};
+use cb_working_memory::Mark;
+use std::alloc::Global;
+use std::mem;
+
+impl<M: Matcher<Mark>> World<M> {
+    /// Adds a rule, with the next number, in place of the one with its name, if there is one.
+    pub fn define_rule<K: Sink>(
+        &mut self,
+        rule: DefinedRule,
+        branches: Vec<Vec<Ce<Mark>>>,
+        out: &mut Out<K>,
+    ) -> Result<(), Break>
+        requires { out.old.fault ≡ false }
+        ensures { Went K.writes out.old out.new self.new result
+            (defined_rule rule (branches_of branches.items) self.old) }
+    {
+        if !self.memory.has_rule_number() {
+            return Err(Break::Ended(Ended::Limit(Limit::Numbers)));
+        }
+        self.drop_named(&rule.name, out)?;
+        self.add_rule(rule, branches, out)
+    }
+
+    /// Drops the rule with a name, if there is one.
+    fn drop_named<K: Sink>(&mut self, name: &Name, out: &mut Out<K>) -> Result<(), Break>
+        requires { out.old.fault ≡ false }
+        ensures { Went K.writes out.old out.new self.new result
+            (replaced (option_map (λ r. r.id) (rule_named name.now self.old.rules)) self.old) }
+    {
+        match self.number_of(name) {
+            Some(id) => self.drop_rule(id, out),
+            None => Ok(()),
+        }
+    }
+
+    /// The number of the rule with a name, if there is one.
+    pub fn number_of(&self, name: &Name) -> Option<u64>
+        ensures { result ≡ option_map (λ r. r.id) (rule_named name.now self.now.rules) }
+    {
+        match find_named(self.rules.as_slice(), name) {
+            Some(rule) => Some(rule.id),
+            None => None,
+        }
+    }
+
+    /// Drops a rule: its activations go, with their lines.
+    pub fn drop_rule<K: Sink>(&mut self, id: u64, out: &mut Out<K>) -> Result<(), Break>
+        requires { out.old.fault ≡ false }
+        ensures { Went K.writes out.old out.new self.new result (dropped_rule id self.old) }
+    {
+        let delta = self.take_rule(id)?;
+        self.tell_and_apply(b"".as_slice(), &delta, out)?;
+        self.forget_rule(id)?;
+        Ok(())
+    }
+
+    /// Takes a rule from the working memory.
+    fn take_rule(&mut self, id: u64) -> Result<Delta, NoMemory>
+        ensures state { OnOk result
+            (self.new ≡ record self.old { memory = without_one_rule id self.old.memory }) }
+        ensures delta { IfOk result
+            (IsDelta self.old.memory.network (without_one_rule id self.old.memory).network) }
+    {
+        self.memory.drop_rule(id)
+    }
+
+    /// Keeps nothing of a rule any more.
+    fn forget_rule(&mut self, id: u64) -> Result<(), NoMemory>
+        ensures { OnOk result
+            (self.new ≡ record self.old { rules = filter (λ r. not (nat_eq id r.id)) self.old.rules }) }
+    {
+        forget_numbered(self.alloc, &mut self.rules, id)
+    }
+
+    /// Adds a rule, with the next number.
+    fn add_rule<K: Sink>(
+        &mut self,
+        rule: DefinedRule,
+        branches: Vec<Vec<Ce<Mark>>>,
+        out: &mut Out<K>,
+    ) -> Result<(), Break>
+        requires { out.old.fault ≡ false }
+        ensures { Went K.writes out.old out.new self.new result
+            (added_rule rule (branches_of branches.items) self.old) }
+    {
+        if !self.memory.has_rule_number() {
+            return Err(Break::Ended(Ended::Limit(Limit::Numbers)));
+        }
+        let delta = self.keep_rule(rule, branches)?;
+        self.tell_and_apply(b"".as_slice(), &delta, out)
+    }
+
+    /// Gives the working memory a rule, and keeps the rest of it.
+    fn keep_rule(
+        &mut self,
+        rule: DefinedRule,
+        branches: Vec<Vec<Ce<Mark>>>,
+    ) -> Result<Delta, NoMemory>
+        requires { self.old.memory.last_rule < greatest_index }
+        ensures state { OnOk result (self.new ≡ record self.old {
+            memory = with_next_rule (branches_of branches.items) self.old.memory;
+            rules = self.old.rules ++ numbered self.old rule ∷ []
+        }) }
+        ensures delta { IfOk result (IsDelta self.old.memory.network
+            (with_next_rule (branches_of branches.items) self.old.memory).network) }
+    {
+        let mut rule = rule;
+        rule.id = self.memory.next_rule();
+        self.rules.push(rule)?;
+        self.memory.add_rule(branches)
+    }
+}
+
+/// Takes the rule with a number out.
+fn forget_numbered(
+    alloc: Global,
+    rules: &mut Vec<DefinedRule>,
+    id: u64,
+) -> Result<(), NoMemory>
+    ensures { OnOk result (rules.new.items ≡ filter (λ r. not (nat_eq id r.id)) rules.old.items) }
+{
+    let mut kept = Vec::new(alloc);
+    for rule in mem::replace(rules, Vec::new(alloc)) {
+        if id != rule.id {
+            kept.push(rule)?;
+        }
+    }
+    *rules = kept;
+    Ok(())
+}
