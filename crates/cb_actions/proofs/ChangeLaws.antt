@@ -5,7 +5,8 @@ use Rattle.cb_actions.specs.Changes.{gone_line, moved, rescheduled, told}
 use Rattle.cb_actions.specs.Effects.{added_beside, added_next, fact_added, fact_gone, fact_taken, gone_if, is_retractable, retracted, retracted_one}
 use Rattle.cb_actions.specs.Lemmas.ActLaws.{went_as}
 use Rattle.cb_actions.specs.Went.{Went}
-use Rattle.cb_actions.specs.Worlds.{RuleInfo, World}
+use Rattle.cb_actions.specs.Worlds.{World}
+use Rattle.cb_rules.specs.RuleInfos.{RuleInfo}
 use Rattle.cb_actions.specs.declared.act.Break.{Break}
 use Rattle.cb_io.specs.Histories.{PastWrites}
 use Rattle.cb_io.specs.Output.{OutState}

@@ -2,8 +2,9 @@
 use Rattle.std.specs.Prelude.{ℕ, ◌+◌, ℤ, Bool, true, false, List, [], ◌++◌, Option, Some, None, Ok, codes, length, map, flat_map, if◌then◌else◌}
 use Rattle.std.specs.List.{filter}
 use Rattle.cb_actions.specs.Acts.{Act, stop, ◌>>=◌}
-use Rattle.cb_actions.specs.Lines.{activation_line, fact_line, rule_numbered, salience_of}
-use Rattle.cb_actions.specs.Worlds.{RuleInfo, World}
+use Rattle.cb_lines.specs.Lines.{activation_line, fact_line, rule_numbered, salience_of}
+use Rattle.cb_actions.specs.Worlds.{World}
+use Rattle.cb_rules.specs.RuleInfos.{RuleInfo}
 use Rattle.cb_actions.specs.declared.act.Ended.TheVariants as ended
 use Rattle.cb_actions.specs.declared.act.Limit.TheVariants.{Numbers}
 use Rattle.cb_agenda.specs.Agendas.{changed, has_stamps, is_due}

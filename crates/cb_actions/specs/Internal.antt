@@ -3,19 +3,20 @@ use Rattle.std.specs.Prelude.{◌≤◌, ℕ, List, Result, Ok, Err, Vec, Bool, 
 use Rattle.std.specs.Coded.{Coded, code_by, coded_bool, coded_list, coded_ℕ, coded_ℤ, coded×}
 use Rattle.std.specs.declared.alloc.Global.{Global}
 use Rattle.cb_actions.specs.Acts.{Act}
-use Rattle.cb_actions.specs.Worlds.{RuleInfo, World}
+use Rattle.cb_actions.specs.Worlds.{World}
 use Rattle.cb_actions.specs.declared.act.Break.{Break}
 use Rattle.cb_actions.specs.declared.act.Break.TheVariants as break
 use Rattle.cb_actions.specs.declared.act.Ended.TheVariants as ended
 use Rattle.cb_actions.specs.declared.watched.Watched.{Watched}
 use Rattle.cb_agenda.specs.Agendas.{AgendaValue}
-use Rattle.cb_exprs.specs.Terms.{Terms}
 use Rattle.cb_actions.specs.declared.stop.Stop.TheVariants as stop
 use Rattle.cb_exprs.specs.Bindings.{Bindings}
-use Rattle.cb_exprs.specs.Internal.Codes.{Piece, terms_code}
+use Rattle.cb_exprs.specs.Internal.Codes.{Piece}
 use Rattle.cb_facts.specs.declared.refused.Refused.{Refused}
 use Rattle.cb_facts.specs.declared.refused.Refused.TheVariants as refused
 use Rattle.cb_working_memory.specs.WorkingMemory.{Memory}
+use Rattle.cb_rules.specs.Internal.Codes.{rule_code}
+use Rattle.cb_rules.specs.RuleInfos.{RuleInfo}
 use Rattle.cb_templates.specs.Templates.{Templates}
 
 -- what a refusal breaks off with
@@ -37,15 +38,6 @@ abbrev pub turns_left : World → ℕ
 turns_left s = s.turns
 
 -- how the logic stores it
-abbrev pub rule_code : Coded (List ℕ) → Coded Piece → Coded RuleInfo
-rule_code name piece =
-    code_by
-    ((ℕ × (List ℕ × ℤ)) × (List (List ℕ) × (List (List Bool) × Terms)))
-    (coded× (coded× coded_ℕ (coded× name coded_ℤ)) (coded× (coded_list name) (coded× (coded_list (coded_list coded_bool)) (terms_code piece))))
-    (λ r. ((r.id, (r.name, r.salience)), (r.relations, (r.layouts, r.actions))))
-    (λ p. record { id = p.0.0; name = p.0.1.0; salience = p.0.1.1; relations = p.1.0; layouts = p.1.1.0; actions = p.1.1.1 })
-    (λ _. refl)
-
 abbrev pub world_code : Coded Memory → Coded (List ℕ) → Coded Piece → Coded AgendaValue → Coded Watched → Coded Templates → Coded Bindings → Coded World
 world_code memory name piece agenda watched templates env =
     code_by

@@ -1,21 +1,11 @@
 -- What actions see and change.
-use Rattle.std.specs.Prelude.{ℕ, ℤ, Bool, false, List, []}
+use Rattle.std.specs.Prelude.{ℕ, Bool, false, List, []}
 use Rattle.cb_actions.specs.declared.watched.Watched.{Watched}
 use Rattle.cb_agenda.specs.Agendas.{AgendaValue, empty_agenda}
-use Rattle.cb_exprs.specs.Terms.{Terms}
 use Rattle.cb_exprs.specs.Bindings.{Bindings, no_bindings}
+use Rattle.cb_rules.specs.RuleInfos.{RuleInfo}
 use Rattle.cb_working_memory.specs.WorkingMemory.{Memory, empty_memory}
 use Rattle.cb_templates.specs.Templates.{Templates}
-
--- What is kept of a rule besides what it asks: its number and name, its salience, the relations that its patterns and actions
--- name, of each branch which of its members outside tests are patterns and which are groups, and its actions.
-pub record RuleInfo : Type 0 where
-  pub id : ℕ
-  pub name : List ℕ
-  pub salience : ℤ
-  pub relations : List (List ℕ)
-  pub layouts : List (List Bool)
-  pub actions : Terms
 
 abbrev pub unwatched : Watched
 unwatched = record { facts = false; rules = false; activations = false }

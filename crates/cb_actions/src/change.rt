@@ -3,22 +3,23 @@ ghost use Rattle.std.specs.Prelude.{◌≡◌, ◌<◌, ◌+◌, ◌++◌, Ok, I
 ghost use Rattle.std.specs.List.{filter};
 ghost use Rattle.cb_actions.specs.Changes.{activation_lines, come_line, rescheduled, scheduled, tell, told};
 ghost use Rattle.cb_actions.specs.Effects.{fact_added};
-ghost use Rattle.cb_actions.specs.Lines.{activation_line};
+ghost use Rattle.cb_lines.specs.Lines.{activation_line};
 ghost use Rattle.cb_actions.specs.Went.{Quietly, Went};
 ghost use Rattle.cb_agenda.specs.Agendas.{is_due};
 ghost use Rattle.cb_actions.specs.Worlds.{World as State};
 ghost use Rattle.cb_working_memory.specs.WorkingMemory.{Asserts, greatest_index};
 
 use crate::act::{Break, Ended, Limit};
-use crate::lines::{add_activation_line, add_fact_line};
 use crate::output::put;
-use crate::rules::{DefinedRule, saliences};
+use crate::rules::saliences;
 use crate::stop::Stop;
 use crate::world::World;
 use cb_agenda::{Agenda, ApplyFault};
 use cb_facts::{Fact, Value};
 use cb_forms::{NoMemory, Out, Sink};
+use cb_lines::{add_activation_line, add_fact_line};
 use cb_matches::{Delta, Key, Matcher};
+use cb_rules::DefinedRule;
 use cb_working_memory::{Asserted, Mark};
 use std::alloc::Global;
 

@@ -8,9 +8,9 @@ ghost use Rattle.cb_matches.specs.Changes.{IsDelta};
 ghost use Rattle.cb_working_memory.specs.WorkingMemory.{greatest_index, with_next_rule, without_one_rule};
 
 use crate::act::{Break, Ended, Limit};
-use crate::rules::{DefinedRule, find_named};
+use crate::rules::find_named;
 use crate::world::World;
-use cb_rules::Ce;
+use cb_rules::{Ce, DefinedRule};
 use cb_facts::Name;
 use cb_forms::{NoMemory, Out, Sink};
 use cb_matches::{Delta, Matcher};

@@ -8,11 +8,11 @@ ghost use Rattle.cb_working_memory.specs.WorkingMemory.{restarted};
 
 use crate::act::Break;
 use crate::change::tell;
-use crate::lines::add_fact_line;
 use crate::world::World;
 use cb_exprs::Env;
 use cb_facts::FactList;
 use cb_forms::{NoMemory, Out, Sink};
+use cb_lines::add_fact_line;
 use cb_matches::{Delta, Matcher};
 use cb_working_memory::Mark;
 use cb_templates::Relations;

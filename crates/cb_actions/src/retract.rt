@@ -10,10 +10,10 @@ ghost use Rattle.cb_facts.specs.FactLists.{fact_at};
 ghost use Rattle.cb_working_memory.specs.WorkingMemory.{Retracts};
 
 use crate::act::{Break, Ended};
-use crate::lines::add_fact_line;
 use crate::world::World;
 use cb_facts::{FactList, Value};
 use cb_forms::{Fault, NoMemory, Out, Sink};
+use cb_lines::add_fact_line;
 use cb_matches::{Delta, Matcher};
 use cb_working_memory::Mark;
 use std::alloc::Global;

@@ -3,7 +3,7 @@ ghost use Rattle.std.specs.Prelude.{◌≡◌, ◌-◌, IfOk, OnOk, Some, false,
 ghost use Rattle.std.specs.Rc.{rc_value};
 ghost use Rattle.cb_actions.specs.Acts.{Act};
 ghost use Rattle.cb_actions.specs.Actions.{carried_all};
-ghost use Rattle.cb_actions.specs.Lines.{rule_numbered};
+ghost use Rattle.cb_lines.specs.Lines.{rule_numbered};
 ghost use Rattle.cb_actions.specs.Runs.{acted, actions_of, due_by, fire_line, fired, in_scope, next_due, run, spent, with_variables_of};
 ghost use Rattle.cb_actions.specs.Effects.{halted};
 ghost use Rattle.cb_actions.specs.Went.{Quietly, Went};
@@ -14,13 +14,13 @@ ghost use Rattle.cb_matches.specs.Keys.{KeyValue};
 
 use crate::act::{Break, Ended, Limit};
 use crate::change::tell;
-use crate::lines::add_firing_line;
-use crate::rules::{DefinedRule, find_rule};
 use crate::world::World;
 use cb_exprs::{Env, Expr};
 use cb_facts::Value;
 use cb_forms::{NoMemory, Out, Sink};
+use cb_lines::{add_firing_line, find_rule};
 use cb_matches::{Key, Matcher};
+use cb_rules::DefinedRule;
 use cb_working_memory::Mark;
 use std::alloc::Global;
 use std::rc::Rc;

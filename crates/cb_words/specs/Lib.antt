@@ -1,2 +1,3 @@
 pub mod Arities
+pub mod WatchItems
 pub mod Words

@@ -5,8 +5,10 @@
 
 mod function;
 mod head;
+mod watch_item;
 mod words;
 
 pub use function::{Arity, Function};
 pub use head::{Action, Command, Construct, Head};
+pub use watch_item::{WatchItem, read_watch_item};
 pub use words::read_head;

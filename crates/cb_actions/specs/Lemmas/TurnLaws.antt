@@ -7,12 +7,13 @@ use Rattle.cb_actions.specs.Lemmas.{falls_then}
 use Rattle.cb_actions.specs.Definitions.{all_asserted, all_evaluated, globals_after, globals_defined, one_evaluated, template_defined}
 use Rattle.cb_actions.specs.Effects.{found, wanted, valued, truth_of, ends, called, fact_added, fact_gone, gone_if, added_beside, added_next, asserted, retracted, retracted_one, index_named, taken_by, bound, global_bound, chosen, turn, turn_of}
 use Rattle.cb_actions.specs.Internal.{Falls, turns_left}
-use Rattle.cb_actions.specs.Lines.{rule_numbered}
+use Rattle.cb_lines.specs.Lines.{rule_numbered}
 use Rattle.cb_actions.specs.Runs.{acted, actions_of, added_rule, all_gone, cleared_world, defined_rule, dropped_rule, due_by, fire_line, fired, forgotten, in_scope, next_due, numbered, ran, replaced, restarted_world, rule_named, run, spent, started_anew, unless_halted, with_variables_of, without_all, without_facts}
 use Rattle.cb_actions.specs.declared.act.Limit.TheVariants.{Firings}
 use Rattle.cb_rules.specs.Elements.{Elements}
 use Rattle.cb_matches.specs.Networks.{all_keys, bindings_of}
-use Rattle.cb_actions.specs.Worlds.{RuleInfo, World}
+use Rattle.cb_actions.specs.Worlds.{World}
+use Rattle.cb_rules.specs.RuleInfos.{RuleInfo}
 use Rattle.cb_actions.specs.declared.act.Ended.{Ended}
 use Rattle.cb_actions.specs.declared.act.Ended.TheVariants as ended
 use Rattle.cb_eval.specs.Evaluation.{value_of}

@@ -1,13 +1,14 @@
--- How the logic stores elements: as the pieces that they are put together from, each after its parts.
-use Rattle.std.specs.Prelude.{◌≡◌, ◌⊎◌, ℕ, Bool, true, false, List, [], ◌∷◌, Option, Some, None, refl}
+-- How the logic stores rules, and elements: as the pieces that they are put together from, each after its parts.
+use Rattle.std.specs.Prelude.{◌≡◌, ◌⊎◌, ℕ, ℤ, Bool, true, false, List, [], ◌∷◌, Option, Some, None, refl}
 use Rattle.std.proofs.Common.{inl, inr, ◌∙◌, ap}
-use Rattle.std.specs.Coded.{Coded, code_by, coded_bool, coded_list, coded_option, coded×, coded⊎}
+use Rattle.std.specs.Coded.{Coded, code_by, coded_bool, coded_list, coded_option, coded_ℕ, coded_ℤ, coded×, coded⊎}
 use Rattle.cb_constraints.specs.Internal.Codes.{pattern_code}
 use Rattle.cb_constraints.specs.PatternValues.{PatternValue}
 use Rattle.cb_rules.specs.Elements.{Element, pattern, test, group, Elements, no_elements, element}
-use Rattle.cb_exprs.specs.Internal.Codes.{Piece, term_code}
-use Rattle.cb_exprs.specs.Terms.{Term}
+use Rattle.cb_exprs.specs.Internal.Codes.{Piece, term_code, terms_code}
+use Rattle.cb_exprs.specs.Terms.{Term, Terms}
 use Rattle.cb_facts.specs.declared.value.Value.{Value}
+use Rattle.cb_rules.specs.RuleInfos.{RuleInfo}
 
 -- a pattern, a test, a group, or the end of a list or one more element of it
 abbrev pub ElementPiece : Type 0
@@ -68,3 +69,13 @@ module _ (value : Coded Value) (name : Coded (List ℕ)) (piece : Coded Piece) w
 
   abbrev pub elements_code : Coded Elements
   elements_code = code_by (List ElementPiece) (coded_list piece_code) (λ es. pieces_of_all es []) from_pieces from_pieces-pieces
+
+-- how the logic stores what is kept of a rule
+abbrev pub rule_code : Coded (List ℕ) → Coded Piece → Coded RuleInfo
+rule_code name piece =
+    code_by
+    ((ℕ × (List ℕ × ℤ)) × (List (List ℕ) × (List (List Bool) × Terms)))
+    (coded× (coded× coded_ℕ (coded× name coded_ℤ)) (coded× (coded_list name) (coded× (coded_list (coded_list coded_bool)) (terms_code piece))))
+    (λ r. ((r.id, (r.name, r.salience)), (r.relations, (r.layouts, r.actions))))
+    (λ p. record { id = p.0.0; name = p.0.1.0; salience = p.0.1.1; relations = p.1.0; layouts = p.1.1.0; actions = p.1.1.1 })
+    (λ _. refl)

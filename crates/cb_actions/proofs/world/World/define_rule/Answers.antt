@@ -2,7 +2,8 @@ use Rattle.std.proofs.Common.{◌≡◌, ◌∙◌, Err, Ok, ap, false, nat_lt, 
 use Rattle.cb_actions.specs.Acts.{Act, ◌>>=◌}
 use Rattle.cb_actions.specs.Lemmas.ActLaws.{went_then, went_off, went_quietly, went_as}
 use Rattle.cb_actions.specs.Runs.{added_rule, replaced, rule_named}
-use Rattle.cb_actions.specs.Worlds.{RuleInfo, World}
+use Rattle.cb_actions.specs.Worlds.{World}
+use Rattle.cb_rules.specs.RuleInfos.{RuleInfo}
 use Rattle.cb_actions.specs.declared.act.Break.TheVariants as break
 use Rattle.cb_actions.specs.declared.act.Ended.TheVariants as ended
 use Rattle.cb_actions.specs.declared.act.Limit.TheVariants.{Numbers}

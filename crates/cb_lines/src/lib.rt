@@ -1,0 +1,10 @@
+//! The lines of facts, activations, firings and totals.
+#![tactic(auto)]
+
+mod lines; // the lines of facts, activations and firings
+mod rules; // the rule of a number, and the layout of a branch
+mod totals; // the lines of totals
+
+pub use lines::{add_activation_line, add_agenda_line, add_fact_line, add_firing_line};
+pub use rules::find_rule;
+pub use totals::{Noun, add_total_line};

@@ -1,0 +1,36 @@
+//! Rules that are looked up.
+ghost use Rattle.std.specs.Prelude.{◌≡◌, option_copied, slice_get};
+ghost use Rattle.cb_lines.specs.Lines.{layout_of, rule_numbered};
+
+use cb_rules::{DefinedRule, Layout};
+
+/// The rule with this number, if there is one.
+pub fn find_rule(rules: &[DefinedRule], id: u64) -> Option<&DefinedRule>
+    ensures { option_copied result ≡ rule_numbered id rules.now }
+{
+    for rule in rules {
+        if id == rule.id {
+            return Some(rule);
+        }
+    }
+    None
+}
+
+/// The layout of a branch of a rule.
+pub(crate) fn find_layout(rule: Option<&DefinedRule>, branch: u64) -> Option<&Layout>
+    ensures { option_copied result ≡ layout_of (option_copied rule.entry) branch }
+{
+    match rule {
+        Some(rule) => layout_at(rule.layouts.as_slice(), branch),
+        None => None,
+    }
+}
+
+fn layout_at(layouts: &[Layout], branch: u64) -> Option<&Layout>
+    ensures { option_copied result ≡ slice_get layouts.now branch }
+{
+    match usize::try_from(branch) {
+        Ok(place) => layouts.get(place),
+        Err(_) => None,
+    }
+}
