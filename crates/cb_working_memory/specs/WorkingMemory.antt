@@ -11,6 +11,7 @@ pub record Memory : Type 0 where
   pub facts : IndexedFacts
   pub last : ℕ
 
+-- No facts, and no index given.
 abbrev pub empty_memory : Memory
 empty_memory = record { facts = []; last = 0 }
 
@@ -32,6 +33,7 @@ abbrev pub asserted_beside : Memory → FactValue → Option ℕ → Memory × O
 asserted_beside m fact (Some ix) = (m, Some ix)
 asserted_beside m fact None = if nat_lt m.last greatest_index then (grown m fact, Some (m.last + 1)) else (m, None)
 
+-- One fact is asserted: the address of the fact that is there or is added.
 abbrev pub asserted_one : Memory → FactValue → Memory × Option ℕ
 asserted_one m fact = asserted_beside m fact (index_of m.facts fact)
 
