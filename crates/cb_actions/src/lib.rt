@@ -3,16 +3,16 @@
 //! `docs/ARCHITECTURE.md` says where it belongs.
 #![tactic(auto)]
 
-mod act;
-mod carry;
-pub mod cited;
-mod deffacts;
-mod globals;
-pub mod laws;
-mod output;
-mod print;
-mod stop;
-mod world;
+mod act; // how an item ends before it is done, at which limit, and why a call breaks off
+mod carry; // `World::carry_out`, and what it calls in turn: all that is recursive
+pub mod cited; // laws that the proofs of other crates cite
+mod deffacts; // the facts of each `deffacts`, asserted
+mod globals; // globals defined, all or none of them, and evaluated anew
+pub mod laws; // laws of carrying out expressions
+mod output; // bytes and texts put into the output
+mod print; // what printed values put
+mod stop; // why a script could not be carried out further: memory was refused, or a write failed
+mod world; // what actions see and change, and what each kind of action does with its values
 
 pub use act::{Break, Ended, Limit};
 pub use output::{put, put_text};
