@@ -3,7 +3,7 @@
 //! `docs/ARCHITECTURE.md` says where it belongs.
 #![tactic(auto)]
 
-mod body; // what a pattern asks, with such a table
+mod body; // what a pattern asks, with a table of its variables and of the sites of its constraints
 mod bound; // the trait `Bound`: what variables have before each check of a constraint
 pub mod cited; // a law that the proofs of other crates cite
 mod constraint; // a test, a test with `~` before it, what a constraint asks, a constraint

@@ -13,7 +13,7 @@ mod global_expr; // a global that was read: its name and its initial expression
 pub mod laws; // laws of expressions as terms, and of the values that names have
 mod lookup; // the trait `Lookup`: what says which values variables have; an `Env` is one
 mod tree; // a balanced search tree of names, each with its value, whose nodes are shared
-mod values; // names, each with its value, in such a tree
+mod values; // names, each with its value, in a tree of `tree.rt`
 
 pub use channel::Channel;
 pub use env::Env;
