@@ -32,6 +32,7 @@ found f (Some v) = give (Some v)
 abbrev pub looked_up : List ℕ → Act World (Option Value)
 looked_up x s = found UnboundVariable (value_at x s.env.variables) s
 
+-- The value of a global, or CB12.
 abbrev pub global_looked_up : List ℕ → Act World (Option Value)
 global_looked_up x s = found UnknownGlobal (value_at x s.env.globals) s
 
@@ -40,6 +41,7 @@ abbrev pub wanted : Option Value → Act World Value
 wanted None = stop (ended.Fault WrongType)
 wanted (Some v) = give v
 
+-- A value is wanted, and where there is none the item ends with CB17.
 abbrev pub valued : Act World (Option Value) → Act World Value
 valued act = act >>= wanted
 
@@ -79,6 +81,7 @@ abbrev pub added_beside : FactValue → Option ℕ → Act World (Option Value)
 added_beside fact (Some ix) s = give (Some (value.Fact ix)) s
 added_beside fact None s = if nat_lt s.memory.last greatest_index then (added_next fact >>= (λ _. give (Some (value.Fact (s.memory.last + 1))))) s else stop (ended.Limit Numbers) s
 
+-- A fact is built and asserted, and its value is its address; where no index is left, the script ends.
 abbrev pub fact_added : FactValue → Act World (Option Value)
 fact_added fact s = added_beside fact (index_of s.memory.network.facts fact) s
 
@@ -129,6 +132,7 @@ retracted vs s = if list_all is_retractable vs then (each retracted_one vs >>= (
 abbrev pub bound : List ℕ → Value → Act World (Option Value)
 bound x v s = give (Some v) (record s { env = with_variable x v s.env })
 
+-- A global has this value, which is the answer.
 abbrev pub global_bound : List ℕ → Value → Act World (Option Value)
 global_bound x v s = give (Some v) (record s { env = with_global x v s.env })
 
@@ -150,5 +154,6 @@ abbrev pub turn_of : ℕ → Act World (Unit {0})
 turn_of zero s = stop (ended.Limit Turns) s
 turn_of (suc n) s = give tt (record s { turns = n })
 
+-- A turn is taken from those that are left; where none is, the script ends.
 abbrev pub turn : Act World (Unit {0})
 turn s = turn_of s.turns s

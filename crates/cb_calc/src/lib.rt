@@ -1,7 +1,6 @@
 //! Expressions: the words of the language, what expressions are, how they are read, and their values.
 //!
-//! All of it stands in `cb_words`, `cb_functions`, `cb_exprs`, `cb_expr_forms` and `cb_eval`. `docs/ARCHITECTURE.md` says where
-//! the layers stand.
+//! It only re-exports, from `cb_words`, `cb_functions`, `cb_exprs`, `cb_expr_forms` and `cb_eval`.
 #![tactic(auto)]
 
 pub use cb_eval::eval;

@@ -8,6 +8,7 @@ abbrev pub binder : Bool → Test → List (List ℕ)
 binder false (variable x) = x ∷ []
 binder negated t = []
 
+-- The variables that checks may give values.
 abbrev pub binders_of : List Check → List (List ℕ)
 binders_of cs = flat_map (λ c. binder c.negated c.test) cs
 
@@ -18,6 +19,7 @@ binders (each cs) = binders_of cs
 binders (either None alternatives) = []
 binders (either (Some x) alternatives) = x ∷ []
 
+-- The variables that constraints may give values.
 abbrev pub binders_in : List Constraint → List (List ℕ)
 binders_in cs = flat_map (λ c. binders c.demand) cs
 

@@ -11,6 +11,7 @@ abbrev pub each_once : List (List ℕ) → List (List ℕ)
 each_once [] = []
 each_once (x ∷ names) = x ∷ filter (λ y. not (bytes_eq x y)) (each_once names)
 
+-- A name with a value, if there was none before and there is one now.
 abbrev pub given_if : List ℕ → Option Value → Option Value → List (List ℕ × Value)
 given_if x None (Some v) = (x, v) ∷ []
 given_if x old now = []

@@ -34,15 +34,18 @@ pub record Constraint : Type 0 where
   pub segment : Bool
   pub demand : Demand
 
+-- The test that a value of the program is.
 abbrev pub asked_test : program_test.Test → Test
 asked_test (test.Constant v) = constant v
 asked_test (test.Variable x) = variable x
 asked_test (test.Predicate e) = predicate (term_of e)
 asked_test (test.ReturnValue e) = return_value (term_of e)
 
+-- The check that a value of the program is.
 abbrev pub check_of : program_check.Check → Check
 check_of c = record { negated = c.is_negated; test = asked_test c.test }
 
+-- The demand that a value of the program is.
 abbrev pub demand_of : program_demand.Demand → Demand
 demand_of demand.Nothing = nothing
 demand_of (demand.Each cs) = each (map check_of cs.items)

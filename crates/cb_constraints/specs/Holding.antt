@@ -34,6 +34,8 @@ test_holds (return_value e) v env = option_map_or (same v) (value_if_any (value_
 abbrev pub opposite_if : Bool → Bool → Bool
 opposite_if negated holds = if negated then not holds else holds
 
+-- What is asked of a value holds, or with `~` its opposite; an expression that faults has no value, and so
+-- doesn't hold.
 abbrev pub check_holds : Value → Bindings → Check → Bool
 check_holds v env c = opposite_if c.negated (test_holds c.test v env)
 
@@ -51,6 +53,7 @@ abbrev pub after_test : Bool → Test → Value → Bindings → Option Bindings
 after_test false (variable x) v env = after_variable x v env
 after_test negated t v env = provided (opposite_if negated (test_holds t v env)) env
 
+-- What variables have after a check that holds.
 abbrev pub after_check : Check → Value → Bindings → Option Bindings
 after_check c v env = after_test c.negated c.test v env
 
@@ -77,6 +80,7 @@ constant_holds v negated (variable x) = true
 constant_holds v negated (predicate e) = true
 constant_holds v negated (return_value e) = true
 
+-- Of checks joined by `&`, those for constants hold of the value.
 abbrev pub constants_hold : Value → List Check → Bool
 constants_hold v cs = list_all (λ c. constant_holds v c.negated c.test) cs
 

@@ -8,6 +8,7 @@ use Rattle.cb_facts.specs.declared.value.Value.{Value}
 use Rattle.cb_cuts.specs.declared.fields.Fields.{Fields}
 use Rattle.cb_cuts.specs.declared.fields.Fields.TheVariants as program
 
+-- The fields that a `Fields` of the program is.
 abbrev pub row_fields : Fields → List Single
 row_fields (program.All fields) = fields.now
 row_fields (program.Slot v) = fields_in v.now

@@ -3,7 +3,7 @@
 //! `docs/ARCHITECTURE.md` says where it belongs.
 #![tactic(auto)]
 
-mod evaluation;
-pub mod laws;
+mod evaluation; // `eval`, over any `Lookup`: one row for each kind of expression
+pub mod laws; // laws of evaluation
 
 pub use evaluation::eval;

@@ -34,6 +34,7 @@ abbrev pub before_else : List Term → List Term
 before_else [] = []
 before_else (t ∷ ts) = if is_else t then [] else t ∷ before_else ts
 
+-- What stands after the word `else`.
 abbrev pub after_else : List Term → List Term
 after_else [] = []
 after_else (t ∷ ts) = if is_else t then ts else after_else ts

@@ -105,6 +105,7 @@ abbrev mutual
   list_faults s (tree (atom (token.Symbol name)) ts) = call_faults s (head_of name) ts (all_faults s ts) (facts_faults s ts)
   list_faults s ts = MalformedForm ∷ []
 
+  -- The faults of forms, one after another.
   pub all_faults : Scope → Trees → List Fault
   all_faults s no_trees = []
   all_faults s (tree t ts) = faults_of s t ++ all_faults s ts

@@ -38,6 +38,7 @@ assertion f = assert f.shape f.values
 abbrev pub no_fact : FactTerm
 no_fact = record { shape = record { relation = []; slots = None }; values = no_terms }
 
+-- The first of several expressions.
 abbrev pub one_of : List Term → Term
 one_of [] = no_expr
 one_of (t ∷ ts) = t
@@ -52,6 +53,7 @@ abbrev pub slot_name : Tree → List ℕ
 slot_name (branch (tree (atom (token.Symbol name)) ts)) = name
 slot_name t = []
 
+-- The names of the slots that a fact gives, as they are written.
 abbrev pub slot_names : Trees → List (List ℕ)
 slot_names no_trees = []
 slot_names (tree t ts) = slot_name t ∷ slot_names ts
@@ -79,6 +81,7 @@ abbrev mutual
   list_expr templates (tree (atom (token.Symbol name)) ts) = call_expr (head_of name) (exprs_of templates ts) (assertions templates ts)
   list_expr templates ts = no_expr
 
+  -- The expressions that forms are.
   pub exprs_of : Templates → Trees → List Term
   exprs_of templates no_trees = []
   exprs_of templates (tree t ts) = expr_of templates t ∷ exprs_of templates ts
@@ -99,6 +102,7 @@ abbrev mutual
   slot_exprs templates slots no_trees = []
   slot_exprs templates slots (tree t ts) = given_slot templates slots t ∷ slot_exprs templates slots ts
 
+  -- The expression of a slot that a fact gives: of a multislot a multifield of all that it is given.
   pub given_slot : Templates → List SlotShape → Tree → Term
   given_slot templates slots (branch (tree (atom (token.Symbol name)) ts)) = slot_expr (slot_named slots name) (exprs_of templates ts)
   given_slot templates slots t = no_expr

@@ -61,6 +61,7 @@ abbrev mutual
   IsPlain (call f ts) = ArePlain ts
   IsPlain t = ⊥
 
+  -- Terms of constants, variables and calls of functions alone.
   pub ArePlain : Terms → Type 0
   ArePlain no_terms = Unit {0}
   ArePlain (term t ts) = IsPlain t × ArePlain ts

@@ -3,7 +3,8 @@ use Rattle.std.specs.Prelude.{ℕ, List, [], ◌∷◌, ◌++◌}
 use Rattle.cb_exprs.specs.Terms.{Term, constant, variable, global, call, assert, retract, bind, bind_global, choose, repeat, actions, printout, print, println, Terms, no_terms, term}
 
 abbrev mutual
-  -- in the order in which they stand, each as often as it does; globals are not among them
+  -- The variables of an expression, in the order in which they stand, each as often as it does; globals are not
+  -- among them.
   pub variables_of : Term → List (List ℕ)
   variables_of (constant v) = []
   variables_of (variable x) = x ∷ []
@@ -20,6 +21,7 @@ abbrev mutual
   variables_of (print ts) = variables_in ts
   variables_of (println ts) = variables_in ts
 
+  -- The variables of several expressions.
   pub variables_in : Terms → List (List ℕ)
   variables_in no_terms = []
   variables_in (term t ts) = variables_of t ++ variables_in ts

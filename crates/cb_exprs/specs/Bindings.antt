@@ -28,9 +28,11 @@ pub record Bindings : Type 0 where
   pub variables : Values
   pub globals : Values
 
+-- No variable has a value.
 abbrev pub no_bindings : Bindings
 no_bindings = record { variables = []; globals = [] }
 
+-- A variable has this value now.
 abbrev pub with_variable : List ℕ → Value → Bindings → Bindings
 with_variable name v env = record env { variables = with_value name v env.variables }
 
@@ -39,8 +41,10 @@ abbrev pub with_variables : List (List ℕ × Value) → Bindings → Bindings
 with_variables [] env = env
 with_variables ((name, v) ∷ more) env = with_variables more (with_variable name v env)
 
+-- A variable has no value now.
 abbrev pub without_variable : List ℕ → Bindings → Bindings
 without_variable name env = record env { variables = without_value name env.variables }
 
+-- A global has this value now.
 abbrev pub with_global : List ℕ → Value → Bindings → Bindings
 with_global name v env = record env { globals = with_value name v env.globals }

@@ -8,6 +8,8 @@ use Rattle.cb_facts.specs.declared.value.Value.{Value}
 use Rattle.cb_words.specs.declared.function.Function.{Function}
 
 mutual
+  -- An expression: a constant, a variable, a global variable, a call without an effect, or one of the expressions
+  -- with an effect.
   pub data Term : Type 0 where
     constant : Value → Term
     variable : List ℕ → Term
@@ -34,6 +36,7 @@ mutual
     no_terms : Terms
     term : Term → Terms → Terms
 
+-- A list of terms as `Terms`.
 abbrev pub terms : List Term → Terms
 terms [] = no_terms
 terms (t ∷ ts) = term t (terms ts)
@@ -56,8 +59,10 @@ term_step (program.Print ts) = print (terms ts.items)
 term_step (program.Println ts) = println (terms ts.items)
 term_step program.Halt = halt
 
+-- The term that an `Expr` of the program is.
 abbrev pub term_of : Expr → Term
 term_of = fold-Expr Term term_step
 
+-- The terms that several are.
 abbrev pub terms_of : List Expr → Terms
 terms_of es = terms (map term_of es)

@@ -14,6 +14,7 @@ pub data FactContent : Type 0 where
   fields : List Single → FactContent
   slots : List (List ℕ × Value) → FactContent
 
+-- A fact: the bytes of its relation, and its content.
 pub record FactValue : Type 0 where
   pub relation : List ℕ
   pub content : FactContent
@@ -35,11 +36,13 @@ content_of (content.Slots pairs) = slots pairs.items
 abbrev pub slot_eq : List ℕ × Value → List ℕ × Value → Bool
 slot_eq s t = pointwise nat_eq s.0 t.0 && value_eq.ghosts.eq s.1 t.1
 
+-- Two contents are equal.
 abbrev pub content_eq : FactContent → FactContent → Bool
 content_eq (fields xs) (fields ys) = pointwise single_eq.ghosts.eq xs ys
 content_eq (fields xs) (slots ts) = false
 content_eq (slots ss) (fields ys) = false
 content_eq (slots ss) (slots ts) = pointwise slot_eq ss ts
 
+-- Two facts are equal: their relations, and their contents.
 abbrev pub fact_eq : FactValue → FactValue → Bool
 fact_eq f g = pointwise nat_eq f.relation g.relation && content_eq f.content g.content

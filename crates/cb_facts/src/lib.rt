@@ -4,19 +4,19 @@
 //! layer stands.
 #![tactic(auto)]
 
-pub mod cited;
-mod fact;
-mod fact_list;
-mod multifield;
-mod name;
-mod names;
-mod refused;
-mod relation_counts;
-mod single;
-mod splicing;
-mod text;
-mod value;
-mod words;
+pub mod cited; // laws that the proofs of other crates cite
+mod fact; // a fact: its relation, its content and the number that it is hashed by; the order of facts
+mod fact_list; // the facts of a working memory, by their indices and by themselves
+mod multifield; // the fields of a multifield: a part of a shared slice
+mod name; // the bytes of a symbol, a string or a relation, shared by all that hold them
+mod names; // the names that were read, each found by its bytes, so that one that is read again is shared
+mod refused; // why a form, a fact or an expression is refused: its fault, or out of memory
+mod relation_counts; // how many facts name each relation
+mod single; // a value of one field, as it stands in a multifield
+mod splicing; // the fields of values, those of a multifield in its place
+mod text; // the texts of values and facts
+mod value; // a value; the value of a token that is a constant
+mod words; // whether a word is one of a list
 
 pub use fact::{Content, Fact};
 pub use fact_list::FactList;

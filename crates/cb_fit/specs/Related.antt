@@ -32,6 +32,8 @@ SlotsFit (s ∷ ss) slots cuts before after =
     × (slot_at s.place slots ≡ Some v) × (cuts ≡ own ++ others)
     × RowFits s.row (fields_in v) own before grown × SlotsFit ss slots others grown after
 
+-- The row or the slots of a pattern fit a fact's content, with segments of these lengths: fields for a row,
+-- slots for slots.
 abbrev pub PartsFit : Parts → FactContent → List ℕ → Bindings → Bindings → Type 0
 PartsFit (pattern.fields row) (fact.fields fs) cuts before after = RowFits row fs cuts before after
 PartsFit (pattern.fields row) (fact.slots ss) cuts before after = ⊥

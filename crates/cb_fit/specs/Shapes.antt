@@ -11,20 +11,25 @@ use Rattle.cb_fit.specs.Related.{Fits}
 abbrev pub constants_in : List Check → List Check
 constants_in cs = filter (λ c. is_constant c.test) cs
 
+-- What a constraint asks, with its checks for constants alone.
 abbrev pub loose_demand : Demand → Demand
 loose_demand nothing = nothing
 loose_demand (each cs) = each (constants_in cs)
 loose_demand (either first alternatives) = either None (map constants_in alternatives)
 
+-- The constraint with its checks for constants alone.
 abbrev pub loose_constraint : Constraint → Constraint
 loose_constraint c = record { segment = c.segment; demand = loose_demand c.demand }
 
+-- The constraints of a row, each with its checks for constants alone.
 abbrev pub loose_row : List Constraint → List Constraint
 loose_row row = map loose_constraint row
 
+-- A slot that a pattern asks, with the checks for constants alone.
 abbrev pub loose_slot : SlotValue → SlotValue
 loose_slot s = record { name = s.name; place = s.place; row = loose_row s.row }
 
+-- The row or the slots of a pattern, with the checks for constants alone.
 abbrev pub loose_parts : Parts → Parts
 loose_parts (fields row) = fields (loose_row row)
 loose_parts (slots rows) = slots (map loose_slot rows)

@@ -28,6 +28,7 @@ after_cuts before t = record { cuts = before ++ t.cuts; env = t.env }
 abbrev pub each_followed_by : (Bindings → List Taken) → List Taken → List Taken
 each_followed_by next firsts = flat_map (λ t. map (after_cuts t.cuts) (next t.env)) firsts
 
+-- The value of the one field; none where there are no fields or several.
 abbrev pub value_of_one : List Single → Option Value
 value_of_one [] = None
 value_of_one (f ∷ []) = Some (value_of_field f)
@@ -59,6 +60,7 @@ ways_of_row [] (f ∷ fs) env = []
 ways_of_row (c ∷ cs) fields env =
     flat_map (λ n. each_followed_by (ways_of_row cs (drop n fields)) (with_length c fields env n)) (numbers 0 (length fields + 1))
 
+-- The value of the first slot, if there is one.
 abbrev pub first_value : List (List ℕ × Value) → Option Value
 first_value [] = None
 first_value (s ∷ ss) = Some s.1

@@ -1,22 +1,25 @@
 //! Patterns, and the ways in which one fits a fact.
 //!
+//! Before the search a fact is asked, in `lengths.rt` and `may_take.rt`, what takes no memory: whether the numbers of its fields
+//! and the constants of the pattern fit. `docs/DECISIONS.md`, "Patterns", says how the search goes.
+//!
 //! `docs/ARCHITECTURE.md` says where it belongs.
 #![tactic(auto)]
 
-mod choice;
-mod fitting;
-mod following;
-pub mod laws;
-mod lengths;
-mod may_take;
-mod meter;
-mod open_choices;
-mod pattern;
-mod rest;
-mod search;
-mod slots;
-mod taking;
-mod way;
+mod choice; // a choice: the places where a segment may end
+mod fitting; // `fit`: from the pattern and the fact to the ways
+mod following; // what follows the beginning of a way: the rest of a row, the rows of the slots after it, the way
+pub mod laws; // laws of ways
+mod lengths; // whether a fact has as many fields as a pattern can take; asked before anything else
+mod may_take; // whether a row may take fields, by their number and by constants alone
+mod meter; // how often patterns were tested
+mod open_choices; // the choices that are open
+mod pattern; // a pattern; what it asks is private to the crate
+mod rest; // how a row begins: the constraints before the first segment, and what is left after them
+mod search; // the search for all ways, which takes up one choice at a time
+mod slots; // whether the rows of all slots may take what a fact has
+mod taking; // whether the constraint that comes next holds; constraints that take fields, from a place on
+mod way; // a way
 
 pub use fitting::fit;
 pub use meter::Meter;

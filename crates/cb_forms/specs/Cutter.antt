@@ -14,5 +14,6 @@ pub record Progress : Type 0 where
 abbrev pub fresh_progress : ℕ → Progress
 fresh_progress limit = record { limit = limit; stepped = []; given = []; failed = false }
 
+-- What these items of the program say.
 abbrev pub readings_in : List Item → List Reading
 readings_in items = map reading_of items

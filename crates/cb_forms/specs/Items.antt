@@ -13,9 +13,11 @@ use Rattle.cb_forms.specs.declared.lexeme.Lexeme.{Lexeme}
 use Rattle.cb_forms.specs.declared.lexeme.Lexeme.TheVariants.{Gap, Opening, Closing, Atom}
 use Rattle.cb_forms.specs.declared.token.Token.{Token}
 
+-- How many of these pieces begin with `(`.
 abbrev pub openings : List (List ℕ) → ℕ
 openings ps = count_by (begins_with opening) ps
 
+-- How many of them begin with `)`.
 abbrev pub closings : List (List ℕ) → ℕ
 closings ps = count_by (begins_with closing) ps
 
@@ -42,6 +44,7 @@ abbrev pub atom_reading : Result Token Fault → Reading
 atom_reading (Ok t) = Ok (atom t)
 atom_reading (Err f) = Err f
 
+-- What a piece says outside every list: nothing for a gap, CB02 for a `)`, and its token or fault for an atom.
 abbrev pub piece_readings : Lexeme → List Reading
 piece_readings Gap = []
 piece_readings Opening = []

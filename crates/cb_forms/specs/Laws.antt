@@ -14,6 +14,7 @@ pub record OpensAfter (p before : List ℕ) : Type 0 where
   pub together : p ≡ before ++ rest p
   pub ended : items before ≡ whole p
 
+-- A lexeme that is no blank and no comment.
 abbrev pub is_no_gap : Lexeme → Bool
 is_no_gap Gap = false
 is_no_gap Opening = true
@@ -30,6 +31,7 @@ abbrev mutual
   depth_of (atom t) = 0
   depth_of (branch ts) = 1 + deepest ts
 
+  -- The same of several trees, that of the deepest.
   pub deepest : Trees → ℕ
   deepest no_trees = 0
   deepest (tree t ts) = max (depth_of t) (deepest ts)

@@ -42,11 +42,13 @@ levels_of (Closing ∷ ls) = [] ∷ levels_of ls
 levels_of (Atom (Ok t) ∷ ls) = put_first (atom t) (levels_of ls)
 levels_of (Atom (Err f) ∷ ls) = levels_of ls
 
+-- The first tree of the first level.
 abbrev pub first_tree : List (List Tree) → Tree
 first_tree [] = branch no_trees
 first_tree ([] ∷ levels) = branch no_trees
 first_tree ((t ∷ ts) ∷ levels) = t
 
+-- The fault if there is one, else the tree.
 abbrev pub fault_or : Option Fault → Tree → Reading
 fault_or None t = Ok t
 fault_or (Some f) t = Err f
@@ -61,6 +63,7 @@ abbrev mutual
   written (atom t) = Atom (Ok t) ∷ []
   written (branch ts) = Opening ∷ written_all ts ++ Closing ∷ []
 
+  -- Trees as they are written, one after another.
   pub written_all : Trees → List Lexeme
   written_all no_trees = []
   written_all (tree t ts) = written t ++ written_all ts

@@ -10,6 +10,7 @@ use Rattle.cb_forms.specs.declared.token.Token.TheVariants as token
 abbrev pub members : List Form → Trees
 members fs = trees_of (trees_in fs)
 
+-- The symbol that a token is, or none.
 abbrev pub token_symbol : Token → Option (List ℕ)
 token_symbol (token.Symbol name) = Some name
 token_symbol t = None

@@ -35,5 +35,6 @@ lexeme_of (c ∷ cs) =
     if c == ampersand then Atom (Ok And) else (
     if c == bar then Atom (Ok Or) else (if c == tilde then Atom (Ok Not) else (if c == quote then Atom (string_token cs) else Atom (token_of (c ∷ cs))))))))
 
+-- What the pieces of a text are, in order.
 abbrev pub lexemes : List ℕ → List Lexeme
 lexemes s = map lexeme_of (pieces s)

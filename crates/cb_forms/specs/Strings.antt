@@ -8,6 +8,7 @@ abbrev mutual
   is_unclosed [] = true
   is_unclosed (b ∷ bs) = if b == quote then false else (if b == backslash then is_unclosed_escaped bs else is_unclosed bs)
 
+  -- The same after a backslash.
   pub is_unclosed_escaped : List ℕ → Bool
   is_unclosed_escaped [] = true
   is_unclosed_escaped (b ∷ bs) = is_unclosed bs
@@ -18,6 +19,7 @@ abbrev mutual
   string_content [] = []
   string_content (b ∷ bs) = if b == quote then [] else (if b == backslash then escaped_content_of bs else b ∷ string_content bs)
 
+  -- The same after a backslash: the next byte, whatever it is.
   pub escaped_content_of : List ℕ → List ℕ
   escaped_content_of [] = []
   escaped_content_of (b ∷ bs) = b ∷ string_content bs

@@ -17,10 +17,12 @@ mutual
     no_trees : Trees
     tree : Tree → Trees → Trees
 
+-- A list of trees as `Trees`.
 abbrev pub trees_of : List Tree → Trees
 trees_of [] = no_trees
 trees_of (t ∷ ts) = tree t (trees_of ts)
 
+-- How a `Form` of the program becomes a tree.
 abbrev pub tree_step : form.Form-F Tree → Tree
 tree_step (form.Atom t) = atom t
 tree_step (form.List ts) = branch (trees_of ts.items)
@@ -29,6 +31,7 @@ tree_step (form.List ts) = branch (trees_of ts.items)
 abbrev pub tree_of : Form → Tree
 tree_of = fold-Form Tree tree_step
 
+-- The trees that forms of the program are.
 abbrev pub trees_in : List Form → List Tree
 trees_in fs = map tree_of fs
 

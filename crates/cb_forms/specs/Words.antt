@@ -59,6 +59,7 @@ float_tail has_digits (b ∷ bs) =
 abbrev pub is_unsigned_float : List ℕ → Bool
 is_unsigned_float t = float_tail (begins_with_digit t) (after_digits t)
 
+-- A sign or none, then digits with a point or an exponent.
 abbrev pub is_float : List ℕ → Bool
 is_float w = is_unsigned_float (without_sign w)
 
@@ -70,6 +71,7 @@ plain_token w = if spells_integer w then integer_token w else (if is_float w the
 abbrev pub is_starred : List ℕ → Bool
 is_starred t = nat_le 3 (length t) && (slice_index t 0 == star && slice_index t (length t - 1) == star)
 
+-- A name without the `*` at each end.
 abbrev pub without_stars : List ℕ → List ℕ
 without_stars t = slice_range t 1 (length t - 1)
 

@@ -5,28 +5,28 @@
 //! `docs/ARCHITECTURE.md` says where it belongs.
 #![tactic(auto)]
 
-mod byte_kinds;
-mod byte_string;
-pub mod cited;
-mod cut;
-mod cutter;
-mod fault;
-mod form;
-mod kept_bytes;
-pub mod laws;
-mod lex_mode;
-mod lexeme;
-mod list;
-mod list_stack;
-mod number;
-mod open_part;
-mod part;
-mod piece;
-mod reader;
-mod scan_state;
-mod string;
-mod token;
-mod word;
+mod byte_kinds; // blank, line end, single, delimiter
+mod byte_string; // bytes that a script spells, as a value
+pub mod cited; // laws that the proofs of other crates cite
+mod cut; // what a byte gave
+mod cutter; // the cutter: the open part, the limit, and what contracts see
+mod fault; // the faults, each with its number and its text
+mod form; // forms and items; the symbol that a form is, and the one that a list begins with
+mod kept_bytes; // bytes in a value where they are few, and else in an allocation
+pub mod laws; // laws of texts and their items
+mod lex_mode; // what the last piece waits for, as a line end, a quote or an escaped byte
+mod lexeme; // what a piece is: a gap, an opening, a closing, or an atom or its fault
+mod list; // reading a closed list
+mod list_stack; // the lists that are open while a list is read
+mod number; // the number that a word spells
+mod open_part; // the part that the text so far ends with: its kept bytes and the state after them
+mod part; // reading a part: a list or a piece
+mod piece; // cutting a piece off a text, and reading it
+mod reader; // `read_items`, the plain slow reader of a whole text, by which the definition is tested
+mod scan_state; // a mode, and how many lists are open; how far an item stays open in a block
+mod string; // the content of a string
+mod token; // the atoms
+mod word; // the class of a word
 
 pub use byte_string::ByteString;
 pub use cb_io::{History, MemSink, MemSource, NoMemory, Out, ReadFault, Sink, Source, WriteFault};

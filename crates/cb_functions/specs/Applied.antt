@@ -16,7 +16,7 @@ use Rattle.cb_functions.specs.Logic.{is_true}
 use Rattle.cb_functions.specs.Multifields.{created, first_field, member, nth, number_of_fields, of_fields, other_fields}
 use Rattle.cb_functions.specs.TypeTests.{integer_tested, is_even, is_integer, is_lexeme, is_string, is_symbol, tested}
 
--- of as many values as the function takes
+-- What each function returns, or its fault, of as many values as it takes: one row for each function.
 abbrev pub computed : Function → List Value → Result Value Fault
 computed function.Add vs = calculated sum vs
 computed function.Subtract vs = calculated difference vs

@@ -13,6 +13,7 @@ abbrev pub fits_64_bits : ℤ → Bool
 fits_64_bits (pos n) = nat_lt n (2 ^ 63)
 fits_64_bits (negsuc n) = nat_lt n (2 ^ 63)
 
+-- A number that fits, or CB18.
 abbrev pub or_overflow : ℤ → Result ℤ Fault
 or_overflow n = if fits_64_bits n then Ok n else Err IntegerOverflow
 
@@ -20,12 +21,15 @@ or_overflow n = if fits_64_bits n then Ok n else Err IntegerOverflow
 abbrev pub Operator : Type 0
 Operator = ℤ → ℤ → Result ℤ Fault
 
+-- The sum of two, or CB18.
 abbrev pub sum : Operator
 sum n m = or_overflow (n +ℤ m)
 
+-- The difference of two, or CB18.
 abbrev pub difference : Operator
 difference n m = or_overflow (n -ℤ m)
 
+-- The product of two, or CB18.
 abbrev pub product : Operator
 product n m = or_overflow (n *ℤ m)
 
@@ -37,9 +41,11 @@ quotient n d = if unsigned_abs d == 0 then Err DivisionByZero else or_overflow (
 abbrev pub remainder : Operator
 remainder n d = if unsigned_abs d == 0 then Err DivisionByZero else Ok (int_rem n d)
 
+-- The lesser of two.
 abbrev pub least : Operator
 least n m = Ok (int_min n m)
 
+-- The greater of two.
 abbrev pub greatest : Operator
 greatest n m = Ok (int_max n m)
 

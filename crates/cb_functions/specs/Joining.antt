@@ -19,8 +19,10 @@ is_joinable v = false
 abbrev pub texts_joined : List Value → Result (List ℕ) Fault
 texts_joined vs = if list_all is_joinable vs then Ok (flat_map plain_bytes vs) else Err WrongType
 
+-- `str-cat`: the string of the texts of all values.
 abbrev pub joined_string : List Value → Result Value Fault
 joined_string vs = ok_then value.Str (texts_joined vs)
 
+-- `sym-cat`: the symbol of the same text.
 abbrev pub joined_symbol : List Value → Result Value Fault
 joined_symbol vs = ok_then value.Symbol (texts_joined vs)

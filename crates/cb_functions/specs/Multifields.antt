@@ -47,6 +47,7 @@ member vs = and_then (both_of vs) (λ p. and_then (single_of p.0) (λ v. ok_then
 abbrev pub of_fields : (List Single → Value) → List Value → Result Value Fault
 of_fields make vs = ok_then make (and_then (only_value vs) fields_of)
 
+-- `length$`.
 abbrev pub number_of_fields : List Single → Value
 number_of_fields fields = value.Int (pos (length fields))
 

@@ -19,6 +19,7 @@ abbrev pub is_string : Value → Bool
 is_string (value.Str bytes) = true
 is_string v = false
 
+-- The value is a symbol or a string.
 abbrev pub is_lexeme : Value → Bool
 is_lexeme v = is_symbol v || is_string v
 

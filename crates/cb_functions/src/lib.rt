@@ -3,17 +3,17 @@
 //! `docs/ARCHITECTURE.md` says where it belongs.
 #![tactic(auto)]
 
-mod arguments;
-mod arithmetic;
-mod calls;
-mod comparison;
-mod constants;
-mod joining;
-pub mod laws;
-mod logic;
-mod multifields;
-mod numbers;
-mod type_tests;
+mod arguments; // the values of a call by number and types: the only one, the two, an integer, a multifield
+mod arithmetic; // what an operation makes of integers from left to right; the absolute value
+mod calls; // `apply`: one row for each function
+mod comparison; // integers in order; values that equal the first, or differ from it
+mod constants; // the symbols TRUE, FALSE and nil, each made once
+mod joining; // texts joined; none is copied on the way
+pub mod laws; // laws of the functions
+mod logic; // which values are true; `and`, `or` and `not`; which value decides a call
+mod multifields; // multifields made, counted, searched and cut; a part shares the fields of the whole
+mod numbers; // whether all values are integers, and then their numbers; no list is made of them
+mod type_tests; // the type of a value; even and odd
 
 pub use calls::apply;
 pub use constants::Constants;

@@ -7,6 +7,7 @@ pub record PastReads : Type 0 where
   pub ends : ℕ
   pub failures : ℕ
 
+-- No read was made.
 abbrev pub no_reads : PastReads
 no_reads = record { bytes = []; ends = 0; failures = 0 }
 
@@ -27,6 +28,7 @@ pub record PastWrites : Type 0 where
   pub bytes : List ℕ
   pub failures : ℕ
 
+-- No write was made.
 abbrev pub no_writes : PastWrites
 no_writes = record { bytes = []; failures = 0 }
 

@@ -4,17 +4,17 @@
 //! belongs.
 #![tactic(auto)]
 
-pub mod cited;
-mod countdown;
-mod histories;
-mod history;
-pub mod laws;
-mod mem_sink;
-mod mem_source;
-mod no_memory;
-mod output;
-mod sink;
-mod source;
+pub mod cited; // laws that the proofs of other crates cite
+mod countdown; // a count of calls, for a source or a sink that fails at a chosen one
+mod histories; // what reads gave and writes took, for contracts alone
+mod history; // a list that only contracts read, with no bytes at run time
+pub mod laws; // laws of calls that put bytes
+mod mem_sink; // a sink over memory
+mod mem_source; // a source over memory
+mod no_memory; // what is returned where a growth was refused
+mod output; // `Out`, the one way for output
+mod sink; // the trait of what takes bytes, with its history as a ghost member
+mod source; // the trait of what gives bytes, with its history as a ghost member
 
 pub use histories::{ReadHistory, WriteHistory, with_all};
 pub use history::History;

@@ -15,6 +15,7 @@ use Rattle.cb_templates.specs.TemplateFaults.{slots_form_faults}
 use Rattle.cb_templates.specs.TemplateShapes.{slots_said}
 use Rattle.cb_templates.specs.Templates.{Templates, slots_of, without_comment}
 
+-- The value of the slot with this name in a fact's content, if it has one.
 abbrev pub value_among : FactContent → List ℕ → Option Value
 value_among (content.fields xs) name = None
 value_among (content.slots pairs) name = lookup (bytes_eq name) pairs

@@ -25,6 +25,7 @@ names_written name (tree t ts) = cons_option (name t) (names_written name ts)
 abbrev pub attribute_name : Tree → Option (List ℕ)
 attribute_name t = option_map (λ call. call.0) (call_of t)
 
+-- The symbol that comes first after the head of a list, if there is one.
 abbrev pub name_after_head : Option (List ℕ × Trees) → Option (List ℕ)
 name_after_head None = None
 name_after_head (Some (head, ts)) = option_map (λ split. split.0) (head_and_rest ts)
@@ -98,6 +99,7 @@ type_words = codes "INTEGER" ∷ codes "SYMBOL" ∷ codes "STRING" ∷ codes "NU
 abbrev pub is_type_word : Tree → Bool
 is_type_word t = option_map_or (λ name. list_any (bytes_eq name) type_words) (symbol_of t) false
 
+-- Each of the forms names a type.
 abbrev pub are_type_words : Trees → Bool
 are_type_words no_trees = true
 are_type_words (tree t ts) = is_type_word t && are_type_words ts

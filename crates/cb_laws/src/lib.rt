@@ -3,16 +3,16 @@
 //! `docs/ARCHITECTURE.md` says where it belongs.
 #![tactic(auto)]
 
-pub mod acting;
-pub mod asserting;
-pub mod attributes;
-pub mod equality;
-pub mod items;
-pub mod open_item;
-pub mod printed;
-pub mod reached;
-pub mod retracting;
-pub mod running;
-pub mod slots;
-pub mod templates;
-pub mod written;
+pub mod acting; // what `assert` and `retract` do, with their answers and faults
+pub mod asserting; // what is asserted is there, and nothing goes
+pub mod attributes; // what a slot is by its attributes, and which faults an attribute has
+pub mod equality; // what counts as equal is the same
+pub mod items; // an item does what is written: an expression, an `assert`, a `deftemplate`
+pub mod open_item; // what is not carried out of a script is its open item
+pub mod printed; // what is shown reads back as what it is
+pub mod reached; // what holds of every state that a script can reach
+pub mod retracting; // what is retracted is gone, and nothing else
+pub mod running; // items are carried out one after another
+pub mod slots; // a slot has the values that it is given, or its default
+pub mod templates; // what a template that is defined changes
+pub mod written; // which slots and attributes are accepted, and which fault comes first

@@ -21,6 +21,7 @@ named_slot templates shapes (Some (name, ts)) = record { name = name; place = un
 abbrev pub slot_in : Templates → List SlotShape → Tree → SlotValue
 slot_in templates shapes t = named_slot templates shapes (call_of t)
 
+-- The slots that a pattern writes.
 abbrev pub slots_in : Templates → List SlotShape → Trees → List SlotValue
 slots_in templates shapes no_trees = []
 slots_in templates shapes (tree t ts) = slot_in templates shapes t ∷ slots_in templates shapes ts

@@ -31,6 +31,7 @@ abbrev pub is_check : Member → Bool
 is_check (check negated w) = true
 is_check m = false
 
+-- A check comes first among these members.
 abbrev pub begins_with_check : List Member → Bool
 begins_with_check [] = false
 begins_with_check (m ∷ ms) = is_check m

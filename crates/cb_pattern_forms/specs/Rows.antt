@@ -22,12 +22,14 @@ single_test (token.Var name) = variable name
 single_test (token.MultiVar name) = variable name
 single_test t = no_test
 
+-- The test that a written check is.
 abbrev pub test_in : Templates → WrittenCheck → Test
 test_in templates (written.single t) = single_test t
 test_in templates (written.predicate t) = predicate (expr_of templates t)
 test_in templates (written.return_value t) = return_value (expr_of templates t)
 test_in templates w = no_test
 
+-- That test, or its opposite.
 abbrev pub check_in : Templates → Bool → WrittenCheck → Check
 check_in templates negated w = record { negated = negated; test = test_in templates w }
 
@@ -75,6 +77,7 @@ demand_in (cs ∷ []) = each cs
 demand_in (cs ∷ ds ∷ more) = either (set_apart cs) (beside cs ∷ ds ∷ more)
 demand_in [] = nothing
 
+-- The constraint that a written one is: a wildcard, or checks joined by `&` and `|`.
 abbrev pub constraint_in : WrittenConstraint → Constraint
 constraint_in (wild several) = record { segment = several; demand = nothing }
 constraint_in (of_checks several alternatives) = record { segment = several; demand = demand_in alternatives }

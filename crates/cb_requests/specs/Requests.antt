@@ -73,6 +73,7 @@ construct_request templates env in_use construct.Deftemplate ts = template_reque
 construct_request templates env in_use construct.Deffacts ts = deffacts_request templates env (head_and_rest ts)
 construct_request templates env in_use construct.Defglobal ts = globals_request templates env ts
 
+-- `(facts)`, `(reset)` and `(clear)`, with no arguments; else CB07.
 abbrev pub named_request : Command → Request
 named_request word.Facts = list_facts
 named_request word.Reset = reset

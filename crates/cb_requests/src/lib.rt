@@ -3,12 +3,12 @@
 //! `docs/ARCHITECTURE.md` says where it belongs.
 #![tactic(auto)]
 
-mod context;
-mod fact_list;
-mod global_list;
-pub mod laws;
-mod request;
-mod top_expr;
+mod context; // what there is where an item is read; which relations are in use
+mod fact_list; // the facts of a `deffacts`
+mod global_list; // the globals of a `defglobal`, each of which may name those before it
+pub mod laws; // a law of the globals of a `defglobal`
+mod request; // what an item asks for, or its first fault
+mod top_expr; // expressions at the top level, where a variable is known that the form binds
 
 pub use context::Context;
 pub use request::{Request, read_request};

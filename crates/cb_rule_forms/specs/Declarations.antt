@@ -27,6 +27,7 @@ abbrev pub has_other : Trees → Bool
 has_other no_trees = false
 has_other (tree t ts) = is_other (call_of t) || has_other ts
 
+-- The form, where there is exactly one.
 abbrev pub only_of : Trees → Option Tree
 only_of (tree t no_trees) = Some t
 only_of ts = None

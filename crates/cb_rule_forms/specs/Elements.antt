@@ -30,6 +30,7 @@ variable_of t = None
 abbrev pub address_of : Tree → Tree → Option (List ℕ)
 address_of t word = if is_this_symbol (codes "<-") word then variable_of t else None
 
+-- The elements with this variable given an address, if there is one; else the others.
 abbrev pub choose_written : Option (List ℕ) → (List ℕ → List WrittenElement) → List WrittenElement → List WrittenElement
 choose_written None addressed_so others = others
 choose_written (Some name) addressed_so others = addressed_so name
@@ -58,10 +59,14 @@ word_fault word = if bytes_eq word (codes "declare") then MalformedForm else Not
 abbrev pub called_pattern_faults : Scope → Fault → List ℕ → Trees → List Fault
 called_pattern_faults s reserved word ts = unless (not (is_reserved word)) reserved ++ pattern_faults s word ts
 
+-- What is wrong with a form that stands alone as an element, by the word and the rest of its list: CB08 without
+-- them.
 abbrev pub alone_faults : Scope → Option (List ℕ × Trees) → List Fault
 alone_faults s None = MalformedForm ∷ []
 alone_faults s (Some (word, ts)) = called_pattern_faults s (word_fault word) word ts
 
+-- What is wrong with the form after `?name <-`, by the word and the rest of its list: without them, and at a
+-- reserved word, CB14.
 abbrev pub addressed_faults : Scope → Option (List ℕ × Trees) → List Fault
 addressed_faults s None = NotInProfile ∷ []
 addressed_faults s (Some (word, ts)) = called_pattern_faults s NotInProfile word ts
@@ -72,6 +77,7 @@ element_faults s (alone t) = alone_faults s (call_of t)
 element_faults s (with_address name None) = NotInProfile ∷ []
 element_faults s (with_address name (Some t)) = addressed_faults s (call_of t)
 
+-- What is wrong with the elements, from left to right.
 abbrev pub elements_faults : Scope → List WrittenElement → List Fault
 elements_faults s [] = []
 elements_faults s (w ∷ ws) = element_faults s w ++ elements_faults s ws
@@ -87,6 +93,7 @@ element_of templates (alone t) = pattern None (pattern_at templates (call_of t))
 element_of templates (with_address name None) = pattern (Some name) (pattern_at templates None)
 element_of templates (with_address name (Some t)) = pattern (Some name) (pattern_at templates (call_of t))
 
+-- The elements that they are.
 abbrev pub elements_of : Templates → List WrittenElement → List Element
 elements_of templates [] = []
 elements_of templates (w ∷ ws) = element_of templates w ∷ elements_of templates ws

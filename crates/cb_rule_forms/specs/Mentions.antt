@@ -28,6 +28,8 @@ abbrev pub test_mentions : Bool → Test → List Mention
 test_mentions false (variable x) = place x ∷ []
 test_mentions negated t = map needed (test_variables t)
 
+-- What a check mentions: a variable without `~` may take the value in its place, and the variables of any other
+-- check need values.
 abbrev pub check_mentions : Check → List Mention
 check_mentions c = test_mentions c.negated c.test
 
@@ -55,6 +57,7 @@ abbrev pub parts_mentions : Parts → List Mention
 parts_mentions (fields row) = row_mentions row
 parts_mentions (slots rows) = flat_map (λ slot. row_mentions slot.row) rows
 
+-- The variable that takes a fact's address is mentioned so, if there is one.
 abbrev pub address_mentions : Option (List ℕ) → List Mention
 address_mentions None = []
 address_mentions (Some x) = address x ∷ []

@@ -23,6 +23,7 @@ abbrev mutual
   asserted_by (print ts) = asserted_in ts
   asserted_by (println ts) = asserted_in ts
 
+  -- The relations of the facts that several expressions assert, in order.
   pub asserted_in : Terms → List (List ℕ)
   asserted_in no_terms = []
   asserted_in (term t ts) = asserted_by t ++ asserted_in ts

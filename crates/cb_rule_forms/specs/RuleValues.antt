@@ -21,6 +21,7 @@ pub record RuleValue : Type 0 where
   pub relations : List (List ℕ)
 
 module _ {T : Type 0} where
+  -- The element that a condition element of the program is.
   abbrev pub element_value : program_ce.Ce T → Element
   element_value (ce.Pattern address p) = pattern address p
 

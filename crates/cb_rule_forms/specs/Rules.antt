@@ -47,6 +47,7 @@ sections_faults templates env (Some s) =
     declared_faults templates env s.declared
     ++ (elements_faults (left_scope templates env) (written_in s.elements) ++ branch_faults templates env (branch_of templates s.elements) s.actions)
 
+-- The element is a pattern, as all are today.
 abbrev pub is_pattern : Element → Bool
 is_pattern (pattern x p) = true
 

@@ -3,13 +3,13 @@
 //! `docs/ARCHITECTURE.md` says where it belongs.
 #![tactic(auto)]
 
-mod actions;
-mod declaration;
-mod element;
-pub mod laws;
-mod mentions;
-mod relations;
-mod rule;
-mod sections;
+mod actions; // the actions, with the variables that are known there
+mod declaration; // the salience
+mod element; // the condition elements, one by one
+pub mod laws; // a slot of a pattern asks for the value of the slot with its name
+mod mentions; // the variables of a left side: which have a value where, and which want one
+mod relations; // the relations that a rule names, in its patterns and in the asserts of its actions
+mod rule; // `Rule::read`, which goes through these in turn
+mod sections; // the name, the declaration, the elements and the actions of a rule
 
 pub use rule::{Ce, Rule};

@@ -1,9 +1,9 @@
 //! A whole script from a source to a sink, how it ended, and standard input and output as the two.
 #![tactic(auto)]
 
-mod outcome;
-mod script;
-mod standard;
+mod outcome; // how a run ended: its exit status, and its line on standard error
+mod script; // `run`: a whole script from a source to a sink
+mod standard; // standard input as a source, standard output as a sink, and their histories
 
 pub use outcome::{Cause, Outcome};
 pub use script::run;

@@ -13,6 +13,7 @@ pub record SessionState : Type 0 where
   pub status : Option Status
   pub stop : Option Stop
 
+-- Nothing was fed or returned.
 abbrev pub fresh_session : Limits → SessionState
 fresh_session limits = record { limits = limits; fed = []; status = None; stop = None }
 
@@ -20,6 +21,7 @@ fresh_session limits = record { limits = limits; fed = []; status = None; stop =
 abbrev pub session_after : Limits → List ℕ → Option Status → SessionState
 session_after limits fed status = record { limits = limits; fed = fed; status = status; stop = None }
 
+-- A script without a status goes on, one with a status has ended.
 abbrev pub flow_of : Option Status → Flow
 flow_of None = GoOn
 flow_of (Some status) = Ended status

@@ -22,5 +22,6 @@ state_with turns = record {
   is_faulted = false;
 }
 
+-- The state of a script before its first item.
 abbrev pub first_state : Limits → State
 first_state limits = state_with limits.max_turns

@@ -17,9 +17,11 @@ pub record Run : Type 0 where
   pub written : List ℕ
   pub status : Option Status
 
+-- A script before its first item.
 abbrev pub begun : Limits → Run
 begun limits = record { state = first_state limits; written = []; status = None }
 
+-- A script that ends at a limit has status 4.
 abbrev pub limit_status : Status
 limit_status = record { code = 4; ending = Limit }
 
@@ -34,6 +36,7 @@ concluded s bytes (Err (ended.Limit limit)) = record { state = s; written = byte
 unfoldable pub executed : State → Reading → Run
 executed s r = concluded (acted r s).state (acted r s).written (acted r s).answer
 
+-- A run and what comes after it.
 abbrev pub runs_joined : Run → Run → Run
 runs_joined run next = record { state = next.state; written = run.written ++ next.written; status = next.status }
 
@@ -42,6 +45,7 @@ abbrev pub after_status : Option Status → Run → Reading → Run
 after_status None run item = runs_joined run (executed run.state item)
 after_status (Some status) run item = run
 
+-- One more item, unless the script has ended.
 abbrev pub after : Run → Reading → Run
 after run item = after_status run.status run item
 
@@ -55,6 +59,7 @@ abbrev pub too_long_status : Option Status → Run → Run
 too_long_status None run = record { state = run.state; written = run.written ++ too_long_line; status = Some limit_status }
 too_long_status (Some status) run = run
 
+-- An item is too long: its line, and status 4, unless the script has ended before.
 abbrev pub too_long : Run → Run
 too_long run = too_long_status run.status run
 

@@ -1,15 +1,15 @@
 //! Scripts carried out item by item, and their transcripts.
 #![tactic(auto)]
 
-pub mod cited;
-mod engine;
-mod globals;
-pub mod laws;
-mod limits;
-mod line;
-mod reset;
-mod session;
-mod status;
+pub mod cited; // laws that the proofs of other crates cite
+mod engine; // what is kept from item to item, and executing an item
+mod globals; // the initial expressions that each `defglobal` keeps for `reset`
+pub mod laws; // laws of the transcript and of faults
+mod limits; // how far a script may go
+mod line; // the lines of a transcript, and putting them
+mod reset; // what `reset` does
+mod session; // `Session`, the public face: the cutter, the engine, and the status or the stop that was returned
+mod status; // how a script goes on and ends
 
 pub use cb_actions::Stop;
 pub use limits::Limits;

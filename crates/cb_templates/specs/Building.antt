@@ -43,6 +43,7 @@ abbrev pub are_distinct : Given → Bool
 are_distinct [] = true
 are_distinct (g ∷ given) = not (is_some (given_for given g.0)) && are_distinct given
 
+-- The values given for a slot are exactly one.
 abbrev pub is_one_value : List Value → Bool
 is_one_value (v ∷ []) = true
 is_one_value vs = false
@@ -76,6 +77,7 @@ filled (s ∷ slots) given = with_first (ok_then (λ v. (s.name, v)) (value_or_d
 abbrev pub slots_built : List ℕ → List SlotShape → Given → Result FactValue Fault
 slots_built relation slots given = if fits slots given then ok_then (template_fact relation) (filled slots given) else Err FactDoesNotFit
 
+-- The fact that these values make, by the slots of the relation, if it has a template; or its fault.
 abbrev pub built_by : List ℕ → Option (List SlotShape) → PartValues → Result FactValue Fault
 built_by relation None (field_values vs) = Ok (ordered_fact relation (spliced vs))
 built_by relation None (slot_values given) = Err FactDoesNotFit

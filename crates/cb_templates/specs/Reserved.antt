@@ -8,5 +8,6 @@ abbrev pub reserved_words : List (List ℕ)
 reserved_words =
     codes "test" ∷ codes "and" ∷ codes "or" ∷ codes "not" ∷ codes "declare" ∷ codes "logical" ∷ codes "object" ∷ codes "exists" ∷ codes "forall" ∷ []
 
+-- One of the words that are no relations.
 unfoldable pub is_reserved : List ℕ → Bool
 is_reserved name = list_any (λ word. bytes_eq word name) reserved_words

@@ -50,5 +50,6 @@ derived_one ts =
     if are_only type.Str ts then value.Str [] else (
     if are_only type.Integer ts || are_only type.Number ts then value.Int (pos 0) else value.Symbol (codes "nil"))
 
+-- The derived default: of a multislot no values, of another slot what its types give.
 abbrev pub derived : Bool → Types → Value
 derived is_multi ts = if is_multi then value.Multi [] else derived_one ts

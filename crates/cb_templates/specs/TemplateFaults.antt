@@ -33,6 +33,7 @@ abbrev pub type_name_faults : Option (List ℕ) → List Fault
 type_name_faults None = MalformedForm ∷ []
 type_name_faults (Some name) = unless (is_some (type_named name)) NotInProfile
 
+-- What is wrong with forms as types.
 abbrev pub types_faults : Trees → List Fault
 types_faults no_trees = []
 types_faults (tree t ts) = type_name_faults (symbol_of t) ++ types_faults ts
@@ -46,6 +47,7 @@ abbrev pub constant_faults : Tree → List Fault
 constant_faults (atom t) = unless (is_some (constant_of t)) (no_constant t)
 constant_faults (branch ts) = no_call (head_and_rest ts) ∷ []
 
+-- What is wrong with forms as constants.
 abbrev pub constants_faults : Trees → List Fault
 constants_faults no_trees = []
 constants_faults (tree t ts) = constant_faults t ++ constants_faults ts
@@ -68,6 +70,7 @@ abbrev pub and_name : List (List ℕ) → Option (List ℕ × Trees) → List (L
 and_name before None = before
 and_name before (Some (name, ts)) = name ∷ before
 
+-- What is wrong with the attributes of a slot, after those of these names.
 abbrev pub attributes_faults : Bool → List (List ℕ) → Trees → List Fault
 attributes_faults is_multi before no_trees = []
 attributes_faults is_multi before (tree t ts) = attribute_faults is_multi before (call_of t) ++ attributes_faults is_multi (and_name before (call_of t)) ts
@@ -84,6 +87,7 @@ named_slot_faults is_multi before (Some (name, ts)) =
     unless (not (is_among before name)) MalformedForm
     ++ (attributes_faults is_multi [] ts ++ kept_faults (types_in ts) (default_in is_multi ts))
 
+-- What is wrong with a slot, by whether it is a multislot.
 abbrev pub kind_faults : Option Bool → List (List ℕ) → Trees → List Fault
 kind_faults None before ts = MalformedForm ∷ []
 kind_faults (Some is_multi) before ts = named_slot_faults is_multi before (head_and_rest ts)
@@ -98,6 +102,7 @@ abbrev pub and_slot : List (List ℕ) → Option (List ℕ × Trees) → List (L
 and_slot before None = before
 and_slot before (Some (head, ts)) = and_name before (head_and_rest ts)
 
+-- What is wrong with the slots that forms are, after those of these names.
 abbrev pub slots_form_faults : List (List ℕ) → Trees → List Fault
 slots_form_faults before no_trees = []
 slots_form_faults before (tree t ts) = slot_form_faults before (call_of t) ++ slots_form_faults (and_slot before (call_of t)) ts

@@ -23,6 +23,7 @@ types_listed types (tree t ts) = types_listed (option_map_or (with_type types) (
 abbrev pub types_said : Trees → Types
 types_said ts = if is_variable (codes "VARIABLE") ts then None else Some (types_listed [] ts)
 
+-- The constant that a form is.
 abbrev pub constant_in : Tree → Option Value
 constant_in (atom t) = constant_of t
 constant_in (branch ts) = None
@@ -32,6 +33,7 @@ abbrev pub constants_listed : Trees → List Value
 constants_listed no_trees = []
 constants_listed (tree t ts) = option_map_or (λ v. v ∷ constants_listed ts) (constant_in t) (constants_listed ts)
 
+-- The first of the constants, as a default.
 abbrev pub default_by : List Value → Option SlotDefault
 default_by [] = None
 default_by (v ∷ vs) = Some (Fixed v)
@@ -79,10 +81,12 @@ kind_of head =
     if bytes_eq head (codes "slot") then Some false else (
     if bytes_eq head (codes "multislot") then Some true else None)
 
+-- The slot that a list is, by whether it is a multislot.
 abbrev pub slot_of_kind : Option Bool → Trees → Option SlotShape
 slot_of_kind None ts = None
 slot_of_kind (Some is_multi) ts = option_map (slot_said is_multi) (head_and_rest ts)
 
+-- The slot that a list is.
 abbrev pub slot_headed : Option (List ℕ × Trees) → Option SlotShape
 slot_headed None = None
 slot_headed (Some (head, ts)) = slot_of_kind (kind_of head) ts

@@ -3,19 +3,19 @@
 //! `docs/ARCHITECTURE.md` says where it belongs.
 #![tactic(auto)]
 
-mod attribute;
-mod build;
-pub mod cited;
-mod comment;
-pub mod laws;
-mod parts;
-mod places;
-mod relations;
-mod reserved;
-mod slot;
-mod slot_form;
-mod slot_type;
-mod template;
+mod attribute; // the attributes of a slot as they are written, or the fault there
+mod build; // a fact from the values that it is given, or its fault
+pub mod cited; // laws that the proofs of other crates cite
+mod comment; // what follows the comment of a construct
+pub mod laws; // laws of templates and their facts
+mod parts; // what a fact is given: the values of its fields, or of its slots, each found by its name
+mod places; // the first place of each name in a list, found in logarithmic time
+mod relations; // the relations that have a template; a template as it is written
+mod reserved; // the words that are never the relation of a fact
+mod slot; // a slot: its name, its types, its default
+mod slot_form; // the slots as they are written, or the fault there; the default that follows from the types
+mod slot_type; // the types that a slot may name
+mod template; // a template: its slots in their order, each found by its name, and its place
 
 pub use attribute::SlotDefault;
 pub use build::{build_fact, build_slots};

@@ -1,6 +1,6 @@
 //! What scripts are about: names, values, their texts, facts, the fact list and templates.
 //!
-//! All of it stands in `cb_facts` and `cb_templates`. `docs/ARCHITECTURE.md` says where the layers stand.
+//! It only re-exports, from `cb_facts` and `cb_templates`.
 #![tactic(auto)]
 
 pub use cb_facts::{

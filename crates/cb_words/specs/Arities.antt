@@ -5,10 +5,12 @@ use Rattle.cb_words.specs.declared.function.Arity.TheVariants.{Exactly, AtLeast}
 use Rattle.cb_words.specs.declared.function.Function.{Function}
 use Rattle.cb_words.specs.declared.function.Function.TheVariants as function
 
+-- A function takes this number of arguments.
 abbrev pub takes : Arity → ℕ → Bool
 takes (Exactly n) count = nat_eq count n
 takes (AtLeast n) count = not (nat_lt count n)
 
+-- How many arguments each function takes.
 abbrev pub arity_of : Function → Arity
 arity_of function.Add = AtLeast 2
 arity_of function.Subtract = AtLeast 2

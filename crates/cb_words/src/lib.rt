@@ -3,10 +3,10 @@
 //! All readers ask the one table here, in `words.rt`. `docs/ARCHITECTURE.md` says where it belongs.
 #![tactic(auto)]
 
-mod function;
-mod head;
-mod watch_item;
-mod words;
+mod function; // the functions without an effect, and how many arguments each takes
+mod head; // what a word names: a construct, a command, a function of either kind, or a word that is refused
+mod watch_item; // what can be watched
+mod words; // the table of all words
 
 pub use function::{Arity, Function};
 pub use head::{Action, Command, Construct, Head};

@@ -1,13 +1,13 @@
 //! The working memory, which has rules and facts, and the facts that each `deffacts` keeps for it.
 #![tactic(auto)]
 
-mod asserted;
-pub mod cited;
-mod deffacts;
-mod groups;
-pub mod laws;
-mod mark;
-mod working_memory;
+mod asserted; // what comes of the assertion of a fact
+pub mod cited; // laws that the proofs of other crates cite
+mod deffacts; // the facts of each `deffacts`, in the order of their definition
+mod groups; // groups of facts, each with a name and a number, in the order of the numbers
+pub mod laws; // laws of the index of a fact, and of facts that are added
+mod mark; // the mark of the meters that count the tests of patterns
+mod working_memory; // rules and facts over any matcher, and the numbers given last
 
 pub use asserted::Asserted;
 pub use deffacts::DeffactsTable;

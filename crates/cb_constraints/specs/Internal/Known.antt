@@ -36,6 +36,7 @@ taken_at [] v i (suc m) k = None
 taken_at (w ∷ ws) v i zero k = Some w
 taken_at (w ∷ ws) v i (suc m) k = taken_at ws v i m k
 
+-- The value that a variable took at its place, if it has one and that comes before a check.
 abbrev pub taken_if : List Value → Value → ℕ → Option Place → Option Value
 taken_if vs v i None = None
 taken_if vs v i (Some p) = taken_at vs v i p.constraint p.check

@@ -20,6 +20,7 @@ abbrev pub places_of : ℕ → ℕ → List Check → List (List ℕ × Place)
 places_of n k [] = []
 places_of n k (c ∷ cs) = map (λ x. (x, record { constraint = n; check = k })) (binder c.negated c.test) ++ places_of n (suc k) cs
 
+-- The variables that a constraint with this number may give a value, each with its place.
 abbrev pub places_for : ℕ → Demand → List (List ℕ × Place)
 places_for n nothing = []
 places_for n (each cs) = places_of n 0 cs

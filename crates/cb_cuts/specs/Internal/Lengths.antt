@@ -2,6 +2,7 @@
 use Rattle.std.specs.Prelude.{◌≡◌, ◌+◌, ◌<◌, ℕ, suc, List, [], ◌∷◌, ◌++◌, flat_map, replicate}
 use Rattle.cb_cuts.specs.declared.cuts.Segment.{Segment}
 
+-- The lengths of the constraints for one field before a segment, and its own.
 abbrev pub segment_lengths : Segment → List ℕ
 segment_lengths s = replicate s.ones 1 ++ s.length ∷ []
 
@@ -19,6 +20,7 @@ abbrev pub last_count : ℕ → List Segment → ℕ
 last_count count [] = count
 last_count count (s ∷ ss) = last_count s.count ss
 
+-- How many fields they took.
 abbrev pub last_fields : ℕ → List Segment → ℕ
 last_fields fields [] = fields
 last_fields fields (s ∷ ss) = last_fields s.fields ss

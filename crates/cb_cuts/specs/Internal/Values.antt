@@ -22,6 +22,7 @@ value_taken true fields = value.Multi fields
 value_taken false [] = value.Multi []
 value_taken false (f ∷ fs) = value_of_field f
 
+-- The fields of the first slot, if there is one.
 abbrev pub first_fields : List (List ℕ × Value) → List Single
 first_fields [] = []
 first_fields (s ∷ ss) = fields_in s.1
@@ -43,13 +44,17 @@ value_at_site None parts content before n = value.Multi []
 value_at_site (Some site) parts content before n =
     value_taken site.takes_segment (take n (drop (fields_taken before - fields_taken (take site.start before)) (fields_of_row site.row parts content)))
 
+-- The value of a segment of this length, after segments of those lengths, where its constraint is the one that
+-- comes next.
 abbrev pub next_value : Parts → FactContent → List ℕ → ℕ → Value
 next_value parts content before n = value_at_site (slice_get (sites_in parts) (length before)) parts content before n
 
--- the values of segments with these lengths, one for each constraint from the first on
+-- The values of segments with these lengths, after segments of those lengths, one for each constraint that
+-- follows.
 abbrev pub values_after : Parts → FactContent → List ℕ → List ℕ → List Value
 values_after parts content before [] = []
 values_after parts content before (n ∷ cuts) = next_value parts content before n ∷ values_after parts content (before ++ n ∷ []) cuts
 
+-- The values of segments with these lengths, one for each constraint from the first on.
 abbrev pub values_taken : Parts → FactContent → List ℕ → List Value
 values_taken parts content cuts = values_after parts content [] cuts

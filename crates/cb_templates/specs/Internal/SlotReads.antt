@@ -27,6 +27,7 @@ abbrev pub types_after : List SlotType → Trees → Result (List SlotType) Faul
 types_after types no_trees = Ok types
 types_after types (tree t ts) = and_then (type_by (symbol_of t)) (λ more. types_after (with_type types more) ts)
 
+-- What `type` says: at least one type, or `?VARIABLE` alone for any value.
 abbrev pub some_types : Trees → Result Types Fault
 some_types no_trees = Err MalformedForm
 some_types (tree t ts) = ok_then Some (types_after [] (tree t ts))
@@ -40,6 +41,7 @@ abbrev pub default_constant : Tree → Result Value Fault
 default_constant (atom t) = ok_or (constant_of t) (no_constant t)
 default_constant (branch ts) = Err (no_call (head_and_rest ts))
 
+-- The constants of a default that is written.
 abbrev pub default_constants : Trees → Result (List Value) Fault
 default_constants no_trees = Ok []
 default_constants (tree t ts) = with_first (default_constant t) (default_constants ts)
@@ -98,6 +100,7 @@ slot_with name is_multi ts (Some Required) = Ok (record { name = name; is_multi 
 slot_with name is_multi ts (Some (Fixed v)) =
     if allows_all ts v then Ok (record { name = name; is_multi = is_multi; types = ts; default = Some v }) else Err ValueNotAllowed
 
+-- The slot with these attributes; CB10 where a constant of its default is not of its types.
 abbrev pub finished : List ℕ → Bool → Attributes → Result SlotShape Fault
 finished name is_multi a = slot_with name is_multi (option_flatten a.types) a.default
 
