@@ -231,7 +231,7 @@ impl<M: Matcher<Mark>> World<M> {
 
     /// The value of an expression; one that has none is CB17.
     #[cycle(carrying)]
-    fn carry_value<K: Sink>(&mut self, expr: &Expr, out: &mut Out<K>) -> Result<Value, Break>
+    pub(crate) fn carry_value<K: Sink>(&mut self, expr: &Expr, out: &mut Out<K>) -> Result<Value, Break>
         requires { out.old.fault ≡ false }
         ensures went { Went K.writes out.old out.new self.new result
             (valued (carried (term_of expr.now)) self.old) }

@@ -1,17 +1,19 @@
 //! Rules that are added, redefined and dropped.
 ghost use Rattle.std.specs.Prelude.{◌≡◌, ◌<◌, ◌∷◌, ◌++◌, [], IfOk, OnOk, false, nat_eq, not, option_map};
 ghost use Rattle.std.specs.List.{filter};
+ghost use Rattle.cb_actions.specs.Commands.{rule_defined};
 ghost use Rattle.cb_actions.specs.Runs.{added_rule, defined_rule, dropped_rule, numbered, replaced, rule_named};
 ghost use Rattle.cb_actions.specs.Went.{Went};
 ghost use Rattle.cb_rules.specs.Elements.{branches_of};
+ghost use Rattle.cb_rules.specs.RuleValues.{rule_value};
 ghost use Rattle.cb_matches.specs.Changes.{IsDelta};
 ghost use Rattle.cb_working_memory.specs.WorkingMemory.{greatest_index, with_next_rule, without_one_rule};
 
 use crate::act::{Break, Ended, Limit};
 use crate::rules::find_named;
 use crate::world::World;
-use cb_rules::{Ce, DefinedRule};
-use cb_facts::Name;
+use cb_rules::{Ce, DefinedRule, Rule, split_rule};
+use cb_facts::{Name, Value};
 use cb_forms::{NoMemory, Out, Sink};
 use cb_matches::{Delta, Matcher};
 use cb_working_memory::Mark;
@@ -19,8 +21,23 @@ use std::alloc::Global;
 use std::mem;
 
 impl<M: Matcher<Mark>> World<M> {
+    /// Defines a rule. It takes the last place, and the one with its name goes, if there is one. Returns no value.
+    pub fn define<K: Sink>(
+        &mut self,
+        rule: Rule<Mark>,
+        out: &mut Out<K>,
+    ) -> Result<Option<Value>, Break>
+        requires { out.old.fault ≡ false }
+        ensures { Went K.writes out.old out.new self.new result
+            (rule_defined (rule_value rule) self.old) }
+    {
+        let (defined, branches) = split_rule(self.alloc, rule)?;
+        self.define_rule(defined, branches, out)?;
+        Ok(None)
+    }
+
     /// Adds a rule, with the next number, in place of the one with its name, if there is one.
-    pub fn define_rule<K: Sink>(
+    fn define_rule<K: Sink>(
         &mut self,
         rule: DefinedRule,
         branches: Vec<Vec<Ce<Mark>>>,

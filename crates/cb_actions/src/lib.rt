@@ -27,5 +27,4 @@ pub use output::{put, put_text};
 pub use print::{put_printed, put_values};
 pub use stop::Stop;
 pub use watched::Watched;
-pub use cb_working_memory::Mark;
 pub use world::World;

@@ -93,6 +93,27 @@ impl<M: Matcher<Mark>> World<M> {
         self.alloc
     }
 
+    /// The rules and the facts.
+    pub fn memory(&self) -> &WorkingMemory<M>
+        ensures { result.now ≡ self.now.memory }
+    {
+        &self.memory
+    }
+
+    /// What is kept of the rules besides their conditions, in the order of their numbers.
+    pub fn rules(&self) -> &[DefinedRule]
+        ensures { result.now ≡ self.now.rules }
+    {
+        self.rules.as_slice()
+    }
+
+    /// The agenda.
+    pub fn agenda(&self) -> &Agenda
+        ensures { result.now ≡ self.now.agenda }
+    {
+        &self.agenda
+    }
+
     /// The templates.
     pub fn relations(&self) -> &Relations
         ensures { result.now ≡ self.now.templates }
