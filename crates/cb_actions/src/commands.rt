@@ -118,16 +118,17 @@ impl<M: Matcher<Mark>> World<M> {
         requires { out.old.fault ≡ false }
         ensures { Went K.writes out.old out.new self.new result (undefined (Some name.now) self.old) }
     {
-        self.drop_numbered(self.number_of(name), out)?;
+        self.drop_known(name, out)?;
         Ok(None)
     }
 
-    /// Drops the rule with a number. There must be a number.
-    fn drop_numbered<K: Sink>(&mut self, id: Option<u64>, out: &mut Out<K>) -> Result<(), Break>
+    /// Drops the rule with a name. There must be one.
+    fn drop_known<K: Sink>(&mut self, name: &Name, out: &mut Out<K>) -> Result<(), Break>
         requires { out.old.fault ≡ false }
-        ensures { Went K.writes out.old out.new self.new result (undefined_if id self.old) }
+        ensures { Went K.writes out.old out.new self.new result
+            (undefined_if (option_map (λ r. r.id) (rule_named name.now self.old.rules)) self.old) }
     {
-        match id {
+        match self.number_of(name) {
             Some(id) => self.drop_rule(id, out),
             None => Err(Break::Ended(Ended::Fault(Fault::NoSuchRule))),
         }
