@@ -2,7 +2,7 @@
 use Rattle.std.specs.Prelude.{List, [], ◌∷◌, ◌++◌, Result, Ok, Err, if◌then◌else◌}
 use Rattle.std.specs.Option.{ok_or}
 use Rattle.cb_exprs.specs.Bindings.{Bindings, value_at}
-use Rattle.cb_exprs.specs.Terms.{Term, constant, variable, global, call, assert, retract, bind, bind_global, choose, repeat, actions, printout, print, println, Terms, no_terms, term}
+use Rattle.cb_exprs.specs.Terms.{Term, constant, variable, global, call, assert, retract, bind, bind_global, choose, repeat, actions, printout, print, println, halt, Terms, no_terms, term}
 use Rattle.cb_facts.specs.Results.{and_then}
 use Rattle.cb_facts.specs.declared.value.Value.{Value}
 use Rattle.cb_forms.specs.declared.fault.Fault.{Fault}
@@ -28,6 +28,7 @@ abbrev mutual
   value_of (printout on ts) env = Err NotInProfile
   value_of (print ts) env = Err NotInProfile
   value_of (println ts) env = Err NotInProfile
+  value_of halt env = Err NotInProfile
 
   -- the values of a function's arguments, after those that are there: left to right, up to one that decides the call
   pub values_of : Function → List Value → Terms → Bindings → Result (List Value) Fault

@@ -47,7 +47,8 @@ pub fn eval<L: Lookup>(
         | Expr::Actions(_)
         | Expr::Printout(_, _)
         | Expr::Print(_)
-        | Expr::Println(_) => Err(Refused::Fault(Fault::NotInProfile)),
+        | Expr::Println(_)
+        | Expr::Halt => Err(Refused::Fault(Fault::NotInProfile)),
     }
 }
 

@@ -1,6 +1,6 @@
 -- The variables of an expression.
 use Rattle.std.specs.Prelude.{ℕ, List, [], ◌∷◌, ◌++◌}
-use Rattle.cb_exprs.specs.Terms.{Term, constant, variable, global, call, assert, retract, bind, bind_global, choose, repeat, actions, printout, print, println, Terms, no_terms, term}
+use Rattle.cb_exprs.specs.Terms.{Term, constant, variable, global, call, assert, retract, bind, bind_global, choose, repeat, actions, printout, print, println, halt, Terms, no_terms, term}
 
 abbrev mutual
   -- in the order in which they stand, each as often as it does; globals are not among them
@@ -19,6 +19,7 @@ abbrev mutual
   variables_of (printout on ts) = variables_in ts
   variables_of (print ts) = variables_in ts
   variables_of (println ts) = variables_in ts
+  variables_of halt = []
 
   pub variables_in : Terms → List (List ℕ)
   variables_in no_terms = []
