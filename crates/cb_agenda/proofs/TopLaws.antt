@@ -1,5 +1,5 @@
 -- The top fires before all others, and is the first of the list.
-use Rattle.std.proofs.Common.{◌≡◌, ◌≢◌, ◌<◌, Bool, true, false, ◌∷◌, [], None, Option, Some, suc, ap, arith, cond, if◌then◌else◌, length, map, option_map, refl, subst, sym, ◌∙◌}
+use Rattle.std.proofs.Common.{◌≡◌, ◌≢◌, Bool, true, false, ◌∷◌, [], None, Option, Some, suc, ap, arith, if◌then◌else◌, map, option_map, refl, subst, sym, ◌∙◌}
 use Rattle.std.proofs.lemmas.Bool.{false_from_ne_true, false≢true}
 use Rattle.std.proofs.lemmas.List.Elements.{All-from_recursion}
 use Rattle.std.proofs.lemmas.List.Sorted.{All-permutation, IsPermutation-sym}
@@ -18,7 +18,6 @@ use Rattle.cb_agenda.specs.Ranks.{fires_before, firing_cmp, rank_cmp}
 use Rattle.cb_agenda.specs.declared.rank.Rank.{Rank}
 use Rattle.cb_agenda.specs.declared.strategy.Strategy.{Strategy}
 use Rattle.cb_agenda.specs.declared.strategy.Strategy.TheVariants.{Breadth, Depth}
-use Rattle.cb_matches.specs.Keys.{KeyValue}
 
 first_placed_by : (b : Bool) (e f : Activation) (fs rest : Entries) → Some (if b then f else e) ≡ slice_get (if b then f ∷ rest else e ∷ f ∷ fs) 0
 first_placed_by true e f fs rest = refl

@@ -51,6 +51,7 @@ expr_other action.While ts facts t other h = ap (λ o. unwrap_or o no_expr) h
 expr_other action.Printout ts facts t other h = ap (λ o. unwrap_or o no_expr) h
 expr_other action.Print ts facts t other h = ap (λ o. unwrap_or o no_expr) h
 expr_other action.Println ts facts t other h = ap (λ o. unwrap_or o no_expr) h
+expr_other action.Halt ts facts t other h = ap (λ o. unwrap_or o no_expr) h
 
 faults_other : (s : Scope) (a : Action) (ts : Trees) (args facts : List Fault) → a ≢ action.Assert
     → action_faults s a ts args facts ≡ unless (is_some (action_of a (exprs_of s.templates ts))) (arguments_fault a) ++ args
@@ -62,6 +63,7 @@ faults_other s action.While ts args facts other = refl
 faults_other s action.Printout ts args facts other = refl
 faults_other s action.Print ts args facts other = refl
 faults_other s action.Println ts args facts other = refl
+faults_other s action.Halt ts args facts other = refl
 
 allowed : (s : Scope) (side : Side) → may_act side ≡ true → s.side ≡ side → may_act s.side ≡ true
 allowed s side may is = ap may_act is ∙ may

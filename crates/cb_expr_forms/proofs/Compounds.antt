@@ -2,9 +2,9 @@
 use Rattle.std.proofs.Common.{◌≡◌, ℕ, Bool, true, false, List, [], ◌∷◌, Option, Some, None, codes, refl, option_map, if◌then◌else◌}
 use Rattle.std.specs.List.{list_any}
 use Rattle.std.specs.Option.{unwrap_or}
-use Rattle.cb_expr_forms.specs.Actions.{is_this_word, branches, after_else, is_else, bind_of, if_of, while_of, retract_of, printout_of, named_channel, action_of}
+use Rattle.cb_expr_forms.specs.Actions.{is_this_word, branches, after_else, is_else, bind_of, if_of, while_of, retract_of, printout_of, halt_of, named_channel, action_of}
 use Rattle.cb_expr_forms.specs.ExprForms.{no_expr, list_expr, call_expr, exprs_of, assertions}
-use Rattle.cb_exprs.specs.Terms.{Term, constant, variable, global, call, assert, retract, bind, bind_global, choose, repeat, actions, printout, print, println}
+use Rattle.cb_exprs.specs.Terms.{Term, constant, variable, global, call, assert, retract, bind, bind_global, choose, repeat, actions, printout, print, println, halt}
 use Rattle.cb_exprs.specs.declared.channel.Channel.{Channel}
 use Rattle.cb_facts.specs.declared.value.Value.TheVariants as value
 use Rattle.cb_forms.specs.Trees.{atom, branch, Trees, no_trees, tree}
@@ -57,6 +57,7 @@ bind-compound (actions us ∷ ts) = tt
 bind-compound (printout on us ∷ ts) = tt
 bind-compound (print us ∷ ts) = tt
 bind-compound (println us ∷ ts) = tt
+bind-compound (halt ∷ ts) = tt
 
 if-compound : (ts : List Term) → OrNone (if_of ts)
 if-compound [] = tt
@@ -70,6 +71,10 @@ while-compound (t ∷ ts) = tt
 retract-compound : (ts : List Term) → OrNone (retract_of ts)
 retract-compound [] = tt
 retract-compound (t ∷ ts) = tt
+
+halt-compound : (ts : List Term) → OrNone (halt_of ts)
+halt-compound [] = tt
+halt-compound (t ∷ ts) = tt
 
 mapped : (o : Option Channel) (f : Channel → Term) → ((on : Channel) → IsCompound (f on)) → OrNone (option_map f o)
 mapped None f h = tt
@@ -95,6 +100,7 @@ printout-compound (actions us ∷ ts) = tt
 printout-compound (printout on us ∷ ts) = tt
 printout-compound (print us ∷ ts) = tt
 printout-compound (println us ∷ ts) = tt
+printout-compound (halt ∷ ts) = tt
 
 action-compound : (a : Action) (ts : List Term) → OrNone (action_of a ts)
 action-compound action.Assert ts = tt
@@ -105,6 +111,7 @@ action-compound action.While ts = while-compound ts
 action-compound action.Printout ts = printout-compound ts
 action-compound action.Print ts = tt
 action-compound action.Println ts = tt
+action-compound action.Halt ts = halt-compound ts
 
 other-compound : (a : Action) (ts facts : List Term) → IsCompound (call_expr (Some (head.Action a)) ts facts)
 other-compound action.Assert ts facts = tt
@@ -115,6 +122,7 @@ other-compound action.While ts facts = unwraps _ (action-compound action.While t
 other-compound action.Printout ts facts = unwraps _ (action-compound action.Printout ts)
 other-compound action.Print ts facts = tt
 other-compound action.Println ts facts = tt
+other-compound action.Halt ts facts = unwraps _ (action-compound action.Halt ts)
 
 call-compound : (h : Option Head) (ts facts : List Term) → IsCompound (call_expr h ts facts)
 call-compound None ts facts = tt
@@ -156,6 +164,7 @@ compound-word word (actions us) h = refl
 compound-word word (printout on us) h = refl
 compound-word word (print us) h = refl
 compound-word word (println us) h = refl
+compound-word word halt h = refl
 
 pub compound-bind : (t : Term) (ts : List Term) → IsCompound t → bind_of (t ∷ ts) ≡ None
 compound-bind (constant v) ts h = absurd h
@@ -172,6 +181,7 @@ compound-bind (actions us) ts h = refl
 compound-bind (printout on us) ts h = refl
 compound-bind (print us) ts h = refl
 compound-bind (println us) ts h = refl
+compound-bind halt ts h = refl
 
 pub compound-printout : (t : Term) (ts : List Term) → IsCompound t → printout_of (t ∷ ts) ≡ None
 compound-printout (constant v) ts h = absurd h
@@ -188,3 +198,4 @@ compound-printout (actions us) ts h = refl
 compound-printout (printout on us) ts h = refl
 compound-printout (print us) ts h = refl
 compound-printout (println us) ts h = refl
+compound-printout halt ts h = refl

@@ -11,7 +11,7 @@ use Rattle.cb_expr_forms.specs.Internal.{IsFact, IsSlot, IsSlotFault, IsFilling,
 use Rattle.cb_expr_forms.specs.Scopes.{is_known}
 use Rattle.cb_expr_forms.specs.declared.slot_form.SlotForm.{SlotForm}
 use Rattle.cb_expr_forms.proofs.Heads.{called}
-use Rattle.cb_exprs.specs.Terms.{Term, constant, variable, global, call, assert, retract, bind, bind_global, choose, repeat, actions, printout, print, println}
+use Rattle.cb_exprs.specs.Terms.{Term, constant, variable, global, call, assert, retract, bind, bind_global, choose, repeat, actions, printout, print, println, halt}
 use Rattle.cb_facts.specs.Results.{Reports}
 use Rattle.cb_facts.specs.Values.{fields_in}
 use Rattle.cb_facts.specs.declared.refused.Refused.{Refused}
@@ -84,3 +84,4 @@ any_type (actions us) = refl
 any_type (printout on us) = refl
 any_type (print us) = refl
 any_type (println us) = refl
+any_type halt = refl

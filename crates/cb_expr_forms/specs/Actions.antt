@@ -2,7 +2,7 @@
 use Rattle.std.specs.Prelude.{◌||◌, ℕ, Bool, false, List, [], ◌∷◌, Option, Some, None, codes, option_map, if◌then◌else◌}
 use Rattle.std.specs.List.{list_any}
 use Rattle.std.specs.Str.{bytes_eq}
-use Rattle.cb_exprs.specs.Terms.{Term, constant, variable, global, call, retract, bind, bind_global, choose, repeat, actions, printout, print, println, terms}
+use Rattle.cb_exprs.specs.Terms.{Term, constant, variable, global, call, retract, bind, bind_global, choose, repeat, actions, printout, print, println, halt, terms}
 use Rattle.cb_exprs.specs.declared.channel.Channel.{Channel}
 use Rattle.cb_exprs.specs.declared.channel.Channel.TheVariants as channel
 use Rattle.cb_facts.specs.declared.value.Value.TheVariants as value
@@ -75,6 +75,11 @@ abbrev pub retract_of : List Term → Option Term
 retract_of [] = None
 retract_of ts = Some (retract (terms ts))
 
+-- `(halt)`
+abbrev pub halt_of : List Term → Option Term
+halt_of [] = Some halt
+halt_of ts = None
+
 -- a call with an effect, where the number and the shape of its arguments are right; an `assert` has facts and no arguments
 abbrev pub action_of : Action → List Term → Option Term
 action_of action.Assert ts = None
@@ -85,3 +90,4 @@ action_of action.While ts = while_of ts
 action_of action.Printout ts = printout_of ts
 action_of action.Print ts = Some (print (terms ts))
 action_of action.Println ts = Some (println (terms ts))
+action_of action.Halt ts = halt_of ts

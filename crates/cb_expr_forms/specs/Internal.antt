@@ -19,7 +19,7 @@ use Rattle.cb_expr_forms.specs.declared.action_form.ActionForm.TheVariants as pr
 use Rattle.cb_expr_forms.specs.declared.build.KnownEffect.{KnownEffect}
 use Rattle.cb_expr_forms.specs.declared.build.KnownEffect.TheVariants as known
 use Rattle.cb_exprs.specs.FactTerms.{FactTerm}
-use Rattle.cb_exprs.specs.Terms.{Term, call, retract, bind, bind_global, choose, repeat, actions, printout, print, println, terms}
+use Rattle.cb_exprs.specs.Terms.{Term, call, retract, bind, bind_global, choose, repeat, actions, printout, print, println, halt, terms}
 use Rattle.cb_forms.specs.Members.{members}
 use Rattle.cb_forms.specs.Trees.{Tree, Trees, no_trees, tree_of}
 use Rattle.cb_forms.specs.declared.fault.Fault.{Fault}
@@ -51,6 +51,7 @@ effect_expr (effect.BindGlobal name) ts = bind_global name.now (as_one_value ts)
 effect_expr (effect.Printout on) ts = printout on (terms ts)
 effect_expr effect.Print ts = print (terms ts)
 effect_expr effect.Println ts = println (terms ts)
+effect_expr effect.Halt ts = halt
 
 abbrev pub effect_faults : Scope → Effect → List Fault
 effect_faults s (effect.Bind name) = token_faults s (token.Var name.now)
@@ -65,6 +66,7 @@ known_expr (known.BindGlobal name) ts = bind_global name (as_one_value ts)
 known_expr (known.Printout on) ts = printout on (terms ts)
 known_expr known.Print ts = print (terms ts)
 known_expr known.Println ts = println (terms ts)
+known_expr known.Halt ts = halt
 
 -- a call with an effect, and what is wrong with it
 abbrev pub plan_expr : Templates → ActionForm → Term

@@ -1,6 +1,6 @@
 -- The variables of an expression.
 use Rattle.std.specs.Prelude.{ℕ, List, [], ◌∷◌, ◌++◌}
-use Rattle.cb_exprs.specs.Terms.{Term, constant, variable, global, call, assert, retract, bind, bind_global, choose, repeat, actions, printout, print, println, Terms, no_terms, term}
+use Rattle.cb_exprs.specs.Terms.{Term, constant, variable, global, call, assert, retract, bind, bind_global, choose, repeat, actions, printout, print, println, halt, Terms, no_terms, term}
 
 abbrev mutual
   -- The variables of an expression, in the order in which they stand, each as often as it does; globals are not
@@ -20,6 +20,7 @@ abbrev mutual
   variables_of (printout on ts) = variables_in ts
   variables_of (print ts) = variables_in ts
   variables_of (println ts) = variables_in ts
+  variables_of halt = []
 
   -- The variables of several expressions.
   pub variables_in : Terms → List (List ℕ)

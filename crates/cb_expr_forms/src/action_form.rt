@@ -42,6 +42,8 @@ pub(crate) enum Effect<'a> {
     Print,
     /// `(println value ..)`
     Println,
+    /// `(halt)`
+    Halt,
 }
 
 /// A call with an effect, by its arguments; `None` where their number or shape is wrong.
@@ -57,6 +59,7 @@ pub(crate) fn split_action<'a>(action: Action, args: &'a [Form]) -> Option<Actio
         Action::Printout => split_printout(args),
         Action::Print => Some(ActionForm::Of(Effect::Print, args)),
         Action::Println => Some(ActionForm::Of(Effect::Println, args)),
+        Action::Halt => split_halt(args),
     }
 }
 
@@ -175,4 +178,13 @@ fn split_printout<'a>(args: &'a [Form]) -> Option<ActionForm<'a>>
     let (first, values) = args.split_first()?;
     let channel = named_channel(first.symbol()?)?;
     Some(ActionForm::Of(Effect::Printout(channel), values))
+}
+
+fn split_halt<'a>(args: &'a [Form]) -> Option<ActionForm<'a>>
+    ensures { HasPlan Action.Halt (members args.now) result }
+{
+    match args.split_first() {
+        Some(_) => None,
+        None => Some(ActionForm::Of(Effect::Halt, args)),
+    }
 }

@@ -28,6 +28,8 @@ pub(crate) enum KnownEffect {
     Print,
     /// `(println value ..)`
     Println,
+    /// `(halt)`
+    Halt,
 }
 
 /// An effect that may stand there, or the fault of the variable that it binds.
@@ -46,6 +48,7 @@ pub(crate) fn know_effect(
         Effect::Printout(channel) => Ok(KnownEffect::Printout(channel)),
         Effect::Print => Ok(KnownEffect::Print),
         Effect::Println => Ok(KnownEffect::Println),
+        Effect::Halt => Ok(KnownEffect::Halt),
     }
 }
 
@@ -64,6 +67,7 @@ pub(crate) fn build_call(
         KnownEffect::Printout(channel) => Ok(Expr::Printout(channel, values)),
         KnownEffect::Print => Ok(Expr::Print(values)),
         KnownEffect::Println => Ok(Expr::Println(values)),
+        KnownEffect::Halt => Ok(Expr::Halt),
     }
 }
 

@@ -16,7 +16,7 @@ pub fn knows_all(known: &NameList, expr: &Expr) -> bool
     ensures { result ≡ list_all (is_known known.now) (variables_of (term_of expr.now)) }
 {
     match expr {
-        Expr::Constant(_) | Expr::Global(_) => true,
+        Expr::Constant(_) | Expr::Global(_) | Expr::Halt => true,
         Expr::Variable(name) => known.has(name),
         Expr::Call(_, exprs)
         | Expr::Assert(_, exprs)

@@ -32,19 +32,17 @@ fn add_total(lines: &mut Vec<u8>, count: usize, noun: Noun) -> Result<(), NoMemo
     let mut buffer = Buffer::new();
     lines.extend_from_slice(b"For a total of ")?;
     lines.extend_from_slice(buffer.format(count).as_bytes())?;
-    lines.push(b' ')?;
     lines.extend_from_slice(noun_for(count, noun))?;
-    lines.extend_from_slice(b".\n")?;
     Ok(())
 }
 
-/// The word for so many.
+/// What follows the number.
 fn noun_for(count: usize, noun: Noun) -> &'static [u8]
     ensures { result.now ≡ noun_for count noun }
 {
     match noun {
-        Noun::Fact => if count == 1 { b"fact" } else { b"facts" },
-        Noun::Activation => if count == 1 { b"activation" } else { b"activations" },
-        Noun::Defrule => if count == 1 { b"defrule" } else { b"defrules" },
+        Noun::Fact => if count == 1 { b" fact.\n" } else { b" facts.\n" },
+        Noun::Activation => if count == 1 { b" activation.\n" } else { b" activations.\n" },
+        Noun::Defrule => if count == 1 { b" defrule.\n" } else { b" defrules.\n" },
     }
 }

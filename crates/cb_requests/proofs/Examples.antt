@@ -1,6 +1,7 @@
 -- Items and what they ask for, worked out by hand from the rules.
 use Prim.Native.String.{String}
 use Rattle.std.proofs.Common.{◌≡◌, ℕ, true, false, pos, List, [], ◌∷◌, Result, Ok, Err, Some, None, codes, refl}
+use Rattle.cb_agenda.specs.declared.strategy.Strategy.TheVariants as strategy
 use Rattle.cb_exprs.specs.Bindings.{Bindings}
 use Rattle.cb_exprs.specs.Terms.{Term, constant, variable, global, call, bind, terms}
 use Rattle.cb_facts.specs.declared.value.Value.TheVariants as value
@@ -8,10 +9,11 @@ use Rattle.cb_forms.specs.Trees.{Tree, atom, branch, trees_of}
 use Rattle.cb_forms.specs.declared.fault.Fault.{Fault}
 use Rattle.cb_forms.specs.declared.fault.Fault.TheVariants.{UnknownFunction, WrongArguments, MalformedForm, FactDoesNotFit, UnboundVariable, UnknownGlobal, NotInProfile, TemplateInUse, UnmatchedParenthesis}
 use Rattle.cb_forms.specs.declared.token.Token.TheVariants as token
-use Rattle.cb_requests.specs.Requests.{Request, act, define_deffacts, define_globals, define_template, reset, request_of}
+use Rattle.cb_requests.specs.Requests.{Request, act, define_deffacts, define_globals, define_template, exit, request_of, reset, run, set_strategy, undefine, watch}
 use Rattle.cb_templates.specs.Reserved.{is_reserved}
 use Rattle.cb_words.specs.Words.{head_of}
 use Rattle.cb_words.specs.declared.function.Function.TheVariants as function
+use Rattle.cb_words.specs.declared.watch_item.WatchItem.TheVariants as item
 
 -- atoms and lists, as they stand in a script
 abbrev word : String → Tree
@@ -141,6 +143,88 @@ command_with_argument = refl
 command_inside : asked (form "if" (word "TRUE" ∷ word "then" ∷ form "reset" [] ∷ [])) ≡ Err NotInProfile
 unfolding head_of
 command_inside = refl
+
+-- (run), (exit 3), (run ?y 1): no expression or one, and their number comes first
+run_all : asked (form "run" []) ≡ Ok (run None)
+unfolding head_of
+run_all = refl
+
+exit_with_status : asked (form "exit" (number 3 ∷ [])) ≡ Ok (exit (Some (int 3)))
+unfolding head_of
+exit_with_status = refl
+
+two_counts : asked (form "run" (var "y" ∷ number 1 ∷ [])) ≡ Err WrongArguments
+unfolding head_of
+two_counts = refl
+
+-- (run ?y), (run ?), (run (bind ?y ?y)): the expression stands at the top level, where the whole form binds variables
+unknown_count : asked (form "run" (var "y" ∷ [])) ≡ Err UnboundVariable
+unfolding head_of
+unknown_count = refl
+
+wildcard_count : asked (form "run" (atom token.Any ∷ [])) ≡ Err MalformedForm
+unfolding head_of
+wildcard_count = refl
+
+bound_count : asked (form "run" (form "bind" (var "y" ∷ var "y" ∷ []) ∷ [])) ≡ Ok (run (Some (bind (codes "y") (variable (codes "y")))))
+unfolding head_of
+bound_count = refl
+
+-- (undefrule r), (undefrule *), (undefrule 3), (undefrule): the name of any rule, or all rules
+one_rule : asked (form "undefrule" (word "r" ∷ [])) ≡ Ok (undefine (Some (codes "r")))
+unfolding head_of
+one_rule = refl
+
+all_rules : asked (form "undefrule" (word "*" ∷ [])) ≡ Ok (undefine None)
+unfolding head_of
+all_rules = refl
+
+no_rule_name : asked (form "undefrule" (number 3 ∷ [])) ≡ Err WrongArguments
+unfolding head_of
+no_rule_name = refl
+
+rule_name_missing : asked (form "undefrule" []) ≡ Err WrongArguments
+unfolding head_of
+rule_name_missing = refl
+
+-- (watch rules), (unwatch all), (watch globals), (watch "facts"), (watch facts bogus): one symbol, of those that are known
+watched : asked (form "watch" (word "rules" ∷ [])) ≡ Ok (watch item.Rules true)
+unfolding head_of
+watched = refl
+
+unwatched : asked (form "unwatch" (word "all" ∷ [])) ≡ Ok (watch item.All false)
+unfolding head_of
+unwatched = refl
+
+unknown_item : asked (form "watch" (word "globals" ∷ [])) ≡ Err NotInProfile
+unfolding head_of
+unknown_item = refl
+
+item_in_quotes : asked (form "watch" (text "facts" ∷ [])) ≡ Err WrongArguments
+unfolding head_of
+item_in_quotes = refl
+
+two_items : asked (form "watch" (word "facts" ∷ word "bogus" ∷ [])) ≡ Err WrongArguments
+unfolding head_of
+two_items = refl
+
+-- (set-strategy breadth), (set-strategy lex), (set-strategy 3)
+strategy_taken : asked (form "set-strategy" (word "breadth" ∷ [])) ≡ Ok (set_strategy strategy.Breadth)
+unfolding head_of
+strategy_taken = refl
+
+unknown_strategy : asked (form "set-strategy" (word "lex" ∷ [])) ≡ Err NotInProfile
+unfolding head_of
+unknown_strategy = refl
+
+no_strategy : asked (form "set-strategy" (number 3 ∷ [])) ≡ Err WrongArguments
+unfolding head_of
+no_strategy = refl
+
+-- (defrule r (a)): without `=>`
+no_arrow : asked (form "defrule" (word "r" ∷ form "a" [] ∷ [])) ≡ Err MalformedForm
+unfolding head_of
+no_arrow = refl
 
 -- (), (1 2), ?: a list without a word, and what is no expression
 empty_list : asked (branch (trees_of [])) ≡ Err MalformedForm

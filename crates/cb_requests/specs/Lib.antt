@@ -1,3 +1,4 @@
+pub mod Arguments
 pub mod Internal
 pub mod Laws
 pub mod Reads

@@ -3,6 +3,9 @@
 //! `docs/ARCHITECTURE.md` says where it belongs.
 #![tactic(auto)]
 
+mod arguments; // what commands take: nothing, an expression or none, a word
+mod command; // commands, a row each
+mod construct; // constructs
 mod context; // what there is where an item is read; which relations are in use
 mod fact_list; // the facts of a `deffacts`
 mod global_list; // the globals of a `defglobal`, each of which may name those before it

@@ -1,19 +1,22 @@
 //! What items ask for.
 ghost use Rattle.cb_facts.specs.Results.{Settles};
-ghost use Rattle.cb_forms.specs.Members.{head_and_rest, members};
 ghost use Rattle.cb_forms.specs.Trees.{reading_of, tree_of};
-ghost use Rattle.cb_requests.specs.Requests.{act_request, command_request, construct_request, deffacts_request, form_request, globals_request, request_by, request_of, template_request};
+ghost use Rattle.cb_requests.specs.Requests.{act_request, form_request, request_by, request_of};
 ghost use Rattle.cb_requests.specs.Uses.{is_in_use};
 
+use crate::command::read_command;
+use crate::construct::read_construct;
 use crate::context::Context;
-use crate::fact_list::read_kept_facts;
-use crate::global_list::read_globals;
 use crate::top_expr::read_top;
-use cb_exprs::{Expr, FactExpr, GlobalExpr};
+use cb_agenda::Strategy;
+use cb_exprs::{Env, Expr, FactExpr, GlobalExpr};
 use cb_facts::{Name, Names, Refused};
-use cb_forms::{Fault, Form, Item, split_head};
-use cb_templates::{Template, read_template, without_comment};
-use cb_words::{Command, Construct, Head, read_head};
+use cb_forms::{Form, Item};
+use cb_matches::Matcher;
+use cb_rules::Rule;
+use cb_templates::{Relations, Template};
+use cb_words::{Head, WatchItem, read_head};
+use cb_working_memory::Mark;
 
 /// What an item asks for.
 #[derive(Drop)]
@@ -26,22 +29,40 @@ pub enum Request {
     DefineDeffacts(Name, Vec<FactExpr>),
     /// To define globals, one after another.
     DefineGlobals(Vec<GlobalExpr>),
+    /// To define a rule, in place of one with its name.
+    DefineRule(Rule<Mark>),
     /// To list the facts.
     ListFacts,
+    /// To list the activations.
+    ListAgenda,
+    /// To list the names of the rules.
+    ListRules,
     /// To begin anew with the facts that are kept for it.
     Reset,
     /// To drop the facts, the variables and all that is defined.
     Clear,
+    /// To fire rules: as many as the expression says, or all without one.
+    Run(Option<Expr>),
+    /// To end the script, with the status that the expression says, if there is one.
+    Exit(Option<Expr>),
+    /// To drop the rule with a name, or without one all rules.
+    Undefine(Option<Name>),
+    /// To watch an item from now on (`true`), or no more.
+    Watch(WatchItem, bool),
+    /// To take another strategy.
+    SetStrategy(Strategy),
 }
 
-/// The command that an item is, by what there is, or its first fault (`docs/LANGUAGE.md`, "The order of the faults").
-pub fn read_request(
+/// What an item asks for, by what there is, or its first fault (`docs/LANGUAGE.md`, "The order of the faults"). Growth is
+/// refused as `NoMemory`.
+pub fn read_request<M: Matcher<Mark>>(
     names: &mut Names,
-    context: &Context<'_>,
+    context: &Context<'_, M>,
     item: &Item,
 ) -> Result<Request, Refused>
     ensures { Settles request_by result (request_of context.now.relations.now context.now.env.now
-        (is_in_use context.now.memory.now context.now.deffacts.now) (reading_of item.now)) }
+        (is_in_use context.now.memory.now context.now.rules.now context.now.deffacts.now)
+        (reading_of item.now)) }
 {
     match item {
         Item::Form(form) => read_form(names, context, form),
@@ -49,103 +70,35 @@ pub fn read_request(
     }
 }
 
-fn read_form(names: &mut Names, context: &Context<'_>, form: &Form) -> Result<Request, Refused>
+fn read_form<M: Matcher<Mark>>(
+    names: &mut Names,
+    context: &Context<'_, M>,
+    form: &Form,
+) -> Result<Request, Refused>
     ensures { Settles request_by result (form_request context.now.relations.now context.now.env.now
-        (is_in_use context.now.memory.now context.now.deffacts.now) (tree_of form.now)) }
+        (is_in_use context.now.memory.now context.now.rules.now context.now.deffacts.now)
+        (tree_of form.now)) }
 {
     let Some((name, args)) = form.call() else {
-        return read_act(names, context, form);
+        return read_act(names, context.relations, context.env, form);
     };
     match read_head(name) {
         Some(Head::Construct(construct)) => read_construct(names, context, construct, args),
-        Some(Head::Command(command)) => read_bare(command, args),
-        _ => read_act(names, context, form),
+        Some(Head::Command(command)) => {
+            read_command(names, context.relations, context.env, form, command, args)
+        }
+        _ => read_act(names, context.relations, context.env, form),
     }
 }
 
 /// An expression.
-fn read_act(names: &mut Names, context: &Context<'_>, form: &Form) -> Result<Request, Refused>
-    ensures { Settles request_by result
-        (act_request context.now.relations.now context.now.env.now (tree_of form.now)) }
-{
-    Ok(Request::Act(read_top(names, context.relations, context.env, form)?))
-}
-
-/// A command, which takes no arguments.
-fn read_bare(command: Command, args: &[Form]) -> Result<Request, Refused>
-    ensures { Settles request_by result (command_request command (members args.now)) }
-{
-    if let Some(_) = args.split_first() {
-        return Err(Refused::Fault(Fault::WrongArguments));
-    }
-    match command {
-        Command::Facts => Ok(Request::ListFacts),
-        Command::Reset => Ok(Request::Reset),
-        Command::Clear => Ok(Request::Clear),
-    }
-}
-
-fn read_construct(
+fn read_act(
     names: &mut Names,
-    context: &Context<'_>,
-    construct: Construct,
-    args: &[Form],
+    relations: &Relations,
+    env: &Env,
+    form: &Form,
 ) -> Result<Request, Refused>
-    ensures { Settles request_by result
-        (construct_request context.now.relations.now context.now.env.now
-        (is_in_use context.now.memory.now context.now.deffacts.now) construct (members args.now)) }
+    ensures { Settles request_by result (act_request relations.now env.now (tree_of form.now)) }
 {
-    match construct {
-        Construct::Deftemplate => read_deftemplate(names, context, args),
-        Construct::Deffacts => read_deffacts(names, context, args),
-        Construct::Defglobal => read_defglobal(names, context, args),
-    }
-}
-
-fn read_deftemplate(
-    names: &mut Names,
-    context: &Context<'_>,
-    args: &[Form],
-) -> Result<Request, Refused>
-    ensures { Settles request_by result (template_request
-        (is_in_use context.now.memory.now context.now.deffacts.now) (members args.now)) }
-{
-    let Some((relation, _)) = split_head(args) else {
-        return Err(Refused::Fault(Fault::MalformedForm));
-    };
-    let in_use = context.is_in_use(&names.name(relation)?);
-    let (relation, template) = read_template(names, args, in_use)?;
-    Ok(Request::DefineTemplate(relation, template))
-}
-
-fn read_deffacts(
-    names: &mut Names,
-    context: &Context<'_>,
-    args: &[Form],
-) -> Result<Request, Refused>
-    ensures { Settles request_by result
-        (deffacts_request context.now.relations.now context.now.env.now
-        (head_and_rest (members args.now))) }
-{
-    let Some((name, forms)) = split_head(args) else {
-        return Err(Refused::Fault(Fault::MalformedForm));
-    };
-    let facts = read_kept_facts(
-        names,
-        context.relations,
-        context.env,
-        without_comment(forms),
-    )?;
-    Ok(Request::DefineDeffacts(names.name(name)?, facts))
-}
-
-fn read_defglobal(
-    names: &mut Names,
-    context: &Context<'_>,
-    args: &[Form],
-) -> Result<Request, Refused>
-    ensures { Settles request_by result
-        (globals_request context.now.relations.now context.now.env.now (members args.now)) }
-{
-    Ok(Request::DefineGlobals(read_globals(names, context.relations, context.env, args)?))
+    Ok(Request::Act(read_top(names, relations, env, form, form)?))
 }

@@ -10,17 +10,19 @@ use cb_facts::{Names, Refused};
 use cb_forms::Form;
 use cb_templates::Relations;
 
-/// The expression that a form at the top level is, or its first fault.
+/// The expression that a form is, or its first fault, in a whole form at the top level: a variable that the whole form binds
+/// is known.
 pub(crate) fn read_top(
     names: &mut Names,
     relations: &Relations,
     env: &Env,
+    whole: &Form,
     form: &Form,
 ) -> Result<Expr, Refused>
     ensures { Settles term_of result
-        (expr_in (top_scope relations.now env.now (tree_of form.now)) (tree_of form.now)) }
+        (expr_in (top_scope relations.now env.now (tree_of whole.now)) (tree_of form.now)) }
 {
-    let bound = bound_variables(names, form)?;
+    let bound = bound_variables(names, whole)?;
     let given = NameList::new(names.alloc());
     let scope = Scope {
         side: Side::Top,

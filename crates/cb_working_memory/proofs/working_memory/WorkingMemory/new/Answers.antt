@@ -2,4 +2,4 @@ use Rattle.cb_working_memory.proofs.RuleLaws.{kept_empty}
 use Rattle.cb_working_memory.proofs.working_memory.WorkingMemory.new.Goals as goal
 
 pub invariant_of-result : goal.invariant_of-result
-invariant_of-result g c = λ _. kept_empty c.new-2.result c.new-3.result.items 0 (g.M.Matcher.network c.args.matcher) c.new-2.ensures c.new-3.ensures.items c.requires
+invariant_of-result g c = λ _. kept_empty c.new-3.result c.new-4.result.items 0 (g.M.Matcher.network c.args.matcher) c.new-3.ensures c.new-4.ensures.items c.requires

@@ -1,0 +1,162 @@
+//! Steps of an agenda: a call, its answer, and the list after it.
+use cb_agenda::Strategy;
+
+/// A call. A number stands for the key of a match of the rule with this number.
+pub enum Call {
+    /// These are gone, those come, and the saliences of those.
+    Change(&'static [u64], &'static [u64], &'static [i64]),
+    Has(u64),
+    Pop,
+    Set(Strategy),
+    DropAll,
+}
+
+/// A call, its answer, and the list after it, each activation as `RULE:SALIENCE`.
+pub struct Step {
+    pub call: Call,
+    pub answer: &'static str,
+    pub list: &'static str,
+}
+
+/// From nothing.
+pub const STEPS: [Step; 20] = [
+    Step {
+        call: Call::Pop,
+        answer: "none",
+        list: "",
+    },
+    Step {
+        call: Call::Change(&[], &[1, 2, 3, 4], &[0, 5, 0, 5]),
+        answer: "done",
+        list: "4:5 2:5 3:0 1:0 ",
+    },
+    Step {
+        call: Call::Has(3),
+        answer: "yes",
+        list: "4:5 2:5 3:0 1:0 ",
+    },
+    Step {
+        call: Call::Has(9),
+        answer: "no",
+        list: "4:5 2:5 3:0 1:0 ",
+    },
+    Step {
+        call: Call::Set(Strategy::Breadth),
+        answer: "depth",
+        list: "2:5 4:5 1:0 3:0 ",
+    },
+    Step {
+        call: Call::Pop,
+        answer: "2",
+        list: "4:5 1:0 3:0 ",
+    },
+    Step {
+        call: Call::Change(&[3], &[5, 6], &[0, -1]),
+        answer: "done",
+        list: "4:5 1:0 5:0 6:-1 ",
+    },
+    Step {
+        call: Call::Pop,
+        answer: "4",
+        list: "1:0 5:0 6:-1 ",
+    },
+    Step {
+        call: Call::Set(Strategy::Depth),
+        answer: "breadth",
+        list: "5:0 1:0 6:-1 ",
+    },
+    Step {
+        call: Call::Change(&[7], &[1], &[0]),
+        answer: "done",
+        list: "1:0 5:0 6:-1 ",
+    },
+    Step {
+        call: Call::Change(&[6], &[6, 8], &[]),
+        answer: "done",
+        list: "8:0 6:0 1:0 5:0 ",
+    },
+    Step {
+        call: Call::Pop,
+        answer: "8",
+        list: "6:0 1:0 5:0 ",
+    },
+    Step {
+        call: Call::Change(&[1, 6], &[], &[]),
+        answer: "done",
+        list: "5:0 ",
+    },
+    Step {
+        call: Call::Pop,
+        answer: "5",
+        list: "",
+    },
+    Step {
+        call: Call::Has(5),
+        answer: "no",
+        list: "",
+    },
+    Step {
+        call: Call::Change(&[], &[2, 1], &[-10000, 10000]),
+        answer: "done",
+        list: "1:10000 2:-10000 ",
+    },
+    Step {
+        call: Call::DropAll,
+        answer: "",
+        list: "",
+    },
+    Step {
+        call: Call::Pop,
+        answer: "none",
+        list: "",
+    },
+    Step {
+        call: Call::Set(Strategy::Breadth),
+        answer: "depth",
+        list: "",
+    },
+    Step {
+        call: Call::Change(&[], &MANY, &[0, 3, 0, 3, -3, 3]),
+        answer: "done",
+        list: "2:3 4:3 6:3 1:0 3:0 7:0 8:0 9:0 10:0 11:0 12:0 13:0 14:0 15:0 16:0 17:0 18:0 19:0 20:0 21:0 22:0 23:0 24:0 5:-3 ",
+    },
+];
+
+/// More than a sort puts in order without memory.
+const MANY: [u64; 24] = [
+    1, 2, 3, 4, 5, 6, 7, 8, 9, 10, 11, 12, 13, 14, 15, 16, 17, 18, 19, 20, 21, 22, 23, 24,
+];
+
+/// Two stamps are left.
+pub const LAST_STAMPS: [Step; 6] = [
+    Step {
+        call: Call::Change(&[], &[1, 2, 3], &[0, 0, 0]),
+        answer: "exhausted",
+        list: "",
+    },
+    Step {
+        call: Call::Change(&[], &[1, 2], &[0, 0]),
+        answer: "done",
+        list: "2:0 1:0 ",
+    },
+    Step {
+        call: Call::Change(&[1], &[3], &[0]),
+        answer: "exhausted",
+        list: "2:0 1:0 ",
+    },
+    Step {
+        call: Call::Change(&[1], &[], &[]),
+        answer: "done",
+        list: "2:0 ",
+    },
+    Step {
+        call: Call::DropAll,
+        answer: "",
+        list: "",
+    },
+    Step {
+        call: Call::Change(&[], &[4], &[0]),
+        answer: "exhausted",
+        list: "",
+    },
+];
