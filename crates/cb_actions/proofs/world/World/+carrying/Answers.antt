@@ -328,3 +328,8 @@ pub carry_out-returns-in-While-clause-went : goal.carry_out-returns-in-While-cla
 carry_out-returns-in-While-clause-went g t c =
     let e : term_of c.args.expr.now ≡ repeat (term_of c.deref-in-While.result.now) (term_of c.deref-in-While-2.result.now) = ap term_of c.in-While.is ∙ (exprs_laws.ghosts.of_while _ _ ∙ ap₂ (λ it that. repeat (term_of it) (term_of that)) (sym c.deref-in-While.ensures) (sym c.deref-in-While-2.ensures)) in
     went_term g.K.Sink.writes c.args.self.now e c.carry_while.ensures.went
+
+pub carry_out-returns-in-Halt-clause-went : goal.carry_out-returns-in-Halt-clause-went
+carry_out-returns-in-Halt-clause-went g t c =
+    let e : term_of c.args.expr.now ≡ halt = ap term_of c.in-Halt.is ∙ exprs_laws.ghosts.of_halt in
+    went_term g.K.Sink.writes c.args.self.now e (went_quietly g.K.Sink.writes _ _ _ _ c.requires c.halt.ensures)
