@@ -12,4 +12,4 @@ mod relations;
 mod rule;
 mod sections;
 
-pub use rule::{Ce, Rule};
+pub use rule::read_rule;
