@@ -12,7 +12,7 @@ use Rattle.std.specs.declared.cmp.Ordering.{Ordering}
 use Rattle.std.specs.declared.cmp.Ordering.TheVariants.{Equal, Greater, Less}
 use Rattle.std.specs.declared.ops.Bound.TheVariants.{Included, Unbounded}
 use Rattle.cb_agenda.proofs.Sorting.{all_sorted, sorted_is}
-use Rattle.cb_agenda.specs.Agendas.{Activation, Entries, first_of, in_order, shown, top_of}
+use Rattle.cb_agenda.specs.Agendas.{Activation, Entries, firing_order, first_to_fire, key_and_salience, top_of}
 use Rattle.cb_agenda.specs.Internal.{from_salience}
 use Rattle.cb_agenda.specs.Orders.{placed, sorted}
 use Rattle.cb_agenda.specs.Ranks.{fires_before, firing_cmp, rank_cmp}
@@ -72,8 +72,8 @@ last_is_top (x ∷ y ∷ ys) zero e rises n h = absurd (omega arith)
 last_is_top (x ∷ y ∷ ys) (suc i) e rises n h =
     let top : top_of Depth (y ∷ ys) ≡ Some e = last_is_top (y ∷ ys) i e rises.1 (omega arith) h in
     let before : fires_before Depth e.0 x.0 ≡ true = depth_fires x.0 e.0 (all_at (λ (f : Activation). rank_cmp x.0 f.0 ≡ Less) (y ∷ ys) i e rises.0 h) in
-    let is : first_of Depth x (Some e) ≡ e = rw (before) refl in
-    ap (λ o. Some (first_of Depth x o)) top ∙ ap Some is
+    let is : first_to_fire Depth x (Some e) ≡ e = rw (before) refl in
+    ap (λ o. Some (first_to_fire Depth x o)) top ∙ ap Some is
 
 -- the ranks from the least of a salience on
 zero_least : (n : ℕ) → is_le (nat_cmp 0 n) ≡ true
@@ -119,17 +119,17 @@ pub record IsOldest (s : ℤ) (es : Entries) : Type 0 where
 oldest_by : (s : ℤ) (o : Ordering) (x : Activation) (xs : Entries) → (h : IsOldest s xs) → rank_cmp x.0 h.top.0 ≡ Less → int_cmp x.0.salience h.top.0.salience ≡ o → IsOldest s (x ∷ xs)
 oldest_by s Less x xs h above e =
     let before : fires_before Breadth h.top.0 x.0 ≡ true = breadth_fires x.0 h.top.0 above ∙ ap is_lt e in
-    let is : first_of Breadth x (Some h.top) ≡ h.top = rw (before) refl in
+    let is : first_to_fire Breadth x (Some h.top) ≡ h.top = rw (before) refl in
     let out : is_from s x.0 ≡ false = without s x.0 (ap (int_cmp x.0.salience) (sym h.salience) ∙ e) in
     let less : from_salience s (x ∷ xs) ≡ from_salience s xs = rw (out) refl in
-    record { top = h.top; is = ap (λ o. Some (first_of Breadth x o)) h.is ∙ ap Some is; salience = h.salience; found = ap (λ es. slice_get es 0) less ∙ h.found }
+    record { top = h.top; is = ap (λ o. Some (first_to_fire Breadth x o)) h.is ∙ ap Some is; salience = h.salience; found = ap (λ es. slice_get es 0) less ∙ h.found }
 oldest_by s Equal x xs h above e =
     let before : fires_before Breadth h.top.0 x.0 ≡ false = breadth_fires x.0 h.top.0 above ∙ ap is_lt e in
-    let is : first_of Breadth x (Some h.top) ≡ x = rw (before) refl in
+    let is : first_to_fire Breadth x (Some h.top) ≡ x = rw (before) refl in
     let same : x.0.salience ≡ h.top.0.salience = (signed_Decides x.0.salience h.top.0.salience).0 (ap is_eq e) in
     let kept : is_from s x.0 ≡ true = within s x.0 (sym (same ∙ h.salience)) in
     let more : from_salience s (x ∷ xs) ≡ x ∷ from_salience s xs = rw (kept) refl in
-    record { top = x; is = ap (λ o. Some (first_of Breadth x o)) h.is ∙ ap Some is; salience = same ∙ h.salience; found = ap (λ es. slice_get es 0) more }
+    record { top = x; is = ap (λ o. Some (first_to_fire Breadth x o)) h.is ∙ ap Some is; salience = same ∙ h.salience; found = ap (λ es. slice_get es 0) more }
 oldest_by s Greater x xs h above e =
     let wrong : rank_cmp x.0 h.top.0 ≡ Greater = rw (e) refl in
     cc
@@ -153,16 +153,16 @@ placed_last : (x : Activation) (zs : Entries) → AllByRecursion (λ (e : Activa
 placed_last x [] h = refl
 placed_last x (z ∷ zs) h = let before : fires_before Depth z.0 x.0 ≡ true = depth_fires x.0 z.0 h.0 in rw (before, placed_last x zs h.1) refl
 
-pub newest_first : (es : Entries) → Rises es → in_order Depth es ≡ reverse es
+pub newest_first : (es : Entries) → Rises es → firing_order Depth es ≡ reverse es
 newest_first [] h = refl
 newest_first (x ∷ xs) h =
     placed_last x (sorted (first Depth) xs) (all_sorted (first Depth) (λ (e : Activation). rank_cmp x.0 e.0 ≡ Less) xs h.0)
     ∙ ap (λ zs. zs ++ x ∷ []) (newest_first xs h.1) ∙ sym (reverse-append (x ∷ []) xs)
 
-pub reversed : (es : Entries) → map shown (reverse es) ≡ reverse (map shown es)
+pub reversed : (es : Entries) → map key_and_salience (reverse es) ≡ reverse (map key_and_salience es)
 reversed [] = refl
 reversed (x ∷ xs) =
-    ap (map shown) (reverse-append (x ∷ []) xs) ∙ map-append shown (reverse xs) (x ∷ []) ∙ ap (λ zs. zs ++ shown x ∷ []) (reversed xs) ∙ sym (reverse-append (shown x ∷ []) (map shown xs))
+    ap (map key_and_salience) (reverse-append (x ∷ []) xs) ∙ map-append key_and_salience (reverse xs) (x ∷ []) ∙ ap (λ zs. zs ++ key_and_salience x ∷ []) (reversed xs) ∙ sym (reverse-append (key_and_salience x ∷ []) (map key_and_salience xs))
 
 -- and under breadth the order by falling salience
 abbrev pub saliences_fall : KeyValue × ℤ → KeyValue × ℤ → Bool
@@ -171,24 +171,24 @@ saliences_fall a b = is_lt (int_cmp b.1 a.1)
 pub saliences_order : IsStrictWeakOrder saliences_fall
 saliences_order = ranks_by (back_total int_cmp_total) (λ (a : KeyValue × ℤ). a.1)
 
-shown_placed_by : (b c : Bool) (x z : Activation) (zs rest : Entries) (more : List (KeyValue × ℤ)) → b ≡ c → map shown rest ≡ more
-    → map shown (if b then z ∷ rest else x ∷ z ∷ zs) ≡ (if c then shown z ∷ more else shown x ∷ shown z ∷ map shown zs)
-shown_placed_by true true x z zs rest more e h = ap (λ es. shown z ∷ es) h
+shown_placed_by : (b c : Bool) (x z : Activation) (zs rest : Entries) (more : List (KeyValue × ℤ)) → b ≡ c → map key_and_salience rest ≡ more
+    → map key_and_salience (if b then z ∷ rest else x ∷ z ∷ zs) ≡ (if c then key_and_salience z ∷ more else key_and_salience x ∷ key_and_salience z ∷ map key_and_salience zs)
+shown_placed_by true true x z zs rest more e h = ap (λ es. key_and_salience z ∷ es) h
 shown_placed_by true false x z zs rest more e h = cc
 shown_placed_by false true x z zs rest more e h = cc
 shown_placed_by false false x z zs rest more e h = refl
 
-shown_placed : (x : Activation) (zs : Entries) → AllByRecursion (λ (e : Activation). rank_cmp x.0 e.0 ≡ Less) zs → map shown (placed (first Breadth) x zs) ≡ placed saliences_fall (shown x) (map shown zs)
+shown_placed : (x : Activation) (zs : Entries) → AllByRecursion (λ (e : Activation). rank_cmp x.0 e.0 ≡ Less) zs → map key_and_salience (placed (first Breadth) x zs) ≡ placed saliences_fall (key_and_salience x) (map key_and_salience zs)
 shown_placed x [] h = refl
 shown_placed x (z ∷ zs) h =
-    shown_placed_by (fires_before Breadth z.0 x.0) (saliences_fall (shown z) (shown x)) x z zs (placed (first Breadth) x zs) (placed saliences_fall (shown x) (map shown zs))
+    shown_placed_by (fires_before Breadth z.0 x.0) (saliences_fall (key_and_salience z) (key_and_salience x)) x z zs (placed (first Breadth) x zs) (placed saliences_fall (key_and_salience x) (map key_and_salience zs))
     (breadth_fires x.0 z.0 h.0) (shown_placed x zs h.1)
 
-pub oldest_first : (es : Entries) → Rises es → map shown (in_order Breadth es) ≡ sorted saliences_fall (map shown es)
+pub oldest_first : (es : Entries) → Rises es → map key_and_salience (firing_order Breadth es) ≡ sorted saliences_fall (map key_and_salience es)
 oldest_first [] h = refl
 oldest_first (x ∷ xs) h =
     shown_placed x (sorted (first Breadth) xs) (all_sorted (first Breadth) (λ (e : Activation). rank_cmp x.0 e.0 ≡ Less) xs h.0)
-    ∙ ap (placed saliences_fall (shown x)) (oldest_first xs h.1)
+    ∙ ap (placed saliences_fall (key_and_salience x)) (oldest_first xs h.1)
 
 -- what the two ends of a list of rising rank say of the top, and what a reversal and a sort by salience make of it
 module _ (s : Strategy) (es : Entries) (rising : IsStrictlySortedBy rank_cmp (keys_of es)) where
@@ -208,11 +208,11 @@ module _ (s : Strategy) (es : Entries) (rising : IsStrictlySortedBy rank_cmp (ke
   breadth_top l r is e h =
       h ∙ ap (option_map (λ (e : Activation). e.0)) (breadth_top_of es l (rises_from es rising) e) ∙ ap (λ (t : Strategy). option_map (λ (e : Activation). e.0) (top_of t es)) (sym is)
 
-  pub depth_list : (xs ys : List (KeyValue × ℤ)) → s ≡ Depth → xs ≡ map shown es → ys ≡ reverse xs → ys ≡ map shown (in_order s es)
+  pub depth_list : (xs ys : List (KeyValue × ℤ)) → s ≡ Depth → xs ≡ map key_and_salience es → ys ≡ reverse xs → ys ≡ map key_and_salience (firing_order s es)
   depth_list xs ys is e h =
-      h ∙ ap reverse e ∙ sym (reversed es) ∙ ap (map shown) (sym (newest_first es (rises_from es rising))) ∙ ap (λ (t : Strategy). map shown (in_order t es)) (sym is)
+      h ∙ ap reverse e ∙ sym (reversed es) ∙ ap (map key_and_salience) (sym (newest_first es (rises_from es rising))) ∙ ap (λ (t : Strategy). map key_and_salience (firing_order t es)) (sym is)
 
-  pub breadth_list : (xs ys : List (KeyValue × ℤ)) → s ≡ Breadth → xs ≡ map shown es → IsSortedBy saliences_fall ys → IsStableBy saliences_fall xs ys → ys ≡ map shown (in_order s es)
+  pub breadth_list : (xs ys : List (KeyValue × ℤ)) → s ≡ Breadth → xs ≡ map key_and_salience es → IsSortedBy saliences_fall ys → IsStableBy saliences_fall xs ys → ys ≡ map key_and_salience (firing_order s es)
   breadth_list xs ys is e up stable =
       sorted_is saliences_fall saliences_order xs ys up stable ∙ ap (sorted saliences_fall) e ∙ sym (oldest_first es (rises_from es rising))
-      ∙ ap (λ (t : Strategy). map shown (in_order t es)) (sym is)
+      ∙ ap (λ (t : Strategy). map key_and_salience (firing_order t es)) (sym is)

@@ -11,7 +11,7 @@ use Rattle.std.specs.declared.cmp.Ordering.TheVariants.{Equal, Greater, Less}
 use Rattle.cb_agenda.proofs.Equality.{rank-Decides}
 use Rattle.cb_agenda.proofs.Firing.{first, first_order, firing_total}
 use Rattle.cb_agenda.proofs.Sorting.{in_order_sorted, same_sorted}
-use Rattle.cb_agenda.specs.Agendas.{Activation, AgendaValue, Entries, first_of, in_order, listed, popped, shown, taken_out, top_of}
+use Rattle.cb_agenda.specs.Agendas.{Activation, AgendaValue, Entries, agenda_list, firing_order, first_to_fire, key_and_salience, popped, taken_out, top_of}
 use Rattle.cb_agenda.specs.Internal.RankLaws.{rank_tied}
 use Rattle.cb_agenda.specs.Orders.{IsInOrder, placed}
 use Rattle.cb_agenda.specs.Ranks.{fires_before, firing_cmp, rank_cmp}
@@ -23,13 +23,13 @@ first_placed_by : (b : Bool) (e f : Activation) (fs rest : Entries) → Some (if
 first_placed_by true e f fs rest = refl
 first_placed_by false e f fs rest = refl
 
-first_placed : (s : Strategy) (e : Activation) (zs : Entries) → Some (first_of s e (slice_get zs 0)) ≡ slice_get (placed (first s) e zs) 0
+first_placed : (s : Strategy) (e : Activation) (zs : Entries) → Some (first_to_fire s e (slice_get zs 0)) ≡ slice_get (placed (first s) e zs) 0
 first_placed s e [] = refl
 first_placed s e (f ∷ fs) = first_placed_by (fires_before s f.0 e.0) e f fs (placed (first s) e fs)
 
-pub first_is_top : (s : Strategy) (es : Entries) → slice_get (in_order s es) 0 ≡ top_of s es
+pub first_is_top : (s : Strategy) (es : Entries) → slice_get (firing_order s es) 0 ≡ top_of s es
 first_is_top s [] = refl
-first_is_top s (e ∷ es) = sym (first_placed s e (in_order s es)) ∙ ap (λ o. Some (first_of s e o)) (first_is_top s es)
+first_is_top s (e ∷ es) = sym (first_placed s e (firing_order s es)) ∙ ap (λ o. Some (first_to_fire s e o)) (first_is_top s es)
 
 not_before_itself : (s : Strategy) (e : Activation) → fires_before s e.0 e.0 ≡ false
 not_before_itself s e = false_from_ne_true (fires_before s e.0 e.0) (λ h. false≢true (sym ((first_order s).one_way e e h) ∙ h))
@@ -42,9 +42,9 @@ none_before_first s (z ∷ zs) t h e =
 
 pub none_before_top : (s : Strategy) (es : Entries) (t : Activation) → top_of s es ≡ Some t → All (λ e. first s e t ≡ false) es
 none_before_top s es t h =
-    All-permutation (λ e. first s e t ≡ false) (in_order s es) es (IsPermutation-sym es (in_order s es) (same_sorted (first s) es))
-    (All-from_recursion (λ e. first s e t ≡ false) (in_order s es)
-    (none_before_first s (in_order s es) t (in_order_sorted (first s) (first_order s) es) (first_is_top s es ∙ h)))
+    All-permutation (λ e. first s e t ≡ false) (firing_order s es) es (IsPermutation-sym es (firing_order s es) (same_sorted (first s) es))
+    (All-from_recursion (λ e. first s e t ≡ false) (firing_order s es)
+    (none_before_first s (firing_order s es) t (in_order_sorted (first s) (first_order s) es) (first_is_top s es ∙ h)))
 
 -- of two ranks that differ one fires before the other
 same_rank : (t u : Rank) → rank_cmp t u ≡ Equal → t ≡ u
@@ -79,14 +79,14 @@ contained_by : (b : Bool) (s : Strategy) (x f : Activation) (xs : Entries) → C
 contained_by true s x f xs h = (suc h.0, let below = h.1 in omega arith, h.2)
 contained_by false s x f xs h = (0, omega arith, refl)
 
-contained : (s : Strategy) (x : Activation) (xs : Entries) (o : Option Activation) → ((f : Activation) → o ≡ Some f → Contains xs f) → Contains (x ∷ xs) (first_of s x o)
+contained : (s : Strategy) (x : Activation) (xs : Entries) (o : Option Activation) → ((f : Activation) → o ≡ Some f → Contains xs f) → Contains (x ∷ xs) (first_to_fire s x o)
 contained s x xs None h = (0, omega arith, refl)
 contained s x xs (Some f) h = contained_by (fires_before s f.0 x.0) s x f xs (h f refl)
 
 pub top_contained : (s : Strategy) (es : Entries) (t : Activation) → top_of s es ≡ Some t → Contains es t
 top_contained s [] t h = cc
 top_contained s (x ∷ xs) t h =
-    let is : first_of s x (top_of s xs) ≡ t = cc in
+    let is : first_to_fire s x (top_of s xs) ≡ t = cc in
     subst (Contains (x ∷ xs)) is (contained s x xs (top_of s xs) (top_contained s xs))
 
 -- what is taken out is the top
@@ -98,6 +98,6 @@ pub fires_top : (a : AgendaValue) → (popped a).1 ≡ option_map (λ e. e.1) (t
 unfolding popped
 fires_top a = key_of a (top_of a.strategy a.entries)
 
-pub listed_is : (a : AgendaValue) → listed a ≡ map shown (in_order a.strategy a.entries)
-unfolding listed
+pub listed_is : (a : AgendaValue) → agenda_list a ≡ map key_and_salience (firing_order a.strategy a.entries)
+unfolding agenda_list
 listed_is a = refl

@@ -2,7 +2,7 @@
 ghost use Rattle.std.specs.Prelude.{◌≡◌, ◌≢◌, Some, map, option_map, slice_get, true};
 ghost use Rattle.std.specs.List.{Contains};
 ghost use Rattle.std.specs.List.Sorted.{IsPermutation};
-ghost use Rattle.cb_agenda.specs.Agendas.{Activation, AgendaValue, Entries, in_order, listed, popped, shown, top_of};
+ghost use Rattle.cb_agenda.specs.Agendas.{Activation, AgendaValue, Entries, agenda_list, firing_order, key_and_salience, popped, top_of};
 ghost use Rattle.cb_agenda.specs.Orders.{IsInOrder};
 ghost use Rattle.cb_agenda.specs.Ranks.{fires_before};
 ghost use Rattle.cb_agenda.specs.declared.strategy.Strategy.{Strategy};
@@ -27,9 +27,10 @@ pub fn a_strategy_orders_all_that_is_due()
 /// The agenda is listed in the order of firing: it has the same activations, none stands behind one that it fires
 /// before, and the first is the top.
 pub fn the_list_is_in_the_order_of_firing()
-    ensures listed { (a : AgendaValue) → listed a ≡ map shown (in_order a.strategy a.entries) }
-    ensures same { (s : Strategy) (es : Entries) → IsPermutation es (in_order s es) }
+    ensures listed { (a : AgendaValue)
+        → agenda_list a ≡ map key_and_salience (firing_order a.strategy a.entries) }
+    ensures same { (s : Strategy) (es : Entries) → IsPermutation es (firing_order s es) }
     ensures order { (s : Strategy) (es : Entries)
-        → IsInOrder (λ e f. fires_before s e.0 f.0) (in_order s es) }
-    ensures top { (s : Strategy) (es : Entries) → slice_get (in_order s es) 0 ≡ top_of s es }
+        → IsInOrder (λ e f. fires_before s e.0 f.0) (firing_order s es) }
+    ensures top { (s : Strategy) (es : Entries) → slice_get (firing_order s es) 0 ≡ top_of s es }
 {}
