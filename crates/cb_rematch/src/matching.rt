@@ -2,7 +2,7 @@
 ghost use Rattle.std.specs.Prelude.{◌≡◌, ◌++◌, IfOk, OnOk, map};
 ghost use Rattle.cb_rules.specs.Elements.{branches_of, element_of, elements};
 ghost use Rattle.cb_matches.specs.Matches.{matches_of};
-ghost use Rattle.cb_matches.specs.Networks.{all_matches, branch_matches, keyed, rule_matches};
+ghost use Rattle.cb_matches.specs.Networks.{all_matches, branch_matches, keyed};
 
 use crate::join::Setting;
 use crate::partial::Partial;
