@@ -1,8 +1,8 @@
 -- Matches of rules, and what changes do to them.
-use Rattle.std.proofs.Common.{◌≡◌, ℕ, pos, Bool, List, [], ◌∷◌, Option, None, Some, codes, true, false, refl}
-use Rattle.cb_constraints.specs.Constraints.{Check, Constraint, Test, constant, variable, nothing, each, either}
-use Rattle.cb_constraints.specs.PatternValues.{PatternValue, fields}
-use Rattle.cb_rules.specs.Elements.{Element, Elements, elements, pattern, test, group}
+use Rattle.std.proofs.Common.{◌≡◌, ℕ, pos, List, [], ◌∷◌, None, Some, codes, true, false, refl}
+use Rattle.cb_constraints.specs.Constraints.{Check, Constraint, Test, constant, variable, each, either}
+use Rattle.cb_constraints.specs.PatternValues.{fields}
+use Rattle.cb_rules.specs.Elements.{Element, elements, pattern, test, group}
 use Rattle.cb_exprs.specs.Bindings.{no_bindings, with_variable}
 use Rattle.cb_exprs.specs.Terms as expr
 use Rattle.cb_facts.specs.FactLists.{IndexedFacts}
@@ -12,7 +12,7 @@ use Rattle.cb_facts.specs.declared.single.Single.TheVariants as single
 use Rattle.cb_facts.specs.declared.value.Value.TheVariants as value
 use Rattle.cb_matches.specs.Changes.{keys_come, keys_gone}
 use Rattle.cb_matches.specs.Keys.{KeyValue, PartValue}
-use Rattle.cb_matches.specs.Matches.{Partial, matches_of}
+use Rattle.cb_matches.specs.Matches.{matches_of}
 use Rattle.cb_matches.specs.Networks.{Network, all_keys, all_matches, with_one, without_one}
 use Rattle.cb_words.specs.declared.function.Function.TheVariants as function
 

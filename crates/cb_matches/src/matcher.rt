@@ -7,29 +7,30 @@ ghost use Rattle.cb_matches.specs.Networks.{bindings_of, restarted, with_one, wi
 
 use crate::delta::Delta;
 use crate::key::Key;
-use cb_rules::Ce;
 use cb_exprs::Env;
 use cb_facts::{Fact, FactList};
 use cb_fit::Meter;
 use cb_forms::NoMemory;
+use cb_rules::Ce;
 
-/// What has rules and facts, and keeps which facts match which rules.
+/// Rules and facts, and which facts match which rules.
 ///
-/// Each call that changes these answers which matches went and which came, in the order of their keys. `T` is the mark of the
-/// meters that it counts the tests of patterns with: it has no `T`, so it can make none of its own.
+/// Each call that changes the rules or the facts answers which matches went by it and which came, in the order of their keys. It
+/// counts the tests of patterns with the meter that it is handed. `T` is the mark of these meters: a matcher has no `T`, so it
+/// can make none of its own.
 ///
 /// Growth is refused as `NoMemory`. From then on each such call is refused, and nothing is promised of the others but `failed`.
 pub trait Matcher<T> {
     ghost use Rattle.std.specs.Prelude.{Bool};
     ghost use Rattle.cb_matches.specs.Networks.{Network};
 
-    // the rules and the facts
+    // its rules and its facts
     ghost network: { Self → Network };
 
-    // a call that changes them was refused
+    // whether a call that changes them was refused
     ghost is_failed: { Self → Bool };
 
-    /// Adds a rule, with a number above those that are there.
+    /// Adds a rule by its branches, under a number above those of all rules that are there.
     fn add_rule(
         &mut self,
         id: u64,
@@ -52,7 +53,7 @@ pub trait Matcher<T> {
         ensures failed { is_failed self.new ≡ is_err result }
         ensures once { is_failed self.old ≡ true → IsErr result };
 
-    /// Adds a fact under an index that no fact has, which is equal to no fact that is there.
+    /// Adds a fact under an index that no fact has. It is equal to no fact that is there.
     fn assert(&mut self, ix: u64, fact: Fact, meter: &mut Meter<T>) -> Result<Delta, NoMemory>
         requires free { fact_at (network self.old).facts ix ≡ None }
         requires absent { IsAbsent (network self.old).facts fact }
@@ -62,7 +63,7 @@ pub trait Matcher<T> {
         ensures failed { is_failed self.new ≡ is_err result }
         ensures once { is_failed self.old ≡ true → IsErr result };
 
-    /// Takes a fact away.
+    /// Takes away the fact with this index, which is there.
     fn retract(&mut self, ix: u64, meter: &mut Meter<T>) -> Result<Delta, NoMemory>
         requires { IsSome (fact_at (network self.old).facts ix) }
         ensures network { OnOk result (network self.new ≡ without_one ix (network self.old)) }
@@ -78,7 +79,8 @@ pub trait Matcher<T> {
         ensures failed { is_failed self.new ≡ is_err result }
         ensures once { is_failed self.old ≡ true → IsErr result };
 
-    /// What variables have by the match with this key, nothing where there is none.
+    /// What variables have by the match with this key, or nothing where there is no such match. No call that changes the rules
+    /// or the facts was refused.
     fn bindings(&self, key: &Key) -> Result<Env, NoMemory>
         requires { is_failed self.now ≡ false }
         ensures { IfOk result (λ env. env ≡ bindings_of (network self.now) key.now) };

@@ -1,21 +1,17 @@
 //! All matches of rules.
-ghost use Rattle.std.specs.Prelude.{◌≡◌, ◌++◌, ◌∷◌, [], IfOk, OnOk, map, not};
-ghost use Rattle.std.specs.List.{list_any};
-ghost use Rattle.std.specs.Map.{keys_of};
+ghost use Rattle.std.specs.Prelude.{◌≡◌, ◌++◌, IfOk, OnOk, map};
 ghost use Rattle.cb_rules.specs.Elements.{branches_of, element_of, elements};
-ghost use Rattle.cb_matches.specs.Changes.{come_of};
-ghost use Rattle.cb_matches.specs.Keys.{key_eq};
 ghost use Rattle.cb_matches.specs.Matches.{matches_of};
-ghost use Rattle.cb_matches.specs.Networks.{all_matches, branch_matches, keyed, rule_matches};
+ghost use Rattle.cb_matches.specs.Networks.{all_matches, branch_matches, keyed};
 
 use crate::join::Setting;
 use crate::partial::Partial;
 use crate::satisfy::satisfy_all;
-use cb_rules::Ce;
 use cb_exprs::Env;
 use cb_fit::Meter;
 use cb_forms::NoMemory;
 use cb_matches::Key;
+use cb_rules::Ce;
 use std::alloc::Global;
 use std::marker::Model;
 
@@ -67,23 +63,12 @@ pub(crate) fn match_rules<T>(
 {
     let mut all = Vec::new(setting.alloc);
     for rule in rules {
-        match_rule(setting, rule, &mut all, meter)?;
+        match_branches(setting, rule.id, rule.branches.as_slice(), &mut all, meter)?;
     }
     Ok(all)
 }
 
-fn match_rule<T>(
-    setting: &Setting<'_>,
-    rule: &NumberedRule<T>,
-    all: &mut Vec<Match>,
-    meter: &mut Meter<T>,
-) -> Result<(), NoMemory>
-    ensures { OnOk result (all.new.items
-        ≡ all.old.items ++ rule_matches setting.now.facts.now rule.now) }
-{
-    match_branches(setting, rule.id, rule.branches.as_slice(), all, meter)
-}
-
+/// Adds the matches of a rule by its number and its branches.
 fn match_branches<T>(
     setting: &Setting<'_>,
     id: u64,
@@ -102,6 +87,7 @@ fn match_branches<T>(
     Ok(())
 }
 
+/// Adds the matches of the branch at this place of the rule with this number.
 fn match_branch<T>(
     setting: &Setting<'_>,
     id: u64,
@@ -119,6 +105,7 @@ fn match_branch<T>(
     Ok(())
 }
 
+/// All ways to satisfy the elements of a branch.
 #[tactic(auto, unfolding(cb_matches::specs::Matches::matches_of))]
 fn match_elements<T>(
     setting: &Setting<'_>,
@@ -133,6 +120,7 @@ fn match_elements<T>(
     satisfy_all(setting, branch, first, meter)
 }
 
+/// The match that a partial match at the end of a branch is.
 fn keyed(alloc: Global, id: u64, place: u64, partial: Partial) -> Result<Match, NoMemory>
     ensures { IfOk result (λ m. m ≡ keyed id place partial) }
 {
@@ -140,29 +128,4 @@ fn keyed(alloc: Global, id: u64, place: u64, partial: Partial) -> Result<Match, 
         key: Key::new(alloc, id, place, partial.parts)?,
         env: partial.env,
     })
-}
-
-/// The keys of the new matches that are not among the old ones.
-pub(crate) fn keys_come(alloc: Global, old: &[Match], new: &[Match]) -> Result<Vec<Key>, NoMemory>
-    ensures { IfOk result (λ keys. keys.items ≡ come_of (keys_of old.now) (keys_of new.now)) }
-{
-    let mut keys = Vec::new(alloc);
-    for found in new {
-        if !has_key(old, &found.key) {
-            keys.push(found.key.clone()?)?;
-        }
-    }
-    Ok(keys)
-}
-
-/// Whether one of these matches has this key.
-pub(crate) fn has_key(matches: &[Match], key: &Key) -> bool
-    ensures { result ≡ list_any (key_eq key.now) (keys_of matches.now) }
-{
-    for found in matches {
-        if *key == found.key {
-            return true;
-        }
-    }
-    false
 }

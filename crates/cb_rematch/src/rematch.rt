@@ -8,17 +8,18 @@ ghost use Rattle.cb_exprs.specs.Bindings.{no_bindings};
 ghost use Rattle.cb_matches.specs.Changes.{IsAbove, IsDelta};
 ghost use Rattle.cb_matches.specs.Keys.{key_eq};
 ghost use Rattle.cb_matches.specs.Networks.{Network, all_matches, with_rule};
-ghost use Rattle.cb_rematch.specs.Internal.{new_matcher};
+ghost use Rattle.cb_matches.specs.Matchers.{new_matcher};
 
+use crate::come::keys_come;
 use crate::join::Setting;
-use crate::matching::{Match, NumberedRule, keys_come, match_rules};
-use cb_rules::Ce;
+use crate::matching::{Match, NumberedRule, match_rules};
 use cb_exprs::Env;
 use cb_facts::{Fact, FactList};
 use cb_fit::Meter;
 use cb_forms::NoMemory;
 use cb_functions::Constants;
 use cb_matches::{Delta, Key, Matcher};
+use cb_rules::Ce;
 use std::alloc::Global;
 use std::marker::Model;
 use std::mem;
@@ -39,7 +40,8 @@ impl<T> Model for Rematch<T> {
     ghost use Rattle.std.specs.Prelude.{◌≡◌, false};
     ghost use Rattle.std.specs.Coded.{codes};
     ghost use Rattle.cb_matches.specs.Networks.{all_matches};
-    ghost use Rattle.cb_rematch.specs.Internal.{MatcherValue, matcher_code};
+    ghost use Rattle.cb_matches.specs.Internal.{matcher_code};
+    ghost use Rattle.cb_matches.specs.Matchers.{MatcherValue};
 
     ghost Value = { MatcherValue };
 

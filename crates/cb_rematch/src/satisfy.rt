@@ -7,13 +7,13 @@ ghost use Rattle.cb_matches.specs.Matches.{after, after_all, group_holds, test_h
 
 use crate::join::{Setting, join};
 use crate::partial::Partial;
-use cb_rules::Ce;
 use cb_eval::eval;
 use cb_exprs::{Env, Expr};
 use cb_facts::Refused;
 use cb_fit::Meter;
 use cb_forms::NoMemory;
 use cb_functions::is_true;
+use cb_rules::Ce;
 
 /// Of these partial matches those that satisfy all elements, from left to right.
 #[cycle(satisfying)]

@@ -1,0 +1,7 @@
+//! Matching: matches by their keys, and what keeps them. All of it stands in `cb_matches` and `cb_rematch`.
+//!
+//! `docs/ARCHITECTURE.md` says where it belongs.
+#![tactic(auto)]
+
+pub use cb_matches::{Delta, Key, Matcher, Part};
+pub use cb_rematch::Rematch;
