@@ -10,13 +10,15 @@ use Rattle.cb_exprs.specs.Terms as expr
 use Rattle.cb_facts.specs.declared.value.Value.TheVariants as value
 use Rattle.cb_forms.specs.Trees.{Tree, atom, branch, trees_of}
 use Rattle.cb_forms.specs.declared.fault.Fault.{Fault}
-use Rattle.cb_forms.specs.declared.fault.Fault.TheVariants.{WrongArguments, MalformedForm, FactDoesNotFit, UnboundVariable, UnknownGlobal, NotOnLeftSide, NotInProfile, BadSalience}
+use Rattle.cb_forms.specs.declared.fault.Fault.TheVariants.{WrongArguments, MalformedForm, UnknownFunction, FactDoesNotFit, UnboundVariable, UnknownGlobal, NotOnLeftSide, NotInProfile, BadSalience}
 use Rattle.cb_forms.specs.declared.token.Token.TheVariants as token
 use Rattle.cb_functions.specs.Internal.Operations.{operator_of}
-use Rattle.cb_rule_forms.specs.RuleValues.{pattern, RuleValue}
 use Rattle.cb_rule_forms.specs.Rules.{rule_faults, rule_of}
+use Rattle.cb_rules.specs.Elements.{pattern, test, Elements, elements, no_elements}
+use Rattle.cb_rules.specs.RuleValues.{RuleValue}
 use Rattle.cb_templates.specs.Reserved.{is_reserved}
 use Rattle.cb_words.specs.Words.{head_of}
+use Rattle.cb_words.specs.declared.function.Function.TheVariants as function
 
 -- at the top level the variable `?t` has a value, and the global `?*g*` is 2
 abbrev env : Bindings
@@ -68,10 +70,13 @@ salience t = form "declare" (form "salience" (t ∷ []) ∷ [])
 abbrev fault_in : List Tree → List Tree → Option Fault
 fault_in left actions = fault (word "r" ∷ (left ++ word "=>" ∷ actions))
 
--- the relations that it names, and the layouts of one with no actions
+-- the relations that it names, and the branches and the layouts of one with no actions
 abbrev relations_in : List Tree → List Tree → Result (List (List ℕ)) Fault
 relations_in left actions =
     let ts = trees_of (word "r" ∷ (left ++ word "=>" ∷ actions)) in unless_faulty (rule_faults [] env ts) ((rule_of [] env ts).relations)
+
+abbrev branches_in : List Tree → Result (List Elements) Fault
+branches_in left = let ts = trees_of (word "r" ∷ (left ++ word "=>" ∷ [])) in unless_faulty (rule_faults [] env ts) ((rule_of [] env ts).branches)
 
 abbrev layouts_in : List Tree → Result (List (List Bool)) Fault
 layouts_in left = let ts = trees_of (word "r" ∷ (left ++ word "=>" ∷ [])) in unless_faulty (rule_faults [] env ts) ((rule_of [] env ts).layouts)
@@ -98,7 +103,7 @@ whole_rule : read (word "r" ∷ text "c" ∷ salience (form "*" (glob "g" ∷ nu
     ≡ Ok (record {
       name = codes "r";
       salience = pos 10;
-      branches = (pattern (Some (codes "f")) (of_one "a" false) ∷ pattern None (of_one "b" true) ∷ []) ∷ [];
+      branches = elements (pattern (Some (codes "f")) (of_one "a" false) ∷ pattern None (of_one "b" true) ∷ []) ∷ [];
       layouts = (true ∷ true ∷ []) ∷ [];
       actions = retract (terms (expr.variable (codes "f") ∷ [])) ∷ println (terms (expr.variable (codes "x") ∷ [])) ∷ [];
       relations = codes "a" ∷ codes "b" ∷ [];
@@ -111,7 +116,7 @@ divided_once : read (word "r" ∷ word "=>" ∷ word "a" ∷ word "=>" ∷ word 
     ≡ Ok (record {
       name = codes "r";
       salience = pos 0;
-      branches = [] ∷ [];
+      branches = no_elements ∷ [];
       layouts = [] ∷ [];
       actions = map (λ bytes. expr.constant (value.Symbol bytes)) (codes "a" ∷ codes "=>" ∷ codes "b" ∷ []);
       relations = [];
@@ -130,10 +135,22 @@ relations_deep : relations_in [] (form "println" (form "assert" (form "b" (numbe
 unfolding head_of is_reserved
 relations_deep = refl
 
--- (a ?x) ?f <- (a 1) =>: two patterns
-layout_of_patterns : layouts_in (form "a" (var "x" ∷ []) ∷ var "f" ∷ word "<-" ∷ form "a" (number (pos 1) ∷ []) ∷ []) ≡ Ok ((true ∷ true ∷ []) ∷ [])
+-- (a ?x) ?f <- (a 1) (test TRUE) =>: two patterns
+layout_of_patterns : layouts_in (form "a" (var "x" ∷ []) ∷ var "f" ∷ word "<-" ∷ form "a" (number (pos 1) ∷ []) ∷ form "test" (word "TRUE" ∷ []) ∷ []) ≡ Ok ((true ∷ true ∷ []) ∷ [])
 unfolding is_reserved
 layout_of_patterns = refl
+
+-- (a ?x) (test (> ?x 1)) =>
+branch_with_a_test : branches_in (form "a" (var "x" ∷ []) ∷ form "test" (form ">" (var "x" ∷ number (pos 1) ∷ []) ∷ []) ∷ [])
+    ≡ Ok (elements (pattern None (of_one "a" false) ∷ test (expr.call function.Greater (terms (expr.variable (codes "x") ∷ expr.constant (value.Int (pos 1)) ∷ []))) ∷ []) ∷ [])
+unfolding head_of is_reserved
+branch_with_a_test = refl
+
+-- (test), (test TRUE TRUE), (test (foo) 1), (test (foo)), (test (printout)), (test ?*g*), (test ?), (test ?x)
+tests : map (λ ts. on_left (form "test" ts ∷ [])) ([] ∷ (word "TRUE" ∷ word "TRUE" ∷ []) ∷ (form "foo" [] ∷ number (pos 1) ∷ []) ∷ (form "foo" [] ∷ []) ∷ (form "printout" [] ∷ []) ∷ (glob "g" ∷ []) ∷ (atom token.Any ∷ []) ∷ (var "x" ∷ []) ∷ [])
+    ≡ Some MalformedForm ∷ Some MalformedForm ∷ Some MalformedForm ∷ Some UnknownFunction ∷ Some NotOnLeftSide ∷ Some NotOnLeftSide ∷ Some MalformedForm ∷ Some UnboundVariable ∷ []
+unfolding head_of is_reserved
+tests = refl
 
 -- => =>, 5 =>, r (a)
 no_rules : map fault ((word "=>" ∷ word "=>" ∷ []) ∷ (number (pos 5) ∷ word "=>" ∷ []) ∷ (word "r" ∷ form "a" [] ∷ []) ∷ [])
@@ -164,10 +181,10 @@ unfolding is_reserved
 addresses = refl
 
 -- $?f <- (a), ? <- (a), ?*f*, ?f (a), (a) x
-no_elements : map on_left ((atom (token.MultiVar (codes "f")) ∷ word "<-" ∷ form "a" [] ∷ []) ∷ (atom token.Any ∷ word "<-" ∷ form "a" [] ∷ []) ∷ (glob "f" ∷ []) ∷ (var "f" ∷ form "a" [] ∷ []) ∷ (form "a" [] ∷ word "x" ∷ []) ∷ [])
+not_elements : map on_left ((atom (token.MultiVar (codes "f")) ∷ word "<-" ∷ form "a" [] ∷ []) ∷ (atom token.Any ∷ word "<-" ∷ form "a" [] ∷ []) ∷ (glob "f" ∷ []) ∷ (var "f" ∷ form "a" [] ∷ []) ∷ (form "a" [] ∷ word "x" ∷ []) ∷ [])
     ≡ Some MalformedForm ∷ Some MalformedForm ∷ Some MalformedForm ∷ Some MalformedForm ∷ Some MalformedForm ∷ []
 unfolding is_reserved
-no_elements = refl
+not_elements = refl
 
 -- (declare (salience a)) (b (x)), (a ~?x) (b (x)), (a ~?x) (b ?*g*): the declaration first, then all elements, then variables
 order : map on_left ((salience (word "a") ∷ form "b" (form "x" [] ∷ []) ∷ []) ∷ (form "a" (tilde ∷ var "x" ∷ []) ∷ form "b" (form "x" [] ∷ []) ∷ []) ∷ (form "a" (tilde ∷ var "x" ∷ []) ∷ form "b" (glob "g" ∷ []) ∷ []) ∷ [])

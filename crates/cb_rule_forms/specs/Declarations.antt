@@ -14,7 +14,7 @@ use Rattle.cb_forms.specs.Members.{call_of}
 use Rattle.cb_forms.specs.Trees.{Tree, Trees, no_trees, tree}
 use Rattle.cb_forms.specs.declared.fault.Fault.{Fault}
 use Rattle.cb_forms.specs.declared.fault.Fault.TheVariants.{MalformedForm, NotInProfile, BadSalience}
-use Rattle.cb_rule_forms.specs.Sections.{members_after}
+use Rattle.cb_rule_forms.specs.Sections.{members_after, only_of}
 use Rattle.cb_templates.specs.Templates.{Templates}
 
 -- a list begins with a word other than `salience`
@@ -26,11 +26,6 @@ is_other (Some (word, ts)) = not (bytes_eq word (codes "salience"))
 abbrev pub has_other : Trees → Bool
 has_other no_trees = false
 has_other (tree t ts) = is_other (call_of t) || has_other ts
-
--- The form, where there is exactly one.
-abbrev pub only_of : Trees → Option Tree
-only_of (tree t no_trees) = Some t
-only_of ts = None
 
 -- the expression, where the declaration is `(salience expression)` alone
 abbrev pub salience_form : Trees → Option Tree

@@ -3,6 +3,5 @@ pub mod Elements
 pub mod Internal
 pub mod Mentions
 pub mod Relations
-pub mod RuleValues
 pub mod Rules
 pub mod Sections

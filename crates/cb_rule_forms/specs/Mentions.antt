@@ -2,13 +2,13 @@
 use Rattle.std.specs.Prelude.{◌++◌, ℕ, Bool, false, not, List, [], ◌∷◌, Option, Some, None, map, if◌then◌else◌}
 use Rattle.std.specs.List.{flat_map}
 use Rattle.cb_constraints.specs.Constraints.{Test, constant, variable, predicate, return_value, Check, Demand, nothing, each, either, Constraint}
-use Rattle.cb_constraints.specs.PatternValues.{Parts, fields, slots}
+use Rattle.cb_constraints.specs.PatternValues.{Parts, PatternValue, fields, slots}
 use Rattle.cb_templates.specs.FaultLists.{unless}
 use Rattle.cb_expr_forms.specs.Scopes.{is_known}
 use Rattle.cb_expr_forms.specs.Variables.{variables_of}
 use Rattle.cb_forms.specs.declared.fault.Fault.{Fault}
 use Rattle.cb_forms.specs.declared.fault.Fault.TheVariants.{MalformedForm, UnboundVariable}
-use Rattle.cb_rule_forms.specs.RuleValues.{Element, pattern}
+use Rattle.cb_rules.specs.Elements.{Element, pattern, test, group, Elements, no_elements, element}
 
 -- a variable is mentioned: it takes the address of a fact, it takes the value in its place if it has none, or it needs a value
 pub data Mention : Type 0 where
@@ -62,13 +62,9 @@ abbrev pub address_mentions : Option (List ℕ) → List Mention
 address_mentions None = []
 address_mentions (Some x) = address x ∷ []
 
--- an element: its address comes first
-abbrev pub element_mentions : Element → List Mention
-element_mentions (pattern x p) = address_mentions x ++ parts_mentions p.parts
-
--- the elements of a branch, from left to right
-abbrev pub branch_mentions : List Element → List Mention
-branch_mentions es = flat_map element_mentions es
+-- the address comes first
+abbrev pub pattern_mentions : Option (List ℕ) → PatternValue → List Mention
+pattern_mentions x p = address_mentions x ++ parts_mentions p.parts
 
 -- these names and this one
 abbrev pub with_name : List (List ℕ) → List ℕ → List (List ℕ)
@@ -95,3 +91,26 @@ mention_faults known (m ∷ ms) = mention_fault known m ++ mention_faults (after
 abbrev pub known_after : List (List ℕ) → List Mention → List (List ℕ)
 known_after known [] = known
 known_after known (m ∷ ms) = known_after (after_mention known m) ms
+
+-- the variables that have a value after an element; what a group binds is known in the group alone
+abbrev pub known_past : List (List ℕ) → Element → List (List ℕ)
+known_past known (pattern x p) = known_after known (pattern_mentions x p)
+known_past known (test t) = known
+known_past known (group positive es) = known
+
+-- the variables that have a value after elements
+abbrev pub known_in : List (List ℕ) → Elements → List (List ℕ)
+known_in known no_elements = known
+known_in known (element e es) = known_in (known_past known e) es
+
+abbrev mutual
+  -- what is wrong with the variables of an element, by those that have a value before it
+  pub variable_faults : List (List ℕ) → Element → List Fault
+  variable_faults known (pattern x p) = mention_faults known (pattern_mentions x p)
+  variable_faults known (test t) = mention_faults known (map needed (variables_of t))
+  variable_faults known (group positive es) = variables_faults known es
+
+  -- the same of elements, from left to right
+  pub variables_faults : List (List ℕ) → Elements → List Fault
+  variables_faults known no_elements = []
+  variables_faults known (element e es) = variable_faults known e ++ variables_faults (known_past known e) es

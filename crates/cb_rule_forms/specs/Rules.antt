@@ -1,5 +1,5 @@
 -- Rules as they are written: which one forms are, and what is wrong with them, in the order in which it is looked for.
-use Rattle.std.specs.Prelude.{◌++◌, ℕ, ℤ, pos, Bool, true, List, [], ◌∷◌, Option, Some, None, map}
+use Rattle.std.specs.Prelude.{◌++◌, ℕ, ℤ, pos, Bool, true, false, List, [], ◌∷◌, Option, Some, None, map}
 use Rattle.cb_expr_forms.specs.Bound.{bound_in_all}
 use Rattle.cb_expr_forms.specs.ExprFaults.{all_faults}
 use Rattle.cb_expr_forms.specs.ExprForms.{exprs_of}
@@ -11,11 +11,12 @@ use Rattle.cb_forms.specs.Trees.{Trees}
 use Rattle.cb_forms.specs.declared.fault.Fault.{Fault}
 use Rattle.cb_forms.specs.declared.fault.Fault.TheVariants.{MalformedForm}
 use Rattle.cb_rule_forms.specs.Declarations.{declared_faults, salience_of}
-use Rattle.cb_rule_forms.specs.Elements.{elements_faults, elements_of, written_in}
-use Rattle.cb_rule_forms.specs.Mentions.{branch_mentions, known_after, mention_faults}
+use Rattle.cb_rule_forms.specs.Elements.{elements_faults, written_elements, written_in}
+use Rattle.cb_rule_forms.specs.Mentions.{known_in, variables_faults}
 use Rattle.cb_rule_forms.specs.Relations.{relations_of}
-use Rattle.cb_rule_forms.specs.RuleValues.{Element, pattern, RuleValue}
 use Rattle.cb_rule_forms.specs.Sections.{Sections, sections_of}
+use Rattle.cb_rules.specs.Elements.{Element, pattern, test, group, Elements, no_elements, element, elements}
+use Rattle.cb_rules.specs.RuleValues.{RuleValue}
 use Rattle.cb_templates.specs.Templates.{Templates}
 
 -- an expression of a left side may name any variable; whether that has a value, the mentions say
@@ -28,17 +29,13 @@ action_scope templates env known ts =
     record { side = side.Actions; variables = known ++ bound_in_all ts; globals = names_of env.globals; templates = templates }
 
 -- the one branch of these elements
-abbrev pub branch_of : Templates → Trees → List Element
-branch_of templates ts = elements_of templates (written_in ts)
-
--- the variables that have a value after a left side
-abbrev pub known_in : List Element → List (List ℕ)
-known_in branch = known_after [] (branch_mentions branch)
+abbrev pub branch_of : Templates → Trees → Elements
+branch_of templates ts = elements (written_elements templates (written_in ts))
 
 -- what is wrong with the variables of a branch, and then with the actions
-abbrev pub branch_faults : Templates → Bindings → List Element → Trees → List Fault
+abbrev pub branch_faults : Templates → Bindings → Elements → Trees → List Fault
 branch_faults templates env branch actions =
-    mention_faults [] (branch_mentions branch) ++ all_faults (action_scope templates env (known_in branch) actions) actions
+    variables_faults [] branch ++ all_faults (action_scope templates env (known_in [] branch) actions) actions
 
 -- what is wrong with a rule that has its sections
 abbrev pub sections_faults : Templates → Bindings → Option Sections → List Fault
@@ -47,16 +44,23 @@ sections_faults templates env (Some s) =
     declared_faults templates env s.declared
     ++ (elements_faults (left_scope templates env) (written_in s.elements) ++ branch_faults templates env (branch_of templates s.elements) s.actions)
 
--- The element is a pattern, as all are today.
-abbrev pub is_pattern : Element → Bool
-is_pattern (pattern x p) = true
+-- the place of an element in a layout: whether it is a pattern; a test has none
+abbrev pub place_of : Element → Option Bool
+place_of (pattern x p) = Some true
+place_of (test t) = None
+place_of (group positive es) = Some false
 
--- of each element of a branch whether it is a pattern; there are no groups yet
-abbrev pub layout_of : List Element → List Bool
-layout_of branch = map is_pattern branch
+abbrev pub with_place : Option Bool → List Bool → List Bool
+with_place None places = places
+with_place (Some b) places = b ∷ places
+
+-- the layout of a branch
+abbrev pub layout_of : Elements → List Bool
+layout_of no_elements = []
+layout_of (element e es) = with_place (place_of e) (layout_of es)
 
 -- the rule of these parts
-abbrev pub rule_with : List ℕ → ℤ → List (List Element) → List Term → RuleValue
+abbrev pub rule_with : List ℕ → ℤ → List Elements → List Term → RuleValue
 rule_with name salience branches actions = record {
   name = name;
   salience = salience;

@@ -4,7 +4,7 @@ use Rattle.std.specs.Option.{option_and_then}
 use Rattle.std.specs.Str.{bytes_eq}
 use Rattle.cb_expr_forms.specs.ExprFaults.{is_this_symbol}
 use Rattle.cb_forms.specs.Members.{call_of, head_and_rest}
-use Rattle.cb_forms.specs.Trees.{Trees, no_trees, tree}
+use Rattle.cb_forms.specs.Trees.{Tree, Trees, no_trees, tree}
 use Rattle.cb_templates.specs.Templates.{without_comment}
 
 -- the name, the members of the declaration after `declare`, if there is one, the elements, and the actions
@@ -23,6 +23,11 @@ divided (tree t ts) = if is_this_symbol (codes "=>") t then Some (no_trees, ts) 
 abbrev pub members_after : List ℕ → Option (List ℕ × Trees) → Option Trees
 members_after word None = None
 members_after word (Some (name, ts)) = if bytes_eq name word then Some ts else None
+
+-- the one form, where there is one
+abbrev pub only_of : Trees → Option Tree
+only_of (tree t no_trees) = Some t
+only_of ts = None
 
 -- the declaration, which may come first
 abbrev pub declared_in : Trees → Option Trees

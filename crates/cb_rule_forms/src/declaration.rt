@@ -9,10 +9,10 @@ ghost use Rattle.cb_expr_forms.specs.Scopes.{plain_scope};
 ghost use Rattle.cb_exprs.specs.Terms.{term_of};
 ghost use Rattle.cb_forms.specs.Members.{call_of, members};
 ghost use Rattle.cb_forms.specs.Trees.{tree_of};
-ghost use Rattle.cb_rule_forms.specs.Declarations.{declaration_faults, has_other, is_other, only_of, salience_by, salience_faults, salience_form};
+ghost use Rattle.cb_rule_forms.specs.Declarations.{declaration_faults, has_other, is_other, salience_by, salience_faults, salience_form};
 ghost use Rattle.cb_rule_forms.specs.Internal.{IsSalience};
 
-use crate::sections::members_after;
+use crate::sections::{members_after, only_of};
 use cb_eval::eval;
 use cb_expr_forms::{NameList, Scope, Side, read_expr};
 use cb_exprs::{Env, Expr};
@@ -76,18 +76,6 @@ fn find_salience(forms: &[Form]) -> Option<&Form>
         (λ form. salience_form (members forms.now) ≡ Some (tree_of form.now)) }
 {
     only_of(members_after(only_of(forms)?, b"salience")?)
-}
-
-/// The one form, where there is one.
-fn only_of(forms: &[Form]) -> Option<&Form>
-    ensures { MatchOption result (only_of (members forms.now) ≡ None)
-        (λ form. only_of (members forms.now) ≡ Some (tree_of form.now)) }
-{
-    let (form, following) = forms.split_first()?;
-    match following.split_first() {
-        None => Some(form),
-        Some(_) => None,
-    }
 }
 
 /// The salience that an expression has, or its first fault.

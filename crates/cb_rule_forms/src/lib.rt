@@ -12,4 +12,4 @@ mod relations; // the relations that a rule names, in its patterns and in the as
 mod rule; // `Rule::read`, which goes through these in turn
 mod sections; // the name, the declaration, the elements and the actions of a rule
 
-pub use rule::{Ce, Rule};
+pub use rule::read_rule;

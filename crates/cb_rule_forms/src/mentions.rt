@@ -3,13 +3,17 @@ ghost use Rattle.std.specs.Prelude.{◌≡◌, ◌∷◌, [], List, MatchOption,
 ghost use Rattle.std.specs.List.{flat_map, list_all};
 ghost use Rattle.cb_constraints.specs.Constraints.{check_of, demand_of, either, asked_test};
 ghost use Rattle.cb_constraints.specs.PartValues.{asked_parts};
+ghost use Rattle.cb_templates.specs.FaultLists.{ReadsAs};
 ghost use Rattle.cb_expr_forms.specs.Scopes.{is_known};
-ghost use Rattle.cb_rule_forms.specs.Internal.{Knows, form_value};
-ghost use Rattle.cb_rule_forms.specs.Mentions.{Mention, address_mentions, apart_mentions, branch_mentions, check_mentions, checks_variables, demand_mentions, element_mentions, known_after, needed, parts_mentions, place, row_mentions, test_variables, with_name};
+ghost use Rattle.cb_expr_forms.specs.Variables.{variables_of};
+ghost use Rattle.cb_exprs.specs.Terms.{term_of};
+ghost use Rattle.cb_rule_forms.specs.Internal.{Knows, KnowsElements, form_value};
+ghost use Rattle.cb_rule_forms.specs.Mentions.{Mention, address_mentions, apart_mentions, check_mentions, checks_variables, demand_mentions, known_after, known_past, needed, parts_mentions, pattern_mentions, place, row_mentions, test_variables, variable_faults, with_name};
 
-use crate::element::ElementForm;
+use crate::element::{ElementForm, PatternForm};
 use cb_constraints::{Check, Constraint, Demand, Parts, Row, SlotRow, Test};
 use cb_expr_forms::{NameList, knows_all};
+use cb_exprs::Expr;
 use cb_facts::{Name, Refused};
 use cb_forms::{Fault, NoMemory};
 
@@ -23,11 +27,44 @@ trait Mentions {
         ensures { Knows known.old (mentions self.now) known.new result };
 }
 
-/// Adds the variables that a branch binds to those that have a value, or gives the first fault of a variable.
-pub(crate) fn bind_branch(known: &mut NameList, elements: &[ElementForm]) -> Result<(), Refused>
-    ensures { Knows known.old (branch_mentions (map form_value elements.now)) known.new result }
+/// Adds the variables that elements bind to those that have a value, or gives the first fault of a variable.
+pub(crate) fn bind_elements(known: &mut NameList, elements: &[ElementForm]) -> Result<(), Refused>
+    ensures { KnowsElements known.old (map form_value elements.now) known.new result }
 {
-    bind_all(known, elements)
+    for element in elements {
+        bind_element(known, element)?;
+    }
+    Ok(())
+}
+
+/// Adds the variables that an element binds to those that have a value, or gives the first fault of a variable.
+fn bind_element(known: &mut NameList, element: &ElementForm) -> Result<(), Refused>
+    ensures { ReadsAs (λ _. known.new) result (variable_faults known.old (form_value element.now))
+        (known_past known.old (form_value element.now)) }
+{
+    match element {
+        ElementForm::Pattern(form) => bind_pattern(known, form),
+        ElementForm::Test(expr) => need_all(known, expr),
+    }
+}
+
+/// Where a variable of an expression has no value, the fault is CB11.
+fn need_all(known: &NameList, expr: &Expr) -> Result<(), Refused>
+    ensures { Knows known.now (map needed (variables_of (term_of expr.now))) known.now result }
+{
+    if !knows_all(known, expr) {
+        return Err(Refused::Fault(Fault::UnboundVariable));
+    }
+    Ok(())
+}
+
+/// Adds the variables that a pattern binds to those that have a value, or gives the first fault of a variable.
+fn bind_pattern(known: &mut NameList, form: &PatternForm) -> Result<(), Refused>
+    ensures { Knows known.old (pattern_mentions form.now.address (record
+        { relation = form.now.relation; parts = asked_parts form.now.parts })) known.new result }
+{
+    bind_address(known, form.address.as_ref())?;
+    bind_parts(known, &form.parts)
 }
 
 /// Adds the variables that parts bind, one part after another, to those that have a value, or gives the first fault of a
@@ -39,15 +76,6 @@ fn bind_all<T: Mentions>(known: &mut NameList, parts: &[T]) -> Result<(), Refuse
         part.bind(known)?;
     }
     Ok(())
-}
-
-impl Mentions for ElementForm {
-    ghost mentions = { λ element. element_mentions (form_value element) };
-
-    fn bind(&self, known: &mut NameList) -> Result<(), Refused> {
-        bind_address(known, self.address.as_ref())?;
-        bind_parts(known, &self.parts)
-    }
 }
 
 /// Adds the variable that takes a fact's address to those that have a value. Where it is one of them, the fault is CB08.

@@ -2,7 +2,8 @@
 ghost use Rattle.std.specs.Prelude.{◌≡◌, ◌∷◌, [], IfOk, OnOk, map};
 ghost use Rattle.cb_exprs.specs.Terms.{term_of, terms_of};
 ghost use Rattle.cb_rule_forms.specs.Internal.{form_value, with_names};
-ghost use Rattle.cb_rule_forms.specs.Relations.{asserted_by, asserted_in, relation_of, relations_of};
+ghost use Rattle.cb_rule_forms.specs.Relations.{asserted_by, asserted_in, pattern_relations, patterns_relations, relations_of};
+ghost use Rattle.cb_rules.specs.Elements.{elements};
 
 use crate::element::ElementForm;
 use crate::mentions::add_name;
@@ -12,32 +13,44 @@ use cb_facts::Name;
 use cb_forms::NoMemory;
 use std::alloc::Global;
 
-/// The relations that a rule of one branch names: those of its elements, then those of the facts that its actions assert,
+/// The relations that a rule of one branch names: those of its patterns, then those of the facts that its actions assert,
 /// each once.
 #[tactic(auto, using(crate::proofs::NameLaws::all_once))]
 pub(crate) fn find_relations(
     alloc: Global,
-    elements: &[ElementForm],
+    branch: &[ElementForm],
     actions: &[Expr],
 ) -> Result<Vec<Name>, NoMemory>
     ensures { IfOk result (λ found. found.items
-        ≡ relations_of (map form_value elements.now ∷ []) (map term_of actions.now)) }
+        ≡ relations_of (elements (map form_value branch.now) ∷ [])
+        (map term_of actions.now)) }
 {
     let mut found = NameList::new(alloc);
-    add_relations(&mut found, elements)?;
+    add_relations(&mut found, branch)?;
     add_each_asserted(&mut found, actions)?;
     Ok(found.into_vec())
 }
 
-/// Adds the relations of elements, those that are not among the names.
-fn add_relations(found: &mut NameList, elements: &[ElementForm]) -> Result<(), NoMemory>
+/// Adds the relations of the patterns of elements, those that are not among the names.
+fn add_relations(found: &mut NameList, branch: &[ElementForm]) -> Result<(), NoMemory>
     ensures { OnOk result (found.new
-        ≡ with_names found.old (map relation_of (map form_value elements.now))) }
+        ≡ with_names found.old (patterns_relations (elements (map form_value branch.now)))) }
 {
-    for element in elements {
-        add_name(found, &element.relation)?;
+    for element in branch {
+        add_relation(found, element)?;
     }
     Ok(())
+}
+
+/// Adds the relation of an element that is a pattern, if it is not among the names.
+fn add_relation(found: &mut NameList, element: &ElementForm) -> Result<(), NoMemory>
+    ensures { OnOk result (found.new
+        ≡ with_names found.old (pattern_relations (form_value element.now))) }
+{
+    match element {
+        ElementForm::Pattern(form) => add_name(found, &form.relation),
+        ElementForm::Test(_) => Ok(()),
+    }
 }
 
 /// Adds the relations of the facts that an expression asserts, those that are not among the names.
@@ -48,7 +61,7 @@ fn add_asserted(found: &mut NameList, expr: &Expr) -> Result<(), NoMemory>
     ensures { OnOk result (found.new ≡ with_names found.old (asserted_by (term_of expr.now))) }
 {
     match expr {
-        Expr::Constant(_) | Expr::Variable(_) | Expr::Global(_) => Ok(()),
+        Expr::Constant(_) | Expr::Variable(_) | Expr::Global(_) | Expr::Halt => Ok(()),
         Expr::Assert(shape, exprs) => {
             add_name(found, shape.relation())?;
             add_each_asserted(found, exprs)

@@ -2,7 +2,7 @@
 ghost use Rattle.std.specs.Prelude.{◌≡◌, ◌<◌, None, Some, IfSome, MatchOption, is_some, length};
 ghost use Rattle.cb_forms.specs.Members.{call_of, members};
 ghost use Rattle.cb_forms.specs.Trees.{tree_of};
-ghost use Rattle.cb_rule_forms.specs.Sections.{declared_in, divided, members_after, sections_of, without_declaration};
+ghost use Rattle.cb_rule_forms.specs.Sections.{declared_in, divided, members_after, only_of, sections_of, without_declaration};
 ghost use Rattle.cb_rule_forms.specs.Internal.SectionPlaces.{arrow_place, sections_seen};
 
 use cb_expr_forms::is_symbol;
@@ -87,6 +87,18 @@ pub(crate) fn members_after<'a>(form: &'a Form, word: &[u8]) -> Option<&'a [Form
         return None;
     }
     Some(members)
+}
+
+/// The one form, where there is one.
+pub(crate) fn only_of(forms: &[Form]) -> Option<&Form>
+    ensures { MatchOption result (only_of (members forms.now) ≡ None)
+        (λ form. only_of (members forms.now) ≡ Some (tree_of form.now)) }
+{
+    let (form, following) = forms.split_first()?;
+    match following.split_first() {
+        None => Some(form),
+        Some(_) => None,
+    }
 }
 
 /// What follows the declaration, if there is one.

@@ -5,7 +5,7 @@ use cb_exprs::Env;
 use cb_facts::{Fact, Names, Refused, Value};
 use cb_forms::{Fault, Form, Item, NoMemory, Token};
 use cb_functions::Constants;
-use cb_patterns::{Ce, Meter, Rule, Way, fit};
+use cb_patterns::{Ce, Meter, Rule, Way, fit, read_rule};
 use cb_templates::Relations;
 use std::alloc::Global;
 
@@ -88,7 +88,7 @@ impl Setting {
     /// Takes a rule for the last one. After a fault there is no last rule.
     fn read_rule(&mut self, members: &[Form], out: &mut Vec<u8>) -> Result<(), Refused> {
         self.rule = None;
-        let rule = Rule::read(
+        let rule = read_rule(
             &mut self.names,
             &self.constants,
             &self.relations,
@@ -142,13 +142,9 @@ impl Setting {
 
     /// All ways in which the pattern fits a fact, where variables have these values.
     fn ways(&mut self, fact: &Fact, known: &Env) -> Result<Vec<Way>, Refused> {
-        let Some(element) = element_of(self.rule.as_ref(), self.place) else {
+        let Some(Ce::Pattern { pattern, .. }) = element_of(self.rule.as_ref(), self.place) else {
             return Err(Refused::Fault(Fault::NoSuchRule));
         };
-        let Ce::Pattern {
-            address: _,
-            pattern,
-        } = element;
         Ok(fit(
             self.names.alloc(),
             &self.constants,
@@ -163,13 +159,9 @@ impl Setting {
     /// `<Fact-1>`.
     fn known(&self) -> Result<Env, NoMemory> {
         let mut known = self.before.clone()?;
-        let Some(element) = element_of(self.rule.as_ref(), self.place) else {
+        let Some(Ce::Pattern { address, .. }) = element_of(self.rule.as_ref(), self.place) else {
             return Ok(known);
         };
-        let Ce::Pattern {
-            address,
-            pattern: _,
-        } = element;
         if let Some(name) = address {
             known.set(name, Value::Fact(1))?;
         }
