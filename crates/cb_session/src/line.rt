@@ -88,23 +88,29 @@ fn add_fact_line(alloc: Global, lines: &mut Vec<u8>, ix: u64, fact: &Fact) -> Re
     ensures { OnOk result (lines.new.items ≡ lines.old.items ++ fact_line (ix, fact.now)) }
 {
     let mut buffer = Buffer::new();
+    let index = buffer.format(ix).as_bytes();
     lines.extend_from_slice(b"f-")?;
-    add_left_in(lines, 5, buffer.format(ix).as_bytes())?;
+    lines.extend_from_slice(index)?;
+    lines.extend_from_slice(blanks_after(index))?;
     lines.push(b' ')?;
     lines.extend_from_slice(fact_text(alloc, fact)?.as_slice())?;
     lines.push(b'\n')?;
     Ok(())
 }
 
-/// A text at the left of so many places.
-fn add_left_in(lines: &mut Vec<u8>, places: usize, text: &[u8]) -> Result<(), NoMemory>
-    ensures { OnOk result (lines.new.items ≡ lines.old.items ++ left_in places text.now) }
+/// The blanks after an index that stands at the left of five places; a longer one has none. It takes no memory, so no index is
+/// refused for want of it.
+fn blanks_after(index: &[u8]) -> &'static [u8]
+    ensures { index.now ++ result.now ≡ left_in 5 index.now }
 {
-    lines.extend_from_slice(text)?;
-    for _blank in 0..places.saturating_sub(text.len()) {
-        lines.push(b' ')?;
+    match index.len() {
+        0 => b"     ",
+        1 => b"    ",
+        2 => b"   ",
+        3 => b"  ",
+        4 => b" ",
+        _ => b"",
     }
-    Ok(())
 }
 
 #[tactic(auto, using(crate::proofs::LineLaws::total_many))]
