@@ -1,10 +1,10 @@
 //! Multifields.
-ghost use Rattle.std.specs.Prelude.{◌≡◌, IfOk, drop, take};
+ghost use Rattle.std.specs.Prelude.{◌≡◌, IfOk, drop, option_copied, take};
 ghost use Rattle.std.specs.List.{position};
 ghost use Rattle.cb_facts.specs.Results.{Returns};
 ghost use Rattle.cb_facts.specs.Values.{value_of_field};
 ghost use Rattle.cb_functions.specs.Comparison.{same};
-ghost use Rattle.cb_functions.specs.Multifields.{created, field_at, first_field, member, nth, number_of_fields, of_fields, other_fields, place_of};
+ghost use Rattle.cb_functions.specs.Multifields.{created, field_at, field_or_nil, first_field, member, nth, number_of_fields, of_fields, other_fields, place_of};
 
 use crate::arguments::{both, integer, multifield, only};
 use crate::constants::Constants;
@@ -27,19 +27,22 @@ pub(crate) fn find_nth(constants: &Constants, values: &[Value]) -> Result<Value,
     let (place, fields) = both(values)?;
     let place = integer(place)?;
     let fields = multifield(fields)?;
-    Ok(field_at(constants, place, fields.as_slice())?)
+    Ok(value_or_nil(constants, find_field(place, fields.as_slice()))?)
 }
 
-fn field_at(constants: &Constants, place: i64, fields: &[Single]) -> Result<Value, NoMemory>
-    ensures { IfOk result (λ v. v ≡ field_at place fields.now) }
+/// The field at a place, or `None` where there is none. It takes no memory, so no place is refused for want of it.
+fn find_field(place: i64, fields: &[Single]) -> Option<&Single>
+    ensures { field_or_nil (option_copied result) ≡ field_at place fields.now }
 {
-    let Ok(place) = usize::try_from(place) else {
-        return constants.nil();
-    };
-    let Some(before) = place.checked_sub(1) else {
-        return constants.nil();
-    };
-    match fields.get(before) {
+    let place = usize::try_from(place).ok()?;
+    fields.get(place.checked_sub(1)?)
+}
+
+/// This field as a value, or nil where there is none.
+fn value_or_nil(constants: &Constants, field: Option<&Single>) -> Result<Value, NoMemory>
+    ensures { IfOk result (λ v. v ≡ field_or_nil (option_copied field.entry)) }
+{
+    match field {
         Some(field) => Ok(value_of(field.clone()?)),
         None => constants.nil(),
     }

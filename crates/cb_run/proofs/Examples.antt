@@ -1,5 +1,5 @@
 -- What some words of the program are refused for, and the status then.
-use Rattle.std.proofs.Common.{◌≡◌, ℕ, [], ◌∷◌, codes, refl, rules}
+use Rattle.std.proofs.Common.{◌≡◌, ◌⊎◌, ℕ, [], ◌∷◌, codes, refl, rules}
 use Rattle.clap.proofs.OnLiterals.{clap_on_literals}
 use Rattle.clap.specs.Words.{fault_of}
 use Rattle.clap.specs.declared.error.kind.ErrorKind.TheVariants as kind
@@ -35,7 +35,7 @@ unfolding clap_on_literals
 twice = refl
 
 -- the status for help, for words that are refused, and where memory is
-help_ends : (status : ℕ) → IsStatusFor kind.DisplayHelp status → status ≡ 0
+help_ends : (status : ℕ) → IsStatusFor kind.DisplayHelp status → (status ≡ 0) ⊎ (status ≡ 3)
 help_ends status s = s.help refl
 
 refusal_ends : (status : ℕ) → IsStatusFor kind.UnknownArgument status → status ≡ 2

@@ -8,11 +8,11 @@ use Rattle.cb_run.specs.Commands.{limits_app}
 use Rattle.cb_run.specs.RanBy.{RanBy}
 use Rattle.cb_script.specs.declared.outcome.Outcome.{Outcome}
 
--- The exit status for an error of this kind: memory was refused, help was asked for, or the words are wrong. The options have no
--- version to ask for.
+-- The exit status for an error of this kind: memory was refused; help was asked for, and could be written or could not; or the
+-- words are wrong. The options have no version to ask for.
 pub record IsStatusFor (k : ErrorKind) (status : ℕ) : Type 0 where
   pub memory : k ≡ kind.OutOfMemory → status ≡ 3
-  pub help : k ≡ kind.DisplayHelp → status ≡ 0
+  pub help : k ≡ kind.DisplayHelp → (status ≡ 0) ⊎ (status ≡ 3)
   pub wrong : k ≢ kind.OutOfMemory → k ≢ kind.DisplayHelp → k ≢ kind.DisplayVersion → status ≡ 2
 
 -- The script was carried out by these words, which `clap` takes, and the status is that of the run.

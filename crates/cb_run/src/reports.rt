@@ -1,12 +1,12 @@
 //! What is reported outside the transcript, and the exit status that goes with it.
-ghost use Rattle.std.specs.Prelude.{◌≡◌};
+ghost use Rattle.std.specs.Prelude.{◌≡◌, OnErr, OnOk};
 ghost use Rattle.clap.specs.Words.{kind_of};
 ghost use Rattle.cb_run.specs.Statuses.{IsStatusFor};
 
 use cb_script::{Cause, Outcome};
 use clap::Error;
 use clap::error::ErrorKind;
-use std::io::{Eprint, Print};
+use std::io::{self, Eprint, Print};
 
 /// Reports why the words are refused, or the help that they ask for; its exit status.
 pub(crate) fn refused<R: Print + Eprint>(rt: &R, error: Error) -> u8
@@ -15,8 +15,22 @@ pub(crate) fn refused<R: Print + Eprint>(rt: &R, error: Error) -> u8
     if error.kind() == ErrorKind::OutOfMemory {
         return no_memory(rt);
     }
-    let _ = error.print(rt);
-    if error.use_stderr() { 2 } else { 0 }
+    let printed = error.print(rt);
+    if error.use_stderr() {
+        return 2;
+    }
+    helped(rt, printed)
+}
+
+/// Reports that the help could not be written, where it could not; the exit status.
+fn helped<R: Eprint>(rt: &R, printed: io::Result<()>) -> u8
+    ensures ok { OnOk printed (result ≡ 0) }
+    ensures err { OnErr printed (result ≡ 3) }
+{
+    match printed {
+        Ok(()) => 0,
+        Err(_) => ended(rt, Outcome::failed(Cause::WriteFault)),
+    }
 }
 
 /// What is reported of a word that isn't UTF-8, as `clap` words it.
