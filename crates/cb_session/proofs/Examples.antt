@@ -10,7 +10,7 @@ use Rattle.cb_forms.specs.declared.token.Token.TheVariants as token
 use Rattle.cb_functions.specs.Internal.Operations.{operator_of}
 use Rattle.cb_actions.specs.Changes.{moved}
 use Rattle.cb_actions.specs.Worlds.{first_world}
-use Rattle.cb_agenda.specs.Agendas.{listed, popped}
+use Rattle.cb_agenda.specs.Agendas.{agenda_list, popped}
 use Rattle.cb_lines.specs.Lines.{agenda_line}
 use Rattle.cb_matches.specs.Changes.{keys_come, keys_gone}
 use Rattle.cb_matches.specs.Matches.{matches_of}
@@ -173,7 +173,7 @@ fires = refl
 -- the agenda and the rules, listed
 lists : written_by (call "defrule" (word "r" ∷ word "=>" ∷ []) ∷ call "agenda" [] ∷ call "rules" [] ∷ [])
     ≡ codes "0      r: *\nFor a total of 1 activation.\nr\nFor a total of 1 defrule.\n"
-unfolding executed acted head_of operator_of is_reserved digits moved keys_come keys_gone all_keys all_matches matches_of listed agenda_line
+unfolding executed acted head_of operator_of is_reserved digits moved keys_come keys_gone all_keys all_matches matches_of agenda_list agenda_line
 lists = refl
 
 -- `exit` ends the script, with the code that it asks for or by whether a fault line was written

@@ -6,7 +6,7 @@ use Rattle.cb_actions.specs.Commands.{exited, ran_as, rule_defined, strategy_set
 use Rattle.cb_actions.specs.Definitions.{all_asserted, all_evaluated, globals_defined, template_defined}
 use Rattle.cb_actions.specs.Runs.{cleared_world, restarted_world}
 use Rattle.cb_actions.specs.Worlds.{World, without_variables}
-use Rattle.cb_agenda.specs.Agendas.{listed}
+use Rattle.cb_agenda.specs.Agendas.{agenda_list}
 use Rattle.cb_exprs.specs.FactTerms.{FactTerm}
 use Rattle.cb_exprs.specs.GlobalTerms.{GlobalTerm}
 use Rattle.cb_facts.specs.declared.value.Value.{Value}
@@ -58,7 +58,7 @@ performed (request.define_deffacts name facts) s = become (record s { deffacts =
 performed (request.define_globals gs) s = (on_world (globals_defined gs) >>= (λ _. initials_kept gs)) s
 performed (request.define_rule rule) s = on_world (rule_defined rule) s
 performed request.list_facts s = write (fact_lines s.world.memory.network.facts) s
-performed request.list_agenda s = write (agenda_lines s.world.rules (listed s.world.agenda)) s
+performed request.list_agenda s = write (agenda_lines s.world.rules (agenda_list s.world.agenda)) s
 performed request.list_rules s = write (rule_lines s.world.rules) s
 performed request.reset s = on_world (reset_to s.globals (kept_facts s.deffacts)) s
 performed request.clear s = (on_world cleared_world >>= (λ _. definitions_dropped)) s

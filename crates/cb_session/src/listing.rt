@@ -2,7 +2,7 @@
 ghost use Rattle.std.specs.Prelude.{◌≡◌, IfOk, false};
 ghost use Rattle.std.specs.List.{flat_map};
 ghost use Rattle.cb_actions.specs.Went.{stop_extent};
-ghost use Rattle.cb_agenda.specs.Agendas.{listed};
+ghost use Rattle.cb_agenda.specs.Agendas.{agenda_list};
 ghost use Rattle.cb_io.specs.Output.{Puts};
 ghost use Rattle.cb_lines.specs.Lines.{agenda_line, fact_line, total_line};
 ghost use Rattle.cb_session.specs.Listings.{agenda_lines, fact_lines, rule_line, rule_lines};
@@ -39,7 +39,7 @@ pub(crate) fn put_agenda_lines<K: Sink>(
 ) -> Result<(), Stop>
     requires { out.old.fault ≡ false }
     ensures { Puts K.writes out.old out.new (stop_extent result)
-        (agenda_lines rules.now (listed agenda.now)) }
+        (agenda_lines rules.now (agenda_list agenda.now)) }
 {
     let activations = agenda.list()?;
     put_activation_lines(alloc, rules, activations.as_slice(), out)
