@@ -39,7 +39,11 @@ FILES = {
         "rules and the agenda",
         {"RULES": "Rules", "GROUPS": "Groups", "RULE_FAULTS": "Faults of a rule", "AGENDA": "The agenda"},
     ),
-    "commands.rt": (LANGUAGE, "commands", {"COMMANDS": "assert, facts and printing", "RUNNING": "run and halt"}),
+    "commands.rt": (
+        LANGUAGE,
+        "commands",
+        {"COMMANDS": "assert, facts and printing", "RUNNING": "run and halt", "WATCHING": "watch and unwatch"},
+    ),
     "clips.rt": (
         "docs/CLIPS.md",
         "what differs",
@@ -224,30 +228,36 @@ def literal(text):
 
 
 def outcome(script, written):
-    """How a script ends that writes this."""
+    """How a script ends that writes this: the name of an outcome, or a status that an `exit` gives."""
     if LIMIT.search(written):
         return "AT_A_LIMIT"
     is_faulty = bool(FAULT.search(written))
     statuses = [int(number or said or is_faulty) for number, said in EXIT.findall(script)]
-    for status in statuses:
-        if status < 256:
-            return f"Outcome {{\n            status: {status},\n            cause: Cause::Exit,\n        }}"
-    return "WITH_A_FAULT" if is_faulty else "WITHOUT_FAULT"
+    ended = "WITH_A_FAULT" if is_faulty else "WITHOUT_FAULT"
+    return next((status for status in statuses if status < 256), ended)
 
 
-def row_of(title, script, written):
-    """A row."""
+def row_of(pad, title, script, written):
+    """A row, with the blanks before its lines."""
+    ending = outcome(script, written)
+    if isinstance(ending, int):
+        ending = f"Outcome {{\n{pad}        status: {ending},\n{pad}        cause: Cause::Exit,\n{pad}    }}"
     return (
-        f'    Example {{\n        name: "{literal(title)}",\n        script: b"{literal(script)}",\n'
-        f'        written: b"{literal(written)}",\n        outcome: {outcome(script, written)},\n    }},\n'
+        f'Example {{\n{pad}    name: "{literal(title)}",\n{pad}    script: b"{literal(script)}",\n'
+        f'{pad}    written: b"{literal(written)}",\n{pad}    outcome: {ending},\n{pad}}}'
     )
+
+
+def list_of(examples):
+    """A list of rows, laid out as `rt fmt` does."""
+    if len(examples) == 1:
+        return f"[{row_of('', *examples[0])}]"
+    return "[\n" + "".join(f"    {row_of('    ', *each)},\n" for each in examples) + "]"
 
 
 def module(source, content):
     """A file of rows."""
-    text = ""
-    for name, examples in content.items():
-        text += f"\npub(super) const {name}: [Example; {len(examples)}] = [\n{''.join(row_of(*each) for each in examples)}];\n"
+    text = "".join(f"\npub(super) const {name}: [Example; {len(rows)}] = {list_of(rows)};\n" for name, rows in content.items())
     words = [word for word in ("AT_A_LIMIT", "Example", "WITH_A_FAULT", "WITHOUT_FAULT") if re.search(rf"\b{word}\b", text)]
     uses = f"use super::rows::{{{', '.join(words)}}};\n" + ("use cb_run::{Cause, Outcome};\n" if "Cause::" in text else "")
     return f"//! The scripts of {source}, made by `docs/examples.py`.\n{uses}{text}"
