@@ -88,7 +88,7 @@ begun
     },
 ];
 
-pub(super) const GROUPS: [Example; 5] = [
+pub(super) const GROUPS: [Example; 6] = [
     Example {
         name: "Groups: 1",
         script: b"(defrule free (room ?r) (not (guest ? ?r)) => (println ?r \" is free\"))
@@ -187,6 +187,24 @@ s
 r
 For a total of 2 defrules.
 two
+",
+        outcome: WITH_A_FAULT,
+    },
+    Example {
+        name: "The relations of a rule: 1",
+        script: b"(defrule move (room ?r) (not (full ?r)) => (if TRUE then (assert (guest ?r))))
+(deftemplate room (slot number))
+(deftemplate full)
+(deftemplate guest (slot room))
+(undefrule move)
+(deftemplate room (slot number))
+(defrule show (room (number ?r)) => (println ?r))
+(deftemplate room)
+",
+        written: b"[CB23] template in use
+[CB23] template in use
+[CB23] template in use
+[CB23] template in use
 ",
         outcome: WITH_A_FAULT,
     },
