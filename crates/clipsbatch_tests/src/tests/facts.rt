@@ -1,7 +1,7 @@
-//! The scripts of `docs/LANGUAGE.md` on templates, facts and commands, made by `docs/examples.py`.
-use super::rows::{Example, WITH_A_FAULT, WITHOUT_FAULT};
+//! The scripts of `docs/LANGUAGE.md` on templates and facts, made by `docs/examples.py`.
+use super::rows::{Example, WITH_A_FAULT};
 
-pub(super) const LANGUAGE: [Example; 11] = [
+pub(super) const TEMPLATES: [Example; 3] = [
     Example {
         name: "Templates: 1",
         script: b"(deftemplate part \"What lies on a shelf\"
@@ -92,6 +92,9 @@ For a total of 1 fact.
 ",
         outcome: WITH_A_FAULT,
     },
+];
+
+pub(super) const FACTS: [Example; 2] = [
     Example {
         name: "Facts: 1",
         script: b"(deftemplate reading
@@ -172,199 +175,6 @@ f-6     (child)
 f-7     (parent <Fact-6>)
 f-8     (sum =)
 For a total of 8 facts.
-",
-        outcome: WITH_A_FAULT,
-    },
-    Example {
-        name: "assert, facts and printing: 1",
-        script: b"(assert (color red) (size \"X L\" 40))
-(assert (color red))
-(facts)
-(printout t \"a\" tab b crlf)
-blue
-\"x\"
-",
-        written: b"<Fact-2>
-<Fact-1>
-f-1     (color red)
-f-2     (size \"X L\" 40)
-For a total of 2 facts.
-a\tb
-blue
-\"x\"
-",
-        outcome: WITHOUT_FAULT,
-    },
-    Example {
-        name: "assert, facts and printing: 2",
-        script: b"(println \"sum\" tab (+ 9 1))
-(print \"three\" crlf \"four\")
-(println)
-(printout stdout (create$ \"a b\" crlf) (sym-cat cr lf))
-(printout nil \"x\" (bind ?seen yes))
-?seen
-(print \"begun, \")
-(println \"not printed \" (div 1 0))
-(printout nil (println \"printed\") \"x\")
-(printout)
-(printout \"t\" 1)
-(printout ?seen 1)
-",
-        written: b"sum\t10
-three
-four
-(\"a b\" crlf)
-yes
-begun, [CB19] division by zero
-printed
-[CB17] wrong type
-[CB14] not in this profile
-[CB14] not in this profile
-[CB14] not in this profile
-",
-        outcome: WITH_A_FAULT,
-    },
-    Example {
-        name: "deffacts, reset and clear: 1",
-        script: b"(deftemplate lamp (slot room) (slot state (default off)))
-(deffacts house \"What there is at the start\"
-    (lamp (room hall))
-    (lamp (room attic) (state on)))
-(deffacts clock (hour 8))
-(assert (visitor \"Ann\"))
-(facts)
-(reset)
-(facts)
-(deffacts house (lamp (room cellar)))
-(deffacts clock (hour 9) (minute ?m))
-(reset)
-(facts)
-(deftemplate lamp (slot watts))
-(clear)
-(facts)
-(deftemplate lamp (slot watts (type INTEGER)))
-(reset)
-(assert (lamp (watts 60)))
-(facts)
-",
-        written: b"<Fact-1>
-f-1     (visitor \"Ann\")
-For a total of 1 fact.
-f-1     (lamp (room hall) (state off))
-f-2     (lamp (room attic) (state on))
-f-3     (hour 8)
-For a total of 3 facts.
-[CB11] unbound variable
-f-1     (hour 8)
-f-2     (lamp (room cellar) (state off))
-For a total of 2 facts.
-[CB23] template in use
-<Fact-1>
-f-1     (lamp (watts 60))
-For a total of 1 fact.
-",
-        outcome: WITH_A_FAULT,
-    },
-    Example {
-        name: "deffacts, reset and clear: 2",
-        script: b"(defglobal ?*rooms* = 2)
-(deffacts house (rooms ?*rooms*) (doors (* 3 (+ ?*rooms* 1))))
-(deffacts note (doors 9) (by \"Ann\"))
-(reset)
-(facts)
-(bind ?seen (assert (visitor \"Bob\")))
-(defglobal ?*rooms* = none)
-(reset)
-(facts)
-?seen
-(bind ?seen 1)
-(defglobal ?*rooms* = 3)
-(defglobal ?*floors* = (div 12 ?*rooms*))
-(defglobal ?*rooms* = 0)
-(reset)
-(facts)
-?seen
-(deffacts house (rooms ?n))
-(deffacts house (rooms (bind ?n 1)))
-",
-        written: b"f-1     (rooms 2)
-f-2     (doors 9)
-f-3     (by \"Ann\")
-For a total of 3 facts.
-<Fact-4>
-[CB17] wrong type
-f-1     (rooms none)
-For a total of 1 fact.
-[CB11] unbound variable
-1
-[CB19] division by zero
-f-1     (rooms none)
-For a total of 1 fact.
-1
-[CB11] unbound variable
-[CB14] not in this profile
-",
-        outcome: WITH_A_FAULT,
-    },
-    Example {
-        name: "retract: 1",
-        script: b"(assert (a) (b) (c) (d))
-(retract 2)
-(retract 1 \"x\")
-(facts)
-(retract 3 2 4)
-(facts)
-(retract 9 x)
-(retract)
-(retract ?f)
-(assert (b))
-(retract * 4)
-(facts)
-(assert (b))
-(retract *)
-(retract *)
-(reset)
-(assert (b))
-",
-        written: b"<Fact-4>
-[CB17] wrong type
-f-1     (a)
-f-3     (c)
-f-4     (d)
-For a total of 3 facts.
-[CB20] no such fact
-f-1     (a)
-f-4     (d)
-For a total of 2 facts.
-[CB17] wrong type
-[CB07] wrong arguments
-[CB11] unbound variable
-<Fact-5>
-[CB20] no such fact
-<Fact-6>
-<Fact-1>
-",
-        outcome: WITH_A_FAULT,
-    },
-    Example {
-        name: "retract: 2",
-        script: b"(bind ?a (assert (a)))
-(bind ?b (assert (b)) 3)
-(assert (c) (d))
-(retract ?a)
-(retract ?a (+ 1 1))
-(retract (nth$ 2 ?b) ?b)
-(retract ?*f* x)
-(retract (nth$ 2 ?b) (div 1 0))
-(retract * (assert (e)))
-(facts)
-",
-        written: b"<Fact-1>
-(<Fact-2> 3)
-<Fact-4>
-[CB17] wrong type
-[CB12] unknown global variable
-[CB19] division by zero
 ",
         outcome: WITH_A_FAULT,
     },
