@@ -11,5 +11,7 @@ mod mentions;
 mod relations;
 mod rule;
 mod sections;
+mod ways;
+mod written;
 
 pub use rule::read_rule;
