@@ -6,7 +6,9 @@ ghost use Rattle.cb_session.specs.Sessions.{fresh_session};
 
 use crate::outcome::{Cause, Outcome};
 use cb_forms::{Out, ReadFault, Sink, Source};
-use cb_session::{Flow, Limits, Session};
+use cb_matches::Matcher;
+use cb_rematch::Rematch;
+use cb_session::{Flow, Limits, Mark, Session};
 use std::alloc::Global;
 
 /// Carries out the script that the source gives, and writes its transcript.
@@ -26,12 +28,16 @@ pub fn run<S: Source, K: Sink>(
         (S.left source.old) (S.left source.new) (S.reads source.old) (S.reads source.new)
         (K.writes out.old.sink) (K.writes out.new.sink) }
 {
-    let mut session = Session::new(alloc, limits);
+    let mut session = Session::new(alloc, Rematch::new(alloc), limits);
     follow(&mut session, source, out)
 }
 
 // Feeds the session, which is new, until the script ends or something fails.
-fn follow<S: Source, K: Sink>(session: &mut Session, source: &mut S, out: &mut Out<K>) -> Outcome
+fn follow<M: Matcher<Mark>, S: Source, K: Sink>(
+    session: &mut Session<M>,
+    source: &mut S,
+    out: &mut Out<K>,
+) -> Outcome
     requires fresh { session.old ≡ fresh_session session.old.limits }
     requires ready { IsReady out.old }
     ensures { Ran session.old.limits result

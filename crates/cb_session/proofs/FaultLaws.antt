@@ -85,9 +85,17 @@ performed_keeps s (asked.act t) f h = record { deffacts = refl; globals = refl }
 performed_keeps s (asked.define_template template) f h = absurd (cc)
 performed_keeps s (asked.define_deffacts name facts) f h = absurd (cc)
 performed_keeps s (asked.define_globals gs) f h = same_kept s _ (globals_leave s gs (globals_after s.world.env gs) f h)
+performed_keeps s (asked.define_rule rule) f h = record { deffacts = refl; globals = refl }
 performed_keeps s asked.list_facts f h = absurd (cc)
+performed_keeps s asked.list_agenda f h = absurd (cc)
+performed_keeps s asked.list_rules f h = absurd (cc)
 performed_keeps s asked.reset f h = record { deffacts = refl; globals = refl }
 performed_keeps s asked.clear f h = absurd (cc)
+performed_keeps s (asked.run count) f h = record { deffacts = refl; globals = refl }
+performed_keeps s (asked.exit status) f h = record { deffacts = refl; globals = refl }
+performed_keeps s (asked.undefine name) f h = record { deffacts = refl; globals = refl }
+performed_keeps s (asked.watch item on) f h = record { deffacts = refl; globals = refl }
+performed_keeps s (asked.set_strategy strategy) f h = record { deffacts = refl; globals = refl }
 
 done_keeps : (s : State) (request : Result Request Fault) (f : Fault) → (done s request).answer ≡ Err (ended.Fault f) → KeepsDefinitions s (done s request).state
 done_keeps s (Ok request) f h = subst (KeepsDefinitions s) (sym (done_state s request)) (performed_keeps s request f (done_fault s request f h))
@@ -103,7 +111,15 @@ fault_keeping s r f h =
     let m = done s (requested s r) in
     marked_keeps s m.state (run_of m).state (marked m f h) (done_keeps s (requested s r) f h)
 
--- a request that writes and does nothing else
+-- requests that write and do nothing else
 pub facts_listed : (s : State) (r : Reading) → requested s r ≡ Ok asked.list_facts → (executed s r).state ≡ s
 unfolding executed acted
 facts_listed s r is = ap (λ (it : Result Request Fault). (run_of (done s it)).state) is
+
+pub agenda_listed : (s : State) (r : Reading) → requested s r ≡ Ok asked.list_agenda → (executed s r).state ≡ s
+unfolding executed acted
+agenda_listed s r is = ap (λ (it : Result Request Fault). (run_of (done s it)).state) is
+
+pub rules_listed : (s : State) (r : Reading) → requested s r ≡ Ok asked.list_rules → (executed s r).state ≡ s
+unfolding executed acted
+rules_listed s r is = ap (λ (it : Result Request Fault). (run_of (done s it)).state) is

@@ -33,7 +33,7 @@ use Rattle.cb_session.specs.Internal.Executing.{Executes}
 use Rattle.cb_session.specs.Lines.{fault_line, limit_line, too_long_line, value_line}
 use Rattle.cb_session.specs.Internal.Scripts.{from, cut_run}
 use Rattle.cb_session.specs.States.{State}
-use Rattle.cb_session.specs.Transcripts.{Run, runs_joined, after_status, concluded, executed, limit_status}
+use Rattle.cb_session.specs.Transcripts.{Run, runs_joined, after_status, concluded, executed, exit_status, limit_status}
 use Rattle.cb_session.specs.declared.status.Status.{Status}
 
 -- what an item does, by how its act went
@@ -51,10 +51,16 @@ pub executed-limit : (s t : State) (r : Reading) (limit : Limit) → t ≡ (acte
 unfolding executed
 executed-limit s t r limit state_is is = ap (concluded (acted r s).state (acted r s).written) is ∙ ap (λ u. record { state = u; written = (acted r s).written ++ limit_line limit; status = Some limit_status }) (sym state_is)
 
+pub executed-exit : (s t : State) (r : Reading) (code : Option ℕ) → t ≡ (acted r s).state → (acted r s).answer ≡ Err (ended.Exit code)
+    → executed s r ≡ record { state = t; written = (acted r s).written; status = Some (exit_status code t.is_faulted) }
+unfolding executed
+executed-exit s t r code state_is is = ap (concluded (acted r s).state (acted r s).written) is ∙ ap (λ (u : State). record { state = u; written = (acted r s).written; status = Some (exit_status code u.is_faulted) }) (sym state_is)
+
 concluded_begins : (s : State) (w : List ℕ) (r : Result (Unit {0}) Ended) → BeginsWith w (concluded s w r).written
 concluded_begins s w (Ok v) = ([], sym (append-nil w))
 concluded_begins s w (Err (ended.Fault f)) = (fault_line f, refl)
 concluded_begins s w (Err (ended.Limit limit)) = (limit_line limit, refl)
+concluded_begins s w (Err (ended.Exit code)) = ([], sym (append-nil w))
 
 pub executed_begins : (s : State) (r : Reading) → BeginsWith (acted r s).written (executed s r).written
 unfolding executed
@@ -74,6 +80,17 @@ module _ {K : Type 0} (writes : K → PastWrites) (o o1 : OutState K) (s t : Sta
   executes-done v h =
       let is = executed-done s t r v h.answers.0 h.answers.1 in
       record { puts = io_laws.ghosts.puts_as _ writes o o1 _ _ _ _ refl (ap (λ it. it.written) is) h.puts; state_is = sym (ap (λ it. it.state) is); status_is = sym (ap (λ it. it.status) is) }
+
+  -- an item with which the script ends
+  pub executes-exit : (code : Option ℕ) (status : Status) → status ≡ exit_status code t.is_faulted → Went {K = K} {S = State} {A = Unit {0}} writes o o1 t (Err (break.Ended (ended.Exit code))) (acted r s)
+      → Executes writes o o1 t (Ok (Some status)) (executed s r)
+  executes-exit code status ends h =
+      let is = executed-exit s t r code h.answers.0 h.answers.1 in
+      record {
+        puts = io_laws.ghosts.puts_as _ writes o o1 _ _ _ _ refl (ap (λ it. it.written) is) h.puts;
+        state_is = sym (ap (λ it. it.state) is);
+        status_is = ap Some ends ∙ sym (ap (λ it. it.status) is);
+      }
 
 if_ok : {T E : Type 0} (P Q : T → Type 0) (r : Result T E) → ((x : T) → P x → Q x) → IfOk r P → IfOk r Q
 if_ok P Q (Ok x) f h = f x h

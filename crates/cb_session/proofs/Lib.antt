@@ -1,5 +1,6 @@
 mod AskedLaws
-mod LineLaws
+mod CommandTurns
+mod ListingLaws
 mod FaultLaws
 mod ItemLaws
 mod StepLaws

@@ -1,5 +1,6 @@
 -- Acts on the world, as acts on the whole state, and acts after acts that put nothing.
-use Rattle.std.proofs.Common.{◌≡◌, [], Result, Ok, Err, refl, sym, ap, subst}
+use denote.Ref.{Bor}
+use Rattle.std.proofs.Common.{◌≡◌, [], ℕ, List, Option, Some, None, Result, Ok, Err, option_copied, option_map, refl, sym, ap, subst}
 use Rattle.cb_actions.specs.Acts.{Act, Effect, follow}
 use Rattle.cb_actions.specs.Went.{Quietly, Went}
 use Rattle.cb_actions.specs.Worlds.{World}
@@ -8,8 +9,12 @@ use Rattle.cb_actions.specs.declared.act.Break.{Break}
 use Rattle.cb_actions.specs.declared.stop.Stop.TheVariants as stop
 use Rattle.cb_io.specs.Histories.{PastWrites}
 use Rattle.cb_io.specs.Output.{OutState}
-use Rattle.cb_session.specs.Actions.{in_state, on_world}
+use Rattle.cb_exprs.specs.GlobalTerms.{GlobalTerm}
+use Rattle.cb_exprs.specs.Terms.{term_of}
+use Rattle.cb_exprs.specs.declared.expr.Expr.{Expr}
+use Rattle.cb_session.specs.Actions.{definitions_dropped, in_state, on_world}
 use Rattle.cb_session.specs.States.{State}
+use Rattle.cb_working_memory.specs.Deffacts.{DeffactsTable}
 
 -- an act on the world that went so
 pub went_on_world : {K A : Type 0} (writes : K → PastWrites) (o o1 : OutState K) (s : State) (w : World) (r : Result A Break) (act : Act World A) → Went writes o o1 w r (act s.world)
@@ -17,6 +22,25 @@ pub went_on_world : {K A : Type 0} (writes : K → PastWrites) (o o1 : OutState 
 went_on_world writes o o1 s w (Ok a) act h = record { puts = h.puts; answers = (ap (λ v. record s { world = v }) h.answers.0, h.answers.1) }
 went_on_world writes o o1 s w (Err (break.Ended e)) act h = record { puts = h.puts; answers = (ap (λ v. record s { world = v }) h.answers.0, h.answers.1) }
 went_on_world writes o o1 s w (Err (break.Stop e)) act h = record { puts = h.puts; answers = tt }
+
+-- the same in the state that is shown so
+pub went_inside : {K A : Type 0} (writes : K → PastWrites) (o o1 : OutState K) (s now : State) (w : World) (r : Result A Break) (act : Act World A) → s ≡ now → Went writes o o1 w r (act s.world)
+    → Went writes o o1 (record s { world = w }) r (on_world act now)
+went_inside writes o o1 s now w r act is h = subst (λ (it : State). Went writes o o1 (record s { world = w }) r (on_world act it)) is (went_on_world writes o o1 s w r act h)
+
+-- what was defined goes
+pub definitions_go : (s : State) (deffacts : DeffactsTable) (globals : List GlobalTerm) → deffacts ≡ [] → globals ≡ []
+    → definitions_dropped s ≡ record { state = record s { deffacts = deffacts; globals = globals }; written = []; answer = Ok None }
+definitions_go s deffacts globals none no = rw (none, no) refl
+
+-- an expression and a name that are lent
+pub lent_term : (lent : Option (Bor Expr)) (o : Option Expr) → option_copied lent ≡ o → option_map (λ e. term_of e.now) lent ≡ option_map term_of o
+lent_term None o is = ap (option_map term_of) is
+lent_term (Some e) o is = ap (option_map term_of) is
+
+pub lent_name : (lent : Option (Bor (List ℕ))) (o : Option (List ℕ)) → option_copied lent ≡ o → option_map (λ n. n.now) lent ≡ o
+lent_name None o is = is
+lent_name (Some n) o is = is
 
 -- the same of one that puts nothing
 pub quietly_on_world : {A : Type 0} (s : State) (w : World) (r : Result A Break) (act : Act World A) → Quietly w r (act s.world) → Quietly (record s { world = w }) r (on_world act s)

@@ -10,7 +10,7 @@ use Rattle.cb_session.specs.Actions.{acted}
 use Rattle.cb_session.specs.States.{State}
 use Rattle.cb_session.specs.declared.limits.Limits.{Limits}
 use Rattle.cb_session.specs.Lines.{too_long_line}
-use Rattle.cb_session.specs.Transcripts.{Run, begun, concluded, executed, limit_status, after_status, after, after_all, too_long_status, too_long, so_far, complete}
+use Rattle.cb_session.specs.Transcripts.{Run, begun, concluded, executed, exit_status, limit_status, after_status, after, after_all, too_long_status, too_long, so_far, complete}
 use Rattle.cb_actions.specs.declared.act.Ended.{Ended}
 use Rattle.cb_actions.specs.declared.act.Ended.TheVariants as ended
 use Rattle.cb_session.specs.declared.status.Ending.TheVariants as ending
@@ -152,6 +152,8 @@ concluded-early : (s : State) (w : List ℕ) (r : Result (Unit {0}) Ended) → I
 concluded-early s w (Ok _) status h = absurd (cc)
 concluded-early s w (Err (ended.Fault f)) status h = absurd (cc)
 concluded-early s w (Err (ended.Limit limit)) status h = let is : limit_status ≡ status = cc in λ done. (let no : limit_status.ending ≡ ending.Done = ap (λ it. it.ending) is ∙ done in cc)
+concluded-early s w (Err (ended.Exit code)) status h =
+    let is : exit_status code s.is_faulted ≡ status = cc in λ done. (let no : (exit_status code s.is_faulted).ending ≡ ending.Done = ap (λ it. it.ending) is ∙ done in cc)
 
 executed-early : (s : State) (r : Reading) → IsEarly (executed s r).status
 unfolding executed

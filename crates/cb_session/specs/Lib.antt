@@ -4,6 +4,7 @@ pub mod Internal
 pub mod Laws
 pub mod Lemmas
 pub mod Lines
+pub mod Listings
 pub mod Sessions
 pub mod States
 pub mod Transcripts

@@ -13,10 +13,10 @@ pub record State : Type 0 where
   pub globals : List GlobalTerm
   pub is_faulted : Bool
 
--- before the first item, with so many turns left
-abbrev pub state_with : ℕ → State
-state_with turns = record {
-  world = first_world turns;
+-- before the first item, with so many turns and so many firings left
+abbrev pub state_with : ℕ → ℕ → State
+state_with turns firings = record {
+  world = first_world turns firings;
   deffacts = [];
   globals = [];
   is_faulted = false;
@@ -24,4 +24,4 @@ state_with turns = record {
 
 -- The state of a script before its first item.
 abbrev pub first_state : Limits → State
-first_state limits = state_with limits.max_turns
+first_state limits = state_with limits.max_turns limits.max_firings

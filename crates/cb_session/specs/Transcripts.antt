@@ -1,5 +1,5 @@
 -- The transcript and the status of a script.
-use Rattle.std.specs.Prelude.{ℕ, Bool, true, List, [], ◌∷◌, ◌++◌, Option, Some, None, Result, Ok, Err, length, drop, if◌then◌else◌}
+use Rattle.std.specs.Prelude.{ℕ, Bool, true, List, [], ◌∷◌, ◌++◌, Option, Some, None, Result, Ok, Err, length, drop, unwrap_or, if◌then◌else◌}
 use Rattle.cb_forms.specs.Items.{whole, over, fitting}
 use Rattle.cb_forms.specs.Trees.{Reading}
 use Rattle.cb_session.specs.States.{State, first_state}
@@ -8,7 +8,7 @@ use Rattle.cb_session.specs.Lines.{fault_line, limit_line, too_long_line}
 use Rattle.cb_actions.specs.declared.act.Ended.{Ended}
 use Rattle.cb_actions.specs.declared.act.Ended.TheVariants as ended
 use Rattle.cb_session.specs.declared.limits.Limits.{Limits}
-use Rattle.cb_session.specs.declared.status.Ending.TheVariants.{Done, Limit}
+use Rattle.cb_session.specs.declared.status.Ending.TheVariants.{Done, Exit, Limit}
 use Rattle.cb_session.specs.declared.status.Status.{Status}
 
 -- how far a script has come: the state, all that was written, and the status if it has ended
@@ -25,12 +25,21 @@ begun limits = record { state = first_state limits; written = []; status = None 
 abbrev pub limit_status : Status
 limit_status = record { code = 4; ending = Limit }
 
+-- the code of a script that asks for none: 1 where a fault line was written, else 0
+abbrev pub fault_code : Bool → ℕ
+fault_code is_faulted = if is_faulted then 1 else 0
+
+-- how a script ends by `exit`, which may ask for a code
+abbrev pub exit_status : Option ℕ → Bool → Status
+exit_status code is_faulted = record { code = unwrap_or code (fault_code is_faulted); ending = Exit }
+
 -- An item was done so far: this is the state, this was written, and so it ended. A fault is a line, and the script goes on; a
--- limit is a line, and the script ends.
+-- limit is a line, and the script ends; and with `exit` the script ends.
 abbrev pub concluded : State → List ℕ → Result (Unit {0}) Ended → Run
 concluded s bytes (Ok _) = record { state = s; written = bytes; status = None }
 concluded s bytes (Err (ended.Fault f)) = record { state = record s { is_faulted = true }; written = bytes ++ fault_line f; status = None }
 concluded s bytes (Err (ended.Limit limit)) = record { state = s; written = bytes ++ limit_line limit; status = Some limit_status }
+concluded s bytes (Err (ended.Exit code)) = record { state = s; written = bytes; status = Some (exit_status code s.is_faulted) }
 
 -- what an item does to a script
 unfoldable pub executed : State → Reading → Run
@@ -65,7 +74,7 @@ too_long run = too_long_status run.status run
 
 -- how a script ends at its end, unless it has ended before
 abbrev pub status_at_end : Option Status → Bool → Status
-status_at_end None is_faulted = record { code = if is_faulted then 1 else 0; ending = Done }
+status_at_end None is_faulted = record { code = fault_code is_faulted; ending = Done }
 status_at_end (Some status) is_faulted = status
 
 -- The script p, so far: each item that has ended is carried out, up to one that is too long.

@@ -1,12 +1,11 @@
 //! Carrying out items.
-ghost use Rattle.std.specs.Prelude.{◌≡◌, IfSome, Ok, None, Some, IfOk, OnOk, false, true};
-ghost use Rattle.cb_actions.specs.Went.{Quietly, Went, stop_extent};
-ghost use Rattle.cb_exprs.specs.Terms.{term_of};
+ghost use Rattle.std.specs.Prelude.{◌≡◌, IfSome, Ok, None, Some, IfOk, false, true};
+ghost use Rattle.cb_actions.specs.Went.{Went, stop_extent};
 ghost use Rattle.cb_forms.specs.Trees.{atom, reading_of};
 ghost use Rattle.cb_io.specs.Output.{Puts};
-ghost use Rattle.cb_requests.specs.Requests as asked;
+ghost use Rattle.cb_matches.specs.Networks.{empty_network};
 ghost use Rattle.cb_requests.specs.Requests.{request_by};
-ghost use Rattle.cb_session.specs.Actions.{acted, performed, performed_and_shown, shown_line};
+ghost use Rattle.cb_session.specs.Actions.{acted, performed_and_shown, shown_line};
 ghost use Rattle.cb_session.specs.Internal.Executing.{Executes};
 ghost use Rattle.cb_session.specs.Lines.{fault_line, value_line};
 ghost use Rattle.cb_session.specs.Internal.Scripts.{cut_run};
@@ -14,16 +13,14 @@ ghost use Rattle.cb_session.specs.States.{state_with};
 ghost use Rattle.cb_session.specs.Transcripts.{executed, limit_status};
 
 use crate::globals::GlobalTable;
-use crate::line::{fault_line, limit_line, put_fact_lines, value_line};
-use crate::reset::reset_world;
+use crate::line::{fault_line, limit_line, put_line, value_line};
 use crate::status::Status;
 use cb_actions::{Break, Ended, Stop, World, put, put_text};
-use cb_exprs::{Expr, FactExpr, GlobalExpr};
-use cb_facts::{Name, Names, Value};
-use cb_forms::{Cut, Fault, Form, Item, Out, Sink, Token};
+use cb_facts::{Names, Value};
+use cb_forms::{Cut, Fault, Item, Out, Sink, Token};
+use cb_matches::Matcher;
 use cb_requests::{Context, Request, read_request};
-use cb_templates::Template;
-use cb_working_memory::DeffactsTable;
+use cb_working_memory::{DeffactsTable, Mark};
 use std::alloc::Global;
 use std::marker::Model;
 
@@ -33,36 +30,40 @@ use std::marker::Model;
 ///
 /// After `NoMemory` it may be any.
 #[derive(Drop)]
-pub(crate) struct Engine {
-    alloc: Global,
-    names: Names,
-    world: World,
-    deffacts: DeffactsTable,
-    globals: GlobalTable,
+pub(crate) struct Engine<M: Matcher<Mark>> {
+    pub(crate) alloc: Global,
+    pub(crate) names: Names,
+    pub(crate) world: World<M>,
+    pub(crate) deffacts: DeffactsTable,
+    pub(crate) globals: GlobalTable,
     is_faulted: bool,
 }
 
-impl Model for Engine {
+impl<M: Matcher<Mark>> Model for Engine<M> {
     ghost use Rattle.std.specs.Coded.{codes};
+    ghost use Rattle.cb_actions.specs.Internal.{world_code};
     ghost use Rattle.cb_session.specs.States.{State};
     ghost use Rattle.cb_session.specs.Internal.{state_code};
+    ghost use Rattle.cb_working_memory.specs.Internal.WorkingMemories.{memory_code};
 
     ghost Value = { State };
 
-    ghost coded = { state_code (Prim.hlevel codes) (Prim.hlevel codes) (Prim.hlevel codes) (Prim.hlevel codes) };
+    ghost coded = { state_code (world_code (memory_code (Prim.hlevel codes) (Prim.hlevel codes) (Prim.hlevel codes) (Prim.hlevel codes)) (Prim.hlevel codes) (Prim.hlevel codes) (Prim.hlevel codes) (Prim.hlevel codes) (Prim.hlevel codes) (Prim.hlevel codes)) (Prim.hlevel codes) (Prim.hlevel codes) (Prim.hlevel codes) };
 
     ghost view = { λ e. record { world = e.world; deffacts = e.deffacts; globals = e.globals; is_faulted = e.is_faulted } };
 }
 
-impl Engine {
-    /// An engine before the first item. All loops together may take so many turns.
-    pub(crate) fn new(alloc: Global, turns: u64) -> Engine
-        ensures { result ≡ state_with turns }
+impl<M: Matcher<Mark>> Engine<M> {
+    /// An engine before the first item, over a matcher without rules and facts. All loops together may take so many turns,
+    /// and so many rules may fire.
+    pub(crate) fn new(alloc: Global, matcher: M, turns: u64, firings: u64) -> Engine<M>
+        requires { M.network matcher ≡ empty_network }
+        ensures { result ≡ state_with turns firings }
     {
         Engine {
             alloc,
             names: Names::new(alloc),
-            world: World::new(alloc, turns),
+            world: World::new(alloc, matcher, turns, firings),
             deffacts: DeffactsTable::new(alloc),
             globals: GlobalTable::new(alloc),
             is_faulted: false,
@@ -127,6 +128,7 @@ impl Engine {
             Ok(()) => Ok(None),
             Err(Break::Ended(Ended::Fault(fault))) => self.report(fault, out),
             Err(Break::Ended(Ended::Limit(limit))) => end_at_limit(limit_line(limit), out),
+            Err(Break::Ended(Ended::Exit(code))) => Ok(Some(Status::exited(code, self.is_faulted()))),
             Err(Break::Stop(stop)) => Err(stop),
         }
     }
@@ -155,6 +157,7 @@ impl Engine {
             relations: self.world.relations(),
             env: self.world.env(),
             memory: self.world.memory(),
+            rules: self.world.rules(),
             deffacts: &self.deffacts,
         };
         match read_request(&mut self.names, &context, item) {
@@ -171,104 +174,6 @@ impl Engine {
         let value = self.perform(request, out)?;
         show(self.alloc, value, out)?;
         Ok(())
-    }
-
-    /// Does what a request asks for. The answer is its value, if it has one.
-    fn perform<K: Sink>(
-        &mut self,
-        request: Request,
-        out: &mut Out<K>,
-    ) -> Result<Option<Value>, Break>
-        requires { out.old.fault ≡ false }
-        ensures { Went K.writes out.old out.new self.new result
-            (performed (request_by request) self.old) }
-    {
-        match request {
-            Request::Act(expr) => self.carry_out(&expr, out),
-            Request::DefineTemplate(relation, template) => {
-                self.define_template(relation, template)
-            }
-            Request::DefineDeffacts(name, facts) => self.define_deffacts(name, facts),
-            Request::DefineGlobals(globals) => self.define_globals(globals),
-            Request::ListFacts => self.list_facts(out),
-            Request::Reset => self.reset(out),
-            Request::Clear => self.clear(),
-        }
-    }
-
-    /// Carries out an expression. The answer is its value, if it has one.
-    fn carry_out<K: Sink>(&mut self, expr: &Expr, out: &mut Out<K>) -> Result<Option<Value>, Break>
-        requires { out.old.fault ≡ false }
-        ensures { Went K.writes out.old out.new self.new result
-            (performed (asked.act (term_of expr.now)) self.old) }
-    {
-        self.world.carry_out(expr, out)
-    }
-
-    /// Takes a template for the one that its relation had.
-    fn define_template(
-        &mut self,
-        relation: Name,
-        template: Template,
-    ) -> Result<Option<Value>, Break>
-        ensures { Quietly self.new result
-            (performed (asked.define_template (relation, template)) self.old) }
-    {
-        self.world.define_template(relation, template)
-    }
-
-    /// Keeps facts under a name for `reset`.
-    fn define_deffacts(&mut self, name: Name, facts: Vec<FactExpr>) -> Result<Option<Value>, Break>
-        ensures { Quietly self.new result
-            (performed (asked.define_deffacts name facts.items) self.old) }
-    {
-        self.deffacts.define(name, facts)?;
-        Ok(None)
-    }
-
-    /// Gives globals their values, and keeps the expressions for `reset`.
-    fn define_globals(&mut self, globals: Vec<GlobalExpr>) -> Result<Option<Value>, Break>
-        ensures { Quietly self.new result
-            (performed (asked.define_globals globals.items) self.old) }
-    {
-        drop(self.world.define_globals(globals.as_slice())?);
-        self.globals.define_all(globals)?;
-        Ok(None)
-    }
-
-    /// Puts the lines of all facts.
-    fn list_facts<K: Sink>(&mut self, out: &mut Out<K>) -> Result<Option<Value>, Break>
-        requires { out.old.fault ≡ false }
-        ensures { Went K.writes out.old out.new self.new result
-            (performed asked.list_facts self.old) }
-    {
-        put_fact_lines(self.alloc, self.world.memory().facts(), out)?;
-        Ok(None)
-    }
-
-    /// Begins anew with the initial values of the globals and the facts of each `deffacts`.
-    fn reset<K: Sink>(&mut self, out: &mut Out<K>) -> Result<Option<Value>, Break>
-        requires { out.old.fault ≡ false }
-        ensures { Went K.writes out.old out.new self.new result
-            (performed asked.reset self.old) }
-    {
-        reset_world(
-            &mut self.world,
-            self.globals.as_slice(),
-            &self.deffacts,
-            out,
-        )
-    }
-
-    /// Forgets all but the turns that are left and whether a fault line was written.
-    fn clear(&mut self) -> Result<Option<Value>, Break>
-        ensures { Quietly self.new result (performed asked.clear self.old) }
-    {
-        self.world.clear();
-        self.deffacts = DeffactsTable::new(self.alloc);
-        self.globals = GlobalTable::new(self.alloc);
-        self.names = Names::new(self.alloc);
-        Ok(None)
     }
 }
 
@@ -290,8 +195,7 @@ fn show_symbol<K: Sink>(name: &[u8], out: &mut Out<K>) -> Result<Option<Status>,
     ensures puts { Puts K.writes out.old out.new (stop_extent result)
         (value_line (Value.Symbol name.now)) }
 {
-    put(name, out)?;
-    put(b"\n", out)?;
+    put_line(name, out)?;
     Ok(None)
 }
 

@@ -73,14 +73,20 @@ pub fn what_an_item_writes_comes_first()
     ensures { (s : State) (r : Reading) → BeginsWith (acted r s).written (executed s r).written }
 {}
 
-/// `(facts)` leaves everything as it is.
+/// `(facts)`, `(agenda)` and `(rules)` leave everything as it is.
 pub fn a_listing_changes_nothing()
-    ensures { (s : State) (r : Reading)
+    ensures facts { (s : State) (r : Reading)
         → requested s r ≡ Ok request.list_facts
+        → (executed s r).state ≡ s }
+    ensures agenda { (s : State) (r : Reading)
+        → requested s r ≡ Ok request.list_agenda
+        → (executed s r).state ≡ s }
+    ensures rules { (s : State) (r : Reading)
+        → requested s r ≡ Ok request.list_rules
         → (executed s r).state ≡ s }
 {}
 
-/// No item leaves more turns than there were, a `reset` and a `clear` among them. So all loops of a script together take at
+/// No item leaves more turns than there were, a run, a `reset` and a `clear` among them. So all loops of a script together take at
 /// most as many as its limit allows.
 pub fn no_turn_comes_back()
     ensures item { (s : State) (r : Reading)

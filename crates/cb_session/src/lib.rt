@@ -6,12 +6,15 @@ mod engine; // what is kept from item to item, and executing an item
 mod globals; // the initial expressions that each `defglobal` keeps for `reset`
 pub mod laws; // laws of the transcript and of faults
 mod limits; // how far a script may go
-mod line; // the lines of a transcript, and putting them
+mod line; // the lines of faults, of values and of limits
+mod listing; // the lists of facts, of activations and of rules, line by line
+mod perform; // what each request does
 mod reset; // what `reset` does
 mod session; // `Session`, the public face: the cutter, the engine, and the status or the stop that was returned
 mod status; // how a script goes on and ends
 
 pub use cb_actions::Stop;
+pub use cb_working_memory::Mark;
 pub use limits::Limits;
 pub use session::Session;
 pub use status::{Ending, Flow, Status};

@@ -8,12 +8,13 @@ use cb_actions::{Break, World};
 use cb_exprs::GlobalExpr;
 use cb_facts::Value;
 use cb_forms::{Out, Sink};
-use cb_working_memory::DeffactsTable;
+use cb_matches::Matcher;
+use cb_working_memory::{DeffactsTable, Mark};
 
 /// Gives each global its initial value anew, drops the variables and the facts, and asserts the facts of each `deffacts`.
 /// Growth is refused as `NoMemory`.
-pub(crate) fn reset_world<K: Sink>(
-    world: &mut World,
+pub(crate) fn reset_world<M: Matcher<Mark>, K: Sink>(
+    world: &mut World<M>,
     globals: &[GlobalExpr],
     deffacts: &DeffactsTable,
     out: &mut Out<K>,
@@ -24,6 +25,6 @@ pub(crate) fn reset_world<K: Sink>(
 {
     drop(world.evaluate_anew(globals)?);
     world.drop_variables();
-    world.drop_facts();
+    world.restart(out)?;
     world.assert_deffacts(deffacts, out)
 }

@@ -7,13 +7,16 @@ ghost use Rattle.cb_session.specs.Sessions.{flow_of, fresh_session, session_afte
 ghost use Rattle.cb_session.specs.Internal.{HasTaken};
 ghost use Rattle.cb_session.specs.Transcripts.{added, added_at_end, so_far, status_at_end, status_of};
 ghost use Rattle.cb_actions.specs.Went.{extent_at, stop_extent};
+ghost use Rattle.cb_matches.specs.Networks.{empty_network};
 
 use crate::engine::Engine;
 use crate::limits::Limits;
-use crate::status::{Ending, Flow, Status};
+use crate::status::{Ending, Flow, Status, fault_code};
 use cb_actions::Stop;
 use cb_forms::{Cutter, History, Out, Sink};
 use cb_io::with_all;
+use cb_matches::Matcher;
+use cb_working_memory::Mark;
 use std::alloc::Global;
 use std::marker::Model;
 
@@ -22,16 +25,16 @@ use std::marker::Model;
 /// Contracts see the limits, the bytes fed, the status that was returned where the script has ended, and the stop that was
 /// returned where it could not be carried out further.
 #[derive(Drop)]
-pub struct Session {
+pub struct Session<M: Matcher<Mark>> {
     limits: Limits,
     cutter: Cutter,
-    engine: Engine,
+    engine: Engine<M>,
     status: Option<Status>,
     stop: Option<Stop>,
     fed: History<u8>,
 }
 
-impl Model for Session {
+impl<M: Matcher<Mark>> Model for Session<M> {
     ghost use Rattle.std.specs.Prelude.{◌≡◌, None};
     ghost use Rattle.cb_session.specs.Internal.Scripts.{IsUnderWay};
     ghost use Rattle.cb_session.specs.Sessions.{SessionState};
@@ -43,14 +46,15 @@ impl Model for Session {
     ghost invariant = { λ s. s.stop ≡ None → s.status ≡ None → IsUnderWay s.limits s.fed.items s.cutter s.engine };
 }
 
-impl Session {
-    /// A session before the first byte of a script.
-    pub fn new(alloc: Global, limits: Limits) -> Session
+impl<M: Matcher<Mark>> Session<M> {
+    /// A session before the first byte of a script, over a matcher without rules and facts.
+    pub fn new(alloc: Global, matcher: M, limits: Limits) -> Session<M>
+        requires { M.network matcher ≡ empty_network }
         ensures { result ≡ fresh_session limits }
     {
         Session {
             cutter: Cutter::new(alloc, limits.max_form),
-            engine: Engine::new(alloc, limits.max_turns),
+            engine: Engine::new(alloc, matcher, limits.max_turns, limits.max_firings),
             limits,
             status: None,
             stop: None,
@@ -286,9 +290,9 @@ impl Session {
 
 /// Takes the next byte of a script that goes on, and executes what it completes. The answer is the status, where the
 /// script ends with it.
-fn step<K: Sink>(
+fn step<M: Matcher<Mark>, K: Sink>(
     cutter: &mut Cutter,
-    engine: &mut Engine,
+    engine: &mut Engine<M>,
     byte: u8,
     out: &mut Out<K>,
 ) -> Result<Option<Status>, Stop>
@@ -305,9 +309,9 @@ fn step<K: Sink>(
 
 /// Executes the item that is open at the end of a script, if there is one. The answer is the status, where the script
 /// ends with it.
-fn execute_last<K: Sink>(
+fn execute_last<M: Matcher<Mark>, K: Sink>(
     cutter: &mut Cutter,
-    engine: &mut Engine,
+    engine: &mut Engine<M>,
     out: &mut Out<K>,
 ) -> Result<Option<Status>, Stop>
     requires { out.old.fault ≡ false }
@@ -368,7 +372,7 @@ fn status_at_end(status: Option<Status>, is_faulted: bool) -> Status
     match status {
         Some(status) => status,
         None => Status {
-            code: if is_faulted { 1 } else { 0 },
+            code: fault_code(is_faulted),
             ending: Ending::Done,
         },
     }

@@ -14,7 +14,7 @@ returns-in-Ok g c =
     let state : State = record { world = inside.world; deffacts = inside.deffacts; globals = inside.globals; is_faulted = inside.is_faulted } in
     let reading = reading_of c.args.item.now in
     let request = request_by c.in-Ok.request in
-    let is = requested_so state reading c.relations.result.now c.env.result.now c.memory.result.now inside.deffacts c.relations.ensures c.env.ensures c.memory.ensures refl (Ok request) c.in-Ok.ensures in
+    let is = requested_so state reading c.relations.result.now c.env.result.now c.memory.result.now c.rules.result.now inside.deffacts c.relations.ensures c.env.ensures c.memory.ensures c.rules.ensures refl (Ok request) c.in-Ok.ensures in
     actions_laws.ghosts.went_as _ _ _ g.K.Sink.writes _ _ _ _ _ _ _ refl (ap (acted reading) (sym c.self.view_is) ∙ acted-request state reading request is) c.perform_and_show.ensures
 
 pub returns-in-Err : goal.returns-in-Err
@@ -22,5 +22,5 @@ returns-in-Err g c =
     let inside = c.self.inside in
     let state : State = record { world = inside.world; deffacts = inside.deffacts; globals = inside.globals; is_faulted = inside.is_faulted } in
     let reading = reading_of c.args.item.now in
-    let tells = refused_so state reading c.relations.result.now c.env.result.now c.memory.result.now inside.deffacts c.relations.ensures c.env.ensures c.memory.ensures refl c.in-Err.refused c.in-Err.ensures in
+    let tells = refused_so state reading c.relations.result.now c.env.result.now c.memory.result.now c.rules.result.now inside.deffacts c.relations.ensures c.env.ensures c.memory.ensures c.rules.ensures refl c.in-Err.refused c.in-Err.ensures in
     actions_laws.ghosts.went_as _ _ _ g.K.Sink.writes _ _ _ _ _ _ _ (ap Err c.from.ensures) (ap (acted reading) (sym c.self.view_is)) (went_refused g.K.Sink.writes _ state reading c.in-Err.refused c.requires tells)

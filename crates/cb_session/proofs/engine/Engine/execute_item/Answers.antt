@@ -1,15 +1,15 @@
-use Rattle.std.proofs.Common.{◌≡◌, Err, sym, subst, rules}
+use Rattle.std.proofs.Common.{◌≡◌, ◌∙◌, Err, ap, sym, subst, rules}
 use Rattle.cb_forms.specs.Trees.{reading_of}
 use Rattle.cb_io.specs.Output.{Puts}
 use Rattle.cb_io.specs.contracts.cited.LawsCited.TheImpl as io_laws
 use Rattle.cb_session.specs.Actions.{acted}
 use Rattle.cb_session.specs.States.{State}
-use Rattle.cb_session.specs.Transcripts.{executed}
+use Rattle.cb_session.specs.Transcripts.{executed, exit_status}
 use Rattle.cb_session.specs.Internal.Executing.{Executes}
 use Rattle.cb_actions.specs.Went.{Went, stop_extent}
 use Rattle.cb_actions.specs.declared.act.Break.TheVariants as break
 use Rattle.cb_actions.specs.declared.act.Ended.TheVariants as ended
-use Rattle.cb_session.proofs.ItemLaws.{executes-done, executes-fault, executes-limit, executes-stopped}
+use Rattle.cb_session.proofs.ItemLaws.{executes-done, executes-exit, executes-fault, executes-limit, executes-stopped}
 use Rattle.cb_session.proofs.engine.Engine.execute_item.Goals as goal
 
 pub report-requires : goal.report-requires
@@ -40,6 +40,12 @@ returns-in-Err-Ended-Limit g c =
     let h = subst (λ it. Went g.K.Sink.writes c.args.out.now c.act.new.out c.act.new.self it (acted (reading_of c.args.item.now) c.args.self.now)) r c.act.ensures in
     let line = subst (λ it. Puts g.K.Sink.writes c.act.new.out c.end_at_limit.new.out (stop_extent c.end_at_limit.result) it) c.limit_line.ensures c.end_at_limit.ensures.puts in
     executes-limit g.K.Sink.writes _ _ _ c.args.self.now c.act.new.self (reading_of c.args.item.now) _ c.in-Err-Ended-Limit.limit h line c.end_at_limit.ensures.status
+
+pub returns-in-Err-Ended-Exit : goal.returns-in-Err-Ended-Exit
+returns-in-Err-Ended-Exit g c =
+    let r : c.act.result ≡ Err (break.Ended (ended.Exit c.in-Err-Ended-Exit.code)) = search rules in
+    let h = subst (λ it. Went g.K.Sink.writes c.args.out.now c.act.new.out c.act.new.self it (acted (reading_of c.args.item.now) c.args.self.now)) r c.act.ensures in
+    executes-exit g.K.Sink.writes _ _ c.args.self.now c.act.new.self (reading_of c.args.item.now) c.in-Err-Ended-Exit.code _ (c.exited.ensures ∙ ap (exit_status c.in-Err-Ended-Exit.code) c.is_faulted.ensures) h
 
 pub returns-in-Err-Stop : goal.returns-in-Err-Stop
 returns-in-Err-Stop g c =

@@ -2,4 +2,4 @@ use Rattle.cb_session.specs.Lemmas.ScriptLaws.{way-start_of}
 use Rattle.cb_session.proofs.session.Session.new.Goals as goal
 
 pub invariant_of-result : goal.invariant_of-result
-invariant_of-result c = λ on goes. rw c.new-3.ensures (way-start_of c.args.limits _ _ c.new.ensures c.new-2.ensures c.args.limits.form_has_a_byte)
+invariant_of-result g c = λ on goes. rw c.new-3.ensures (way-start_of c.args.limits _ _ c.new.ensures c.new-2.ensures c.args.limits.form_has_a_byte)

@@ -8,19 +8,19 @@ use Rattle.cb_session.proofs.StepLaws.{after-end-adds, taken-after-end}
 use Rattle.cb_session.proofs.session.Session.take_run.Goals as goal
 
 pub returns-in-Some-clause-fed : goal.returns-in-Some-clause-fed
-returns-in-Some-clause-fed c =
+returns-in-Some-clause-fed g c =
     let some : is_some c.args.self.now.status ≡ true = rw (← c.self.view_is) (ap is_some c.in-Some.is) in
     let all = take-length c.args.bytes.now in
     rw all (taken-after-end c.args.self.now _ c.args.bytes.now c.requires.on some c.requires.goes (rw c.with_all-self-inside.ensures (ap (λ (it : SessionState). record it { fed = it.fed ++ c.args.bytes.now }) c.self.view_is)))
 
 pub returns-in-Some-clause-adds : goal.returns-in-Some-clause-adds
-returns-in-Some-clause-adds c =
+returns-in-Some-clause-adds g c =
     let some : is_some c.args.self.now.status ≡ true = rw (← c.self.view_is) (ap is_some c.in-Some.is) in
     let all = take-length c.args.bytes.now in
     rw all (after-end-adds c.args.self.now.limits c.args.self.now.fed c.args.bytes.now c.args.self.now.status c.requires.goes some)
 
 pub returns-clause-fed : goal.returns-clause-fed
-returns-clause-fed c =
+returns-clause-fed g c =
     let none : c.self.inside.status ≡ None = search rules in
     let way = c.self.invariant (ap (λ it. it.stop) c.self.view_is ∙ c.requires.on) none in
     let told = c.in_ok-n.ensures in
@@ -30,7 +30,7 @@ returns-clause-fed c =
     rw (← c.self.view_is, c.with_all-self-inside-2.ensures, c.split_at.ensures.front, status) refl
 
 pub returns-clause-adds : goal.returns-clause-adds
-returns-clause-adds c =
+returns-clause-adds g c =
     let none : c.self.inside.status ≡ None = search rules in
     let way = c.self.invariant (ap (λ it. it.stop) c.self.view_is ∙ c.requires.on) none in
     let told = c.in_ok-n.ensures in

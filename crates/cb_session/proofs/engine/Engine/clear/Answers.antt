@@ -1,0 +1,26 @@
+use Rattle.std.proofs.Common.{◌≡◌, Err, None, Ok, Option, refl, rules}
+use Rattle.cb_actions.specs.Acts.{Act}
+use Rattle.cb_actions.specs.Runs.{cleared_world}
+use Rattle.cb_actions.specs.contracts.cited.LawsCited.TheImpl as actions_laws
+use Rattle.cb_facts.specs.declared.value.Value.{Value}
+use Rattle.cb_io.specs.contracts.cited.LawsCited.TheImpl as io_laws
+use Rattle.cb_session.proofs.WorldLaws.{definitions_go, went_inside}
+use Rattle.cb_session.specs.Actions.{definitions_dropped, on_world}
+use Rattle.cb_session.specs.States.{State}
+use Rattle.cb_session.proofs.engine.Engine.clear.Goals as goal
+
+abbrev next : Unit {0} → Act State (Option Value)
+next _ = definitions_dropped
+
+pub returns-in_err-clear : goal.returns-in_err-clear
+returns-in_err-clear g c =
+    let r : c.from_residual.result ≡ Err c.in_err-clear.field-0.0 = search rules in
+    let first = went_inside g.K.Sink.writes _ _ _ _ _ _ cleared_world c.self.view_is c.in_err-clear.ensures in
+    actions_laws.ghosts.went_as _ _ _ g.K.Sink.writes _ _ _ _ _ _ _ r refl (actions_laws.ghosts.went_off _ _ _ _ g.K.Sink.writes _ _ _ c.in_err-clear.field-0.0 (on_world cleared_world c.args.self.now) next first)
+
+pub returns : goal.returns
+returns g c =
+    let first = went_inside g.K.Sink.writes _ _ _ _ _ _ cleared_world c.self.view_is c.in_ok-clear.ensures in
+    let fine = io_laws.ghosts.puts_fine _ g.K.Sink.writes _ _ _ c.in_ok-clear.ensures.puts in
+    let rest = actions_laws.ghosts.went_quietly _ _ _ g.K.Sink.writes _ _ (Ok None) _ fine (definitions_go _ _ _ c.new.ensures c.new-2.ensures) in
+    actions_laws.ghosts.went_then _ _ _ _ g.K.Sink.writes _ _ _ _ _ _ _ (on_world cleared_world c.args.self.now) next first rest
