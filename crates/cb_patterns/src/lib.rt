@@ -1,6 +1,7 @@
 //! Rules of patterns: what they are, how they are read, and the ways in which a pattern fits a fact.
 //!
-//! It only re-exports: from `cb_fit`, `cb_rules` and `cb_rule_forms`, and the laws of `cb_constraints`.
+//! All of it stands in `cb_constraints`, `cb_pattern_forms`, `cb_fit`, `cb_rules` and `cb_rule_forms`. `docs/ARCHITECTURE.md` says where the
+//! layers stand.
 #![tactic(auto)]
 
 pub use cb_constraints::laws as constraint_laws;

@@ -55,7 +55,6 @@ abbrev pub addressed : List ℕ → Option (List ℕ × Trees) → Written
 addressed name None = wrong NotInProfile
 addressed name (Some (word, ts)) = if is_reserved word then wrong NotInProfile else written_pattern (Some name) word ts
 
--- The elements with this variable given an address, if there is one; else the others.
 abbrev pub choose_written : Option (List ℕ) → (List ℕ → List Written) → List Written → List Written
 choose_written None addressed_so others = others
 choose_written (Some name) addressed_so others = addressed_so name
@@ -82,7 +81,6 @@ element_faults s (wrong f) = f ∷ []
 element_faults s (written_pattern x relation ts) = pattern_faults s relation ts
 element_faults s (written_test t) = faults_of s t
 
--- What is wrong with the elements, from left to right.
 abbrev pub elements_faults : Scope → List Written → List Fault
 elements_faults s [] = []
 elements_faults s (w ∷ ws) = element_faults s w ++ elements_faults s ws
@@ -93,7 +91,6 @@ written_element templates (wrong f) = pattern None (pattern_of templates [] no_t
 written_element templates (written_pattern x relation ts) = pattern x (pattern_of templates relation ts)
 written_element templates (written_test t) = test (expr_of templates t)
 
--- The elements that they are.
 abbrev pub written_elements : Templates → List Written → List Element
 written_elements templates [] = []
 written_elements templates (w ∷ ws) = written_element templates w ∷ written_elements templates ws
