@@ -1,6 +1,7 @@
 mod EntryLaws
 mod Members
 mod MemoryBasics
+mod MoveLaws
 mod NameFirst
 mod AssertLaws
 mod RetractLaws
