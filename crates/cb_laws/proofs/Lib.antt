@@ -16,6 +16,7 @@ mod ShapeLaws
 mod ReachedLaws
 mod Keeping
 mod ExpressionLaws
+mod WorldLaws
 mod ScriptLaws
 mod OpenTexts
 mod OpenLaws
