@@ -17,6 +17,8 @@ mod ReachedLaws
 mod Keeping
 mod ExpressionLaws
 mod WorldLaws
+mod FiringLaws
+mod AgendaLaws
 mod ScriptLaws
 mod OpenTexts
 mod OpenLaws

@@ -1,5 +1,5 @@
 -- What a change of the rules or the facts does, whatever the agenda does.
-use Rattle.std.proofs.Common.{◌≡◌, ◌⊎◌, inl, inr, ◌+◌, ◌++◌, ℕ, Bool, true, false, List, [], Option, Some, None, Result, Ok, Err, codes, flat_map, length, nat_lt, refl, ap, ap₂, if◌then◌else◌}
+use Rattle.std.proofs.Common.{◌≡◌, ◌⊎◌, inl, inr, ◌+◌, ◌++◌, ℕ, ℤ, Bool, true, false, List, [], Option, Some, None, Result, Ok, Err, codes, flat_map, length, nat_lt, refl, ap, ap₂, if◌then◌else◌}
 use Rattle.std.specs.List.{filter}
 use Rattle.cb_actions.specs.Acts.{Effect, after_writing, follow, give, stop, ◌>>=◌}
 use Rattle.cb_actions.specs.Changes.{activation_lines, come_line, gone_line, if_watched, moved, saliences, tell}
@@ -21,6 +21,7 @@ use Rattle.cb_working_memory.specs.WorkingMemory.{Memory, greatest_index, grown,
 -- The memory is the next one, whether there are stamps or not; else nothing has changed but the agenda.
 pub record Moved (s : World) (next : Memory) (line : List ℕ) (t : World) (w : List ℕ) (r : Result (Unit {0}) Ended) : Type 0 where
   pub only : t ≡ record s { memory = next; agenda = t.agenda }
+  pub agenda : (t.agenda ≡ s.agenda) ⊎ ((ss : List ℤ) × (t.agenda ≡ changed s.agenda (keys_gone s.memory.network next.network) (keys_come s.memory.network next.network) ss))
   pub ends : (r ≡ Ok tt) ⊎ (r ≡ Err (ended.Limit Numbers))
   pub quiet : line ≡ [] → s.watched.activations ≡ false → w ≡ []
   pub room : has_stamps s.agenda (length (keys_come s.memory.network next.network)) ≡ true → r ≡ Ok tt
@@ -56,6 +57,7 @@ module _ (s : World) (next : Memory) (line : List ℕ) where
   moved_by : (b : Bool) → has_stamps s.agenda (length come) ≡ b → Moved s next line (told_by b).state (told_by b).written (told_by b).answer
   moved_by true e = record {
     only = refl;
+    agenda = inr (saliences s.rules come, refl);
     ends = inl refl;
     quiet = λ l a. ap₂ (λ (ws : List ℕ) (b : Bool). ws ++ if_watched b lines) l a;
     room = λ h. refl;
@@ -63,6 +65,7 @@ module _ (s : World) (next : Memory) (line : List ℕ) where
   }
   moved_by false e = record {
     only = refl;
+    agenda = inl refl;
     ends = inr refl;
     quiet = λ l a. ap (λ (ws : List ℕ). ws ++ []) l;
     room = λ h. absurd (cc);
