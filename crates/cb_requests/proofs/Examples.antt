@@ -9,6 +9,7 @@ use Rattle.cb_forms.specs.Trees.{Tree, atom, branch, trees_of}
 use Rattle.cb_forms.specs.declared.fault.Fault.{Fault}
 use Rattle.cb_forms.specs.declared.fault.Fault.TheVariants.{UnknownFunction, WrongArguments, MalformedForm, FactDoesNotFit, UnboundVariable, UnknownGlobal, NotInProfile, TemplateInUse, UnmatchedParenthesis}
 use Rattle.cb_forms.specs.declared.token.Token.TheVariants as token
+use Rattle.cb_requests.specs.Reads.{rule_in}
 use Rattle.cb_requests.specs.Requests.{Request, act, define_deffacts, define_globals, define_template, exit, request_of, reset, run, set_strategy, undefine, watch}
 use Rattle.cb_templates.specs.Reserved.{is_reserved}
 use Rattle.cb_words.specs.Words.{head_of}
@@ -223,7 +224,7 @@ no_strategy = refl
 
 -- (defrule r (a)): without `=>`
 no_arrow : asked (form "defrule" (word "r" ∷ form "a" [] ∷ [])) ≡ Err MalformedForm
-unfolding head_of
+unfolding head_of rule_in
 no_arrow = refl
 
 -- (), (1 2), ?: a list without a word, and what is no expression

@@ -1,3 +1,4 @@
 mod Examples
 pub mod GlobalLaws
 pub mod Globals
+pub mod Readings

@@ -40,8 +40,8 @@ symbol_in ts = ok_or (only_symbol ts) WrongArguments
 abbrev pub rule_by : List ℕ → Option (List ℕ)
 rule_by name = if bytes_eq name (codes "*") then None else Some name
 
-abbrev pub rule_in : Trees → Result (Option (List ℕ)) Fault
-rule_in ts = ok_then rule_by (symbol_in ts)
+abbrev pub rule_name_in : Trees → Result (Option (List ℕ)) Fault
+rule_name_in ts = ok_then rule_by (symbol_in ts)
 
 -- what can be watched
 abbrev pub item_in : Trees → Result WatchItem Fault

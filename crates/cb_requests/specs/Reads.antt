@@ -1,4 +1,4 @@
--- Expressions, facts and global variables where they stand in a script, or their first faults.
+-- Expressions, facts, rules and global variables where they stand in a script, or their first faults.
 use Rattle.std.specs.Prelude.{ℕ, List, [], ◌∷◌, ◌++◌, Option, Some, None, Result, Ok, Err, codes, if◌then◌else◌}
 use Rattle.cb_expr_forms.specs.Bound.{bound_in}
 use Rattle.cb_expr_forms.specs.ExprFaults.{faults_of, fact_faults, is_this_symbol}
@@ -15,6 +15,8 @@ use Rattle.cb_forms.specs.Trees.{Tree, atom, Trees, no_trees, tree}
 use Rattle.cb_forms.specs.declared.fault.Fault.{Fault}
 use Rattle.cb_forms.specs.declared.fault.Fault.TheVariants.{MalformedForm}
 use Rattle.cb_forms.specs.declared.token.Token.TheVariants as token
+use Rattle.cb_rule_forms.specs.Rules.{rule_faults, rule_of}
+use Rattle.cb_rules.specs.RuleValues.{RuleValue}
 use Rattle.cb_templates.specs.Templates.{Templates}
 
 -- at the top level the known variables are those that have a value and those that a `bind` anywhere in the form names
@@ -33,6 +35,10 @@ fact_in s t = unless_faulty (fact_faults s t) (fact_of s.templates t)
 abbrev pub facts_in : Scope → Trees → Result (List FactTerm) Fault
 facts_in s no_trees = Ok []
 facts_in s (tree t ts) = with_first (fact_in s t) (facts_in s ts)
+
+-- the rule that the forms after `defrule` are, or its first fault
+unfoldable pub rule_in : Templates → Bindings → Trees → Result RuleValue Fault
+rule_in templates env ts = unless_faulty (rule_faults templates env ts) (rule_of templates env ts)
 
 -- the name of a global that is given: `?*name*`, and then `=`
 abbrev pub name_given : Tree → Tree → Option (List ℕ)

@@ -11,11 +11,10 @@ use Rattle.cb_forms.specs.Members.{call_of, head_and_rest}
 use Rattle.cb_forms.specs.Trees.{Tree, Trees, Reading}
 use Rattle.cb_forms.specs.declared.fault.Fault.{Fault}
 use Rattle.cb_forms.specs.declared.fault.Fault.TheVariants.{MalformedForm}
-use Rattle.cb_requests.specs.Arguments.{alone, item_in, optional_in, rule_in, strategy_in}
-use Rattle.cb_requests.specs.Reads.{top_scope, expr_in, facts_in, globals_in}
+use Rattle.cb_requests.specs.Arguments.{alone, item_in, optional_in, rule_name_in, strategy_in}
+use Rattle.cb_requests.specs.Reads.{top_scope, expr_in, facts_in, globals_in, rule_in}
 use Rattle.cb_requests.specs.declared.request.Request as asked
 use Rattle.cb_requests.specs.declared.request.Request.TheVariants as program
-use Rattle.cb_rule_forms.specs.Rules.{rule_faults, rule_of}
 use Rattle.cb_rules.specs.RuleValues.{RuleValue, rule_value}
 use Rattle.cb_templates.specs.FaultLists.{unless_faulty}
 use Rattle.cb_templates.specs.Slots.{SlotShape}
@@ -95,7 +94,7 @@ template_request in_use ts = ok_then define_template (unless_faulty (template_fa
 
 -- `(defrule name "comment" .. => ..)`, by what follows its head
 abbrev pub rule_request : Templates → Bindings → Trees → Result Request Fault
-rule_request templates env ts = ok_then define_rule (unless_faulty (rule_faults templates env ts) (rule_of templates env ts))
+rule_request templates env ts = ok_then define_rule (rule_in templates env ts)
 
 -- a construct, by what follows its head
 abbrev pub construct_request : Templates → Bindings → (List ℕ → Bool) → Construct → Trees → Result Request Fault
@@ -113,7 +112,7 @@ command_request s word.Reset ts = alone reset ts
 command_request s word.Clear ts = alone clear ts
 command_request s word.Run ts = ok_then run (optional_in s ts)
 command_request s word.Exit ts = ok_then exit (optional_in s ts)
-command_request s word.Undefrule ts = ok_then undefine (rule_in ts)
+command_request s word.Undefrule ts = ok_then undefine (rule_name_in ts)
 command_request s word.Watch ts = ok_then (λ item. watch item true) (item_in ts)
 command_request s word.Unwatch ts = ok_then (λ item. watch item false) (item_in ts)
 command_request s word.SetStrategy ts = ok_then set_strategy (strategy_in ts)

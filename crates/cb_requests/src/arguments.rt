@@ -5,7 +5,7 @@ ghost use Rattle.cb_facts.specs.Results.{Returns, Settles};
 ghost use Rattle.cb_forms.specs.Members.{members};
 ghost use Rattle.cb_forms.specs.Trees.{tree_of};
 ghost use Rattle.cb_forms.specs.declared.fault.Fault.TheVariants.{NotInProfile};
-ghost use Rattle.cb_requests.specs.Arguments.{item_in, only_symbol, optional_in, rule_in, strategy_in, strategy_of, symbol_in};
+ghost use Rattle.cb_requests.specs.Arguments.{item_in, only_symbol, optional_in, rule_name_in, strategy_in, strategy_of, symbol_in};
 ghost use Rattle.cb_requests.specs.Reads.{top_scope};
 
 use crate::top_expr::read_top;
@@ -38,7 +38,7 @@ pub(crate) fn read_optional(
 
 /// The name of a rule, or `None` for `*`, which says all rules.
 pub(crate) fn read_rule_name(names: &mut Names, args: &[Form]) -> Result<Option<Name>, Refused>
-    ensures { Returns result (rule_in (members args.now)) }
+    ensures { Returns result (rule_name_in (members args.now)) }
 {
     let name = read_symbol(args)?;
     if name == b"*".as_slice() {

@@ -1,8 +1,10 @@
 //! Constructs.
 ghost use Rattle.cb_facts.specs.Results.{Settles};
 ghost use Rattle.cb_forms.specs.Members.{head_and_rest, members};
+ghost use Rattle.cb_requests.specs.Reads.{rule_in};
 ghost use Rattle.cb_requests.specs.Requests.{construct_request, deffacts_request, globals_request, request_by, rule_request, template_request};
 ghost use Rattle.cb_requests.specs.Uses.{is_in_use};
+ghost use Rattle.cb_rules.specs.RuleValues.{rule_value};
 
 use crate::context::Context;
 use crate::fact_list::read_kept_facts;
@@ -14,6 +16,7 @@ use cb_forms::{Fault, Form, split_head};
 use cb_functions::Constants;
 use cb_matches::Matcher;
 use cb_rule_forms::read_rule;
+use cb_rules::Rule;
 use cb_templates::{Relations, read_template, without_comment};
 use cb_words::Construct;
 use cb_working_memory::Mark;
@@ -91,6 +94,19 @@ fn read_defrule(
 ) -> Result<Request, Refused>
     ensures { Settles request_by result (rule_request relations.now env.now (members args.now)) }
 {
+    Ok(Request::DefineRule(read_new_rule(names, relations, env, args)?))
+}
+
+/// The rule that the forms after its word are, or their first fault.
+#[tactic(auto, unfolding(crate::specs::Reads::rule_in), using(crate::proofs::Readings::settled))]
+fn read_new_rule(
+    names: &mut Names,
+    relations: &Relations,
+    env: &Env,
+    args: &[Form],
+) -> Result<Rule<Mark>, Refused>
+    ensures { Settles rule_value result (rule_in relations.now env.now (members args.now)) }
+{
     let constants = Constants::new(names.alloc())?;
-    Ok(Request::DefineRule(read_rule(names, &constants, relations, env, args)?))
+    read_rule(names, &constants, relations, env, args)
 }

@@ -9,7 +9,7 @@ mod element; // the condition elements, one by one
 pub mod laws; // a slot of a pattern asks for the value of the slot with its name
 mod mentions; // the variables of a left side: which have a value where, and which want one
 mod relations; // the relations that a rule names, in its patterns and in the asserts of its actions
-mod rule; // `Rule::read`, which goes through these in turn
+mod rule; // `read_rule`, which goes through these in turn
 mod sections; // the name, the declaration, the elements and the actions of a rule
 
 pub use rule::read_rule;
