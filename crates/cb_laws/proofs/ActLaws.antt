@@ -16,6 +16,7 @@ use Rattle.cb_facts.specs.declared.value.Value.{Value}
 use Rattle.cb_facts.specs.declared.value.Value.TheVariants as value
 use Rattle.cb_forms.specs.declared.fault.Fault.{Fault}
 use Rattle.cb_laws.proofs.AssertLaws.{adds_alone, is_there}
+use Rattle.cb_laws.specs.Firing.{IsProper}
 use Rattle.cb_laws.specs.Memories.{AreAsserted, ChangesFactsOnly, IsSound, IsUnwatched}
 use Rattle.cb_laws.specs.Naming.{names_fact}
 use Rattle.cb_templates.specs.Building.{built, field_values, slot_values}
@@ -50,6 +51,13 @@ module _ (shape : Shape) (vs : List Value) (s : World) where
       by : (r : Result FactValue Fault) → ChangesFactsOnly s ((give_or_fault r >>= fact_added) s).state
       by (Err f) = record { only = refl; rules = refl; last_rule = refl }
       by (Ok fact) = (adds_alone fact s).changes
+
+  pub asserts_proper : IsProper s.agenda → IsProper (asserted shape vs s).state.agenda
+  asserts_proper p = by (built s.templates shape.relation (parts_of shape.slots vs))
+    where
+      by : (r : Result FactValue Fault) → IsProper ((give_or_fault r >>= fact_added) s).state.agenda
+      by (Err f) = p
+      by (Ok fact) = (adds_alone fact s).proper p
 
   pub asserts_quietly : IsUnwatched s → (asserted shape vs s).written ≡ []
   asserts_quietly h = by (built s.templates shape.relation (parts_of shape.slots vs))

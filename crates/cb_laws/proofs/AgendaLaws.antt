@@ -1,5 +1,5 @@
 -- What is due after a change, and after a match was taken out.
-use Rattle.std.proofs.Common.{◌≡◌, ◌≢◌, ◌⊎◌, inl, inr, ◌∙◌, ◌||◌, ◌+◌, ℕ, ℤ, pos, Bool, true, false, cond, not, List, [], ◌∷◌, Option, Some, None, Ordering, Less, Equal, Greater, Decides, refl, sym, ap, ap₂, subst, if◌then◌else◌}
+use Rattle.std.proofs.Common.{◌≡◌, ◌≢◌, ◌⊎◌, inl, inr, ◌∙◌, ◌||◌, ◌+◌, ℕ, ℤ, pos, Bool, true, false, cond, not, List, [], ◌∷◌, Option, Some, None, Result, Ordering, Less, Equal, Greater, Decides, refl, sym, ap, ap₂, subst, if◌then◌else◌}
 use Rattle.std.proofs.lemmas.Bool.{false_from_ne_true}
 use Rattle.std.proofs.lemmas.Map.Views.{Contains-from_any, list_any-from_Contains}
 use Rattle.std.specs.BTreeMap.{insert_entry, is_at}
@@ -11,13 +11,14 @@ use Rattle.std.specs.Map.{keys_of, remove_entry}
 use Rattle.std.specs.Ordering.{is_eq, match_ordering, ordering_reverse}
 use Rattle.cb_actions.specs.Changes.{moved}
 use Rattle.cb_actions.specs.Worlds.{World}
+use Rattle.cb_actions.specs.declared.act.Ended.{Ended}
 use Rattle.cb_agenda.specs.Agendas.{Activation, AgendaValue, Entries, changed, first_to_fire, is_due, popped, taken_out, top_of, with_key, with_keys, without_key, without_keys}
 use Rattle.cb_agenda.specs.Internal.RankLaws.{rank_equiv, rank_tied, rank_total}
 use Rattle.cb_agenda.specs.Ranks.{fires_before, rank_cmp}
 use Rattle.cb_agenda.specs.declared.rank.Rank.{Rank}
 use Rattle.cb_agenda.specs.declared.strategy.Strategy.{Strategy}
 use Rattle.cb_laws.proofs.EntryLaws.{before_others, others_rise, rising_filtered, rising_put, rising_taken}
-use Rattle.cb_laws.proofs.MoveLaws.{moved_so}
+use Rattle.cb_laws.proofs.MoveLaws.{Moved, moved_so}
 use Rattle.cb_laws.specs.Firing.{AreOnce, HasCome, IsProper, IsThere}
 use Rattle.cb_matches.specs.Changes.{come_of, keys_come, keys_gone}
 use Rattle.cb_matches.specs.Internal.KeyLaws.{key_equiv, part_equiv}
@@ -248,6 +249,14 @@ gone_proper (c ∷ gone) a p =
 
 pub changed_proper : (a : AgendaValue) (gone come : List KeyValue) (ss : List ℤ) → IsProper a → IsProper (changed a gone come ss)
 changed_proper a gone come ss p = keys_proper come ss (record a { entries = without_keys a.entries gone }) (gone_proper gone a p)
+
+-- a change of the rules or the facts
+pub moved_proper : (s : World) (next : Memory) (line : List ℕ) (t : World) (w : List ℕ) (r : Result (Unit {0}) Ended) → Moved s next line t w r → IsProper s.agenda → IsProper t.agenda
+moved_proper s next line t w r m p = by m.agenda
+  where
+    by : (t.agenda ≡ s.agenda) ⊎ ((ss : List ℤ) × (t.agenda ≡ changed s.agenda (keys_gone s.memory.network next.network) (keys_come s.memory.network next.network) ss)) → IsProper t.agenda
+    by (inl e) = subst IsProper (sym e) p
+    by (inr e) = subst IsProper (sym e.1) (changed_proper s.agenda (keys_gone s.memory.network next.network) (keys_come s.memory.network next.network) e.0 p)
 
 taken_proper : (a : AgendaValue) (o : Option Activation) → IsProper a → IsProper (taken_out a o).0
 taken_proper a None p = p

@@ -16,10 +16,12 @@ use Rattle.cb_facts.specs.Facts.{FactValue}
 use Rattle.cb_facts.specs.contracts.cited.LawsCited.TheImpl as facts_laws
 use Rattle.cb_facts.specs.declared.value.Value.{Value}
 use Rattle.cb_facts.specs.declared.value.Value.TheVariants as value
+use Rattle.cb_laws.proofs.AgendaLaws.{moved_proper}
 use Rattle.cb_laws.proofs.EntryLaws.{put_here, put_elsewhere, rising_put}
 use Rattle.cb_laws.proofs.Members.{first_or_other}
 use Rattle.cb_laws.proofs.MemoryBasics.{base_of, found_there, not_found}
 use Rattle.cb_laws.proofs.MoveLaws.{Moved, added_cases, memory_is, quiet_line}
+use Rattle.cb_laws.specs.Firing.{IsProper}
 use Rattle.cb_laws.specs.Memories.{AreAsserted, ChangesFactsOnly, IsSound, IsThere, IsUnwatched, has_stamps_for}
 use Rattle.cb_working_memory.specs.WorkingMemory.{Memory, greatest_index, grown, index_of}
 use Rattle.cb_working_memory.specs.contracts.cited.LawsCited.TheImpl as memory_laws
@@ -188,17 +190,18 @@ module _ (f : FactValue) (s : World) (sound : IsSound s.memory) (absent : IsAbse
 -- how an assertion ends, and what it leaves alone
 pub record Alone (s : World) (e : Effect World (Option Value)) : Type 0 where
   pub changes : ChangesFactsOnly s e.state
+  pub proper : IsProper s.agenda → IsProper e.state.agenda
   pub quiet : IsUnwatched s → e.written ≡ []
   pub limit : (x : Ended) → e.answer ≡ Err x → x ≡ ended.Limit Numbers
 
 pub adds_alone : (f : FactValue) (s : World) → Alone s (fact_added f s)
-adds_alone f s = added_cases f s (Alone s) (λ ix e. there ix) grows (λ none e. record { changes = same; quiet = λ h. refl; limit = λ x h. cc })
+adds_alone f s = added_cases f s (Alone s) (λ ix e. there ix) grows (λ none e. record { changes = same; proper = λ p. p; quiet = λ h. refl; limit = λ x h. cc })
   where
     same : ChangesFactsOnly s s
     same = record { only = refl; rules = refl; last_rule = refl }
 
     there : (ix : ℕ) → Alone s (give (Some (value.Fact ix)) s)
-    there ix = record { changes = same; quiet = λ h. refl; limit = λ x h. absurd (cc) }
+    there ix = record { changes = same; proper = λ p. p; quiet = λ h. refl; limit = λ x h. absurd (cc) }
 
     changed_so : (t : World) (w : List ℕ) (r : Result (Unit {0}) Ended) → Moved s (grown f s.memory) (come_line s (s.memory.last + 1) f) t w r → ChangesFactsOnly s t
     changed_so t w r m =
@@ -218,8 +221,8 @@ adds_alone f s = added_cases f s (Alone s) (λ ix e. there ix) grows (λ none e.
 
     grows : index_of s.memory.network.facts f ≡ None → nat_lt s.memory.last greatest_index ≡ true → (t : World) (w : List ℕ) (r : Result (Unit {0}) Ended)
         → Moved s (grown f s.memory) (come_line s (s.memory.last + 1) f) t w r → Alone s (follow t w r (λ _. give (Some (value.Fact (s.memory.last + 1)))))
-    grows none e t w (Ok v) m = record { changes = changed_so t w (Ok v) m; quiet = λ h. ap (λ ws. ws ++ []) (m.quiet (unwatched h) h.1); limit = λ x h. absurd (cc) }
-    grows none e t w (Err y) m = record { changes = changed_so t w (Err y) m; quiet = λ h. m.quiet (unwatched h) h.1; limit = λ x h. limited (Err y) y x m.ends refl (cc) }
+    grows none e t w (Ok v) m = record { changes = changed_so t w (Ok v) m; proper = moved_proper s (grown f s.memory) (come_line s (s.memory.last + 1) f) t w (Ok v) m; quiet = λ h. ap (λ ws. ws ++ []) (m.quiet (unwatched h) h.1); limit = λ x h. absurd (cc) }
+    grows none e t w (Err y) m = record { changes = changed_so t w (Err y) m; proper = moved_proper s (grown f s.memory) (come_line s (s.memory.last + 1) f) t w (Err y) m; quiet = λ h. m.quiet (unwatched h) h.1; limit = λ x h. limited (Err y) y x m.ends refl (cc) }
 
 -- several assertions
 pub several_sound : (s t : World) (fs : List FactValue) → IsSound s.memory → AreAsserted s fs t → IsSound t.memory

@@ -21,9 +21,11 @@ use Rattle.cb_facts.specs.contracts.cited.LawsCited.TheImpl as facts_laws
 use Rattle.cb_facts.specs.declared.value.Value.{Value}
 use Rattle.cb_facts.specs.declared.value.Value.TheVariants as value
 use Rattle.cb_forms.specs.declared.fault.Fault.TheVariants.{NoSuchFact, WrongType}
+use Rattle.cb_laws.proofs.AgendaLaws.{moved_proper}
 use Rattle.cb_laws.proofs.EntryLaws.{rising_taken}
 use Rattle.cb_laws.proofs.MemoryBasics.{fewer}
 use Rattle.cb_laws.proofs.MoveLaws.{Moved, memory_is, moved_so, quiet_line}
+use Rattle.cb_laws.specs.Firing.{IsProper}
 use Rattle.cb_laws.specs.Memories.{ChangesFactsOnly, IsSound, IsUnwatched}
 use Rattle.cb_laws.specs.Naming.{IsMissing, LeavesUnnamed, LeavesUpToMissing, is_named, names_fact}
 use Rattle.cb_working_memory.specs.WorkingMemory.{Memory, without}
@@ -53,6 +55,7 @@ pub record Takes (s t : World) (w : List ℕ) : Type 0 where
   pub last : t.memory.last ≡ s.memory.last
   pub sound : IsSound s.memory → IsSound t.memory
   pub changes : ChangesFactsOnly s t
+  pub proper : IsProper s.agenda → IsProper t.agenda
   pub quiet : IsUnwatched s → w ≡ []
 
 abbrev Ends : Result (Unit {0}) Ended → Type 0
@@ -62,7 +65,7 @@ same_rest : (s : World) → ChangesFactsOnly s s
 same_rest s = record { only = refl; rules = refl; last_rule = refl }
 
 takes_none : (s : World) → Takes s s []
-takes_none s = record { kept = λ sound ix fact at. at; last = refl; sound = λ sound. sound; changes = same_rest s; quiet = λ h. refl }
+takes_none s = record { kept = λ sound ix fact at. at; last = refl; sound = λ sound. sound; changes = same_rest s; proper = λ p. p; quiet = λ h. refl }
 
 still_unwatched : (s t : World) → ChangesFactsOnly s t → IsUnwatched s → IsUnwatched t
 still_unwatched s t c h = (ap (λ (u : World). u.watched.facts) c.only ∙ h.0, ap (λ (u : World). u.watched.activations) c.only ∙ h.1)
@@ -80,6 +83,7 @@ takes_both s t u w v first more = record {
   last = more.last ∙ first.last;
   sound = λ sound. more.sound (first.sound sound);
   changes = both_change s t u first.changes more.changes;
+  proper = λ p. more.proper (first.proper p);
   quiet = λ h. ap (λ ws. ws ++ v) (first.quiet h) ∙ more.quiet (still_unwatched s t first.changes h);
 }
 
@@ -109,6 +113,7 @@ gone_takes i s = by (fact_at s.memory.network.facts i)
             rules = ap (λ (n : Memory). n.network.rules) is;
             last_rule = ap (λ (n : Memory). n.last_rule) is;
           };
+          proper = moved_proper s (without i s.memory) (gone_line s i (Some f)) t w r m;
           quiet = λ h. m.quiet (quiet_line s.watched.facts h.0 _) h.1;
         }
 

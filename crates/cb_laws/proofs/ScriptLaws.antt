@@ -1,12 +1,15 @@
--- Whatever a script does, facts and templates stay well kept.
-use Rattle.std.proofs.Common.{◌≡◌, ◌∙◌, ◌++◌, ◌||◌, ℕ, Bool, true, false, not, List, [], ◌∷◌, Option, Some, None, Result, Ok, Err, refl, ap, if◌then◌else◌}
+-- Whatever a script does, facts and templates stay well kept, no more firings are left than there may be, and no match is due twice.
+use Rattle.std.proofs.Common.{◌≡◌, ◌≤◌, ◌∙◌, ◌++◌, ◌||◌, ℕ, Bool, true, false, not, List, [], ◌∷◌, Option, Some, None, Result, Ok, Err, refl, ap, arith, subst, if◌then◌else◌}
 use Rattle.std.specs.List.{list_any}
 use Rattle.std.specs.Str.{bytes_eq}
 use Rattle.cb_actions.specs.Acts.{give_or_fault, ◌>>=◌}
+use Rattle.cb_actions.specs.Commands.{watched_so}
 use Rattle.cb_actions.specs.Definitions.{all_asserted, all_evaluated, globals_defined}
 use Rattle.cb_actions.specs.Runs.{cleared_world, restarted_world}
+use Rattle.cb_actions.specs.Worlds.{World}
 use Rattle.cb_actions.specs.declared.act.Ended.{Ended}
 use Rattle.cb_actions.specs.declared.act.Ended.TheVariants as ended
+use Rattle.cb_agenda.specs.declared.strategy.Strategy.TheVariants.{Depth}
 use Rattle.cb_exprs.specs.FactTerms.{FactTerm}
 use Rattle.cb_exprs.specs.GlobalTerms.{GlobalTerm}
 use Rattle.cb_exprs.specs.Terms.{Term}
@@ -22,7 +25,8 @@ use Rattle.cb_laws.proofs.ExpressionLaws.{anew_keeps, expression_keeps, facts_ke
 use Rattle.cb_laws.proofs.Keeping.{Keeps, follow_keeps, keeps_then}
 use Rattle.cb_laws.proofs.ReachedLaws.{defined_kept, none_kept, not_first}
 use Rattle.cb_laws.proofs.SlotFormLaws.{each_slot}
-use Rattle.cb_laws.proofs.WorldLaws.{WellKept, clear_keeps, exited_keeps, no_templates, ran_as_keeps, restart_keeps, rule_keeps, undefined_keeps, well_kept}
+use Rattle.cb_laws.proofs.WorldLaws.{HasAtMost, HasProperAgenda, IsKeptByAll, WellKept, agenda_kept, clear_keeps, exited_keeps, firings_kept, no_templates, none_due, ran_as_keeps, restart_keeps, rule_keeps, undefined_keeps, well_kept}
+use Rattle.cb_laws.specs.Firing.{IsProper}
 use Rattle.cb_laws.specs.Reached.{AreWellKept, IsTemplate}
 use Rattle.cb_expr_forms.specs.Scopes.{Scope, plain_scope}
 use Rattle.cb_requests.specs.Arguments.{alone, item_in, optional_in, rule_name_in, strategy_in}
@@ -31,7 +35,7 @@ use Rattle.cb_requests.specs.Requests as asked
 use Rattle.cb_requests.specs.Requests.{Request, act_request, called_request, command_request, construct_request, deffacts_request, headed_request}
 use Rattle.cb_requests.specs.Uses.{is_in_use, is_named_in_rules}
 use Rattle.cb_session.specs.Actions.{acted, definitions_dropped, initials_kept, on_world, performed, performed_and_shown, requested, reset_to, shown, variables_dropped}
-use Rattle.cb_session.specs.States.{State}
+use Rattle.cb_session.specs.States.{State, first_state}
 use Rattle.cb_session.specs.Transcripts.{Run, after, after_all, after_status, begun, complete, concluded, executed, so_far, too_long, too_long_status}
 use Rattle.cb_session.specs.declared.limits.Limits.{Limits}
 use Rattle.cb_session.specs.declared.status.Status.{Status}
@@ -135,74 +139,110 @@ module _ (s : State) where
   sound (Ok t) = called_sound t (call_of t)
   sound (Err f) = tt
 
-reset_keeps : (gs : List GlobalTerm) (facts : List FactTerm) → Keeps WellKept (reset_to gs facts)
-reset_keeps gs facts =
-    keeps_then WellKept (all_evaluated gs) (λ _. variables_dropped >>= (λ _. restarted_world >>= (λ _. all_asserted facts))) (anew_keeps WellKept well_kept gs)
-    (λ _. keeps_then WellKept variables_dropped (λ _. restarted_world >>= (λ _. all_asserted facts)) (λ w h. h)
-    (λ _. keeps_then WellKept restarted_world (λ _. all_asserted facts) restart_keeps (λ _. facts_keep WellKept well_kept facts)))
-
 -- A template is defined only for a relation that no fact has.
 template_keeps : (s : State) (template : List ℕ × List SlotShape) → IsSound s (asked.define_template template) → Kept s → Kept (performed (asked.define_template template) s).state
 template_keeps s (name, slots) (right, free) h =
     defined_kept s.world.memory s.world.templates (with_template s.world.templates (name, slots)) name slots h right (put_template s.world.templates name slots) (λ other n. other_template s.world.templates name other slots n)
     (not_first (list_any (λ entry. bytes_eq entry.1.relation name) s.world.memory.network.facts) (is_named_in_rules name s.world.rules || is_named_in_deffacts name s.deffacts) free)
 
-performed_keeps : (s : State) (request : Request) → IsSound s request → Kept s → Kept (performed request s).state
-performed_keeps s (asked.act t) sound h = expression_keeps WellKept well_kept t s.world h
-performed_keeps s (asked.define_template template) sound h = template_keeps s template sound h
-performed_keeps s (asked.define_deffacts name facts) sound h = h
-performed_keeps s (asked.define_globals gs) sound h = keeps_then Kept (on_world (globals_defined gs)) (λ _. initials_kept gs) (λ u k. globals_keep WellKept well_kept gs u.world k) (λ _ u k. k) s h
-performed_keeps s (asked.define_rule rule) sound h = rule_keeps rule s.world h
-performed_keeps s asked.list_facts sound h = h
-performed_keeps s asked.list_agenda sound h = h
-performed_keeps s asked.list_rules sound h = h
-performed_keeps s asked.reset sound h = reset_keeps s.globals (kept_facts s.deffacts) s.world h
-performed_keeps s asked.clear sound h = keeps_then Kept (on_world cleared_world) (λ _. definitions_dropped) (λ u k. clear_keeps u.world k) (λ _ u k. k) s h
-performed_keeps s (asked.run count) sound h = ran_as_keeps count s.world h
-performed_keeps s (asked.exit status) sound h = exited_keeps status s.world h
-performed_keeps s (asked.undefine name) sound h = undefined_keeps name s.world h
-performed_keeps s (asked.watch item on) sound h = h
-performed_keeps s (asked.set_strategy strategy) sound h = h
+-- What holds of the world is kept by every script, if every template keeps it that is read.
+module _ (P : World → Type 0) (kept : IsKeptByAll P)
+    (templates : (s : State) (r : Reading) (template : List ℕ × List SlotShape) → requested s r ≡ Ok (asked.define_template template) → P s.world → P (performed (asked.define_template template) s).state.world) where
+  abbrev InWorld : State → Type 0
+  InWorld s = P s.world
 
-acted_keeps : (r : Reading) → Keeps Kept (acted r)
-unfolding acted
-acted_keeps r s h = by (requested s r) (sound s r)
-  where
-    by : (request : Result Request Fault) → IfSound s request → Kept ((give_or_fault request >>= performed_and_shown) s).state
-    by (Ok request) is = follow_keeps Kept (performed request s).state (performed request s).written (performed request s).answer shown (performed_keeps s request is h) (λ v u k. k)
-    by (Err f) is = h
+  reset_keeps : (gs : List GlobalTerm) (facts : List FactTerm) → Keeps P (reset_to gs facts)
+  reset_keeps gs facts =
+      keeps_then P (all_evaluated gs) (λ _. variables_dropped >>= (λ _. restarted_world >>= (λ _. all_asserted facts))) (anew_keeps P kept.acts gs)
+      (λ _. keeps_then P variables_dropped (λ _. restarted_world >>= (λ _. all_asserted facts)) (λ w h. kept.acts.env w (record { variables = []; globals = w.env.globals }) h)
+      (λ _. keeps_then P restarted_world (λ _. all_asserted facts) (restart_keeps P kept) (λ _. facts_keep P kept.acts facts)))
 
-concluded_keeps : (s : State) (w : List ℕ) (r : Result (Unit {0}) Ended) → Kept s → Kept (concluded s w r).state
-concluded_keeps s w (Ok v) h = h
-concluded_keeps s w (Err (ended.Fault f)) h = h
-concluded_keeps s w (Err (ended.Limit limit)) h = h
-concluded_keeps s w (Err (ended.Exit code)) h = h
+  performed_keeps : (s : State) (request : Request) → ((template : List ℕ × List SlotShape) → request ≡ asked.define_template template → P (performed (asked.define_template template) s).state.world) → P s.world → P (performed request s).state.world
+  performed_keeps s (asked.act t) template h = expression_keeps P kept.acts t s.world h
+  performed_keeps s (asked.define_template it) template h = template it refl
+  performed_keeps s (asked.define_deffacts name facts) template h = h
+  performed_keeps s (asked.define_globals gs) template h = keeps_then InWorld (on_world (globals_defined gs)) (λ _. initials_kept gs) (λ u k. globals_keep P kept.acts gs u.world k) (λ _ u k. k) s h
+  performed_keeps s (asked.define_rule rule) template h = rule_keeps P kept rule s.world h
+  performed_keeps s asked.list_facts template h = h
+  performed_keeps s asked.list_agenda template h = h
+  performed_keeps s asked.list_rules template h = h
+  performed_keeps s asked.reset template h = reset_keeps s.globals (kept_facts s.deffacts) s.world h
+  performed_keeps s asked.clear template h = keeps_then InWorld (on_world cleared_world) (λ _. definitions_dropped) (λ u k. clear_keeps P kept u.world k) (λ _ u k. k) s h
+  performed_keeps s (asked.run count) template h = ran_as_keeps P kept count s.world h
+  performed_keeps s (asked.exit status) template h = exited_keeps P kept status s.world h
+  performed_keeps s (asked.undefine name) template h = undefined_keeps P kept name s.world h
+  performed_keeps s (asked.watch item on) template h = kept.watches s.world (watched_so item on s.world.watched) h
+  performed_keeps s (asked.set_strategy strategy) template h = kept.orders s.world strategy h
 
-pub item_keeps : (s : State) (r : Reading) → Kept s → Kept (executed s r).state
-unfolding executed
-item_keeps s r h = concluded_keeps (acted r s).state (acted r s).written (acted r s).answer (acted_keeps r s h)
+  acted_keeps : (r : Reading) → Keeps InWorld (acted r)
+  unfolding acted
+  acted_keeps r s h = by (requested s r) refl
+    where
+      by : (request : Result Request Fault) → requested s r ≡ request → InWorld ((give_or_fault request >>= performed_and_shown) s).state
+      by (Ok request) is =
+          follow_keeps InWorld (performed request s).state (performed request s).written (performed request s).answer shown
+          (performed_keeps s request (λ template e. templates s r template (is ∙ ap Ok e) h) h) (λ v u k. k)
+      by (Err f) is = h
 
--- items, one after another
-status_keeps : (status : Option Status) (run : Run) (item : Reading) → Kept run.state → Kept (after_status status run item).state
-status_keeps None run item h = item_keeps run.state item h
-status_keeps (Some status) run item h = h
+  concluded_keeps : (s : State) (w : List ℕ) (r : Result (Unit {0}) Ended) → InWorld s → InWorld (concluded s w r).state
+  concluded_keeps s w (Ok v) h = h
+  concluded_keeps s w (Err (ended.Fault f)) h = h
+  concluded_keeps s w (Err (ended.Limit limit)) h = h
+  concluded_keeps s w (Err (ended.Exit code)) h = h
 
-items_keep : (run : Run) (items : List Reading) → Kept run.state → Kept (after_all run items).state
-items_keep run [] h = h
-items_keep run (item ∷ items) h = items_keep (after run item) items (status_keeps run.status run item h)
+  pub item_keeps : (s : State) (r : Reading) → InWorld s → InWorld (executed s r).state
+  unfolding executed
+  item_keeps s r h = concluded_keeps (acted r s).state (acted r s).written (acted r s).answer (acted_keeps r s h)
 
-long_keeps : (status : Option Status) (run : Run) → Kept run.state → Kept (too_long_status status run).state
-long_keeps None run h = h
-long_keeps (Some status) run h = h
+  -- items, one after another
+  status_keeps : (status : Option Status) (run : Run) (item : Reading) → InWorld run.state → InWorld (after_status status run item).state
+  status_keeps None run item h = item_keeps run.state item h
+  status_keeps (Some status) run item h = h
 
-run_keeps : (b : Bool) (limits : Limits) (some all : List Reading) → Kept (if b then too_long (after_all (begun limits) some) else after_all (begun limits) all).state
-run_keeps true limits some all = long_keeps (after_all (begun limits) some).status (after_all (begun limits) some) (items_keep (begun limits) some (none_kept [] 0 [] no_templates))
-run_keeps false limits some all = items_keep (begun limits) all (none_kept [] 0 [] no_templates)
+  items_keep : (run : Run) (items : List Reading) → InWorld run.state → InWorld (after_all run items).state
+  items_keep run [] h = h
+  items_keep run (item ∷ items) h = items_keep (after run item) items (status_keeps run.status run item h)
 
-pub so_far_kept : (limits : Limits) (p : List ℕ) → Kept (so_far limits p).state
-unfolding so_far
-so_far_kept limits p = run_keeps (over limits.max_form p) limits (fitting limits.max_form p) (whole p)
+  long_keeps : (status : Option Status) (run : Run) → InWorld run.state → InWorld (too_long_status status run).state
+  long_keeps None run h = h
+  long_keeps (Some status) run h = h
 
-pub script_kept : (limits : Limits) (s : List ℕ) → Kept (complete limits s).state
-unfolding complete
-script_kept limits s = run_keeps (over limits.max_form s) limits (fitting limits.max_form s) (fitting limits.max_form s)
+  module _ (limits : Limits) (first : P (first_state limits).world) where
+    run_keeps : (b : Bool) (some all : List Reading) → InWorld (if b then too_long (after_all (begun limits) some) else after_all (begun limits) all).state
+    run_keeps true some all = long_keeps (after_all (begun limits) some).status (after_all (begun limits) some) (items_keep (begun limits) some first)
+    run_keeps false some all = items_keep (begun limits) all first
+
+    pub so_far_kept : (p : List ℕ) → InWorld (so_far limits p).state
+    unfolding so_far
+    so_far_kept p = run_keeps (over limits.max_form p) (fitting limits.max_form p) (whole p)
+
+    pub script_kept : (s : List ℕ) → InWorld (complete limits s).state
+    unfolding complete
+    script_kept s = run_keeps (over limits.max_form s) (fitting limits.max_form s) (fitting limits.max_form s)
+
+-- facts and templates
+template_read : (s : State) (r : Reading) (template : List ℕ × List SlotShape) → requested s r ≡ Ok (asked.define_template template) → Kept s → Kept (performed (asked.define_template template) s).state
+template_read s r template e h = template_keeps s template (subst (IfSound s) e (sound s r)) h
+
+pub item_well : (s : State) (r : Reading) → Kept s → Kept (executed s r).state
+item_well s r h = item_keeps WellKept well_kept template_read s r h
+
+pub so_far_well : (limits : Limits) (p : List ℕ) → Kept (so_far limits p).state
+so_far_well limits p = so_far_kept WellKept well_kept template_read limits (none_kept [] 0 [] no_templates) p
+
+pub script_well : (limits : Limits) (s : List ℕ) → Kept (complete limits s).state
+script_well limits s = script_kept WellKept well_kept template_read limits (none_kept [] 0 [] no_templates) s
+
+-- firings
+pub so_far_within : (limits : Limits) (p : List ℕ) → (so_far limits p).state.world.firings ≤ limits.max_firings
+so_far_within limits p = so_far_kept (HasAtMost limits.max_firings) (firings_kept limits.max_firings) (λ s r template e h. h) limits (omega arith) p
+
+pub script_within : (limits : Limits) (s : List ℕ) → (complete limits s).state.world.firings ≤ limits.max_firings
+script_within limits s = script_kept (HasAtMost limits.max_firings) (firings_kept limits.max_firings) (λ s r template e h. h) limits (omega arith) s
+
+-- the agenda
+pub so_far_proper : (limits : Limits) (p : List ℕ) → IsProper (so_far limits p).state.world.agenda
+so_far_proper limits p = so_far_kept HasProperAgenda agenda_kept (λ s r template e h. h) limits (none_due 0 Depth) p
+
+pub script_proper : (limits : Limits) (s : List ℕ) → IsProper (complete limits s).state.world.agenda
+script_proper limits s = script_kept HasProperAgenda agenda_kept (λ s r template e h. h) limits (none_due 0 Depth) s
