@@ -134,7 +134,6 @@ module _ (P : World → Type 0) (kept : IsKeptByAll P) where
   undefined_keeps (Some name) s h =
       without_value_keeps (undefined_if (option_map (λ r. r.id) (rule_named name s.rules))) (gone_keeps (option_map (λ r. r.id) (rule_named name s.rules))) s h
 
-
   run_keeps : (asked : Option ℕ) → Keeps P (without_value (run asked))
   run_keeps asked = without_value_keeps (run asked) (kept.runs asked)
 
@@ -161,7 +160,6 @@ module _ (P : World → Type 0) (kept : IsKeptByAll P) where
   pub exited_keeps : (status : Option Term) → Keeps P (exited status)
   exited_keeps None s h = h
   exited_keeps (Some t) s h = keeps_then P (valued (carried t)) (λ v. exited_with (status_in v)) (value_keeps t) (λ v. exit_keeps (status_in v)) s h
-
 
   pub restart_keeps : Keeps P restarted_world
   restart_keeps = keeps_then P all_gone (λ _. started_anew) (λ s h. h) (λ _. kept.restarts)

@@ -128,7 +128,10 @@ impl<M: Matcher<Mark>> Engine<M> {
             Ok(()) => Ok(None),
             Err(Break::Ended(Ended::Fault(fault))) => self.report(fault, out),
             Err(Break::Ended(Ended::Limit(limit))) => end_at_limit(limit_line(limit), out),
-            Err(Break::Ended(Ended::Exit(code))) => Ok(Some(Status::exited(code, self.is_faulted()))),
+            Err(Break::Ended(Ended::Exit(code))) => Ok(Some(Status::exited(
+                code,
+                self.is_faulted(),
+            ))),
             Err(Break::Stop(stop)) => Err(stop),
         }
     }
