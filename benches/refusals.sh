@@ -1,5 +1,5 @@
 #!/bin/sh
-# Refuses each growth of memory in turn in the built programs clipsbatch and pattern_fits: the first alone, the second alone,
+# Refuses each growth of memory in turn in the built program: the first alone, the second alone,
 # and so on; and then each with all after it. A refused run must end with status 3, say that it is out of memory, and have
 # written a beginning of what it writes with ample memory. Where one growth alone is refused, it may also be asked for again
 # and be had, as the room for the program's words: then the run must be the same as with ample memory.
@@ -84,22 +84,17 @@ END
     awk 'BEGIN { printf "(assert (long"; for (i = 1; i <= 1200; i++) printf " %d", i; print "))(facts)(printout t \"end\" crlf)" }'
 }
 
-# The scripts for pattern_fits, one a line.
-pattern_scripts() {
+# Rules and what they do, one script a line.
+rule_scripts() {
     cat <<'END'
-(defrule a (p $?x $?y ?z&=(length$ ?x)) =>)(fits (p a "b" 2 1))(fits (p))(fits (q))(again 2 (p a 1))(probes)(defrule b (p ~~a) =>)(probes 1)
-(deftemplate part (slot name) (multislot sizes))(defrule a "text" (declare (salience (* 2 5))) ?f <- (part (sizes $? ?s&:(> ?s 2) $?) (name ?n&~red|blue)) (q ~?f ?n) => (retract ?f) (println ?n))(fits (part (name bolt) (sizes 1 8 9)))(fits (part (name red)))(fits (part (size 1)))
-(defrule a (p ?x&red|"blue"|=(sym-cat g ?x)|:(eq ?x 7) ~?x&:(neq ?x (create$ 1 ?x))) =>)(fits (p red 1))(fits (p "blue" red))(fits (p 7 7))(fits (p green 1.5))(fits
-(defrule a (p) => (bind ?y (+ 1 2)) (if (> ?y 2) then (assert (q ?y "z") (r)) else (while FALSE)))(fits (p))(defrule a (p ?x) => ?y)(fits (p 1))(defrule a (declare (salience a)) =>)
-(defrule a (p ?a ?b ?c ?d ?e ?f ?g ?h ?i $?x ?a $?y) =>)(fits (p 1 2 3 4 5 6 7 8 9 1 2 1))(fits (p 1 2 3 4 5 6 7 8 9 2 3))
-(defrule a (p $? a $? b $? c $? d $? e $? f $? g $? h $? i $?) =>)(fits (p a b c d e f g h i i))(fits (p a b c d e f g h x x))
-(defrule a (p 1 2 3 4 5 6 7 8 9 10 11 12 13 14 15 16 17 $?x a $?x ?y&:(neq ?y 1 2 3 4)) =>)(fits (p 1 2 3 4 5 6 7 8 9 10 11 12 13 14 15 16 17 b a b 5))(fits (p 1 2 3 4 5 6 7 8 9 10 11 12 13 14 15 16 17 b a c 5))
-(defrule a ?f <- (p ?a ?b ?c ?d ?e ?g ?h ?i ?j) (q ?j&~?f $?x ?a) =>)(then (p 1 2 3 4 5 6 7 8))(then (p 1 2 3 4 5 6 7 8 9))(fits (q 9 x 1))(then (q 9 1))(fits (q 9 1))
+(defrule a (p $?x ?y ?z&=(length$ ?x)) => (println ?x ?y ?z))(assert (p a "b" 2 1))(assert (p))(assert (q))(assert (p a 1 1))(agenda)(run)(defrule b (p ~~a) =>)
+(deftemplate part (slot name) (multislot sizes))(defrule a "text" (declare (salience (* 2 5))) ?f <- (part (sizes $? ?s&:(> ?s 2) $?) (name ?n&~red|blue)) (q ~?f ?n) => (retract ?f) (println ?n))(watch all)(assert (q 1 bolt))(assert (part (name bolt) (sizes 1 8 9)))(run)(facts)
+(defrule a (p ?x&red|"blue"|=(sym-cat g ?x)|:(eq ?x 7) ~?x&:(neq ?x (create$ 1 ?x))) => (println ?x))(assert (p red 1) (p "blue" red) (p 7 7))(run)(defrule a (p ?x) =>)(rules)(undefrule *)
+(defrule count ?n <- (n ?x&:(< ?x 20)) => (retract ?n) (assert (n (+ ?x 1))))(deffacts start (n 0))(reset)(run 5)(agenda)(set-strategy breadth)(run)(facts)(clear)(rules)
+(defrule a (p) => (bind ?y (+ 1 2)) (if (> ?y 2) then (assert (q ?y "z") (r)) else (while FALSE)) (halt))(defrule b (q ?y $?) => (div ?y 0))(watch rules)(assert (p))(run)(run)(exit 3)
 END
     # Many ways.
-    echo '(defrule a (p $?a $?b $?c) =>)(fits (p 1 2 3 4 5))'
-    # More than one block.
-    awk 'BEGIN { printf "(defrule a (p $? 1200 ?x $?y) =>)(fits (p"; for (i = 1; i <= 1300; i++) printf " %d", i; print "))" }'
+    echo '(defrule a (p $?a $?b $?c) => (println ?a ?b ?c))(assert (p 1 2 3 4 5))(run)'
 }
 
 # Says why the run is wrong, and ends.
@@ -165,6 +160,5 @@ refused_in_scripts() {
 scripts >"$place/scripts"
 refused_in_scripts
 unset REFUSE_ALL
-build pattern_fits
-pattern_scripts >"$place/scripts"
+rule_scripts >"$place/scripts"
 refused_in_scripts

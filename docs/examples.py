@@ -4,14 +4,16 @@
 docs/examples.py            writes the rows into crates/clipsbatch_tests/src/tests
 docs/examples.py --check    only checks that they are up to date
 
-Both also say where the table of patterns and the stored run of `pattern_fits` differ.
+A script of a page is a block of the kind `clips`, and its transcript is the next block of the kind `text`. In a block of the
+kind `clips control` pictures such as ␁ stand for control bytes. The tables of tokens, words, strings, items and patterns are
+scripts too: what a cell says of a script is what the script shows. In the table of functions each call is a line of one
+script, and what it shows a line of the transcript. In the man page the script is what `echo` writes.
 
-A script of a page is a block of the kind `clips`, and its transcript is the next block of the kind `text`; a block of the
-kind `clips rules` is not for clipsbatch yet. In one of the kind `clips control` pictures such as ␁ stand for control bytes.
-The tables of tokens, words, strings and items are scripts too: what a cell says of a script is what the script shows. In the
-table of functions each call is a line of one script, and what it shows a line of the transcript. In the man page the script
-is what `echo` writes. The exit status follows from the transcript: 4 where its last line is a limit's, 1 where one line is a
-fault's, else 0.
+The exit status follows from the transcript: 4 where its last line is a limit's, 1 where one line is a fault's, else 0. A line
+that is `(exit)` or `(exit n)` alone, n up to 255, ends a script, and so does any other `exit` with a comment `; status n`.
+
+A list of rows has a section of a page and those after it, up to the first section of the next list. Lists are kept to about
+3,000 bytes, since the cost of a test grows with the square of them.
 """
 import re
 import sys
@@ -19,12 +21,37 @@ from pathlib import Path
 
 TOP = Path(__file__).resolve().parent.parent
 MAN = "docs/clipsbatch.1"
+LANGUAGE = "docs/LANGUAGE.md"
 ROWS = TOP / "crates" / "clipsbatch_tests" / "src" / "tests"
 CALL = re.compile(r"^\| `[^`]+` \|.*\| `(\([^`]*\))` \| `([^`]*)` \|$")
 PIPED = re.compile(r"^\$ echo '([^']*)' \| clipsbatch\n(.*?)^\.Ed$", re.M | re.S)
 LIMIT = re.compile(r"^\[CB9\d\] .*\n\Z", re.M)
 FAULT = re.compile(r"\[CB\d\d\] ")
+EXIT = re.compile(r"^\(exit(?: (\d+))?\)$|^\(exit .*; status (\d+)$", re.M)
 PICTURES = {0x2421: 127} | {0x2400 + byte: byte for byte in range(32)}
+
+# The files of rows that pages have: what each is about, and its lists, each with its first section.
+FILES = {
+    "functions.rt": (LANGUAGE, "expressions, variables and control", {"EXPRESSIONS": "Expressions", "VARIABLES": "Variables"}),
+    "facts.rt": (LANGUAGE, "templates and facts", {"TEMPLATES": "Templates", "FACTS": "Facts"}),
+    "rules.rt": (
+        LANGUAGE,
+        "rules and the agenda",
+        {"RULES": "Rules", "GROUPS": "Groups", "RULE_FAULTS": "Faults of a rule", "AGENDA": "The agenda"},
+    ),
+    "commands.rt": (
+        LANGUAGE,
+        "commands",
+        {"COMMANDS": "assert, facts and printing", "RUNNING": "run and halt", "WATCHING": "watch and unwatch"},
+    ),
+    "clips.rt": (
+        "docs/CLIPS.md",
+        "what differs",
+        {"CLIPS_TEXT": "Input and output", "CLIPS_FACTS": "Facts and templates", "CLIPS_RULES": "Rules", "CLIPS_COMMANDS": "Commands"},
+    ),
+}
+# The tables of patterns.
+PATTERNS = ("CONSTANTS", "PATTERN_VARIABLES", "CONNECTIVES", "CHECKS", "WAYS", "SLOTS")
 
 
 def sections(page):
@@ -54,18 +81,28 @@ def blocks(lines):
 
 
 def scripts(page):
-    """The scripts of a page: the name of each, its text and its transcript."""
+    """The scripts of a page: the section and the name of each, its text and its transcript."""
     for heading, lines in sections(page):
         calls = [found.groups() for found in map(CALL.match, lines) if found]
         if calls:
-            yield f"{heading}: each one", "".join(f"{call}\n" for call, _ in calls), "".join(f"{shown}\n" for _, shown in calls)
+            yield heading, f"{heading}: each one", "".join(f"{call}\n" for call, _ in calls), "".join(f"{shown}\n" for _, shown in calls)
         script, number = None, 0
         for kind, text in blocks(lines):
             if kind in ("clips", "clips control"):
                 script, number = text.translate(PICTURES if kind == "clips control" else {}), number + 1
             elif kind == "text" and script is not None:
-                yield f"{heading}: {number}", script, text
+                yield heading, f"{heading}: {number}", script, text
                 script = None
+
+
+def lists(page):
+    """The lists of a page."""
+    names = {first: name for other, _, firsts in FILES.values() if other == page for name, first in firsts.items()}
+    found, name = {}, None
+    for heading, *example in scripts(page):
+        name = names.get(heading, name)
+        found.setdefault(name, []).append(example)
+    return found
 
 
 def piped_scripts():
@@ -75,9 +112,9 @@ def piped_scripts():
 
 
 def files():
-    """The scripts of `examples/`."""
+    """The scripts of `examples/`, each a list."""
     for script in sorted((TOP / "examples").glob("*.clp")):
-        yield script.name, script.read_text(), script.with_suffix(".txt").read_text()
+        yield script.stem.upper(), [(script.name, script.read_text(), script.with_suffix(".txt").read_text())]
 
 
 def cells_of(line):
@@ -86,22 +123,27 @@ def cells_of(line):
 
 
 def tables(heading):
-    """The tables of a section of LANGUAGE, each by its first row: the cells of the others."""
-    head = None
-    for line in next(lines for name, lines in sections("docs/LANGUAGE.md") if name == heading):
-        if not line.startswith("|"):
-            head = None
-        elif head is None:
-            head = tuple(cells_of(line))
-        elif not line.startswith("|-"):
-            yield head, cells_of(line)
+    """The tables of a section of LANGUAGE: the first row of each, and the others."""
+    found, is_open = [], False
+    for line in next(lines for name, lines in sections(LANGUAGE) if name == heading):
+        if line.startswith("|") and not is_open:
+            found.append((tuple(cells_of(line)), []))
+        elif line.startswith("|") and not line.startswith("|-"):
+            found[-1][1].append(cells_of(line))
+        is_open = line.startswith("|")
+    return found
+
+
+def rows(heading):
+    """The rows of the tables of a section, each with the first of its table."""
+    return [(head, row) for head, body in tables(heading) for row in body]
 
 
 def code(cell):
     return re.findall(r"`([^`]*)`", cell)
 
 
-FAULT_LINES = {row[0]: f"[{row[0]}] {row[1]}\n" for _, row in tables("Faults") if row[0].startswith("CB")}
+FAULT_LINES = {row[0]: f"[{row[0]}] {row[1]}\n" for _, row in rows("Faults") if row[0].startswith("CB")}
 KINDS = [("the symbol ", "{}\n"), ("the string ", '"{}"\n'), ("the variable ", FAULT_LINES["CB11"]), ("the list of ", FAULT_LINES["CB06"])]
 CLASSES = [("the wildcard", "CB08"), ("the global", "CB12"), ("the variable", "CB11"), ("the multifield variable", "CB11"), ("the fault CB05", "CB05")]
 
@@ -137,7 +179,7 @@ def shown_word(what, word):
 def token_scripts():
     """The scripts of the tables of tokens, words, strings and items, one for each row."""
     for heading in ("Tokens", "Strings", "Items"):
-        for number, (head, row) in enumerate(tables(heading), 1):
+        for number, (head, row) in enumerate(rows(heading), 1):
             title = f"{heading}: row {number}"
             if head in (("Script", "Tokens"), ("Script", "Items")):
                 yield title, "\n".join(code(row[0])) if " and, in the next line, " in row[0] else code(row[0])[0], "".join(map(shown, parts_of(row[1])))
@@ -149,11 +191,35 @@ def token_scripts():
                 yield title, f"(printout t {code(row[0])[0]} crlf)", f"{content}\n"
 
 
+def pattern_script(pattern, fitting, others):
+    """The script of a pattern, the facts that it fits with what each prints, and facts that it doesn't fit."""
+    names = re.findall(r"(\w+)=", next((ways[0] for _, ways in fitting), ""))
+    values = " ".join(f'"{" " if place else ""}{name}=" ?{name}' for place, name in enumerate(names)) or "fits"
+    script = "(deftemplate part (slot name) (multislot sizes))\n" if "(part" in pattern else ""
+    script += f"(set-strategy breadth)\n(defrule r {pattern} => (println {values}))\n"
+    written = "depth\n"
+    for fact, ways in fitting:
+        script += f"(assert {fact})\n(run)\n(reset)\n"
+        written += "<Fact-1>\n" + "".join(f"{way}\n" for way in ways)
+    return pattern, f"{script}(assert {' '.join(others)})\n(run)\n", f"{written}<Fact-{len(others)}>\n"
+
+
+def pattern_lists():
+    """The scripts of the tables of patterns, a list for each table. A row without a pattern has another fact for the last."""
+    for name, (_, body) in zip(PATTERNS, tables("Patterns")[1:], strict=True):
+        patterns = []
+        for pattern, fact, ways, others in (map(code, row) for row in body):
+            if pattern:
+                patterns.append((pattern[0], [], others))
+            patterns[-1][1].extend((each, ways) for each in fact)
+        yield name, [pattern_script(*each) for each in patterns]
+
+
 def wrong_lengths():
     """The items of LANGUAGE that haven't the length that is said."""
-    for head, row in tables("Items"):
+    for head, row in rows("Items"):
         if head == ("Item", "Length") and len(code(row[0])[0]) != int(row[1]):
-            yield f"docs/LANGUAGE.md: {row[0]} hasn't the length {row[1]}"
+            yield f"{LANGUAGE}: {row[0]} hasn't the length {row[1]}"
 
 
 def literal(text):
@@ -161,62 +227,52 @@ def literal(text):
     return re.sub(r"[\x00-\x09\x0b-\x1f\x7f]", lambda found: f"\\x{ord(found[0]):02x}", text)
 
 
-def outcome(written):
+def outcome(script, written):
+    """How a script ends that writes this: the name of an outcome, or a status that an `exit` gives."""
     if LIMIT.search(written):
         return "AT_A_LIMIT"
-    return "WITH_A_FAULT" if FAULT.search(written) else "WITHOUT_FAULT"
+    is_faulty = bool(FAULT.search(written))
+    statuses = [int(number or said or is_faulty) for number, said in EXIT.findall(script)]
+    ended = "WITH_A_FAULT" if is_faulty else "WITHOUT_FAULT"
+    return next((status for status in statuses if status < 256), ended)
 
 
-def module(source, name, examples):
+def row_of(pad, title, script, written):
+    """A row, with the blanks before its lines."""
+    ending = outcome(script, written)
+    if isinstance(ending, int):
+        ending = f"Outcome {{\n{pad}        status: {ending},\n{pad}        cause: Cause::Exit,\n{pad}    }}"
+    return (
+        f'Example {{\n{pad}    name: "{literal(title)}",\n{pad}    script: b"{literal(script)}",\n'
+        f'{pad}    written: b"{literal(written)}",\n{pad}    outcome: {ending},\n{pad}}}'
+    )
+
+
+def list_of(examples):
+    """A list of rows, laid out as `rt fmt` does."""
+    if len(examples) == 1:
+        return f"[{row_of('', *examples[0])}]"
+    return "[\n" + "".join(f"    {row_of('    ', *each)},\n" for each in examples) + "]"
+
+
+def module(source, content):
     """A file of rows."""
-    used = {"Example"} | {outcome(written) for _, _, written in examples}
-    words = [word for word in ("AT_A_LIMIT", "Example", "WITH_A_FAULT", "WITHOUT_FAULT") if word in used]
-    text = f"//! The scripts of {source}, made by `docs/examples.py`.\n"
-    text += f"use super::rows::{{{', '.join(words)}}};\n\n"
-    text += f"pub(super) const {name}: [Example; {len(examples)}] = [\n"
-    for title, script, written in examples:
-        text += f'    Example {{\n        name: "{literal(title)}",\n        script: b"{literal(script)}",\n'
-        text += f'        written: b"{literal(written)}",\n        outcome: {outcome(written)},\n    }},\n'
-    return text + "];\n"
+    text = "".join(f"\npub(super) const {name}: [Example; {len(rows)}] = {list_of(rows)};\n" for name, rows in content.items())
+    words = [word for word in ("AT_A_LIMIT", "Example", "WITH_A_FAULT", "WITHOUT_FAULT") if re.search(rf"\b{word}\b", text)]
+    uses = f"use super::rows::{{{', '.join(words)}}};\n" + ("use cb_run::{Cause, Outcome};\n" if "Cause::" in text else "")
+    return f"//! The scripts of {source}, made by `docs/examples.py`.\n{uses}{text}"
 
 
 def modules():
     """The files, and what should stand in each."""
-    language = list(scripts("docs/LANGUAGE.md"))
-    first = next(place for place, (title, _, _) in enumerate(language) if title.startswith("Templates"))
-    yield "functions.rt", module("`docs/LANGUAGE.md` on expressions, functions, variables and control", "FUNCTIONS", language[:first])
-    yield "language.rt", module("`docs/LANGUAGE.md` on templates, facts and commands", "LANGUAGE", language[first:])
-    yield "tokens.rt", module("the tables of `docs/LANGUAGE.md` on tokens, words, strings and items", "TOKENS", list(token_scripts()))
-    others = [*scripts("docs/CLIPS.md"), *scripts("README.md"), *piped_scripts()]
-    yield "clips.rt", module("`docs/CLIPS.md`, of `README.md` and of the man page", "CLIPS", others)
-    yield "examples.rt", module("`examples/`", "EXAMPLES", list(files()))
-
-
-def table_of_patterns():
-    """The patterns of LANGUAGE, in order: each with its facts, and the lines that a fit of each shows."""
-    patterns = []
-    for line in next(lines for heading, lines in sections("docs/LANGUAGE.md") if heading == "Patterns"):
-        cells = [cell.strip() for cell in re.split(r"(?<!\\)\|", line)[1:-1]]
-        if len(cells) != 4 or not any(cell.startswith("`(") for cell in cells):
-            continue
-        pattern, fact, ways, others = ([each.replace("\\|", "|") for each in re.findall(r"`([^`]*)`", cell)] for cell in cells)
-        if pattern:
-            patterns.append((pattern[0], {}))
-        patterns[-1][1].update({each: ways for each in fact} | {each: ["none"] for each in others})
-    return patterns
-
-
-def wrong_patterns():
-    """The rows of the table of patterns that the stored run of `pattern_fits` doesn't have."""
-    folder = TOP / "crates" / "pattern_fits"
-    written = dict(re.findall(r"^(\S+) 0\n((?:none\n|.*\|.*\n)*)", (folder / "stdout").read_text(), re.M))
-    runs = {}
-    for name, pattern, text in re.findall(r"^\(defrule (\S+) (.*) =>\)\n((?:\(fits .*\n)*)", (folder / "stdin").read_text(), re.M):
-        runs.setdefault(pattern, (re.findall(r"^\(fits (.*)\)$", text, re.M), written.get(name)))
-    for pattern, facts in table_of_patterns():
-        fits, shown = runs.get(pattern, ([], ""))
-        if sorted(fits) != sorted(facts) or shown != "".join(f"{line}\n" for fact in fits for line in facts[fact]):
-            yield f"the stored run of crates/pattern_fits doesn't have the row of {pattern} in docs/LANGUAGE.md"
+    for name, (page, subject, firsts) in FILES.items():
+        found = lists(page)
+        yield name, module(f"`{page}` on {subject}", {first: found[first] for first in firsts})
+    yield "tokens.rt", module(f"the tables of `{LANGUAGE}` on tokens, words, strings and items", {"TOKENS": list(token_scripts())})
+    yield "patterns.rt", module(f"the tables of `{LANGUAGE}` on patterns", dict(pattern_lists()))
+    first = [example for _, *example in scripts("README.md")]
+    yield "first_scripts.rt", module("`README.md` and of the man page", {"FIRST_SCRIPTS": [*first, *piped_scripts()]})
+    yield "examples.rt", module("`examples/`", dict(files()))
 
 
 def main():
@@ -224,7 +280,7 @@ def main():
     if words not in ([], ["--check"]):
         sys.exit(__doc__)
     stale = 0
-    for line in [*wrong_patterns(), *wrong_lengths()]:
+    for line in wrong_lengths():
         stale += 1
         print(line)
     for name, text in modules():

@@ -87,7 +87,7 @@ def options_of_man():
 
 
 def faults():
-    return [f"{row[0]}: {row[1]}" + ("" if row[3] else " (not yet)") for row in tables(LANGUAGE)["Number"]]
+    return [f"{row[0]}: {row[1]}" for row in tables(LANGUAGE)["Number"]]
 
 
 def heads(name, beginning):

@@ -46,7 +46,7 @@ Usage: clipsbatch [OPTIONS]
 
 Options:
       --max-form <N>     The most bytes that an item of the script may have, 1 to 16777216 [default: 1048576]
-      --max-firings <N>  The most rules that may fire in the whole run, 0 to 1000000000000; no effect yet [default: 1000000]
+      --max-firings <N>  The most firings of all rules together, 0 to 1000000000000 [default: 1000000]
       --max-turns <N>    The most turns that all loops together may take, 0 to 1000000000000 [default: 10000000]
   -h, --help             Print help
 """
@@ -56,6 +56,11 @@ ITEMS = b'(println "twelve bytes")(println "thirteen byte")'
 BOTH_ITEMS = Ended(b"twelve bytes\nthirteen byte\n", b"", 0)
 ONE_ITEM = Ended(b"twelve bytes\n[CB91] form too long\n", b"", 4)
 NO_ITEM = Ended(b"[CB91] form too long\n", b"", 4)
+
+# A rule that fires three times.
+RULES = b'(defrule r (n ?x) => (println ?x))(assert (n 1) (n 2) (n 3))(run)'
+THREE_FIRINGS = Ended(b"<Fact-3>\n3\n2\n1\n", b"", 0)
+TWO_FIRINGS = Ended(b"<Fact-3>\n3\n2\n[CB92] firing limit reached\n", b"", 4)
 
 # A loop of five turns.
 LOOP = b'(bind ?i 0) (while (< ?i 5) do (bind ?i (+ ?i 1)) (println "turn " ?i))'
@@ -77,8 +82,11 @@ RUNS = [
     (["--max-turns=3"], LOOP, THREE_TURNS),
     (["--max-turns=0"], LOOP, NO_TURN),
     (["--max-turns=5"], LOOP, FIVE_TURNS),
-    (["--max-firings", "0"], HELLO, WROTE_HELLO),
-    (["--max-firings=1000000000000"], HELLO, WROTE_HELLO),
+    (["--max-firings", "3"], RULES, THREE_FIRINGS),
+    (["--max-firings=2"], RULES, TWO_FIRINGS),
+    (["--max-firings=1000000000000"], RULES, THREE_FIRINGS),
+    ([], b'(println "a")(exit 7)(println "b")', Ended(b"a\n", b"", 7)),
+    ([], b'(+ 1 a)(exit)(println "b")', Ended(b"[CB17] wrong type\n", b"", 1)),
     (["--max-turns=3", "--max-firings", "1", "--max-form=100"], LOOP, THREE_TURNS),
     ([], ITEMS, BOTH_ITEMS),
     ([], LOOP, FIVE_TURNS),

@@ -16,8 +16,8 @@ use cb_facts::{Name, Value};
 use cb_forms::{Fault, Out, Sink};
 use cb_functions::{decides, is_true};
 use cb_matches::Matcher;
-use cb_working_memory::Mark;
 use cb_words::Function;
+use cb_working_memory::Mark;
 
 impl<M: Matcher<Mark>> World<M> {
     /// Carries out an expression. The answer is its value, if it has one.
@@ -231,7 +231,11 @@ impl<M: Matcher<Mark>> World<M> {
 
     /// The value of an expression; one that has none is CB17.
     #[cycle(carrying)]
-    pub(crate) fn carry_value<K: Sink>(&mut self, expr: &Expr, out: &mut Out<K>) -> Result<Value, Break>
+    pub(crate) fn carry_value<K: Sink>(
+        &mut self,
+        expr: &Expr,
+        out: &mut Out<K>,
+    ) -> Result<Value, Break>
         requires { out.old.fault ≡ false }
         ensures went { Went K.writes out.old out.new self.new result
             (valued (carried (term_of expr.now)) self.old) }

@@ -114,7 +114,13 @@ impl<M: Matcher<Mark>> World<M> {
         let mut lines = Vec::new(self.alloc);
         if self.watched.activations {
             let rules = self.rules.as_slice();
-            add_gone_lines(self.alloc, &mut lines, rules, &self.agenda, delta.gone.as_slice())?;
+            add_gone_lines(
+                self.alloc,
+                &mut lines,
+                rules,
+                &self.agenda,
+                delta.gone.as_slice(),
+            )?;
             add_come_lines(self.alloc, &mut lines, rules, delta.come.as_slice())?;
         }
         Ok(lines)

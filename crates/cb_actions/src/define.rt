@@ -12,10 +12,10 @@ ghost use Rattle.cb_working_memory.specs.WorkingMemory.{greatest_index, with_nex
 use crate::act::{Break, Ended, Limit};
 use crate::rules::find_named;
 use crate::world::World;
-use cb_rules::{Ce, DefinedRule, Rule, split_rule};
 use cb_facts::{Name, Value};
 use cb_forms::{NoMemory, Out, Sink};
 use cb_matches::{Delta, Matcher};
+use cb_rules::{Ce, DefinedRule, Rule, split_rule};
 use cb_working_memory::Mark;
 use std::alloc::Global;
 use std::mem;
@@ -131,8 +131,8 @@ impl<M: Matcher<Mark>> World<M> {
     ) -> Result<Delta, NoMemory>
         requires { self.old.memory.last_rule < greatest_index }
         ensures state { OnOk result (self.new ≡ record self.old {
-            memory = with_next_rule (branches_of branches.items) self.old.memory;
-            rules = self.old.rules ++ numbered self.old rule ∷ []
+          memory = with_next_rule (branches_of branches.items) self.old.memory;
+          rules = self.old.rules ++ numbered self.old rule ∷ [];
         }) }
         ensures delta { IfOk result (IsDelta self.old.memory.network
             (with_next_rule (branches_of branches.items) self.old.memory).network) }
@@ -145,11 +145,7 @@ impl<M: Matcher<Mark>> World<M> {
 }
 
 /// Takes the rule with a number out.
-fn forget_numbered(
-    alloc: Global,
-    rules: &mut Vec<DefinedRule>,
-    id: u64,
-) -> Result<(), NoMemory>
+fn forget_numbered(alloc: Global, rules: &mut Vec<DefinedRule>, id: u64) -> Result<(), NoMemory>
     ensures { OnOk result (rules.new.items ≡ filter (λ r. not (nat_eq id r.id)) rules.old.items) }
 {
     let mut kept = Vec::new(alloc);

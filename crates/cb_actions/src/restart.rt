@@ -14,8 +14,8 @@ use cb_facts::FactList;
 use cb_forms::{NoMemory, Out, Sink};
 use cb_lines::add_fact_line;
 use cb_matches::{Delta, Matcher};
-use cb_working_memory::Mark;
 use cb_templates::Relations;
+use cb_working_memory::Mark;
 use std::alloc::Global;
 
 impl<M: Matcher<Mark>> World<M> {

@@ -25,9 +25,9 @@ use cb_forms::{Fault, NoMemory, Out, Sink};
 use cb_functions::{Constants, apply, decides};
 use cb_matches::Matcher;
 use cb_rules::DefinedRule;
-use cb_working_memory::{Mark, WorkingMemory};
 use cb_templates::{GivenSlot, Parts, Relations, Template, build_fact};
 use cb_words::Function;
+use cb_working_memory::{Mark, WorkingMemory};
 use std::alloc::Global;
 use std::marker::Model;
 

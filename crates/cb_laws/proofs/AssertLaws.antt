@@ -1,189 +1,266 @@
 -- What is asserted is there.
-use Rattle.std.proofs.Common.{◌≡◌, ◌≢◌, ◌↔◌, ◌⊎◌, inl, inr, ◌∙◌, ◌+◌, ◌<◌, ◌≤◌, ℕ, Bool, true, false, List, [], ◌∷◌, Option, Some, None, Contains, refl, sym, ap, subst, arith, nat_lt, rules, if◌then◌else◌}
+use Rattle.std.proofs.Common.{◌≡◌, ◌≢◌, ◌↔◌, ◌⊎◌, inl, inr, ◌∙◌, ◌+◌, ◌++◌, ◌<◌, ◌≤◌, ℕ, Bool, true, false, List, [], ◌∷◌, Option, Some, None, Result, Ok, Err, Contains, refl, sym, ap, subst, arith, nat_lt, rules}
 use Rattle.std.proofs.lemmas.Bool.{cases_eq}
 use Rattle.std.proofs.lemmas.Cmp.{nat_cmp_total}
 use Rattle.std.specs.BTreeMap.{is_at}
 use Rattle.std.specs.Ordering.{nat_cmp}
+use Rattle.cb_actions.specs.Acts.{Effect, follow, give, stop}
+use Rattle.cb_actions.specs.Changes.{come_line}
+use Rattle.cb_actions.specs.Effects.{added_beside, fact_added}
+use Rattle.cb_actions.specs.Worlds.{World}
+use Rattle.cb_actions.specs.declared.act.Ended.{Ended}
+use Rattle.cb_actions.specs.declared.act.Ended.TheVariants as ended
+use Rattle.cb_actions.specs.declared.act.Limit.TheVariants.{Numbers}
 use Rattle.cb_facts.specs.FactLists.{IsAbsent, fact_at, with_fact}
 use Rattle.cb_facts.specs.Facts.{FactValue}
 use Rattle.cb_facts.specs.contracts.cited.LawsCited.TheImpl as facts_laws
+use Rattle.cb_facts.specs.declared.value.Value.{Value}
+use Rattle.cb_facts.specs.declared.value.Value.TheVariants as value
+use Rattle.cb_laws.proofs.AgendaLaws.{moved_proper}
 use Rattle.cb_laws.proofs.EntryLaws.{put_here, put_elsewhere, rising_put}
 use Rattle.cb_laws.proofs.Members.{first_or_other}
 use Rattle.cb_laws.proofs.MemoryBasics.{base_of, found_there, not_found}
-use Rattle.cb_laws.specs.Memories.{AreAsserted, IsSound, IsThere}
-use Rattle.cb_working_memory.specs.WorkingMemory.{Memory, asserted_beside, asserted_one, greatest_index, grown, index_of}
+use Rattle.cb_laws.proofs.MoveLaws.{Moved, added_cases, memory_is, quiet_line}
+use Rattle.cb_laws.specs.Firing.{IsProper}
+use Rattle.cb_laws.specs.Memories.{AreAsserted, ChangesFactsOnly, IsSound, IsThere, IsUnwatched, has_stamps_for}
+use Rattle.cb_working_memory.specs.WorkingMemory.{Memory, greatest_index, grown, index_of}
 use Rattle.cb_working_memory.specs.contracts.cited.LawsCited.TheImpl as memory_laws
 
 -- A fact was asserted and has this index: it is there, the others are as before, and there are no more.
 pub record OneMore (m : Memory) (f : FactValue) (n : Memory) (ix : ℕ) : Type 0 where
-  pub here : fact_at n.facts ix ≡ Some f
-  pub stays : (q : ℕ) (g : FactValue) → fact_at m.facts q ≡ Some g → fact_at n.facts q ≡ Some g
-  pub only : (q : ℕ) (g : FactValue) → fact_at n.facts q ≡ Some g → (fact_at m.facts q ≡ Some g) ⊎ (f ≡ g)
+  pub here : fact_at n.network.facts ix ≡ Some f
+  pub stays : (q : ℕ) (g : FactValue) → fact_at m.network.facts q ≡ Some g → fact_at n.network.facts q ≡ Some g
+  pub only : (q : ℕ) (g : FactValue) → fact_at n.network.facts q ≡ Some g → (fact_at m.network.facts q ≡ Some g) ⊎ (f ≡ g)
   pub sound : IsSound n
 
-there_already : (m : Memory) (f : FactValue) (ix : ℕ) → IsSound m → index_of m.facts f ≡ Some ix → OneMore m f m ix
+there_already : (m : Memory) (f : FactValue) (ix : ℕ) → IsSound m → index_of m.network.facts f ≡ Some ix → OneMore m f m ix
 there_already m f ix sound e = record { here = found_there m f ix sound e; stays = λ q g at. at; only = λ q g at. inl at; sound = sound }
 
-module _ (m : Memory) (f : FactValue) (sound : IsSound m) (absent : index_of m.facts f ≡ None) where
+module _ (m : Memory) (f : FactValue) (sound : IsSound m) (absent : index_of m.network.facts f ≡ None) where
   new : ℕ
   new = m.last + 1
 
-  at_new : fact_at (with_fact m.facts (m.last + 1) f) (m.last + 1) ≡ Some f
-  at_new = put_here nat_cmp (λ i j. is_at (nat_cmp i) j) facts_laws.ghosts.is_at_decides facts_laws.ghosts.is_at_decides m.facts (m.last + 1) f
+  at_new : fact_at (with_fact m.network.facts (m.last + 1) f) (m.last + 1) ≡ Some f
+  at_new = put_here nat_cmp (λ i j. is_at (nat_cmp i) j) facts_laws.ghosts.is_at_decides facts_laws.ghosts.is_at_decides m.network.facts (m.last + 1) f
 
-  at_old : (q : ℕ) → q ≢ m.last + 1 → fact_at (with_fact m.facts (m.last + 1) f) q ≡ fact_at m.facts q
-  at_old q n = put_elsewhere nat_cmp (λ i j. is_at (nat_cmp i) j) facts_laws.ghosts.is_at_decides facts_laws.ghosts.is_at_decides m.facts (m.last + 1) q f n
+  at_old : (q : ℕ) → q ≢ m.last + 1 → fact_at (with_fact m.network.facts (m.last + 1) f) q ≡ fact_at m.network.facts q
+  at_old q n = put_elsewhere nat_cmp (λ i j. is_at (nat_cmp i) j) facts_laws.ghosts.is_at_decides facts_laws.ghosts.is_at_decides m.network.facts (m.last + 1) q f n
 
-  was_free : (q : ℕ) (g : FactValue) → fact_at m.facts q ≡ Some g → q ≢ m.last + 1
+  was_free : (q : ℕ) (g : FactValue) → fact_at m.network.facts q ≡ Some g → q ≢ m.last + 1
   was_free q g at e =
-      let gone : fact_at m.facts q ≡ None = sound.none_after q (omega arith) in
+      let gone : fact_at m.network.facts q ≡ None = sound.none_after q (omega arith) in
       cc
 
-  only_by : (q : ℕ) (g : FactValue) → fact_at (with_fact m.facts (m.last + 1) f) q ≡ Some g → (q ≡ m.last + 1) ⊎ (q ≢ m.last + 1) → (fact_at m.facts q ≡ Some g) ⊎ ((q ≡ m.last + 1) × (f ≡ g))
+  only_by : (q : ℕ) (g : FactValue) → fact_at (with_fact m.network.facts (m.last + 1) f) q ≡ Some g → (q ≡ m.last + 1) ⊎ (q ≢ m.last + 1) → (fact_at m.network.facts q ≡ Some g) ⊎ ((q ≡ m.last + 1) × (f ≡ g))
   only_by q g at (inl e) =
-      let is : Some f ≡ Some g = sym at_new ∙ ap (fact_at (with_fact m.facts (m.last + 1) f)) (sym e) ∙ at in
+      let is : Some f ≡ Some g = sym at_new ∙ ap (fact_at (with_fact m.network.facts (m.last + 1) f)) (sym e) ∙ at in
       let same : f ≡ g = cc in
       inr (e, same)
   only_by q g at (inr n) = inl (sym (at_old q n) ∙ at)
 
-  only_there : (q : ℕ) (g : FactValue) → fact_at (with_fact m.facts (m.last + 1) f) q ≡ Some g → (fact_at m.facts q ≡ Some g) ⊎ ((q ≡ m.last + 1) × (f ≡ g))
+  only_there : (q : ℕ) (g : FactValue) → fact_at (with_fact m.network.facts (m.last + 1) f) q ≡ Some g → (fact_at m.network.facts q ≡ Some g) ⊎ ((q ≡ m.last + 1) × (f ≡ g))
   only_there q g at = only_by q g at (cases_eq q (m.last + 1))
 
-  either : (q : ℕ) (g : FactValue) → (fact_at m.facts q ≡ Some g) ⊎ ((q ≡ m.last + 1) × (f ≡ g)) → (fact_at m.facts q ≡ Some g) ⊎ (f ≡ g)
+  either : (q : ℕ) (g : FactValue) → (fact_at m.network.facts q ≡ Some g) ⊎ ((q ≡ m.last + 1) × (f ≡ g)) → (fact_at m.network.facts q ≡ Some g) ⊎ (f ≡ g)
   either q g (inl at) = inl at
   either q g (inr b) = inr b.1
 
-  distinct_by : (g : FactValue) (i j : ℕ) → (fact_at m.facts i ≡ Some g) ⊎ ((i ≡ m.last + 1) × (f ≡ g)) → (fact_at m.facts j ≡ Some g) ⊎ ((j ≡ m.last + 1) × (f ≡ g)) → i ≡ j
+  distinct_by : (g : FactValue) (i j : ℕ) → (fact_at m.network.facts i ≡ Some g) ⊎ ((i ≡ m.last + 1) × (f ≡ g)) → (fact_at m.network.facts j ≡ Some g) ⊎ ((j ≡ m.last + 1) × (f ≡ g)) → i ≡ j
   distinct_by g i j (inl p) (inl q) = sound.distinct g i j p q
   distinct_by g i j (inl p) (inr q) = absurd (not_found m f i sound absent (p ∙ ap Some (sym q.1)))
   distinct_by g i j (inr p) (inl q) = absurd (not_found m f j sound absent (q ∙ ap Some (sym p.1)))
   distinct_by g i j (inr p) (inr q) = p.0 ∙ sym q.0
 
-  one_new : OneMore m f (grown m f) (m.last + 1)
+  pub one_new : OneMore m f (grown f m) (m.last + 1)
   one_new = record {
     here = at_new;
     stays = λ q g at. at_old q (was_free q g at) ∙ at;
     only = λ q g at. either q g (only_there q g at);
     sound = record {
-      rising = rising_put nat_cmp nat_cmp_total m.facts (m.last + 1) f sound.rising;
+      rising = rising_put nat_cmp nat_cmp_total m.network.facts (m.last + 1) f sound.rising;
       distinct = λ g i j p q. distinct_by g i j (only_there i g p) (only_there j g q);
       none_after = λ ix above. at_old ix (λ e. omega arith) ∙ sound.none_after ix (omega arith);
     };
   }
 
-  pub if_room : (room : Bool) (ix : ℕ) → (if◌then◌else◌ {A = Memory × Option ℕ} room (grown m f, Some (m.last + 1)) (m, None)).1 ≡ Some ix
-      → OneMore m f (if◌then◌else◌ {A = Memory × Option ℕ} room (grown m f, Some (m.last + 1)) (m, None)).0 ix
-  if_room true ix h =
-      let is : m.last + 1 ≡ ix = cc in
-      subst (OneMore m f (grown m f)) is one_new
-  if_room false ix h = absurd (cc)
+-- The address that is answered: the fact is there under its index.
+pub record Answered (f : FactValue) (s : World) (e : Effect World (Option Value)) (answer : Option Value) : Type 0 where
+  pub ix : ℕ
+  pub address : answer ≡ Some (value.Fact ix)
+  pub more : OneMore s.memory f e.state.memory ix
 
-one_by : (m : Memory) (f : FactValue) (ix : ℕ) → IsSound m → (o : Option ℕ) → index_of m.facts f ≡ o → (asserted_beside m f o).1 ≡ Some ix → OneMore m f (asserted_beside m f o).0 ix
-one_by m f ix sound (Some i) e h =
-    let is : i ≡ ix = cc in
-    subst (OneMore m f m) is (there_already m f i sound e)
-one_by m f ix sound None e h = if_room m f sound e (nat_lt m.last greatest_index) ix h
-
-pub one_more : (m : Memory) (f : FactValue) (ix : ℕ) → IsSound m → (asserted_one m f).1 ≡ Some ix → OneMore m f (asserted_one m f).0 ix
-one_more m f ix sound h = one_by m f ix sound (index_of m.facts f) refl h
-
--- where no index was left, nothing has changed
-if_none : (m : Memory) (f : FactValue) (room : Bool) → (if◌then◌else◌ {A = Memory × Option ℕ} room (grown m f, Some (m.last + 1)) (m, None)).1 ≡ None
-    → m ≡ (if◌then◌else◌ {A = Memory × Option ℕ} room (grown m f, Some (m.last + 1)) (m, None)).0
-if_none m f true h = absurd (cc)
-if_none m f false h = refl
-
-none_by : (m : Memory) (f : FactValue) (o : Option ℕ) → (asserted_beside m f o).1 ≡ None → m ≡ (asserted_beside m f o).0
-none_by m f None h = if_none m f (nat_lt m.last greatest_index) h
-none_by m f (Some i) h = absurd (cc)
-
-pub none_more : (m : Memory) (f : FactValue) → (asserted_one m f).1 ≡ None → m ≡ (asserted_one m f).0
-none_more m f h = none_by m f (index_of m.facts f) h
-
--- the index given last stays in range
-range_by : (m : Memory) (f : FactValue) (o : Option ℕ) → m.last ≤ greatest_index → (asserted_beside m f o).0.last ≤ greatest_index
-range_by m f (Some i) h = h
-range_by m f None h = by (nat_lt m.last greatest_index) refl
+pub answered : (f : FactValue) (s : World) (answer : Option Value) → IsSound s.memory → (fact_added f s).answer ≡ Ok answer → Answered f s (fact_added f s) answer
+answered f s answer sound h = added_cases f s (λ e. e.answer ≡ Ok answer → Answered f s e answer) there grows (λ none e is. absurd (cc)) h
   where
-    by : (room : Bool) → nat_lt m.last greatest_index ≡ room → (if◌then◌else◌ {A = Memory × Option ℕ} room (grown m f, Some (m.last + 1)) (m, None)).0.last ≤ greatest_index
-    by true e =
-        let below : m.last < greatest_index = search (rules, e) in
+    there : (ix : ℕ) → index_of s.memory.network.facts f ≡ Some ix → (give (Some (value.Fact ix)) s).answer ≡ Ok answer → Answered f s (give (Some (value.Fact ix)) s) answer
+    there ix e is = record { ix = ix; address = cc; more = there_already s.memory f ix sound e }
+
+    grows : index_of s.memory.network.facts f ≡ None → nat_lt s.memory.last greatest_index ≡ true → (t : World) (w : List ℕ) (r : Result (Unit {0}) Ended)
+        → Moved s (grown f s.memory) (come_line s (s.memory.last + 1) f) t w r
+        → (follow t w r (λ _. give (Some (value.Fact (s.memory.last + 1))))).answer ≡ Ok answer
+        → Answered f s (follow t w r (λ _. give (Some (value.Fact (s.memory.last + 1))))) answer
+    grows none e t w (Ok v) m is = record {
+      ix = s.memory.last + 1;
+      address = cc;
+      more = subst (λ n. OneMore s.memory f n (s.memory.last + 1)) (sym (memory_is _ _ _ t w (Ok v) m)) (one_new s.memory f sound none);
+    }
+    grows none e t w (Err x) m is = absurd (cc)
+
+-- However an assertion ends, those that were there are there, and there are no others but the fact.
+pub record Stays (f : FactValue) (m n : Memory) : Type 0 where
+  pub stays : (q : ℕ) (g : FactValue) → fact_at m.network.facts q ≡ Some g → fact_at n.network.facts q ≡ Some g
+  pub only : (q : ℕ) (g : FactValue) → fact_at n.network.facts q ≡ Some g → (fact_at m.network.facts q ≡ Some g) ⊎ (f ≡ g)
+  pub sound : IsSound n
+  pub in_range : m.last ≤ greatest_index → n.last ≤ greatest_index
+
+stays_same : (f : FactValue) (m : Memory) → IsSound m → Stays f m m
+stays_same f m sound = record { stays = λ q g at. at; only = λ q g at. inl at; sound = sound; in_range = λ h. h }
+
+stays_grown : (f : FactValue) (m : Memory) → IsSound m → index_of m.network.facts f ≡ None → nat_lt m.last greatest_index ≡ true → Stays f m (grown f m)
+stays_grown f m sound none e =
+    let more = one_new m f sound none in
+    record { stays = more.stays; only = more.only; sound = more.sound; in_range = λ h. below e }
+  where
+    below : nat_lt m.last greatest_index ≡ true → m.last + 1 ≤ greatest_index
+    below e =
+        let less : m.last < greatest_index = search (rules, e) in
         omega arith
-    by false e = h
 
-pub stays_in_range : (m : Memory) (f : FactValue) → m.last ≤ greatest_index → (asserted_one m f).0.last ≤ greatest_index
-stays_in_range m f h = range_by m f (index_of m.facts f) h
-
-pub has_index : (m : Memory) (f : FactValue) (ix : ℕ) → IsSound m → (asserted_one m f).1 ≡ Some ix → fact_at (asserted_one m f).0.facts ix ≡ Some f
-has_index m f ix sound h = (one_more m f ix sound h).here
-
-pub several_sound : (m n : Memory) (fs : List FactValue) → IsSound m → AreAsserted m fs n → IsSound n
-several_sound m n [] sound h = subst IsSound h sound
-several_sound m n (f ∷ fs) sound h = several_sound (asserted_one m f).0 n fs (one_more m f h.0 sound h.1).sound h.2
-
-pub several_stay : (m n : Memory) (fs : List FactValue) (g : FactValue) (ix : ℕ) → IsSound m → AreAsserted m fs n → fact_at m.facts ix ≡ Some g → fact_at n.facts ix ≡ Some g
-several_stay m n [] g ix sound h at = subst (λ it. fact_at it.facts ix ≡ Some g) h at
-several_stay m n (f ∷ fs) g ix sound h at =
-    let step = one_more m f h.0 sound h.1 in
-    several_stay (asserted_one m f).0 n fs g ix step.sound h.2 (step.stays ix g at)
-
-pub several_only : (m n : Memory) (fs : List FactValue) (g : FactValue) → IsSound m → AreAsserted m fs n → IsThere n g → IsThere m g ⊎ Contains fs g
-several_only m n [] g sound h at = inl (subst (λ it. IsThere it g) (sym h) at)
-several_only m n (f ∷ fs) g sound h at = by (several_only (asserted_one m f).0 n fs g step.sound h.2 at)
+pub added_stays : (f : FactValue) (s : World) → IsSound s.memory → Stays f s.memory (fact_added f s).state.memory
+added_stays f s sound = added_cases f s (λ e. Stays f s.memory e.state.memory) (λ ix e. stays_same f s.memory sound) grows (λ none e. stays_same f s.memory sound)
   where
-    step : OneMore m f (asserted_one m f).0 h.0
-    step = one_more m f h.0 sound h.1
+    grows : index_of s.memory.network.facts f ≡ None → nat_lt s.memory.last greatest_index ≡ true → (t : World) (w : List ℕ) (r : Result (Unit {0}) Ended)
+        → Moved s (grown f s.memory) (come_line s (s.memory.last + 1) f) t w r → Stays f s.memory (follow t w r (λ _. give (Some (value.Fact (s.memory.last + 1))))).state.memory
+    grows none e t w (Ok v) m = subst (Stays f s.memory) (sym (memory_is _ _ _ t w (Ok v) m)) (stays_grown f s.memory sound none e)
+    grows none e t w (Err x) m = subst (Stays f s.memory) (sym (memory_is _ _ _ t w (Err x) m)) (stays_grown f s.memory sound none e)
 
-    first : (q : ℕ) → (fact_at m.facts q ≡ Some g) ⊎ (f ≡ g) → IsThere m g ⊎ Contains (f ∷ fs) g
+-- what the laws say of one assertion
+pub is_there : (f : FactValue) (s : World) (answer : Option Value) → IsSound s.memory → (fact_added f s).answer ≡ Ok answer
+    → (ix : ℕ) × (answer ≡ Some (value.Fact ix)) × (fact_at (fact_added f s).state.memory.network.facts ix ≡ Some f)
+is_there f s answer sound h = let it = answered f s answer sound h in (it.ix, it.address, it.more.here)
+
+pub known : (f : FactValue) (s : World) (ix : ℕ) → IsSound s.memory → fact_at s.memory.network.facts ix ≡ Some f → fact_added f s ≡ give (Some (value.Fact ix)) s
+known f s ix sound at = ap (λ o. added_beside f o s) (memory_laws.ghosts.index_of_there s.memory.network.facts f ix (base_of s.memory sound) at)
+
+module _ (f : FactValue) (s : World) (sound : IsSound s.memory) (absent : IsAbsent s.memory.network.facts f) where
+  is_absent : index_of s.memory.network.facts f ≡ None
+  is_absent = memory_laws.ghosts.index_of_absent s.memory.network.facts f (base_of s.memory sound) absent
+
+  not_there : (ix : ℕ) → index_of s.memory.network.facts f ≡ Some ix → ⊥
+  not_there ix e = let none = is_absent in cc
+
+  pub no_index : greatest_index ≤ s.memory.last → fact_added f s ≡ stop (ended.Limit Numbers) s
+  no_index above = added_cases f s (λ e. e ≡ stop (ended.Limit Numbers) s) (λ ix e. absurd (not_there ix e)) (λ none e t w r m. absurd (over e)) (λ none e. refl)
+    where
+      over : nat_lt s.memory.last greatest_index ≡ true → ⊥
+      over e =
+          let less : s.memory.last < greatest_index = search (rules, e) in
+          omega arith
+
+  module _ (below : s.memory.last < greatest_index) where
+    not_full : nat_lt s.memory.last greatest_index ≡ false → ⊥
+    not_full e =
+        let less : nat_lt s.memory.last greatest_index ≡ true = search rules in
+        cc
+
+    pub is_grown : (fact_added f s).state.memory ≡ grown f s.memory
+    is_grown = added_cases f s (λ e. e.state.memory ≡ grown f s.memory) (λ ix e. absurd (not_there ix e)) grows (λ none e. absurd (not_full e))
+      where
+        grows : index_of s.memory.network.facts f ≡ None → nat_lt s.memory.last greatest_index ≡ true → (t : World) (w : List ℕ) (r : Result (Unit {0}) Ended)
+            → Moved s (grown f s.memory) (come_line s (s.memory.last + 1) f) t w r → (follow t w r (λ _. give (Some (value.Fact (s.memory.last + 1))))).state.memory ≡ grown f s.memory
+        grows none e t w (Ok v) m = memory_is _ _ _ t w (Ok v) m
+        grows none e t w (Err x) m = memory_is _ _ _ t w (Err x) m
+
+    pub has_address : has_stamps_for f s ≡ true → (fact_added f s).answer ≡ Ok (Some (value.Fact (s.memory.last + 1)))
+    has_address room = added_cases f s (λ e. e.answer ≡ Ok (Some (value.Fact (s.memory.last + 1)))) (λ ix e. absurd (not_there ix e)) grows (λ none e. absurd (not_full e))
+      where
+        grows : index_of s.memory.network.facts f ≡ None → nat_lt s.memory.last greatest_index ≡ true → (t : World) (w : List ℕ) (r : Result (Unit {0}) Ended)
+            → Moved s (grown f s.memory) (come_line s (s.memory.last + 1) f) t w r
+            → (follow t w r (λ _. give (Some (value.Fact (s.memory.last + 1))))).answer ≡ Ok (Some (value.Fact (s.memory.last + 1)))
+        grows none e t w r m = ap (λ x. (follow t w x (λ _. give (Some (value.Fact (s.memory.last + 1))))).answer) (m.room room)
+
+    pub has_no_stamps : has_stamps_for f s ≡ false → (fact_added f s).answer ≡ Err (ended.Limit Numbers)
+    has_no_stamps room = added_cases f s (λ e. e.answer ≡ Err (ended.Limit Numbers)) (λ ix e. absurd (not_there ix e)) grows (λ none e. absurd (not_full e))
+      where
+        grows : index_of s.memory.network.facts f ≡ None → nat_lt s.memory.last greatest_index ≡ true → (t : World) (w : List ℕ) (r : Result (Unit {0}) Ended)
+            → Moved s (grown f s.memory) (come_line s (s.memory.last + 1) f) t w r
+            → (follow t w r (λ _. give (Some (value.Fact (s.memory.last + 1))))).answer ≡ Err (ended.Limit Numbers)
+        grows none e t w r m = ap (λ x. (follow t w x (λ _. give (Some (value.Fact (s.memory.last + 1))))).answer) (m.no_room room)
+
+-- how an assertion ends, and what it leaves alone
+pub record Alone (s : World) (e : Effect World (Option Value)) : Type 0 where
+  pub changes : ChangesFactsOnly s e.state
+  pub proper : IsProper s.agenda → IsProper e.state.agenda
+  pub quiet : IsUnwatched s → e.written ≡ []
+  pub limit : (x : Ended) → e.answer ≡ Err x → x ≡ ended.Limit Numbers
+
+pub adds_alone : (f : FactValue) (s : World) → Alone s (fact_added f s)
+adds_alone f s = added_cases f s (Alone s) (λ ix e. there ix) grows (λ none e. record { changes = same; proper = λ p. p; quiet = λ h. refl; limit = λ x h. cc })
+  where
+    same : ChangesFactsOnly s s
+    same = record { only = refl; rules = refl; last_rule = refl }
+
+    there : (ix : ℕ) → Alone s (give (Some (value.Fact ix)) s)
+    there ix = record { changes = same; proper = λ p. p; quiet = λ h. refl; limit = λ x h. absurd (cc) }
+
+    changed_so : (t : World) (w : List ℕ) (r : Result (Unit {0}) Ended) → Moved s (grown f s.memory) (come_line s (s.memory.last + 1) f) t w r → ChangesFactsOnly s t
+    changed_so t w r m =
+        let is : t.memory ≡ grown f s.memory = memory_is _ _ _ t w r m in
+        record {
+          only = m.only ∙ ap (λ n. record s { memory = n; agenda = t.agenda }) (sym is);
+          rules = ap (λ (n : Memory). n.network.rules) is;
+          last_rule = ap (λ (n : Memory). n.last_rule) is;
+        }
+
+    unwatched : IsUnwatched s → come_line s (s.memory.last + 1) f ≡ []
+    unwatched h = quiet_line s.watched.facts h.0 _
+
+    limited : (r : Result (Unit {0}) Ended) (y x : Ended) → (r ≡ Ok tt) ⊎ (r ≡ Err (ended.Limit Numbers)) → r ≡ Err y → y ≡ x → x ≡ ended.Limit Numbers
+    limited r y x (inl e) h is = absurd (cc)
+    limited r y x (inr e) h is = cc
+
+    grows : index_of s.memory.network.facts f ≡ None → nat_lt s.memory.last greatest_index ≡ true → (t : World) (w : List ℕ) (r : Result (Unit {0}) Ended)
+        → Moved s (grown f s.memory) (come_line s (s.memory.last + 1) f) t w r → Alone s (follow t w r (λ _. give (Some (value.Fact (s.memory.last + 1)))))
+    grows none e t w (Ok v) m = record { changes = changed_so t w (Ok v) m; proper = moved_proper s (grown f s.memory) (come_line s (s.memory.last + 1) f) t w (Ok v) m; quiet = λ h. ap (λ ws. ws ++ []) (m.quiet (unwatched h) h.1); limit = λ x h. absurd (cc) }
+    grows none e t w (Err y) m = record { changes = changed_so t w (Err y) m; proper = moved_proper s (grown f s.memory) (come_line s (s.memory.last + 1) f) t w (Err y) m; quiet = λ h. m.quiet (unwatched h) h.1; limit = λ x h. limited (Err y) y x m.ends refl (cc) }
+
+-- several assertions
+pub several_sound : (s t : World) (fs : List FactValue) → IsSound s.memory → AreAsserted s fs t → IsSound t.memory
+several_sound s t [] sound h = subst (λ (u : World). IsSound u.memory) h sound
+several_sound s t (f ∷ fs) sound h = several_sound (fact_added f s).state t fs (added_stays f s sound).sound h.2
+
+pub several_stay : (s t : World) (fs : List FactValue) (g : FactValue) (ix : ℕ) → IsSound s.memory → AreAsserted s fs t → fact_at s.memory.network.facts ix ≡ Some g → fact_at t.memory.network.facts ix ≡ Some g
+several_stay s t [] g ix sound h at = subst (λ (u : World). fact_at u.memory.network.facts ix ≡ Some g) h at
+several_stay s t (f ∷ fs) g ix sound h at =
+    let step = added_stays f s sound in
+    several_stay (fact_added f s).state t fs g ix step.sound h.2 (step.stays ix g at)
+
+pub several_only : (s t : World) (fs : List FactValue) (g : FactValue) → IsSound s.memory → AreAsserted s fs t → IsThere t.memory g → IsThere s.memory g ⊎ Contains fs g
+several_only s t [] g sound h at = inl (subst (λ (u : World). IsThere u.memory g) (sym h) at)
+several_only s t (f ∷ fs) g sound h at = by (several_only (fact_added f s).state t fs g step.sound h.2 at)
+  where
+    step : Stays f s.memory (fact_added f s).state.memory
+    step = added_stays f s sound
+
+    first : (q : ℕ) → (fact_at s.memory.network.facts q ≡ Some g) ⊎ (f ≡ g) → IsThere s.memory g ⊎ Contains (f ∷ fs) g
     first q (inl was) = inl (q, was)
     first q (inr same) = inr (subst (Contains (f ∷ fs)) same (facts_laws.ghosts.contains_here _ f fs))
 
-    by : IsThere (asserted_one m f).0 g ⊎ Contains fs g → IsThere m g ⊎ Contains (f ∷ fs) g
+    by : IsThere (fact_added f s).state.memory g ⊎ Contains fs g → IsThere s.memory g ⊎ Contains (f ∷ fs) g
     by (inl there) = first there.0 (step.only there.0 g there.1)
     by (inr c) = inr (facts_laws.ghosts.contains_there _ f g fs c)
 
-pub several_there : (m n : Memory) (fs : List FactValue) (g : FactValue) → IsSound m → AreAsserted m fs n → IsThere m g ⊎ Contains fs g → IsThere n g
-several_there m n fs g sound h (inl there) = (there.0, several_stay m n fs g there.0 sound h there.1)
-several_there m n [] g sound h (inr (k, below, is)) = absurd (omega arith)
-several_there m n (f ∷ fs) g sound h (inr c) = by (first_or_other f g fs c) (λ s later. several_there (asserted_one m f).0 n fs g s h.2 (inr later))
+pub several_there : (s t : World) (fs : List FactValue) (g : FactValue) → IsSound s.memory → AreAsserted s fs t → IsThere s.memory g ⊎ Contains fs g → IsThere t.memory g
+several_there s t fs g sound h (inl there) = (there.0, several_stay s t fs g there.0 sound h there.1)
+several_there s t [] g sound h (inr (k, below, is)) = absurd (omega arith)
+several_there s t (f ∷ fs) g sound h (inr c) = by (first_or_other f g fs c) (λ u later. several_there (fact_added f s).state t fs g u h.2 (inr later))
   where
-    step : OneMore m f (asserted_one m f).0 h.0
-    step = one_more m f h.0 sound h.1
+    step : Answered f s (fact_added f s) h.0
+    step = answered f s h.0 sound h.1
 
-    by : (f ≡ g) ⊎ Contains fs g → (IsSound (asserted_one m f).0 → Contains fs g → IsThere n g) → IsThere n g
-    by (inl same) more = (h.0, several_stay (asserted_one m f).0 n fs g h.0 step.sound h.2 (step.here ∙ ap Some same))
-    by (inr later) more = more step.sound later
+    by : (f ≡ g) ⊎ Contains fs g → (IsSound (fact_added f s).state.memory → Contains fs g → IsThere t.memory g) → IsThere t.memory g
+    by (inl same) more = (step.ix, several_stay (fact_added f s).state t fs g step.ix step.more.sound h.2 (step.more.here ∙ ap Some same))
+    by (inr later) more = more step.more.sound later
 
-pub there_where : (m n : Memory) (fs : List FactValue) (g : FactValue) → IsSound m → AreAsserted m fs n → IsThere n g ↔ (IsThere m g ⊎ Contains fs g)
-there_where m n fs g sound h = (several_only m n fs g sound h, several_there m n fs g sound h)
-
--- where the fact was there, and where it was not
-pub known : (m : Memory) (f : FactValue) (ix : ℕ) → IsSound m → fact_at m.facts ix ≡ Some f → asserted_one m f ≡ (m, Some ix)
-known m f ix sound at = ap (asserted_beside m f) (memory_laws.ghosts.index_of_there m.facts f ix (base_of m sound) at)
-
-room_left : (m : Memory) (f : FactValue) (room : Bool) → room ≡ true → (if◌then◌else◌ {A = Memory × Option ℕ} room (grown m f, Some (m.last + 1)) (m, None)).1 ≡ Some (m.last + 1)
-room_left m f true e = refl
-room_left m f false e = absurd (cc)
-
-pub next_index : (m : Memory) (f : FactValue) → IsSound m → IsAbsent m.facts f → m.last < greatest_index → (asserted_one m f).1 ≡ Some (m.last + 1)
-next_index m f sound absent below =
-    let room : nat_lt m.last greatest_index ≡ true = search rules in
-    ap (λ o. (asserted_beside m f o).1) (memory_laws.ghosts.index_of_absent m.facts f (base_of m sound) absent) ∙ room_left m f (nat_lt m.last greatest_index) room
-
-no_room : (m : Memory) (f : FactValue) (room : Bool) → room ≡ false → if◌then◌else◌ {A = Memory × Option ℕ} room (grown m f, Some (m.last + 1)) (m, None) ≡ (m, None)
-no_room m f true e = absurd (cc)
-no_room m f false e = refl
-
-pub no_index : (m : Memory) (f : FactValue) → IsSound m → IsAbsent m.facts f → greatest_index ≤ m.last → asserted_one m f ≡ (m, None)
-no_index m f sound absent above =
-    let full : nat_lt m.last greatest_index ≡ false = search rules in
-    ap (asserted_beside m f) (memory_laws.ghosts.index_of_absent m.facts f (base_of m sound) absent) ∙ no_room m f (nat_lt m.last greatest_index) full
-
-last_grown : (m : Memory) (f : FactValue) (room : Bool) → room ≡ true → (if◌then◌else◌ {A = Memory × Option ℕ} room (grown m f, Some (m.last + 1)) (m, None)).0.last ≡ m.last + 1
-last_grown m f true e = refl
-last_grown m f false e = absurd (cc)
-
-pub next_last : (m : Memory) (f : FactValue) → IsSound m → IsAbsent m.facts f → m.last < greatest_index → (asserted_one m f).0.last ≡ m.last + 1
-next_last m f sound absent below =
-    let room : nat_lt m.last greatest_index ≡ true = search rules in
-    ap (λ o. (asserted_beside m f o).0.last) (memory_laws.ghosts.index_of_absent m.facts f (base_of m sound) absent) ∙ last_grown m f (nat_lt m.last greatest_index) room
+pub there_where : (s t : World) (fs : List FactValue) (g : FactValue) → IsSound s.memory → AreAsserted s fs t → IsThere t.memory g ↔ (IsThere s.memory g ⊎ Contains fs g)
+there_where s t fs g sound h = (several_only s t fs g sound h, several_there s t fs g sound h)

@@ -4,6 +4,7 @@ use Rattle.std.proofs.lemmas.List.Elements.{All-from_recursion, recursion_from_A
 use Rattle.std.proofs.lemmas.Map.Views.{All-keys-insert_entry, All-map-remove_entry}
 use Rattle.std.specs.BTreeMap.{insert_entry}
 use Rattle.std.specs.Cmp.{IsTotalOrder}
+use Rattle.std.specs.List.{AllByRecursion, filter}
 use Rattle.std.specs.List.Sorted.{IsStrictlySortedBy}
 use Rattle.std.specs.Map.{keys_of, lookup, remove_entry}
 use Rattle.std.specs.Ordering.{match_ordering, ordering_reverse}
@@ -51,13 +52,22 @@ module _ {K : Type 0} (R : K → K → Ordering) where
   unfolding IsStrictlySortedBy
   first_before i ks s = All-from_recursion (λ y. R i y ≡ Less) ks s.0
 
-  others_rise : (i : K) (ks : List K) → IsStrictlySortedBy R (i ∷ ks) → IsStrictlySortedBy R ks
+  pub others_rise : (i : K) (ks : List K) → IsStrictlySortedBy R (i ∷ ks) → IsStrictlySortedBy R ks
   unfolding IsStrictlySortedBy
   others_rise i ks s = s.1
 
   rise_from : (i : K) (ks : List K) → All (λ y. R i y ≡ Less) ks → IsStrictlySortedBy R ks → IsStrictlySortedBy R (i ∷ ks)
   unfolding IsStrictlySortedBy
   rise_from i ks first s = (recursion_from_All (λ y. R i y ≡ Less) ks first, s)
+
+  -- the same as lists are gone through
+  pub before_others : (i : K) (ks : List K) → IsStrictlySortedBy R (i ∷ ks) → AllByRecursion (λ y. R i y ≡ Less) ks
+  unfolding IsStrictlySortedBy
+  before_others i ks s = s.0
+
+  rise_so : (i : K) (ks : List K) → AllByRecursion (λ y. R i y ≡ Less) ks → IsStrictlySortedBy R ks → IsStrictlySortedBy R (i ∷ ks)
+  unfolding IsStrictlySortedBy
+  rise_so i ks first s = (first, s)
 
   none_rise : IsStrictlySortedBy R []
   unfolding IsStrictlySortedBy
@@ -85,3 +95,19 @@ module _ {K : Type 0} (R : K → K → Ordering) where
       by : (t : Bool) → IsStrictlySortedBy R (keys_of (remove_entry test es)) → IsStrictlySortedBy R (keys_of (cond t es ((i, there) ∷ remove_entry test es)))
       by true more = others_rise i (keys_of es) s
       by false more = rise_from i (keys_of (remove_entry test es)) (All-map-remove_entry test (λ e. e.0) (λ y. R i y ≡ Less) es (first_before i (keys_of es) s)) more
+
+  one_filtered : {X : Type 0} (P : K → Type 0) (t : Bool) (f : K × X) (fs : List (K × X)) → P f.0 → AllByRecursion P (keys_of fs) → AllByRecursion P (keys_of (cond t (f ∷ fs) fs))
+  one_filtered P true f fs h more = (h, more)
+  one_filtered P false f fs h more = more
+
+  pub rising_filtered : {X : Type 0} (keep : K × X → Bool) (es : List (K × X)) → IsStrictlySortedBy R (keys_of es) → IsStrictlySortedBy R (keys_of (filter keep es))
+  rising_filtered {X} keep [] s = s
+  rising_filtered {X} keep (e ∷ es) s = by (keep e) (rising_filtered keep es (others_rise e.0 (keys_of es) s))
+    where
+      all_filtered : (fs : List (K × X)) → AllByRecursion (λ y. R e.0 y ≡ Less) (keys_of fs) → AllByRecursion (λ y. R e.0 y ≡ Less) (keys_of (filter keep fs))
+      all_filtered [] h = h
+      all_filtered (f ∷ fs) h = one_filtered (λ y. R e.0 y ≡ Less) (keep f) f (filter keep fs) h.0 (all_filtered fs h.1)
+
+      by : (t : Bool) → IsStrictlySortedBy R (keys_of (filter keep es)) → IsStrictlySortedBy R (keys_of (cond t (e ∷ filter keep es) (filter keep es)))
+      by true more = rise_so e.0 (keys_of (filter keep es)) (all_filtered es (before_others e.0 (keys_of es) s)) more
+      by false more = more

@@ -57,11 +57,13 @@ world_by : (s : State) (w : World) (bytes : List ℕ) (answer : Result (Option V
 world_by s w bytes (Ok v) = refl
 world_by s w bytes (Err (ended.Fault f)) = refl
 world_by s w bytes (Err (ended.Limit limit)) = refl
+world_by s w bytes (Err (ended.Exit code)) = refl
 
 only_by : (s : State) (w : World) (bytes : List ℕ) (answer : Result (Option Value) Ended) → ((run_after s w bytes answer).state.deffacts ≡ s.deffacts) × ((run_after s w bytes answer).state.globals ≡ s.globals)
 only_by s w bytes (Ok v) = (refl, refl)
 only_by s w bytes (Err (ended.Fault f)) = (refl, refl)
 only_by s w bytes (Err (ended.Limit limit)) = (refl, refl)
+only_by s w bytes (Err (ended.Exit code)) = (refl, refl)
 
 pub world_is : (s : State) (r : Reading) (t : Term) → requested s r ≡ Ok (asked.act t) → (executed s r).state.world ≡ (carried t s.world).state
 world_is s r t h = ap (λ run. run.state.world) (by_expression s r t h) ∙ world_by s (carried t s.world).state (carried t s.world).written (carried t s.world).answer
@@ -97,7 +99,7 @@ first_read (g ∷ fs) x f h =
 -- a call with an effect asks for an expression
 as_expression : (s : State) (name : List ℕ) (a : Action) (ts : Trees) → head_of name ≡ Some (head.Action a)
     → requested s (Ok (list_of name ts)) ≡ act_request s.world.templates s.world.env (list_of name ts)
-as_expression s name a ts h = ap (λ o. headed_request s.world.templates s.world.env (is_in_use s.world.memory s.deffacts) (list_of name ts) o ts) h
+as_expression s name a ts h = ap (λ o. headed_request s.world.templates s.world.env (is_in_use s.world.memory s.world.rules s.deffacts) (list_of name ts) o ts) h
 
 pub right_call : (s : State) (name : List ℕ) (a : Action) (ts : Trees) → head_of name ≡ Some (head.Action a)
     → faults_of (top_scope s.world.templates s.world.env (list_of name ts)) (list_of name ts) ≡ [] → requested s (Ok (list_of name ts)) ≡ Ok (asked.act (expr_of s.world.templates (list_of name ts)))
@@ -166,7 +168,7 @@ module _ (s : State) (forms : Trees) where
   item = Ok (list_of (codes "deftemplate") forms)
 
   abbrev faults : List Fault
-  faults = template_faults (is_in_use s.world.memory s.deffacts) forms
+  faults = template_faults (is_in_use s.world.memory s.world.rules s.deffacts) forms
 
   asks : requested s item ≡ ok_then asked.define_template (unless_faulty faults (template_shape forms))
   unfolding head_of
@@ -177,7 +179,7 @@ module _ (s : State) (forms : Trees) where
 
   pub template_defined_so : faults ≡ [] → Defines s.world.templates forms (executed s item).state.world.templates
   template_defined_so h =
-      subst (λ (run : Run). Defines s.world.templates forms run.state.world.templates) (sym (defines h)) (is_defined s.world.templates (is_in_use s.world.memory s.deffacts) forms h)
+      subst (λ (run : Run). Defines s.world.templates forms run.state.world.templates) (sym (defines h)) (is_defined s.world.templates (is_in_use s.world.memory s.world.rules s.deffacts) forms h)
 
   pub template_only : faults ≡ [] → (executed s item).state ≡ record s { world = record s.world { templates = (executed s item).state.world.templates } }
   template_only h = subst (λ (run : Run). run.state ≡ record s { world = record s.world { templates = run.state.world.templates } }) (sym (defines h)) refl

@@ -1,6 +1,7 @@
 mod EntryLaws
 mod Members
 mod MemoryBasics
+mod MoveLaws
 mod NameFirst
 mod AssertLaws
 mod RetractLaws
@@ -15,6 +16,9 @@ mod ShapeLaws
 mod ReachedLaws
 mod Keeping
 mod ExpressionLaws
+mod WorldLaws
+mod FiringLaws
+mod AgendaLaws
 mod ScriptLaws
 mod OpenTexts
 mod OpenLaws

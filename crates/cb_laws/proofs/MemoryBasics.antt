@@ -13,7 +13,7 @@ use Rattle.cb_laws.specs.Memories.{IsSound}
 use Rattle.cb_working_memory.specs.WorkingMemory.{Memory, index_of}
 use Rattle.cb_working_memory.specs.contracts.cited.LawsCited.TheImpl as memory_laws
 
-pub base_of : (m : Memory) → IsSound m → IsFactBase m.facts
+pub base_of : (m : Memory) → IsSound m → IsFactBase m.network.facts
 base_of m sound = record { rising = sound.rising; distinct = sound.distinct }
 
 -- what a search finds is there
@@ -27,25 +27,25 @@ found_in ((i, there) ∷ facts) fact ix h = by (fact_eq there fact) refl h (foun
         subst (Contains ((i, there) ∷ facts)) (ap₂ (λ (n : ℕ) (f : FactValue). (n, f)) index_is ((facts_laws.ghosts.fact_decides there fact).0 e)) (facts_laws.ghosts.contains_here _ (i, there) facts)
     by false e is more = facts_laws.ghosts.contains_there _ (i, there) (ix, fact) facts (more is)
 
-pub found_there : (m : Memory) (fact : FactValue) (ix : ℕ) → IsSound m → index_of m.facts fact ≡ Some ix → fact_at m.facts ix ≡ Some fact
+pub found_there : (m : Memory) (fact : FactValue) (ix : ℕ) → IsSound m → index_of m.network.facts fact ≡ Some ix → fact_at m.network.facts ix ≡ Some fact
 found_there m fact ix sound h =
-    lookup-from_Contains {eq = eq_by_cmp nat_cmp} (eq_by_cmp_equiv nat_cmp_total) ix fact m.facts (IsDistinct-from_sorted nat_cmp (keys_of m.facts) sound.rising) (found_in m.facts fact ix h)
+    lookup-from_Contains {eq = eq_by_cmp nat_cmp} (eq_by_cmp_equiv nat_cmp_total) ix fact m.network.facts (IsDistinct-from_sorted nat_cmp (keys_of m.network.facts) sound.rising) (found_in m.network.facts fact ix h)
 
-pub not_found : (m : Memory) (fact : FactValue) (ix : ℕ) → IsSound m → index_of m.facts fact ≡ None → fact_at m.facts ix ≡ Some fact → ⊥
+pub not_found : (m : Memory) (fact : FactValue) (ix : ℕ) → IsSound m → index_of m.network.facts fact ≡ None → fact_at m.network.facts ix ≡ Some fact → ⊥
 not_found m fact ix sound none at =
-    let there : index_of m.facts fact ≡ Some ix = memory_laws.ghosts.index_of_there m.facts fact ix (base_of m sound) at in
+    let there : index_of m.network.facts fact ≡ Some ix = memory_laws.ghosts.index_of_there m.network.facts fact ix (base_of m sound) at in
     cc
 
 -- where facts are only taken out, the memory stays sound
-pub fewer : (m n : Memory) → IsSound m → IsStrictlySortedBy nat_cmp (keys_of n.facts) → n.last ≡ m.last → ((ix : ℕ) (fact : FactValue) → fact_at n.facts ix ≡ Some fact → fact_at m.facts ix ≡ Some fact) → IsSound n
+pub fewer : (m n : Memory) → IsSound m → IsStrictlySortedBy nat_cmp (keys_of n.network.facts) → n.last ≡ m.last → ((ix : ℕ) (fact : FactValue) → fact_at n.network.facts ix ≡ Some fact → fact_at m.network.facts ix ≡ Some fact) → IsSound n
 fewer m n sound rising last kept = record {
   rising = rising;
   distinct = λ fact i j p q. sound.distinct fact i j (kept i fact p) (kept j fact q);
-  none_after = λ ix above. none ix above (fact_at n.facts ix) refl;
+  none_after = λ ix above. none ix above (fact_at n.network.facts ix) refl;
 } where
-  none : (ix : ℕ) → n.last < ix → (o : Option FactValue) → fact_at n.facts ix ≡ o → fact_at n.facts ix ≡ None
+  none : (ix : ℕ) → n.last < ix → (o : Option FactValue) → fact_at n.network.facts ix ≡ o → fact_at n.network.facts ix ≡ None
   none ix above None e = e
   none ix above (Some fact) e =
-      let gone : fact_at m.facts ix ≡ None = sound.none_after ix (subst (λ l. l < ix) last above) in
-      let there : fact_at m.facts ix ≡ Some fact = kept ix fact e in
+      let gone : fact_at m.network.facts ix ≡ None = sound.none_after ix (subst (λ l. l < ix) last above) in
+      let there : fact_at m.network.facts ix ≡ Some fact = kept ix fact e in
       absurd (cc)

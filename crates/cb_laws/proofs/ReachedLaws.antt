@@ -7,6 +7,10 @@ use Rattle.std.specs.List.{list_any}
 use Rattle.std.specs.List.Sorted.{IsStrictlySortedBy}
 use Rattle.std.specs.Ordering.{nat_cmp}
 use Rattle.std.specs.Str.{bytes_eq}
+use Rattle.cb_actions.specs.Acts.{give_or_fault, ◌>>=◌}
+use Rattle.cb_actions.specs.Effects.{asserted, fact_added, parts_of, retracted}
+use Rattle.cb_actions.specs.Worlds.{World}
+use Rattle.cb_exprs.specs.Shapes.{Shape}
 use Rattle.cb_facts.specs.FactLists.{IndexedFacts, fact_at}
 use Rattle.cb_facts.specs.Facts as content
 use Rattle.cb_facts.specs.Facts.{FactValue, ordered_fact}
@@ -15,14 +19,15 @@ use Rattle.cb_facts.specs.Results.{ok_then, with_first}
 use Rattle.cb_facts.specs.declared.value.Value.{Value}
 use Rattle.cb_facts.specs.declared.value.Value.TheVariants as value
 use Rattle.cb_forms.specs.declared.fault.Fault.{Fault}
-use Rattle.cb_laws.proofs.AssertLaws.{none_more, one_more, stays_in_range}
-use Rattle.cb_laws.proofs.RetractLaws.{shrinks}
+use Rattle.cb_laws.proofs.AssertLaws.{added_stays, adds_alone}
+use Rattle.cb_laws.proofs.RetractLaws.{retracted_takes}
 use Rattle.cb_laws.proofs.SlotLaws.{default_is, is_built, one_of}
 use Rattle.cb_laws.specs.Reached.{AreSlotsOf, AreWellKept, FillSlots, HasItsDefault, HasItsSlots, IsTemplate}
+use Rattle.cb_matches.specs.Networks.{Conditions}
 use Rattle.cb_templates.specs.Building.{Given, PartValues, built, built_by, field_values, filled, given_for, one_value, slot_values, value_or_default}
 use Rattle.cb_templates.specs.Slots.{SlotShape}
 use Rattle.cb_templates.specs.Templates.{Templates, slots_of}
-use Rattle.cb_working_memory.specs.WorkingMemory.{Memory, asserted_one, empty_memory, greatest_index, retracted_all}
+use Rattle.cb_working_memory.specs.WorkingMemory.{Memory, greatest_index}
 
 -- each relation that has a template has one whose slots are right
 abbrev AreTemplates : Templates → Type 0
@@ -32,8 +37,10 @@ no_indices : IsStrictlySortedBy nat_cmp []
 unfolding IsStrictlySortedBy
 no_indices = tt
 
-pub empty_kept : (templates : Templates) → AreTemplates templates → AreWellKept empty_memory templates
-empty_kept templates made = record {
+-- no facts, whatever the rules are
+pub none_kept : (rules : Conditions) (last_rule : ℕ) (templates : Templates) → AreTemplates templates
+    → AreWellKept (record { network = record { rules = rules; facts = [] }; last = 0; last_rule = last_rule }) templates
+none_kept rules last_rule templates made = record {
   sound = record { rising = no_indices; distinct = λ fact i j p q. absurd (cc); none_after = λ ix above. refl };
   in_range = omega arith;
   templates_are = made;
@@ -84,26 +91,46 @@ has_its_slots templates relation parts fact are h = by (slots_of templates relat
         let full : FillSlots them made.pairs = filled_slots them given made.pairs (are relation them e).defaults made.filling in
         subst (HasItsSlots templates) made.fact_is (subst (λ o. AreSlotsOf o (content.slots made.pairs)) (sym e) full)
 
--- an assertion
-pub asserted_kept : (m : Memory) (templates : Templates) (relation : List ℕ) (parts : PartValues) (fact : FactValue) → AreWellKept m templates → built templates relation parts ≡ Ok fact
-    → AreWellKept (asserted_one m fact).0 templates
-asserted_kept m templates relation parts fact kept made = by (asserted_one m fact).1 refl
-  where
-    which : (ix : ℕ) (g : FactValue) → (fact_at m.facts ix ≡ Some g) ⊎ (fact ≡ g) → HasItsSlots templates g
-    which ix g (inl was) = kept.slots ix g was
-    which ix g (inr same) = subst (HasItsSlots templates) same (has_its_slots templates relation parts fact kept.templates_are made)
+-- other rules
+pub rules_kept : (m : Memory) (templates : Templates) (rules : Conditions) (last_rule : ℕ) → AreWellKept m templates
+    → AreWellKept (record { network = record { rules = rules; facts = m.network.facts }; last = m.last; last_rule = last_rule }) templates
+rules_kept m templates rules last_rule kept = record {
+  sound = record { rising = kept.sound.rising; distinct = kept.sound.distinct; none_after = kept.sound.none_after };
+  in_range = kept.in_range;
+  templates_are = kept.templates_are;
+  slots = kept.slots;
+}
 
-    by : (o : Option ℕ) → (asserted_one m fact).1 ≡ o → AreWellKept (asserted_one m fact).0 templates
-    by None e = subst (λ n. AreWellKept n templates) (none_more m fact e) kept
-    by (Some ix) e =
-        let more = one_more m fact ix kept.sound e in
-        record { sound = more.sound; in_range = stays_in_range m fact kept.in_range; templates_are = kept.templates_are; slots = λ q g at. which q g (more.only q g at) }
+-- an assertion
+pub added_kept : (fact : FactValue) (s : World) → AreWellKept s.memory s.templates → HasItsSlots s.templates fact → AreWellKept (fact_added fact s).state.memory (fact_added fact s).state.templates
+added_kept fact s kept right =
+    let it = added_stays fact s kept.sound in
+    let same : (fact_added fact s).state.templates ≡ s.templates = ap (λ (w : World). w.templates) (adds_alone fact s).changes.only in
+    subst (AreWellKept (fact_added fact s).state.memory) (sym same) (record { sound = it.sound; in_range = it.in_range kept.in_range; templates_are = kept.templates_are; slots = λ ix g at. which ix g (it.only ix g at) })
+  where
+    which : (ix : ℕ) (g : FactValue) → (fact_at s.memory.network.facts ix ≡ Some g) ⊎ (fact ≡ g) → HasItsSlots s.templates g
+    which ix g (inl was) = kept.slots ix g was
+    which ix g (inr same) = subst (HasItsSlots s.templates) same right
+
+pub asserted_kept : (shape : Shape) (vs : List Value) (s : World) → AreWellKept s.memory s.templates → AreWellKept (asserted shape vs s).state.memory (asserted shape vs s).state.templates
+asserted_kept shape vs s kept = by (built s.templates shape.relation (parts_of shape.slots vs)) refl
+  where
+    by : (r : Result FactValue Fault) → built s.templates shape.relation (parts_of shape.slots vs) ≡ r
+        → AreWellKept ((give_or_fault r >>= fact_added) s).state.memory ((give_or_fault r >>= fact_added) s).state.templates
+    by (Err f) e = kept
+    by (Ok fact) e = added_kept fact s kept (has_its_slots s.templates shape.relation (parts_of shape.slots vs) fact kept.templates_are e)
 
 -- a retraction
-pub retracted_kept : (m : Memory) (templates : Templates) (vs : List Value) → AreWellKept m templates → AreWellKept (retracted_all m vs).0 templates
-retracted_kept m templates vs kept =
-    let less = shrinks vs m kept.sound in
-    record { sound = less.sound; in_range = subst (λ n. n ≤ greatest_index) (sym less.last) kept.in_range; templates_are = kept.templates_are; slots = λ ix fact at. kept.slots ix fact (less.kept ix fact at) }
+pub retracted_kept : (vs : List Value) (s : World) → AreWellKept s.memory s.templates → AreWellKept (retracted vs s).state.memory (retracted vs s).state.templates
+retracted_kept vs s kept =
+    let it = retracted_takes vs s in
+    let same : (retracted vs s).state.templates ≡ s.templates = ap (λ (w : World). w.templates) it.changes.only in
+    subst (AreWellKept (retracted vs s).state.memory) (sym same) (record {
+      sound = it.sound kept.sound;
+      in_range = subst (λ n. n ≤ greatest_index) (sym it.last) kept.in_range;
+      templates_are = kept.templates_are;
+      slots = λ ix fact at. kept.slots ix fact (it.kept kept.sound ix fact at);
+    })
 
 -- no fact that is there has the relation
 pub not_first : (s t : Bool) → (s || t) ≡ false → s ≡ false
@@ -128,7 +155,7 @@ not_named ((i, there) ∷ facts) name ix fact none at =
 
 -- a definition of a template for a relation that no fact has
 pub defined_kept : (m : Memory) (old new : Templates) (name : List ℕ) (them : List SlotShape) → AreWellKept m old → IsTemplate them → slots_of new name ≡ Some them
-    → ((other : List ℕ) → (other ≡ name → ⊥) → slots_of new other ≡ slots_of old other) → list_any (λ entry. bytes_eq entry.1.relation name) m.facts ≡ false → AreWellKept m new
+    → ((other : List ℕ) → (other ≡ name → ⊥) → slots_of new other ≡ slots_of old other) → list_any (λ entry. bytes_eq entry.1.relation name) m.network.facts ≡ false → AreWellKept m new
 defined_kept m old new name them kept right here others none = record {
   sound = kept.sound;
   in_range = kept.in_range;
@@ -145,5 +172,5 @@ defined_kept m old new name them kept right here others none = record {
       subst IsTemplate is right
   template relation slots false e at = kept.templates_are relation slots (sym (others relation (differs relation e)) ∙ at)
 
-  by : (ix : ℕ) (fact : FactValue) → fact_at m.facts ix ≡ Some fact → HasItsSlots new fact
-  by ix fact at = subst (λ o. AreSlotsOf o fact.content) (sym (others fact.relation (differs fact.relation (not_named m.facts name ix fact none at)))) (kept.slots ix fact at)
+  by : (ix : ℕ) (fact : FactValue) → fact_at m.network.facts ix ≡ Some fact → HasItsSlots new fact
+  by ix fact at = subst (λ o. AreSlotsOf o fact.content) (sym (others fact.relation (differs fact.relation (not_named m.network.facts name ix fact none at)))) (kept.slots ix fact at)

@@ -1,11 +1,15 @@
--- Whatever a script does, facts and templates stay well kept.
-use Rattle.std.proofs.Common.{◌≡◌, ◌∙◌, ◌++◌, ℕ, Bool, true, false, not, List, [], ◌∷◌, Option, Some, None, Result, Ok, Err, refl, ap, if◌then◌else◌}
+-- Whatever a script does, facts and templates stay well kept, no more firings are left than there may be, and no match is due twice.
+use Rattle.std.proofs.Common.{◌≡◌, ◌≤◌, ◌∙◌, ◌++◌, ◌||◌, ℕ, Bool, true, false, not, List, [], ◌∷◌, Option, Some, None, Result, Ok, Err, refl, ap, arith, subst, if◌then◌else◌}
 use Rattle.std.specs.List.{list_any}
 use Rattle.std.specs.Str.{bytes_eq}
 use Rattle.cb_actions.specs.Acts.{give_or_fault, ◌>>=◌}
+use Rattle.cb_actions.specs.Commands.{watched_so}
 use Rattle.cb_actions.specs.Definitions.{all_asserted, all_evaluated, globals_defined}
+use Rattle.cb_actions.specs.Runs.{cleared_world, restarted_world}
+use Rattle.cb_actions.specs.Worlds.{World}
 use Rattle.cb_actions.specs.declared.act.Ended.{Ended}
 use Rattle.cb_actions.specs.declared.act.Ended.TheVariants as ended
+use Rattle.cb_agenda.specs.declared.strategy.Strategy.TheVariants.{Depth}
 use Rattle.cb_exprs.specs.FactTerms.{FactTerm}
 use Rattle.cb_exprs.specs.GlobalTerms.{GlobalTerm}
 use Rattle.cb_exprs.specs.Terms.{Term}
@@ -17,18 +21,21 @@ use Rattle.cb_forms.specs.declared.fault.Fault.{Fault}
 use Rattle.cb_forms.specs.declared.fault.Fault.TheVariants.{MalformedForm, TemplateInUse}
 use Rattle.cb_laws.proofs.DefaultLaws.{slots_suit}
 use Rattle.cb_laws.proofs.DefinedLaws.{other_template, put_template}
-use Rattle.cb_laws.proofs.ExpressionLaws.{WellKept, anew_keeps, expression_keeps, facts_keep, globals_keep}
+use Rattle.cb_laws.proofs.ExpressionLaws.{anew_keeps, expression_keeps, facts_keep, globals_keep}
 use Rattle.cb_laws.proofs.Keeping.{Keeps, follow_keeps, keeps_then}
-use Rattle.cb_laws.proofs.ReachedLaws.{defined_kept, empty_kept, not_first}
+use Rattle.cb_laws.proofs.ReachedLaws.{defined_kept, none_kept, not_first}
 use Rattle.cb_laws.proofs.SlotFormLaws.{each_slot}
+use Rattle.cb_laws.proofs.WorldLaws.{HasAtMost, HasProperAgenda, IsKeptByAll, WellKept, agenda_kept, clear_keeps, exited_keeps, firings_kept, no_templates, none_due, ran_as_keeps, restart_keeps, rule_keeps, undefined_keeps, well_kept}
+use Rattle.cb_laws.specs.Firing.{IsProper}
 use Rattle.cb_laws.specs.Reached.{AreWellKept, IsTemplate}
-use Rattle.cb_expr_forms.specs.Scopes.{plain_scope}
-use Rattle.cb_requests.specs.Reads.{expr_in, facts_in, globals_in, top_scope}
+use Rattle.cb_expr_forms.specs.Scopes.{Scope, plain_scope}
+use Rattle.cb_requests.specs.Arguments.{alone, item_in, optional_in, rule_name_in, strategy_in}
+use Rattle.cb_requests.specs.Reads.{expr_in, facts_in, globals_in, rule_in, top_scope}
 use Rattle.cb_requests.specs.Requests as asked
-use Rattle.cb_requests.specs.Requests.{Request, called_request, deffacts_request, headed_request, named_request}
-use Rattle.cb_requests.specs.Uses.{is_in_use}
-use Rattle.cb_session.specs.Actions.{acted, initials_kept, on_world, performed, performed_and_shown, requested, reset_to, shown, started_over}
-use Rattle.cb_session.specs.States.{State}
+use Rattle.cb_requests.specs.Requests.{Request, act_request, called_request, command_request, construct_request, deffacts_request, headed_request}
+use Rattle.cb_requests.specs.Uses.{is_in_use, is_named_in_rules}
+use Rattle.cb_session.specs.Actions.{acted, definitions_dropped, initials_kept, on_world, performed, performed_and_shown, requested, reset_to, shown, variables_dropped}
+use Rattle.cb_session.specs.States.{State, first_state}
 use Rattle.cb_session.specs.Transcripts.{Run, after, after_all, after_status, begun, complete, concluded, executed, so_far, too_long, too_long_status}
 use Rattle.cb_session.specs.declared.limits.Limits.{Limits}
 use Rattle.cb_session.specs.declared.status.Status.{Status}
@@ -43,6 +50,7 @@ use Rattle.cb_templates.specs.contracts.cited.LawsCited.TheImpl as templates_law
 use Rattle.cb_words.specs.Words.{head_of}
 use Rattle.cb_words.specs.declared.head.Command.{Command as Word}
 use Rattle.cb_words.specs.declared.head.Command.TheVariants as word
+use Rattle.cb_words.specs.declared.head.Construct.{Construct}
 use Rattle.cb_words.specs.declared.head.Construct.TheVariants as construct
 use Rattle.cb_words.specs.declared.head.Head.{Head}
 use Rattle.cb_words.specs.declared.head.Head.TheVariants as head
@@ -59,12 +67,9 @@ right_template forms h =
     let each = (each_slot forms (slots_said forms)).0 read in
     record { differ = each.1; defaults = slots_suit forms (slots_said forms) each.0 }
 
-no_templates : (relation : List ℕ) (slots : List SlotShape) → slots_of [] relation ≡ Some slots → IsTemplate slots
-no_templates relation slots h = absurd (cc)
-
 -- a request as it is read in a state: a template has right slots, and its relation is not in use
 abbrev IsSound : State → Request → Type 0
-IsSound s (asked.define_template template) = IsTemplate template.1 × (is_in_use s.world.memory s.deffacts template.0 ≡ false)
+IsSound s (asked.define_template template) = IsTemplate template.1 × (is_in_use s.world.memory s.world.rules s.deffacts template.0 ≡ false)
 IsSound s request = Unit {0}
 
 abbrev IfSound : State → Result Request Fault → Type 0
@@ -72,115 +77,172 @@ IfSound s (Ok request) = IsSound s request
 IfSound s (Err f) = Unit {0}
 
 module _ (s : State) where
-  acts_sound : (r : Result Term Fault) → IfSound s (ok_then asked.act r)
-  acts_sound (Ok t) = tt
-  acts_sound (Err f) = tt
+  -- what is no template
+  other_sound : {A : Type 0} (ask : A → Request) (r : Result A Fault) → ((a : A) → IsSound s (ask a)) → IfSound s (ok_then ask r)
+  other_sound ask (Ok a) h = h a
+  other_sound ask (Err f) h = tt
 
-  facts_sound : (name : List ℕ) (r : Result (List FactTerm) Fault) → IfSound s (ok_then (asked.define_deffacts name) r)
-  facts_sound name (Ok facts) = tt
-  facts_sound name (Err f) = tt
+  alone_sound : (request : Request) (ts : Trees) → IsSound s request → IfSound s (alone request ts)
+  alone_sound request no_trees h = h
+  alone_sound request (tree t ts) h = tt
+
+  act_sound : (t : Tree) → IfSound s (act_request s.world.templates s.world.env t)
+  act_sound t = other_sound asked.act (expr_in (top_scope s.world.templates s.world.env t) t) (λ e. tt)
 
   deffacts_sound : (o : Option (List ℕ × Trees)) → IfSound s (deffacts_request s.world.templates s.world.env o)
   deffacts_sound None = tt
-  deffacts_sound (Some (name, ts)) = facts_sound name (facts_in (plain_scope s.world.templates s.world.env []) (without_comment ts))
+  deffacts_sound (Some (name, ts)) = other_sound (asked.define_deffacts name) (facts_in (plain_scope s.world.templates s.world.env []) (without_comment ts)) (λ facts. tt)
 
-  globals_sound : (r : Result (List GlobalTerm) Fault) → IfSound s (ok_then asked.define_globals r)
-  globals_sound (Ok globals) = tt
-  globals_sound (Err f) = tt
-
-  template_sound : (o : Option (List ℕ × Trees)) → IfSound s (ok_then asked.define_template (unless_faulty (named_template_faults (is_in_use s.world.memory s.deffacts) o) (template_said o)))
+  template_sound : (o : Option (List ℕ × Trees)) → IfSound s (ok_then asked.define_template (unless_faulty (named_template_faults (is_in_use s.world.memory s.world.rules s.deffacts) o) (template_said o)))
   template_sound None = tt
-  template_sound (Some (name, ts)) = by (is_reserved name) (is_in_use s.world.memory s.deffacts name) refl (slots_form_faults [] (without_comment ts)) refl
+  template_sound (Some (name, ts)) = by (is_reserved name) (is_in_use s.world.memory s.world.rules s.deffacts name) refl (slots_form_faults [] (without_comment ts)) refl
     where
-      by : (reserved used : Bool) → is_in_use s.world.memory s.deffacts name ≡ used → (fs : List Fault) → slots_form_faults [] (without_comment ts) ≡ fs
+      by : (reserved used : Bool) → is_in_use s.world.memory s.world.rules s.deffacts name ≡ used → (fs : List Fault) → slots_form_faults [] (without_comment ts) ≡ fs
           → IfSound s (ok_then asked.define_template (unless_faulty (unless (not reserved) MalformedForm ++ (unless (not used) TemplateInUse ++ fs)) (name, slots_said (without_comment ts))))
       by true used free fs is = tt
       by false true free fs is = tt
       by false false free [] is = (right_template (without_comment ts) is, free)
       by false false free (f ∷ fs) is = tt
 
-  bare_sound : (w : Word) → IsSound s (named_request w)
-  bare_sound word.Facts = tt
-  bare_sound word.Reset = tt
-  bare_sound word.Clear = tt
+  construct_sound : (c : Construct) (ts : Trees) → IfSound s (construct_request s.world.templates s.world.env (is_in_use s.world.memory s.world.rules s.deffacts) c ts)
+  construct_sound construct.Deftemplate ts = template_sound (head_and_rest ts)
+  construct_sound construct.Deffacts ts = deffacts_sound (head_and_rest ts)
+  construct_sound construct.Defglobal ts = other_sound asked.define_globals (globals_in s.world.templates s.world.env [] ts) (λ gs. tt)
+  construct_sound construct.Defrule ts = other_sound asked.define_rule (rule_in s.world.templates s.world.env ts) (λ rule. tt)
 
-  headed_sound : (t : Tree) (h : Option Head) (ts : Trees) → IfSound s (headed_request s.world.templates s.world.env (is_in_use s.world.memory s.deffacts) t h ts)
-  headed_sound t None ts = acts_sound (expr_in (top_scope s.world.templates s.world.env t) t)
-  headed_sound t (Some (head.Construct construct.Deftemplate)) ts = template_sound (head_and_rest ts)
-  headed_sound t (Some (head.Construct construct.Deffacts)) ts = deffacts_sound (head_and_rest ts)
-  headed_sound t (Some (head.Construct construct.Defglobal)) ts = globals_sound (globals_in s.world.templates s.world.env [] ts)
-  headed_sound t (Some (head.Command name)) no_trees = bare_sound name
-  headed_sound t (Some (head.Command name)) (tree u us) = tt
-  headed_sound t (Some (head.Action action)) ts = acts_sound (expr_in (top_scope s.world.templates s.world.env t) t)
-  headed_sound t (Some (head.Function function)) ts = acts_sound (expr_in (top_scope s.world.templates s.world.env t) t)
-  headed_sound t (Some head.Refused) ts = acts_sound (expr_in (top_scope s.world.templates s.world.env t) t)
+  command_sound : (scope : Scope) (w : Word) (ts : Trees) → IfSound s (command_request scope w ts)
+  command_sound scope word.Facts ts = alone_sound asked.list_facts ts tt
+  command_sound scope word.Agenda ts = alone_sound asked.list_agenda ts tt
+  command_sound scope word.Rules ts = alone_sound asked.list_rules ts tt
+  command_sound scope word.Reset ts = alone_sound asked.reset ts tt
+  command_sound scope word.Clear ts = alone_sound asked.clear ts tt
+  command_sound scope word.Run ts = other_sound asked.run (optional_in scope ts) (λ t. tt)
+  command_sound scope word.Exit ts = other_sound asked.exit (optional_in scope ts) (λ t. tt)
+  command_sound scope word.Undefrule ts = other_sound asked.undefine (rule_name_in ts) (λ name. tt)
+  command_sound scope word.Watch ts = other_sound (λ item. asked.watch item true) (item_in ts) (λ item. tt)
+  command_sound scope word.Unwatch ts = other_sound (λ item. asked.watch item false) (item_in ts) (λ item. tt)
+  command_sound scope word.SetStrategy ts = other_sound asked.set_strategy (strategy_in ts) (λ strategy. tt)
 
-  called_sound : (t : Tree) (o : Option (List ℕ × Trees)) → IfSound s (called_request s.world.templates s.world.env (is_in_use s.world.memory s.deffacts) t o)
-  called_sound t None = acts_sound (expr_in (top_scope s.world.templates s.world.env t) t)
+  headed_sound : (t : Tree) (h : Option Head) (ts : Trees) → IfSound s (headed_request s.world.templates s.world.env (is_in_use s.world.memory s.world.rules s.deffacts) t h ts)
+  headed_sound t None ts = act_sound t
+  headed_sound t (Some (head.Construct name)) ts = construct_sound name ts
+  headed_sound t (Some (head.Command name)) ts = command_sound (top_scope s.world.templates s.world.env t) name ts
+  headed_sound t (Some (head.Action action)) ts = act_sound t
+  headed_sound t (Some (head.Function function)) ts = act_sound t
+  headed_sound t (Some head.Refused) ts = act_sound t
+
+  called_sound : (t : Tree) (o : Option (List ℕ × Trees)) → IfSound s (called_request s.world.templates s.world.env (is_in_use s.world.memory s.world.rules s.deffacts) t o)
+  called_sound t None = act_sound t
   called_sound t (Some (name, ts)) = headed_sound t (head_of name) ts
 
   sound : (r : Reading) → IfSound s (requested s r)
   sound (Ok t) = called_sound t (call_of t)
   sound (Err f) = tt
 
-reset_keeps : (gs : List GlobalTerm) (facts : List FactTerm) → Keeps WellKept (reset_to gs facts)
-reset_keeps gs facts =
-    keeps_then WellKept (all_evaluated gs) (λ _. started_over >>= (λ _. all_asserted facts)) (anew_keeps gs)
-    (λ _. keeps_then WellKept started_over (λ _. all_asserted facts) (λ w h. empty_kept w.templates h.templates_are) (λ _. facts_keep facts))
-
 -- A template is defined only for a relation that no fact has.
 template_keeps : (s : State) (template : List ℕ × List SlotShape) → IsSound s (asked.define_template template) → Kept s → Kept (performed (asked.define_template template) s).state
 template_keeps s (name, slots) (right, free) h =
     defined_kept s.world.memory s.world.templates (with_template s.world.templates (name, slots)) name slots h right (put_template s.world.templates name slots) (λ other n. other_template s.world.templates name other slots n)
-    (not_first (list_any (λ entry. bytes_eq entry.1.relation name) s.world.memory.facts) (is_named_in_deffacts name s.deffacts) free)
+    (not_first (list_any (λ entry. bytes_eq entry.1.relation name) s.world.memory.network.facts) (is_named_in_rules name s.world.rules || is_named_in_deffacts name s.deffacts) free)
 
-performed_keeps : (s : State) (request : Request) → IsSound s request → Kept s → Kept (performed request s).state
-performed_keeps s (asked.act t) sound h = expression_keeps t s.world h
-performed_keeps s (asked.define_template template) sound h = template_keeps s template sound h
-performed_keeps s (asked.define_deffacts name facts) sound h = h
-performed_keeps s (asked.define_globals gs) sound h = keeps_then Kept (on_world (globals_defined gs)) (λ _. initials_kept gs) (λ u k. globals_keep gs u.world k) (λ _ u k. k) s h
-performed_keeps s asked.list_facts sound h = h
-performed_keeps s asked.reset sound h = reset_keeps s.globals (kept_facts s.deffacts) s.world h
-performed_keeps s asked.clear sound h = empty_kept [] no_templates
+-- What holds of the world is kept by every script, if every template keeps it that is read.
+module _ (P : World → Type 0) (kept : IsKeptByAll P)
+    (templates : (s : State) (r : Reading) (template : List ℕ × List SlotShape) → requested s r ≡ Ok (asked.define_template template) → P s.world → P (performed (asked.define_template template) s).state.world) where
+  abbrev InWorld : State → Type 0
+  InWorld s = P s.world
 
-acted_keeps : (r : Reading) → Keeps Kept (acted r)
-unfolding acted
-acted_keeps r s h = by (requested s r) (sound s r)
-  where
-    by : (request : Result Request Fault) → IfSound s request → Kept ((give_or_fault request >>= performed_and_shown) s).state
-    by (Ok request) is = follow_keeps Kept (performed request s).state (performed request s).written (performed request s).answer shown (performed_keeps s request is h) (λ v u k. k)
-    by (Err f) is = h
+  reset_keeps : (gs : List GlobalTerm) (facts : List FactTerm) → Keeps P (reset_to gs facts)
+  reset_keeps gs facts =
+      keeps_then P (all_evaluated gs) (λ _. variables_dropped >>= (λ _. restarted_world >>= (λ _. all_asserted facts))) (anew_keeps P kept.acts gs)
+      (λ _. keeps_then P variables_dropped (λ _. restarted_world >>= (λ _. all_asserted facts)) (λ w h. kept.acts.env w (record { variables = []; globals = w.env.globals }) h)
+      (λ _. keeps_then P restarted_world (λ _. all_asserted facts) (restart_keeps P kept) (λ _. facts_keep P kept.acts facts)))
 
-concluded_keeps : (s : State) (w : List ℕ) (r : Result (Unit {0}) Ended) → Kept s → Kept (concluded s w r).state
-concluded_keeps s w (Ok v) h = h
-concluded_keeps s w (Err (ended.Fault f)) h = h
-concluded_keeps s w (Err (ended.Limit limit)) h = h
+  performed_keeps : (s : State) (request : Request) → ((template : List ℕ × List SlotShape) → request ≡ asked.define_template template → P (performed (asked.define_template template) s).state.world) → P s.world → P (performed request s).state.world
+  performed_keeps s (asked.act t) template h = expression_keeps P kept.acts t s.world h
+  performed_keeps s (asked.define_template it) template h = template it refl
+  performed_keeps s (asked.define_deffacts name facts) template h = h
+  performed_keeps s (asked.define_globals gs) template h = keeps_then InWorld (on_world (globals_defined gs)) (λ _. initials_kept gs) (λ u k. globals_keep P kept.acts gs u.world k) (λ _ u k. k) s h
+  performed_keeps s (asked.define_rule rule) template h = rule_keeps P kept rule s.world h
+  performed_keeps s asked.list_facts template h = h
+  performed_keeps s asked.list_agenda template h = h
+  performed_keeps s asked.list_rules template h = h
+  performed_keeps s asked.reset template h = reset_keeps s.globals (kept_facts s.deffacts) s.world h
+  performed_keeps s asked.clear template h = keeps_then InWorld (on_world cleared_world) (λ _. definitions_dropped) (λ u k. clear_keeps P kept u.world k) (λ _ u k. k) s h
+  performed_keeps s (asked.run count) template h = ran_as_keeps P kept count s.world h
+  performed_keeps s (asked.exit status) template h = exited_keeps P kept status s.world h
+  performed_keeps s (asked.undefine name) template h = undefined_keeps P kept name s.world h
+  performed_keeps s (asked.watch item on) template h = kept.watches s.world (watched_so item on s.world.watched) h
+  performed_keeps s (asked.set_strategy strategy) template h = kept.orders s.world strategy h
 
-pub item_keeps : (s : State) (r : Reading) → Kept s → Kept (executed s r).state
-unfolding executed
-item_keeps s r h = concluded_keeps (acted r s).state (acted r s).written (acted r s).answer (acted_keeps r s h)
+  acted_keeps : (r : Reading) → Keeps InWorld (acted r)
+  unfolding acted
+  acted_keeps r s h = by (requested s r) refl
+    where
+      by : (request : Result Request Fault) → requested s r ≡ request → InWorld ((give_or_fault request >>= performed_and_shown) s).state
+      by (Ok request) is =
+          follow_keeps InWorld (performed request s).state (performed request s).written (performed request s).answer shown
+          (performed_keeps s request (λ template e. templates s r template (is ∙ ap Ok e) h) h) (λ v u k. k)
+      by (Err f) is = h
 
--- items, one after another
-status_keeps : (status : Option Status) (run : Run) (item : Reading) → Kept run.state → Kept (after_status status run item).state
-status_keeps None run item h = item_keeps run.state item h
-status_keeps (Some status) run item h = h
+  concluded_keeps : (s : State) (w : List ℕ) (r : Result (Unit {0}) Ended) → InWorld s → InWorld (concluded s w r).state
+  concluded_keeps s w (Ok v) h = h
+  concluded_keeps s w (Err (ended.Fault f)) h = h
+  concluded_keeps s w (Err (ended.Limit limit)) h = h
+  concluded_keeps s w (Err (ended.Exit code)) h = h
 
-items_keep : (run : Run) (items : List Reading) → Kept run.state → Kept (after_all run items).state
-items_keep run [] h = h
-items_keep run (item ∷ items) h = items_keep (after run item) items (status_keeps run.status run item h)
+  pub item_keeps : (s : State) (r : Reading) → InWorld s → InWorld (executed s r).state
+  unfolding executed
+  item_keeps s r h = concluded_keeps (acted r s).state (acted r s).written (acted r s).answer (acted_keeps r s h)
 
-long_keeps : (status : Option Status) (run : Run) → Kept run.state → Kept (too_long_status status run).state
-long_keeps None run h = h
-long_keeps (Some status) run h = h
+  -- items, one after another
+  status_keeps : (status : Option Status) (run : Run) (item : Reading) → InWorld run.state → InWorld (after_status status run item).state
+  status_keeps None run item h = item_keeps run.state item h
+  status_keeps (Some status) run item h = h
 
-run_keeps : (b : Bool) (limits : Limits) (some all : List Reading) → Kept (if b then too_long (after_all (begun limits) some) else after_all (begun limits) all).state
-run_keeps true limits some all = long_keeps (after_all (begun limits) some).status (after_all (begun limits) some) (items_keep (begun limits) some (empty_kept [] no_templates))
-run_keeps false limits some all = items_keep (begun limits) all (empty_kept [] no_templates)
+  items_keep : (run : Run) (items : List Reading) → InWorld run.state → InWorld (after_all run items).state
+  items_keep run [] h = h
+  items_keep run (item ∷ items) h = items_keep (after run item) items (status_keeps run.status run item h)
 
-pub so_far_kept : (limits : Limits) (p : List ℕ) → Kept (so_far limits p).state
-unfolding so_far
-so_far_kept limits p = run_keeps (over limits.max_form p) limits (fitting limits.max_form p) (whole p)
+  long_keeps : (status : Option Status) (run : Run) → InWorld run.state → InWorld (too_long_status status run).state
+  long_keeps None run h = h
+  long_keeps (Some status) run h = h
 
-pub script_kept : (limits : Limits) (s : List ℕ) → Kept (complete limits s).state
-unfolding complete
-script_kept limits s = run_keeps (over limits.max_form s) limits (fitting limits.max_form s) (fitting limits.max_form s)
+  module _ (limits : Limits) (first : P (first_state limits).world) where
+    run_keeps : (b : Bool) (some all : List Reading) → InWorld (if b then too_long (after_all (begun limits) some) else after_all (begun limits) all).state
+    run_keeps true some all = long_keeps (after_all (begun limits) some).status (after_all (begun limits) some) (items_keep (begun limits) some first)
+    run_keeps false some all = items_keep (begun limits) all first
+
+    pub so_far_kept : (p : List ℕ) → InWorld (so_far limits p).state
+    unfolding so_far
+    so_far_kept p = run_keeps (over limits.max_form p) (fitting limits.max_form p) (whole p)
+
+    pub script_kept : (s : List ℕ) → InWorld (complete limits s).state
+    unfolding complete
+    script_kept s = run_keeps (over limits.max_form s) (fitting limits.max_form s) (fitting limits.max_form s)
+
+-- facts and templates
+template_read : (s : State) (r : Reading) (template : List ℕ × List SlotShape) → requested s r ≡ Ok (asked.define_template template) → Kept s → Kept (performed (asked.define_template template) s).state
+template_read s r template e h = template_keeps s template (subst (IfSound s) e (sound s r)) h
+
+pub item_well : (s : State) (r : Reading) → Kept s → Kept (executed s r).state
+item_well s r h = item_keeps WellKept well_kept template_read s r h
+
+pub so_far_well : (limits : Limits) (p : List ℕ) → Kept (so_far limits p).state
+so_far_well limits p = so_far_kept WellKept well_kept template_read limits (none_kept [] 0 [] no_templates) p
+
+pub script_well : (limits : Limits) (s : List ℕ) → Kept (complete limits s).state
+script_well limits s = script_kept WellKept well_kept template_read limits (none_kept [] 0 [] no_templates) s
+
+-- firings
+pub so_far_within : (limits : Limits) (p : List ℕ) → (so_far limits p).state.world.firings ≤ limits.max_firings
+so_far_within limits p = so_far_kept (HasAtMost limits.max_firings) (firings_kept limits.max_firings) (λ s r template e h. h) limits (omega arith) p
+
+pub script_within : (limits : Limits) (s : List ℕ) → (complete limits s).state.world.firings ≤ limits.max_firings
+script_within limits s = script_kept (HasAtMost limits.max_firings) (firings_kept limits.max_firings) (λ s r template e h. h) limits (omega arith) s
+
+-- the agenda
+pub so_far_proper : (limits : Limits) (p : List ℕ) → IsProper (so_far limits p).state.world.agenda
+so_far_proper limits p = so_far_kept HasProperAgenda agenda_kept (λ s r template e h. h) limits (none_due 0 Depth) p
+
+pub script_proper : (limits : Limits) (s : List ℕ) → IsProper (complete limits s).state.world.agenda
+script_proper limits s = script_kept HasProperAgenda agenda_kept (λ s r template e h. h) limits (none_due 0 Depth) s

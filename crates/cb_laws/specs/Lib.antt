@@ -5,3 +5,4 @@ pub mod SlotValues
 pub mod Written
 pub mod Reached
 pub mod Words
+pub mod Firing

@@ -45,4 +45,4 @@ pub record AreWellKept (memory : Memory) (templates : Templates) : Type 0 where
   pub sound : IsSound memory
   pub in_range : memory.last ≤ greatest_index
   pub templates_are : (relation : List ℕ) (slots : List SlotShape) → slots_of templates relation ≡ Some slots → IsTemplate slots
-  pub slots : (ix : ℕ) (fact : FactValue) → fact_at memory.facts ix ≡ Some fact → HasItsSlots templates fact
+  pub slots : (ix : ℕ) (fact : FactValue) → fact_at memory.network.facts ix ≡ Some fact → HasItsSlots templates fact

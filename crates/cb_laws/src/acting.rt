@@ -2,13 +2,13 @@
 ghost use Rattle.std.specs.List.{list_all};
 ghost use Rattle.std.specs.Prelude.{◌≡◌, ◌⊎◌, ◌∷◌, ℕ, ℤ, List, [], Option, Some, None, Ok, Err, false, true, map};
 ghost use Rattle.cb_actions.specs.Actions.{carried, carried_values};
-ghost use Rattle.cb_actions.specs.Acts.{after_writing};
-ghost use Rattle.cb_actions.specs.Effects.{asserted, parts_of, retracted};
+ghost use Rattle.cb_actions.specs.Acts.{after_writing, stop};
+ghost use Rattle.cb_actions.specs.Effects.{asserted, fact_added, is_retractable, parts_of, retracted};
 ghost use Rattle.cb_actions.specs.Laws.{with_answer};
 ghost use Rattle.cb_actions.specs.Worlds.{World};
 ghost use Rattle.cb_actions.specs.declared.act.Ended.{Ended};
 ghost use Rattle.cb_actions.specs.declared.act.Ended.TheVariants as ended;
-ghost use Rattle.cb_actions.specs.declared.act.Limit.TheVariants.{Indices};
+ghost use Rattle.cb_actions.specs.declared.act.Limit.TheVariants.{Numbers};
 ghost use Rattle.cb_exprs.specs.Shapes.{Shape};
 ghost use Rattle.cb_exprs.specs.Terms.{Terms, assert, retract};
 ghost use Rattle.cb_facts.specs.FactLists.{fact_at};
@@ -17,58 +17,54 @@ ghost use Rattle.cb_facts.specs.declared.value.Value.{Value};
 ghost use Rattle.cb_facts.specs.declared.value.Value.TheVariants as value;
 ghost use Rattle.cb_forms.specs.declared.fault.Fault.{Fault};
 ghost use Rattle.cb_forms.specs.declared.fault.Fault.TheVariants.{NoSuchFact, WrongType};
-ghost use Rattle.cb_laws.specs.Memories.{AreAsserted, IsSound};
+ghost use Rattle.cb_laws.specs.Memories.{AreAsserted, ChangesFactsOnly, IsSound, IsUnwatched};
 ghost use Rattle.cb_laws.specs.Naming.{LeavesUnnamed, LeavesUpToMissing, names_fact};
 ghost use Rattle.cb_templates.specs.Building.{built, field_values, slot_values};
-ghost use Rattle.cb_working_memory.specs.WorkingMemory.{asserted_one, is_retractable};
 
 /// An `assert` asserts its one fact, and its value is the address under which that fact is there. Only where the fact has a
-/// fault or no index is left does it end without one: with the fault, and nothing changes, or at the limit of indices. However
-/// it ends, it writes nothing and changes the facts alone.
+/// fault, or no number is left for it or for the activations that come with it, does it end without one: with the fault, and
+/// nothing changes, or at the limit of numbers. However it ends, it changes the facts and the agenda alone, and where neither
+/// facts nor activations are watched it writes nothing.
 pub fn an_assertion_returns_its_address()
+    ensures asserts { (shape : Shape) (vs : List Value) (s : World) (fact : FactValue)
+        → built s.templates shape.relation (parts_of shape.slots vs) ≡ Ok fact
+        → asserted shape vs s ≡ fact_added fact s }
     ensures asserted { (shape : Shape) (vs : List Value) (s : World) (fact : FactValue)
         (answer : Option Value)
         → IsSound s.memory
         → built s.templates shape.relation (parts_of shape.slots vs) ≡ Ok fact
         → (asserted shape vs s).answer ≡ Ok answer
         → (ix : ℕ) × (answer ≡ Some (value.Fact ix))
-        × (fact_at (asserted shape vs s).state.memory.facts ix ≡ Some fact) }
+        × (fact_at (asserted shape vs s).state.memory.network.facts ix ≡ Some fact) }
     ensures one { (shape : Shape) (vs : List Value) (s : World) (fact : FactValue)
         (answer : Option Value)
         → built s.templates shape.relation (parts_of shape.slots vs) ≡ Ok fact
         → (asserted shape vs s).answer ≡ Ok answer
-        → AreAsserted s.memory (fact ∷ []) (asserted shape vs s).state.memory }
-    ensures answered { (shape : Shape) (vs : List Value) (s : World) (fact : FactValue) (ix : ℕ)
+        → AreAsserted s (fact ∷ []) (asserted shape vs s).state }
+    ensures limit { (shape : Shape) (vs : List Value) (s : World) (fact : FactValue) (e : Ended)
         → built s.templates shape.relation (parts_of shape.slots vs) ≡ Ok fact
-        → (asserted_one s.memory fact).1 ≡ Some ix
-        → (asserted shape vs s).answer ≡ Ok (Some (value.Fact ix)) }
-    ensures limit { (shape : Shape) (vs : List Value) (s : World) (fact : FactValue)
-        → built s.templates shape.relation (parts_of shape.slots vs) ≡ Ok fact
-        → (asserted_one s.memory fact).1 ≡ None
-        → (asserted shape vs s).answer ≡ Err (ended.Limit Indices) }
+        → (asserted shape vs s).answer ≡ Err e → e ≡ ended.Limit Numbers }
     ensures fault { (shape : Shape) (vs : List Value) (s : World) (fault : Fault)
         → built s.templates shape.relation (parts_of shape.slots vs) ≡ Err fault
-        → (asserted shape vs s).state ≡ s }
-    ensures fault_ends { (shape : Shape) (vs : List Value) (s : World) (fault : Fault)
-        → built s.templates shape.relation (parts_of shape.slots vs) ≡ Err fault
-        → (asserted shape vs s).answer ≡ Err (ended.Fault fault) }
-    ensures only { (shape : Shape) (vs : List Value) (s : World) → (asserted shape vs s).state
-        ≡ record s { memory = (asserted shape vs s).state.memory } }
-    ensures quiet { (shape : Shape) (vs : List Value) (s : World)
+        → asserted shape vs s ≡ stop (ended.Fault fault) s }
+    ensures only { (shape : Shape) (vs : List Value) (s : World)
+        → ChangesFactsOnly s (asserted shape vs s).state }
+    ensures quiet { (shape : Shape) (vs : List Value) (s : World) → IsUnwatched s
         → (asserted shape vs s).written ≡ [] }
 {}
 
 /// A `retract` without a fault leaves exactly the facts that no argument names. With the fault that there is no such fact
 /// (CB20) it leaves those that no argument before that one names. Where a value is neither an address, nor an
-/// index, nor `*`, it ends with CB17, and nothing is retracted; there is no other way to end. However it ends, it writes
-/// nothing and changes the facts alone.
+/// index, nor `*`, it ends with CB17, and nothing is retracted. The only other way to end is at the limit of numbers, where a
+/// fact that goes makes matches come and no stamps are left for them. However it ends, it changes the facts and the agenda
+/// alone, and where neither facts nor activations are watched it writes nothing.
 pub fn a_retraction_takes_what_is_named()
     ensures fine { (vs : List Value) (s : World) (answer : Option Value) → IsSound s.memory
         → (retracted vs s).answer ≡ Ok answer
         → LeavesUnnamed s.memory vs (retracted vs s).state.memory }
     ensures missing { (vs : List Value) (s : World) → IsSound s.memory
         → (retracted vs s).answer ≡ Err (ended.Fault NoSuchFact)
-        → LeavesUpToMissing s.memory vs (retracted vs s).state.memory }
+        → LeavesUpToMissing s vs (retracted vs s).state }
     ensures wrong_type { (vs : List Value) (s : World)
         → (retracted vs s).answer ≡ Err (ended.Fault WrongType)
         → (retracted vs s).state ≡ s }
@@ -78,10 +74,11 @@ pub fn a_retraction_takes_what_is_named()
     ensures index { (n : ℤ) → is_retractable (value.Int n) ≡ true }
     ensures ends { (vs : List Value) (s : World) → list_all is_retractable vs ≡ true
         → ((retracted vs s).answer ≡ Ok None)
-        ⊎ ((retracted vs s).answer ≡ Err (ended.Fault NoSuchFact)) }
-    ensures only { (vs : List Value) (s : World) → (retracted vs s).state
-        ≡ record s { memory = (retracted vs s).state.memory } }
-    ensures quiet { (vs : List Value) (s : World) → (retracted vs s).written ≡ [] }
+        ⊎ (((retracted vs s).answer ≡ Err (ended.Fault NoSuchFact))
+        ⊎ ((retracted vs s).answer ≡ Err (ended.Limit Numbers))) }
+    ensures only { (vs : List Value) (s : World) → ChangesFactsOnly s (retracted vs s).state }
+    ensures quiet { (vs : List Value) (s : World) → IsUnwatched s
+        → (retracted vs s).written ≡ [] }
 {}
 
 /// `assert` and `retract` carry their arguments out first, and do with the values what the laws above say. Where an argument

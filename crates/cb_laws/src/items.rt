@@ -108,11 +108,11 @@ pub fn a_retract_retracts_what_is_written()
 /// nothing, and writes the line of its first fault.
 pub fn a_deftemplate_defines_its_template()
     ensures defined { (s : State) (forms : Trees)
-        → template_faults (is_in_use s.world.memory s.deffacts) forms ≡ []
+        → template_faults (is_in_use s.world.memory s.world.rules s.deffacts) forms ≡ []
         → Defines s.world.templates forms
         (executed s (Ok (list_of (codes "deftemplate") forms))).state.world.templates }
     ensures only { (s : State) (forms : Trees)
-        → template_faults (is_in_use s.world.memory s.deffacts) forms ≡ []
+        → template_faults (is_in_use s.world.memory s.world.rules s.deffacts) forms ≡ []
         → (executed s (Ok (list_of (codes "deftemplate") forms))).state ≡ record s {
           world
               = record s.world {
@@ -121,10 +121,10 @@ pub fn a_deftemplate_defines_its_template()
               };
         } }
     ensures quiet { (s : State) (forms : Trees)
-        → template_faults (is_in_use s.world.memory s.deffacts) forms ≡ []
+        → template_faults (is_in_use s.world.memory s.world.rules s.deffacts) forms ≡ []
         → (executed s (Ok (list_of (codes "deftemplate") forms))).written ≡ [] }
     ensures fault { (s : State) (forms : Trees) (f : Fault)
-        → first_of (template_faults (is_in_use s.world.memory s.deffacts) forms) ≡ Some f
+        → first_of (template_faults (is_in_use s.world.memory s.world.rules s.deffacts) forms) ≡ Some f
         → ((executed s (Ok (list_of (codes "deftemplate") forms))).state.world ≡ s.world)
         × ((executed s (Ok (list_of (codes "deftemplate") forms))).written ≡ fault_line f) }
 {}

@@ -41,8 +41,20 @@ fn noun_for(count: usize, noun: Noun) -> &'static [u8]
     ensures { result.now ≡ noun_for count noun }
 {
     match noun {
-        Noun::Fact => if count == 1 { b" fact.\n" } else { b" facts.\n" },
-        Noun::Activation => if count == 1 { b" activation.\n" } else { b" activations.\n" },
-        Noun::Defrule => if count == 1 { b" defrule.\n" } else { b" defrules.\n" },
+        Noun::Fact => if count == 1 {
+            b" fact.\n"
+        } else {
+            b" facts.\n"
+        },
+        Noun::Activation => if count == 1 {
+            b" activation.\n"
+        } else {
+            b" activations.\n"
+        },
+        Noun::Defrule => if count == 1 {
+            b" defrule.\n"
+        } else {
+            b" defrules.\n"
+        },
     }
 }

@@ -10,9 +10,10 @@ use Rattle.cb_exprs.specs.Terms as expr
 use Rattle.cb_facts.specs.declared.value.Value.TheVariants as value
 use Rattle.cb_forms.specs.Trees.{Tree, atom, branch, trees_of}
 use Rattle.cb_forms.specs.declared.fault.Fault.{Fault}
-use Rattle.cb_forms.specs.declared.fault.Fault.TheVariants.{WrongArguments, MalformedForm, UnknownFunction, FactDoesNotFit, UnboundVariable, UnknownGlobal, NotOnLeftSide, NotInProfile, BadSalience}
+use Rattle.cb_forms.specs.declared.fault.Fault.TheVariants.{WrongArguments, MalformedForm, UnknownFunction, FactDoesNotFit, UnboundVariable, UnknownGlobal, NotOnLeftSide, NotInProfile, TooManyBranches, BadSalience}
 use Rattle.cb_forms.specs.declared.token.Token.TheVariants as token
 use Rattle.cb_functions.specs.Internal.Operations.{operator_of}
+use Rattle.cb_rule_forms.specs.Relations.{patterns_relations}
 use Rattle.cb_rule_forms.specs.Rules.{rule_faults, rule_of}
 use Rattle.cb_rules.specs.Elements.{pattern, test, Elements, elements, no_elements}
 use Rattle.cb_rules.specs.RuleValues.{RuleValue}
@@ -214,3 +215,45 @@ actions = refl
 actions_last : fault_in (form "a" (tilde ∷ var "x" ∷ []) ∷ []) (form "foo" [] ∷ []) ≡ Some UnboundVariable
 unfolding head_of is_reserved
 actions_last = refl
+
+-- two elements of no fields, by relation
+abbrev bare : String → Tree
+bare relation = form relation []
+
+-- the relations of each branch's patterns, in order
+abbrev ways_of : List Tree → Result (List (List (List ℕ))) Fault
+ways_of left = let ts = trees_of (word "r" ∷ (left ++ word "=>" ∷ [])) in unless_faulty (rule_faults [] env ts) (map patterns_relations (rule_of [] env ts).branches)
+
+-- (or (and (or (a) (b)) (or (c) (d))) (e)): the leftmost `or` changes slowest
+nested_branches : ways_of (form "or" (form "and" (form "or" (bare "a" ∷ bare "b" ∷ []) ∷ form "or" (bare "c" ∷ bare "d" ∷ []) ∷ []) ∷ bare "e" ∷ []) ∷ [])
+    ≡ Ok ((codes "a" ∷ codes "c" ∷ []) ∷ (codes "a" ∷ codes "d" ∷ []) ∷ (codes "b" ∷ codes "c" ∷ []) ∷ (codes "b" ∷ codes "d" ∷ []) ∷ (codes "e" ∷ []) ∷ [])
+unfolding is_reserved
+nested_branches = refl
+
+-- (and (a) (and (b) (c))) (d), (or (or (a) (b)) (c)), and no element
+spliced_branches : map ways_of ((form "and" (bare "a" ∷ form "and" (bare "b" ∷ bare "c" ∷ []) ∷ []) ∷ bare "d" ∷ []) ∷ (form "or" (form "or" (bare "a" ∷ bare "b" ∷ []) ∷ bare "c" ∷ []) ∷ []) ∷ [] ∷ [])
+    ≡ Ok ((codes "a" ∷ codes "b" ∷ codes "c" ∷ codes "d" ∷ []) ∷ []) ∷ Ok ((codes "a" ∷ []) ∷ (codes "b" ∷ []) ∷ (codes "c" ∷ []) ∷ []) ∷ Ok ([] ∷ []) ∷ []
+unfolding is_reserved
+spliced_branches = refl
+
+abbrev two_ways : Tree
+two_ways = form "or" (bare "a" ∷ bare "b" ∷ [])
+
+-- six times (or (a) (b)), and seven times, before (c ~?x): 64 branches may be, and too many come before the variables
+many_branches : map (λ ts. on_left (ts ++ form "c" (tilde ∷ var "x" ∷ []) ∷ [])) ((two_ways ∷ two_ways ∷ two_ways ∷ two_ways ∷ two_ways ∷ two_ways ∷ []) ∷ (two_ways ∷ two_ways ∷ two_ways ∷ two_ways ∷ two_ways ∷ two_ways ∷ two_ways ∷ []) ∷ [])
+    ≡ Some UnboundVariable ∷ Some TooManyBranches ∷ []
+unfolding is_reserved
+many_branches = refl
+
+-- (and (logical (a)) 5), (or (p ~~x) 5), (and), (or), (and ?f <- x), (or (declare)): the list before its members, these from left to right
+faults_of_members : map (λ t. on_left (t ∷ [])) (form "and" (form "logical" (bare "a" ∷ []) ∷ number (pos 5) ∷ []) ∷ form "or" (form "p" (tilde ∷ tilde ∷ word "x" ∷ []) ∷ number (pos 5) ∷ []) ∷ form "and" [] ∷ form "or" [] ∷ form "and" (var "f" ∷ word "<-" ∷ word "x" ∷ []) ∷ form "or" (bare "declare" ∷ []) ∷ [])
+    ≡ Some NotInProfile ∷ Some MalformedForm ∷ Some MalformedForm ∷ Some MalformedForm ∷ Some NotInProfile ∷ Some MalformedForm ∷ []
+unfolding is_reserved
+faults_of_members = refl
+
+-- (or (a ?x) (b)) (c ~?x), and (or (k ?x) (m)) and (or (k ?x) (m ?x)) with (println ?x): what each branch binds is known
+by_each_branch : on_left (form "or" (form "a" (var "x" ∷ []) ∷ bare "b" ∷ []) ∷ form "c" (tilde ∷ var "x" ∷ []) ∷ [])
+    ∷ map (λ t. fault_in (form "or" (form "k" (var "x" ∷ []) ∷ t ∷ []) ∷ []) (form "println" (var "x" ∷ []) ∷ [])) (bare "m" ∷ form "m" (var "x" ∷ []) ∷ [])
+    ≡ Some UnboundVariable ∷ Some UnboundVariable ∷ None ∷ []
+unfolding head_of is_reserved
+by_each_branch = refl

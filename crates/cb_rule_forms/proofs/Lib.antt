@@ -1,5 +1,8 @@
 pub mod Arrows
+pub mod CountLaws
 mod Examples
 pub mod MentionLaws
 pub mod NameLaws
 mod PlaceLaws
+pub mod WayLaws
+pub mod WrittenLaws

@@ -33,7 +33,7 @@ filter_one : (p : List ℕ → Bool) (b : Bool) (x : List ℕ) (xs : List (List 
 filter_one p true x xs = refl
 filter_one p false x xs = refl
 
-filter_both : (p q r : List ℕ → Bool) → ((y : List ℕ) → r y ≡ (q y && p y)) → (xs : List (List ℕ)) → filter p (filter q xs) ≡ filter r xs
+pub filter_both : (p q r : List ℕ → Bool) → ((y : List ℕ) → r y ≡ (q y && p y)) → (xs : List (List ℕ)) → filter p (filter q xs) ≡ filter r xs
 filter_both p q r h [] = refl
 filter_both p q r h (x ∷ xs) =
     filter_one p (q x) x (filter q xs) ∙ ap₂ (λ b (l : List (List ℕ)). cond b (x ∷ l) l) (sym (h x)) (filter_both p q r h xs)
@@ -82,6 +82,5 @@ with_all known [] = sym (append-nil known)
 with_all known (x ∷ names) = add_first (is_known known x) known names x refl (λ k. with_all k names)
 
 -- names that are added to none, and then others
-pub all_once : (xs ys : List (List ℕ)) → with_names (with_names [] xs) ys ≡ each_once ((xs ++ []) ++ ys)
-all_once xs ys =
-    sym (with_append [] xs ys) ∙ (with_all [] (xs ++ ys) ∙ (all_pass (each_once (xs ++ ys)) ∙ ap (λ (l : List (List ℕ)). each_once (l ++ ys)) (sym (append-nil xs))))
+pub all_once : (xs ys : List (List ℕ)) → with_names (with_names [] xs) ys ≡ each_once (xs ++ ys)
+all_once xs ys = sym (with_append [] xs ys) ∙ (with_all [] (xs ++ ys) ∙ all_pass (each_once (xs ++ ys)))

@@ -1,26 +1,29 @@
 -- What only the code needs: what it has read of condition elements, and what it knows after them.
 pub mod SectionPlaces
-use Rattle.std.specs.Prelude.{ℕ, ℤ, pos, List, [], ◌∷◌, Option, Some, None, Result, is_some}
+use Rattle.std.specs.Prelude.{ℕ, ℤ, pos, Bool, List, [], ◌∷◌, Option, Some, None, Result, Vec, is_some, map, min}
+use Rattle.std.specs.Borrow.{Bor}
+use Rattle.std.specs.declared.alloc.Global.{Global}
 use Rattle.std.specs.Option.{option_map, unwrap_or}
 use Rattle.cb_constraints.specs.PartValues.{asked_parts}
 use Rattle.cb_exprs.specs.Terms.{term_of}
 use Rattle.cb_facts.specs.declared.refused.Refused.{Refused}
 use Rattle.cb_facts.specs.declared.value.Value.{Value}
-use Rattle.cb_forms.specs.Members.{call_of, members}
+use Rattle.cb_expr_forms.specs.Internal.Sizes.{tree_size}
+use Rattle.cb_forms.specs.Members.{members}
 use Rattle.cb_forms.specs.Trees.{tree_of}
 use Rattle.cb_forms.specs.declared.fault.Fault.{Fault}
 use Rattle.cb_forms.specs.declared.fault.Fault.TheVariants.{BadSalience, NotInProfile}
 use Rattle.cb_rule_forms.specs.Declarations.{salience_in}
-use Rattle.cb_rule_forms.specs.Elements.{Written, wrong, written_pattern, written_test, alone, addressed}
+use Rattle.cb_rule_forms.specs.WrittenElements.{Written, wrong, written_pattern, written_test, all_of, one_of, Writtens, none_written, written, written_alone, addressed}
 use Rattle.cb_rule_forms.specs.Mentions.{Mention, known_after, known_in, mention_faults, variables_faults, with_name}
 use Rattle.cb_rule_forms.specs.declared.element.ElementForm.{ElementForm}
 use Rattle.cb_rule_forms.specs.declared.element.ElementForm.TheVariants as form
 use Rattle.cb_rule_forms.specs.declared.element.PatternForm.{PatternForm}
-use Rattle.cb_rule_forms.specs.declared.element.Next.{Next}
-use Rattle.cb_rule_forms.specs.declared.element.Next.TheVariants as next
-use Rattle.cb_rule_forms.specs.declared.element.Written as program
-use Rattle.cb_rule_forms.specs.declared.element.Written.TheVariants as written
-use Rattle.cb_rules.specs.Elements.{Element, pattern, test, elements}
+use Rattle.cb_rule_forms.specs.declared.written.Next.{Next}
+use Rattle.cb_rule_forms.specs.declared.written.Next.TheVariants as next
+use Rattle.cb_rule_forms.specs.declared.written.Written as declared
+use Rattle.cb_rule_forms.specs.declared.written.Written.TheOpen as program
+use Rattle.cb_rules.specs.Elements.{Element, pattern, test, Elements, elements}
 use Rattle.cb_templates.specs.FaultLists.{ReadsAs, unless}
 
 -- the element that was read
@@ -28,17 +31,49 @@ abbrev pub form_value : ElementForm → Element
 form_value (form.Pattern p) = pattern p.address (record { relation = p.relation; parts = asked_parts p.parts })
 form_value (form.Test e) = test (term_of e)
 
--- what the next forms are
-abbrev pub next_seen : Next → Written
-next_seen (next.Alone t) = alone (call_of (tree_of t.now))
-next_seen (next.Addressed name None) = wrong NotInProfile
-next_seen (next.Addressed name (Some t)) = addressed name.now (call_of (tree_of t.now))
+-- the branches that were read
+abbrev pub branches_read : List (Vec ElementForm Global) → List Elements
+branches_read branches = map (λ b. elements (map form_value b.items)) branches
+
+-- what the next forms are as an element, and how large they are
+abbrev pub next_seen : Bool → Next → Written
+next_seen inside (next.Alone t) = written_alone inside (tree_of t.now)
+next_seen inside (next.Addressed name None) = wrong NotInProfile
+next_seen inside (next.Addressed name (Some t)) = addressed inside name.now (tree_of t.now)
+
+abbrev pub next_size : Next → ℕ
+next_size (next.Alone t) = tree_size (tree_of t.now)
+next_size (next.Addressed name t) = 0
+
+-- these elements, and then others
+abbrev pub before : List Written → Writtens → Writtens
+before [] ws = ws
+before (x ∷ xs) ws = written x (before xs ws)
+
+abbrev pub writtens : List Written → Writtens
+writtens xs = before xs none_written
 
 -- what the program has of an element as it is written
-abbrev pub written_seen : program.Written → Written
-written_seen (written.Wrong f) = wrong f
-written_seen (written.Pattern x relation fs) = written_pattern (option_map (λ name. name.now) x) relation.now (members fs.now)
-written_seen (written.Test t) = written_test (tree_of t.now)
+abbrev pub written_step : program.Written-F Written → Written
+written_step (program.Wrong f) = wrong f
+written_step (program.Pattern x relation fs) = written_pattern (option_map (λ name. name.now) x) relation.now (members fs.now)
+written_step (program.Test t) = written_test (tree_of t.now)
+written_step (program.All ws) = all_of (writtens ws.items)
+written_step (program.One ws) = one_of (writtens ws.items)
+
+abbrev pub written_seen : declared.Written → Written
+written_seen = declared.fold-Written Written written_step
+
+-- what the program has of ways through a left side
+abbrev pub way_seen : Vec (Bor declared.Written) Global → List Written
+way_seen way = map (λ w. written_seen w.now) way.items
+
+abbrev pub ways_seen : List (Vec (Bor declared.Written) Global) → List (List Written)
+ways_seen ways = map way_seen ways
+
+-- the number, or 65 where it is greater
+abbrev pub capped : ℕ → ℕ
+capped n = min n 65
 
 -- Of the variables that had a value the call makes those that have one after these mentions, or it returns the first fault.
 abbrev pub Knows : List (List ℕ) → List Mention → List (List ℕ) → Result (Unit {0}) Refused → Type 0

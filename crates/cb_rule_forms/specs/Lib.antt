@@ -1,3 +1,4 @@
+pub mod Branches
 pub mod Declarations
 pub mod Elements
 pub mod Internal
@@ -5,3 +6,4 @@ pub mod Mentions
 pub mod Relations
 pub mod Rules
 pub mod Sections
+pub mod WrittenElements

@@ -1,6 +1,6 @@
 -- The variables of a left side: which have a value where, and what is wrong: one needs a value and has none, or takes an address and has a value.
 use Rattle.std.specs.Prelude.{◌++◌, ℕ, Bool, false, not, List, [], ◌∷◌, Option, Some, None, map, if◌then◌else◌}
-use Rattle.std.specs.List.{flat_map}
+use Rattle.std.specs.List.{filter, flat_map, list_all}
 use Rattle.cb_constraints.specs.Constraints.{Test, constant, variable, predicate, return_value, Check, Demand, nothing, each, either, Constraint}
 use Rattle.cb_constraints.specs.PatternValues.{Parts, PatternValue, fields, slots}
 use Rattle.cb_templates.specs.FaultLists.{unless}
@@ -114,3 +114,8 @@ abbrev mutual
   pub variables_faults : List (List ℕ) → Elements → List Fault
   variables_faults known no_elements = []
   variables_faults known (element e es) = variable_faults known e ++ variables_faults (known_past known e) es
+
+-- the variables that each of these branches binds
+abbrev pub known_by_all : List Elements → List (List ℕ)
+known_by_all [] = []
+known_by_all (b ∷ bs) = filter (λ x. list_all (λ c. is_known (known_in [] c) x) bs) (known_in [] b)

@@ -1,5 +1,7 @@
 -- Rules as they are written: which one forms are, and what is wrong with them, in the order in which it is looked for.
-use Rattle.std.specs.Prelude.{◌++◌, ℕ, ℤ, pos, Bool, true, false, List, [], ◌∷◌, Option, Some, None, map}
+use Rattle.std.specs.Prelude.{◌++◌, ℕ, ℤ, pos, Bool, true, false, List, [], ◌∷◌, Option, Some, None, length, map, nat_le}
+use Rattle.std.specs.List.{flat_map}
+use Rattle.cb_templates.specs.FaultLists.{unless}
 use Rattle.cb_expr_forms.specs.Bound.{bound_in_all}
 use Rattle.cb_expr_forms.specs.ExprFaults.{all_faults}
 use Rattle.cb_expr_forms.specs.ExprForms.{exprs_of}
@@ -9,13 +11,15 @@ use Rattle.cb_exprs.specs.Bindings.{Bindings}
 use Rattle.cb_exprs.specs.Terms.{Term}
 use Rattle.cb_forms.specs.Trees.{Trees}
 use Rattle.cb_forms.specs.declared.fault.Fault.{Fault}
-use Rattle.cb_forms.specs.declared.fault.Fault.TheVariants.{MalformedForm}
+use Rattle.cb_forms.specs.declared.fault.Fault.TheVariants.{MalformedForm, TooManyBranches}
 use Rattle.cb_rule_forms.specs.Declarations.{declared_faults, salience_of}
-use Rattle.cb_rule_forms.specs.Elements.{elements_faults, written_elements, written_in}
-use Rattle.cb_rule_forms.specs.Mentions.{known_in, variables_faults}
+use Rattle.cb_rule_forms.specs.Branches.{branches_in, ways_through_all}
+use Rattle.cb_rule_forms.specs.Elements.{elements_faults}
+use Rattle.cb_rule_forms.specs.Mentions.{known_by_all, variables_faults}
 use Rattle.cb_rule_forms.specs.Relations.{relations_of}
 use Rattle.cb_rule_forms.specs.Sections.{Sections, sections_of}
-use Rattle.cb_rules.specs.Elements.{Element, pattern, test, group, Elements, no_elements, element, elements}
+use Rattle.cb_rule_forms.specs.WrittenElements.{Writtens, written_in}
+use Rattle.cb_rules.specs.Elements.{Element, pattern, test, group, Elements, no_elements, element}
 use Rattle.cb_rules.specs.RuleValues.{RuleValue}
 use Rattle.cb_templates.specs.Templates.{Templates}
 
@@ -28,21 +32,21 @@ abbrev pub action_scope : Templates → Bindings → List (List ℕ) → Trees �
 action_scope templates env known ts =
     record { side = side.Actions; variables = known ++ bound_in_all ts; globals = names_of env.globals; templates = templates }
 
--- the one branch of these elements
-abbrev pub branch_of : Templates → Trees → Elements
-branch_of templates ts = elements (written_elements templates (written_in ts))
+-- what is wrong with a left side but for its variables: a rule has at most 64 branches
+abbrev pub left_faults : Scope → Writtens → List Fault
+left_faults s ws = elements_faults s ws ++ unless (nat_le (length (ways_through_all ws)) 64) TooManyBranches
 
--- what is wrong with the variables of a branch, and then with the actions
-abbrev pub branch_faults : Templates → Bindings → Elements → Trees → List Fault
-branch_faults templates env branch actions =
-    variables_faults [] branch ++ all_faults (action_scope templates env (known_in [] branch) actions) actions
+-- what is wrong with the variables of each branch, and then with the actions
+abbrev pub branches_faults : Templates → Bindings → List Elements → Trees → List Fault
+branches_faults templates env branches actions =
+    flat_map (variables_faults []) branches ++ all_faults (action_scope templates env (known_by_all branches) actions) actions
 
 -- what is wrong with a rule that has its sections
 abbrev pub sections_faults : Templates → Bindings → Option Sections → List Fault
 sections_faults templates env None = MalformedForm ∷ []
 sections_faults templates env (Some s) =
     declared_faults templates env s.declared
-    ++ (elements_faults (left_scope templates env) (written_in s.elements) ++ branch_faults templates env (branch_of templates s.elements) s.actions)
+    ++ (left_faults (left_scope templates env) (written_in false s.elements) ++ branches_faults templates env (branches_in templates (written_in false s.elements)) s.actions)
 
 -- the place of an element in a layout: whether it is a pattern; a test has none
 abbrev pub place_of : Element → Option Bool
@@ -74,7 +78,7 @@ rule_with name salience branches actions = record {
 abbrev pub sections_rule : Templates → Bindings → Option Sections → RuleValue
 sections_rule templates env None = rule_with [] (pos 0) [] []
 sections_rule templates env (Some s) =
-    rule_with s.name (salience_of templates env s.declared) (branch_of templates s.elements ∷ []) (exprs_of templates s.actions)
+    rule_with s.name (salience_of templates env s.declared) (branches_in templates (written_in false s.elements)) (exprs_of templates s.actions)
 
 -- what is wrong with a rule, by what follows the word `defrule`
 abbrev pub rule_faults : Templates → Bindings → Trees → List Fault

@@ -11,5 +11,7 @@ mod mentions; // the variables of a left side: which have a value where, and whi
 mod relations; // the relations that a rule names, in its patterns and in the asserts of its actions
 mod rule; // `read_rule`, which goes through these in turn
 mod sections; // the name, the declaration, the elements and the actions of a rule
+mod ways; // the branches of a left side
+mod written; // the condition elements as they are written
 
 pub use rule::read_rule;

@@ -1,14 +1,15 @@
 //! The variables of a left side: which have a value where.
-ghost use Rattle.std.specs.Prelude.{◌≡◌, ◌∷◌, [], List, MatchOption, OnOk, map, option_map};
-ghost use Rattle.std.specs.List.{flat_map, list_all};
+ghost use Rattle.std.specs.Prelude.{◌≡◌, ◌∷◌, [], IfOk, List, MatchOption, OnOk, map, option_map};
+ghost use Rattle.std.specs.List.{filter, flat_map, list_all};
 ghost use Rattle.cb_constraints.specs.Constraints.{check_of, demand_of, either, asked_test};
 ghost use Rattle.cb_constraints.specs.PartValues.{asked_parts};
 ghost use Rattle.cb_templates.specs.FaultLists.{ReadsAs};
 ghost use Rattle.cb_expr_forms.specs.Scopes.{is_known};
 ghost use Rattle.cb_expr_forms.specs.Variables.{variables_of};
 ghost use Rattle.cb_exprs.specs.Terms.{term_of};
-ghost use Rattle.cb_rule_forms.specs.Internal.{Knows, KnowsElements, form_value};
-ghost use Rattle.cb_rule_forms.specs.Mentions.{Mention, address_mentions, apart_mentions, check_mentions, checks_variables, demand_mentions, known_after, known_past, needed, parts_mentions, pattern_mentions, place, row_mentions, test_variables, variable_faults, with_name};
+ghost use Rattle.cb_rule_forms.specs.Internal.{Knows, KnowsElements, branches_read, form_value};
+ghost use Rattle.cb_rules.specs.Elements as rules;
+ghost use Rattle.cb_rule_forms.specs.Mentions.{Mention, address_mentions, apart_mentions, check_mentions, checks_variables, demand_mentions, known_after, known_by_all, known_in, known_past, needed, parts_mentions, pattern_mentions, place, row_mentions, test_variables, variable_faults, variables_faults, with_name};
 
 use crate::element::{ElementForm, PatternForm};
 use cb_constraints::{Check, Constraint, Demand, Parts, Row, SlotRow, Test};
@@ -16,6 +17,7 @@ use cb_expr_forms::{NameList, knows_all};
 use cb_exprs::Expr;
 use cb_facts::{Name, Refused};
 use cb_forms::{Fault, NoMemory};
+use std::alloc::Global;
 
 /// A part of a left side, which mentions variables.
 trait Mentions {
@@ -25,6 +27,50 @@ trait Mentions {
     /// Adds the variables that it binds to those that have a value, or gives the first fault of a variable.
     fn bind(&self, known: &mut NameList) -> Result<(), Refused>
         ensures { Knows known.old (mentions self.now) known.new result };
+}
+
+/// The variables that each of these branches binds, or the first fault of a variable, branch by branch.
+pub(crate) fn bind_branches(
+    alloc: Global,
+    branches: &[Vec<ElementForm>],
+) -> Result<NameList, Refused>
+    ensures { ReadsAs (λ names. names) result
+        (flat_map (variables_faults []) (branches_read branches.now))
+        (known_by_all (branches_read branches.now)) }
+{
+    let Some((first, others)) = branches.split_first() else {
+        return Ok(NameList::new(alloc));
+    };
+    let mut common = bind_branch(alloc, first.as_slice())?;
+    for branch in others {
+        let known = bind_branch(alloc, branch.as_slice())?;
+        common = keep_known(alloc, common, &known)?;
+    }
+    Ok(common)
+}
+
+/// The variables that a branch binds, or the first fault of a variable.
+fn bind_branch(alloc: Global, elements: &[ElementForm]) -> Result<NameList, Refused>
+    ensures { ReadsAs (λ names. names) result
+        (variables_faults [] (rules.elements (map form_value elements.now)))
+        (known_in [] (rules.elements (map form_value elements.now))) }
+{
+    let mut known = NameList::new(alloc);
+    bind_elements(&mut known, elements)?;
+    Ok(known)
+}
+
+/// Those of the names that are known.
+fn keep_known(alloc: Global, names: NameList, known: &NameList) -> Result<NameList, NoMemory>
+    ensures { IfOk result (λ kept. kept ≡ filter (is_known known.now) names) }
+{
+    let mut kept = NameList::new(alloc);
+    for name in names.into_vec() {
+        if known.has(&name) {
+            kept.push(&name)?;
+        }
+    }
+    Ok(kept)
 }
 
 /// Adds the variables that elements bind to those that have a value, or gives the first fault of a variable.

@@ -1,7 +1,8 @@
 //! The relations that a rule names.
 ghost use Rattle.std.specs.Prelude.{◌≡◌, ◌∷◌, [], IfOk, OnOk, map};
+ghost use Rattle.std.specs.List.{flat_map};
 ghost use Rattle.cb_exprs.specs.Terms.{term_of, terms_of};
-ghost use Rattle.cb_rule_forms.specs.Internal.{form_value, with_names};
+ghost use Rattle.cb_rule_forms.specs.Internal.{branches_read, form_value, with_names};
 ghost use Rattle.cb_rule_forms.specs.Relations.{asserted_by, asserted_in, pattern_relations, patterns_relations, relations_of};
 ghost use Rattle.cb_rules.specs.Elements.{elements};
 
@@ -13,22 +14,32 @@ use cb_facts::Name;
 use cb_forms::NoMemory;
 use std::alloc::Global;
 
-/// The relations that a rule of one branch names: those of its patterns, then those of the facts that its actions assert,
+/// The relations that a rule names: those of the patterns of its branches, then those of the facts that its actions assert,
 /// each once.
 #[tactic(auto, using(crate::proofs::NameLaws::all_once))]
 pub(crate) fn find_relations(
     alloc: Global,
-    branch: &[ElementForm],
+    branches: &[Vec<ElementForm>],
     actions: &[Expr],
 ) -> Result<Vec<Name>, NoMemory>
     ensures { IfOk result (λ found. found.items
-        ≡ relations_of (elements (map form_value branch.now) ∷ [])
-        (map term_of actions.now)) }
+        ≡ relations_of (branches_read branches.now) (map term_of actions.now)) }
 {
     let mut found = NameList::new(alloc);
-    add_relations(&mut found, branch)?;
+    add_branches(&mut found, branches)?;
     add_each_asserted(&mut found, actions)?;
     Ok(found.into_vec())
+}
+
+/// Adds the relations of the patterns of branches, those that are not among the names.
+fn add_branches(found: &mut NameList, branches: &[Vec<ElementForm>]) -> Result<(), NoMemory>
+    ensures { OnOk result (found.new
+        ≡ with_names found.old (flat_map patterns_relations (branches_read branches.now))) }
+{
+    for branch in branches {
+        add_relations(found, branch.as_slice())?;
+    }
+    Ok(())
 }
 
 /// Adds the relations of the patterns of elements, those that are not among the names.

@@ -1,23 +1,26 @@
 //! Rules.
-ghost use Rattle.std.specs.Prelude.{◌≡◌, ◌++◌, ◌∷◌, [], IfOk, List, Some, map, option_map};
+ghost use Rattle.std.specs.Prelude.{◌≡◌, ◌++◌, IfOk, List, Some, false, map, option_map};
 ghost use Rattle.cb_templates.specs.FaultLists.{ReadsAs};
 ghost use Rattle.cb_expr_forms.specs.ExprForms.{exprs_of};
 ghost use Rattle.cb_exprs.specs.Terms.{Term, term_of};
 ghost use Rattle.cb_forms.specs.Members.{members};
 ghost use Rattle.cb_rule_forms.specs.Declarations.{declared_faults, salience_of};
-ghost use Rattle.cb_rule_forms.specs.Internal.{form_value};
-ghost use Rattle.cb_rule_forms.specs.Elements.{elements_faults, written_elements, written_in};
-ghost use Rattle.cb_rules.specs.Elements.{Element, Elements, branches_of, element_of, elements};
+ghost use Rattle.cb_rule_forms.specs.Branches.{branches_in};
+ghost use Rattle.cb_rule_forms.specs.Internal.{branches_read, form_value};
+ghost use Rattle.cb_rule_forms.specs.WrittenElements.{written_in};
+ghost use Rattle.cb_rules.specs.Elements.{Elements, branches_of, element_of, elements};
 ghost use Rattle.cb_rules.specs.RuleValues.{rule_value};
-ghost use Rattle.cb_rule_forms.specs.Rules.{branch_faults, branch_of, layout_of, left_scope, place_of, rule_faults, rule_of, rule_with, sections_faults, sections_rule};
+ghost use Rattle.cb_rule_forms.specs.Rules.{branches_faults, layout_of, left_faults, left_scope, place_of, rule_faults, rule_of, rule_with, sections_faults, sections_rule};
 ghost use Rattle.cb_rule_forms.specs.Internal.SectionPlaces.{sections_seen};
 
 use crate::actions::read_actions;
 use crate::declaration::read_declaration;
-use crate::element::{ElementForm, read_elements};
-use crate::mentions::bind_elements;
+use crate::element::ElementForm;
+use crate::mentions::bind_branches;
 use crate::relations::find_relations;
 use crate::sections::{Sections, split_sections};
+use crate::ways::read_branches;
+use crate::written::write_elements;
 use cb_expr_forms::{NameList, Scope, Side};
 use cb_exprs::{Env, Expr};
 use cb_facts::{Names, Refused};
@@ -60,30 +63,31 @@ fn read_sections<T>(
         (sections_rule relations.now env.now (Some (sections_seen sections.entry))) }
 {
     let salience = read_salience(names, constants, relations, env, sections.declared)?;
-    let (elements, actions) = read_sides(
+    let (branches, actions) = read_sides(
         names,
         relations,
         env,
         sections.elements,
         sections.actions,
     )?;
-    Ok(build_rule(names, sections.name, salience, elements, actions)?)
+    Ok(build_rule(names, sections.name, salience, branches, actions)?)
 }
 
-/// The rule of these parts, which has one branch.
+/// The rule of these parts.
 fn build_rule<T>(
     names: &mut Names,
     name: &[u8],
     salience: i64,
-    branch: Vec<ElementForm>,
+    branches: Vec<Vec<ElementForm>>,
     actions: Vec<Expr>,
 ) -> Result<Rule<T>, NoMemory>
     ensures { IfOk result (λ rule. rule_value rule ≡ rule_with name.now salience
-        (elements (map form_value branch.items) ∷ []) (map term_of actions.items)) }
+        (branches_read branches.items) (map term_of actions.items)) }
 {
-    let relations = find_relations(names.alloc(), branch.as_slice(), actions.as_slice())?;
+    let relations = find_relations(names.alloc(), branches.as_slice(), actions.as_slice())?;
     let name = names.name(name)?;
-    let (branches, layouts) = close_branches(names, branch)?;
+    let branches = close_branches(names.alloc(), branches)?;
+    let layouts = lay_out_all(names.alloc(), branches.as_slice())?;
     Ok(Rule {
         name,
         salience,
@@ -92,29 +96,6 @@ fn build_rule<T>(
         actions,
         relations,
     })
-}
-
-/// The one branch of these elements, and its layout.
-fn close_branches<T>(
-    names: &Names,
-    branch: Vec<ElementForm>,
-) -> Result<(Vec<Vec<Ce<T>>>, Vec<Layout>), NoMemory>
-    ensures { IfOk result (λ made.
-        (branches_of made.0.items ≡ elements (map form_value branch.items) ∷ [])
-        × (made.1.items ≡ layout_of (elements (map form_value branch.items)) ∷ [])) }
-{
-    let closed = close_elements(names.alloc(), branch)?;
-    let layout = lay_out(names.alloc(), closed.as_slice())?;
-    Ok((only(names.alloc(), closed)?, only(names.alloc(), layout)?))
-}
-
-/// This item alone.
-fn only<X: Drop>(alloc: Global, item: X) -> Result<Vec<X>, NoMemory>
-    ensures { IfOk result (λ items. items.items ≡ item ∷ []) }
-{
-    let mut items = Vec::new(alloc);
-    items.push(item)?;
-    Ok(items)
 }
 
 /// The salience of a rule: 0, unless it declares another; or the first fault of its declaration.
@@ -135,38 +116,39 @@ fn read_salience(
     }
 }
 
-/// The elements of a left side and the actions, or the first fault of the elements, of their variables, or of the actions.
+/// The branches of a left side and the actions, or the first fault of the elements, of their variables, or of the actions.
 fn read_sides(
     names: &mut Names,
     relations: &Relations,
     env: &Env,
     left: &[Form],
     right: &[Form],
-) -> Result<(Vec<ElementForm>, Vec<Expr>), Refused>
-    ensures { ReadsAs {V = Elements × List Term}
-        (λ sides. (elements (map form_value sides.0.items), map term_of sides.1.items)) result
-        (elements_faults (left_scope relations.now env.now) (written_in (members left.now))
-        ++ branch_faults relations.now env.now (branch_of relations.now (members left.now))
-        (members right.now))
-        (branch_of relations.now (members left.now), exprs_of relations.now (members right.now)) }
+) -> Result<(Vec<Vec<ElementForm>>, Vec<Expr>), Refused>
+    ensures { ReadsAs {V = List Elements × List Term}
+        (λ sides. (branches_read sides.0.items, map term_of sides.1.items)) result
+        (left_faults (left_scope relations.now env.now) (written_in false (members left.now))
+        ++ branches_faults relations.now env.now
+        (branches_in relations.now (written_in false (members left.now))) (members right.now)) (
+          branches_in relations.now (written_in false (members left.now)),
+          exprs_of relations.now (members right.now),
+        ) }
 {
-    let elements = read_left_side(names, relations, env, left)?;
-    let mut known = NameList::new(names.alloc());
-    bind_elements(&mut known, elements.as_slice())?;
+    let branches = read_left_side(names, relations, env, left)?;
+    let known = bind_branches(names.alloc(), branches.as_slice())?;
     let actions = read_actions(names, relations, env, known, right)?;
-    Ok((elements, actions))
+    Ok((branches, actions))
 }
 
-/// The elements of a left side, or their first fault.
+/// The branches of a left side, or the first fault of its elements.
 fn read_left_side(
     names: &mut Names,
     relations: &Relations,
     env: &Env,
     forms: &[Form],
-) -> Result<Vec<ElementForm>, Refused>
-    ensures { ReadsAs (λ es. map form_value es.items) result
-        (elements_faults (left_scope relations.now env.now) (written_in (members forms.now)))
-        (written_elements relations.now (written_in (members forms.now))) }
+) -> Result<Vec<Vec<ElementForm>>, Refused>
+    ensures { ReadsAs (λ branches. branches_read branches.items) result
+        (left_faults (left_scope relations.now env.now) (written_in false (members forms.now)))
+        (branches_in relations.now (written_in false (members forms.now))) }
 {
     let none = NameList::new(names.alloc());
     let scope = Scope {
@@ -176,7 +158,22 @@ fn read_left_side(
         given: &none,
         relations,
     };
-    read_elements(names, &scope, forms)
+    let written = write_elements(names.alloc(), false, forms)?;
+    read_branches(names, &scope, written.as_slice())
+}
+
+/// The branches with their patterns closed.
+fn close_branches<T>(
+    alloc: Global,
+    branches: Vec<Vec<ElementForm>>,
+) -> Result<Vec<Vec<Ce<T>>>, NoMemory>
+    ensures { IfOk result (λ closed. branches_of closed.items ≡ branches_read branches.items) }
+{
+    let mut closed = Vec::new(alloc);
+    for branch in branches {
+        closed.push(close_elements(alloc, branch)?)?;
+    }
+    Ok(closed)
 }
 
 /// The elements with their patterns closed.
@@ -201,6 +198,17 @@ fn close_element<T>(alloc: Global, element: ElementForm) -> Result<Ce<T>, NoMemo
         }),
         ElementForm::Test(expr) => Ok(Ce::Test(expr)),
     }
+}
+
+/// The layouts of branches.
+fn lay_out_all<T>(alloc: Global, branches: &[Vec<Ce<T>>]) -> Result<Vec<Layout>, NoMemory>
+    ensures { IfOk result (λ layouts. layouts.items ≡ map layout_of (branches_of branches.now)) }
+{
+    let mut layouts = Vec::new(alloc);
+    for branch in branches {
+        layouts.push(lay_out(alloc, branch.as_slice())?)?;
+    }
+    Ok(layouts)
 }
 
 /// The layout of a branch.

@@ -71,7 +71,7 @@ static FORM_HELP: &str =
     "The most bytes that an item of the script may have, 1 to 16777216 [default: 1048576]";
 
 static FIRINGS_HELP: &str =
-    "The most rules that may fire in the whole run, 0 to 1000000000000 [default: 1000000]";
+    "The most firings of all rules together, 0 to 1000000000000 [default: 1000000]";
 
 static TURNS_HELP: &str =
     "The most turns that all loops together may take, 0 to 1000000000000 [default: 10000000]";

@@ -2,10 +2,13 @@ ghost use Rattle.std.specs.Prelude.{◌≡◌, None};
 ghost use Rattle.cb_io.specs.Output.{IsReady};
 
 use cb_forms::{MemSink, Out};
-use cb_session::{Ending, Flow, Limits, Session, Status, Stop};
+use cb_matches::Matcher;
+use cb_rematch::Rematch;
+use cb_session::{Ending, Flow, Limits, Mark, Session, Status, Stop};
 use std::alloc::Global;
 
 mod calls;
+mod commands;
 mod facts;
 mod faults;
 mod globals;
@@ -14,6 +17,7 @@ mod heads;
 mod loops;
 mod printout;
 mod retract;
+mod rules;
 mod templates;
 
 const CB06: &[u8] = b"[CB06] unknown function\n";
@@ -30,13 +34,19 @@ const CB11: &[u8] = b"[CB11] unbound variable\n";
 
 const CB12: &[u8] = b"[CB12] unknown global variable\n";
 
+const CB13: &[u8] = b"[CB13] not allowed on a left side\n";
+
 const CB14: &[u8] = b"[CB14] not in this profile\n";
+
+const CB16: &[u8] = b"[CB16] bad salience\n";
 
 const CB17: &[u8] = b"[CB17] wrong type\n";
 
 const CB19: &[u8] = b"[CB19] division by zero\n";
 
 const CB20: &[u8] = b"[CB20] no such fact\n";
+
+const CB21: &[u8] = b"[CB21] no such rule\n";
 
 const CB23: &[u8] = b"[CB23] template in use\n";
 
@@ -63,7 +73,7 @@ const FAULTY: Status = Status {
 
 const LIMITS: Limits = Limits {
     max_form: 64,
-    max_firings: 0,
+    max_firings: 6,
     max_turns: 3,
 };
 
@@ -83,12 +93,12 @@ fn goes(alloc: Global, row: &Row) -> bool {
 /// Whether it goes so in a session that writes to this sink.
 fn goes_with(alloc: Global, sink: MemSink, row: &Row) -> bool {
     let mut out = Out::new(sink);
-    let mut session = Session::new(alloc, LIMITS);
+    let mut session = Session::new(alloc, Rematch::new(alloc), LIMITS);
     writes(&mut session, &mut out, row)
 }
 
 /// Whether the session writes what it should, and ends so.
-fn writes(session: &mut Session, out: &mut Out<MemSink>, row: &Row) -> bool
+fn writes<M: Matcher<Mark>>(session: &mut Session<M>, out: &mut Out<MemSink>, row: &Row) -> bool
     requires { session.old.stop ≡ None → IsReady out.old }
 {
     for step in row.steps {
@@ -100,7 +110,7 @@ fn writes(session: &mut Session, out: &mut Out<MemSink>, row: &Row) -> bool
 }
 
 /// Whether the session takes a step, and writes what it should.
-fn takes(session: &mut Session, out: &mut Out<MemSink>, step: &Step) -> bool
+fn takes<M: Matcher<Mark>>(session: &mut Session<M>, out: &mut Out<MemSink>, step: &Step) -> bool
     requires { session.old.stop ≡ None → IsReady out.old }
     ensures { session.new.stop ≡ None → IsReady out.new }
 {
@@ -110,7 +120,7 @@ fn takes(session: &mut Session, out: &mut Out<MemSink>, step: &Step) -> bool
 }
 
 /// Whether the session ends with this status, and writes nothing more.
-fn ends(session: &mut Session, out: &mut Out<MemSink>, status: Status) -> bool
+fn ends<M: Matcher<Mark>>(session: &mut Session<M>, out: &mut Out<MemSink>, status: Status) -> bool
     requires { session.old.stop ≡ None → IsReady out.old }
 {
     let place = out.sink().bytes().len();
@@ -118,8 +128,8 @@ fn ends(session: &mut Session, out: &mut Out<MemSink>, status: Status) -> bool
 }
 
 /// Whether the session answers so where it is fed these bytes.
-fn feeds(
-    session: &mut Session,
+fn feeds<M: Matcher<Mark>>(
+    session: &mut Session<M>,
     out: &mut Out<MemSink>,
     piece: &[u8],
     answer: Result<Flow, Stop>,
@@ -141,7 +151,11 @@ fn is_status(got: Result<Status, Stop>, answer: Result<Status, Stop>) -> bool {
 }
 
 /// Whether the session answers so where the script ends.
-fn finishes(session: &mut Session, out: &mut Out<MemSink>, answer: Result<Status, Stop>) -> bool
+fn finishes<M: Matcher<Mark>>(
+    session: &mut Session<M>,
+    out: &mut Out<MemSink>,
+    answer: Result<Status, Stop>,
+) -> bool
     requires { session.old.stop ≡ None → IsReady out.old }
     ensures { session.new.stop ≡ None → IsReady out.new }
 {

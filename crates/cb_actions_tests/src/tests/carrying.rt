@@ -4,12 +4,16 @@ use cb_actions::{Break, Ended, Limit, World};
 use cb_exprs::Expr;
 use cb_facts::{Names, Refused, Value, quoted_text};
 use cb_forms::{Fault, Form, Item, MemSink, NoMemory, Out, read_items};
+use cb_matches::Matcher;
+use cb_rematch::Rematch;
 use cb_templates::read_template;
+use cb_words::WatchItem;
+use cb_working_memory::Mark;
 use std::alloc::Global;
 
 /// Forms, the turns that there are for them, and what comes of each: what it writes, and then its value on a line, or the
 /// number of its fault or limit.
-const ROWS: [(&str, u64, &str); 20] = [
+const ROWS: [(&str, u64, &str); 21] = [
     // Loops, their turns, and the limit, within arguments too.
     (
         "(bind ?i 0)(while (< ?i 3) (do (bind ?i (+ ?i 1)) (println ?i)))?i",
@@ -98,12 +102,36 @@ const ROWS: [(&str, u64, &str); 20] = [
         0,
         "<Fact-1>\n[CB20]\n[CB17]\n",
     ),
+    // `halt` has no value, and does nothing where no run is on.
+    (
+        "(halt)(do (print 1) (halt) (println 2))(do (println 3) (halt))(println (do (halt)))(halt)",
+        0,
+        "12\n3\n[CB17]\n",
+    ),
 ];
 
-/// The first row that does not go so.
-fn first_wrong(alloc: Global, rows: &[(&str, u64, &str)]) -> Result<Option<usize>, Refused> {
+/// The same with facts watched: a line for each that comes or goes.
+const WATCHED_ROWS: [(&str, u64, &str); 2] = [
+    (
+        "(assert (a 1 \"b\"))(assert (a 1 \"b\"))(println (assert (p (b 2))))",
+        0,
+        "==> f-1     (a 1 \"b\")\n<Fact-1>\n<Fact-1>\n==> f-2     (p (a nil) (b 2))\n<Fact-2>\n",
+    ),
+    (
+        "(assert (a))(assert (c))(retract * 5)(retract 2)(retract 2 a)(retract (assert (d)) 1)",
+        0,
+        "==> f-1     (a)\n<Fact-1>\n==> f-2     (c)\n<Fact-2>\n<== f-1     (a)\n<== f-2     (c)\n[CB20]\n[CB20]\n[CB17]\n==> f-3     (d)\n<== f-3     (d)\n[CB20]\n",
+    ),
+];
+
+/// The first row that does not go so, where facts are watched or not.
+fn first_wrong(
+    alloc: Global,
+    rows: &[(&str, u64, &str)],
+    watched: bool,
+) -> Result<Option<usize>, Refused> {
     for (i, (text, turns, outcome)) in rows.iter().enumerate() {
-        if outcome_of(alloc, text.as_bytes(), *turns)?.as_slice() != outcome.as_bytes() {
+        if outcome_of(alloc, text.as_bytes(), *turns, watched)?.as_slice() != outcome.as_bytes() {
             return Ok(Some(i));
         }
     }
@@ -111,33 +139,49 @@ fn first_wrong(alloc: Global, rows: &[(&str, u64, &str)]) -> Result<Option<usize
 }
 
 /// What comes of the forms of a row.
-fn outcome_of(alloc: Global, text: &[u8], turns: u64) -> Result<Vec<u8>, Refused> {
+fn outcome_of(alloc: Global, text: &[u8], turns: u64, watched: bool) -> Result<Vec<u8>, Refused> {
     let mut outcome = Vec::new(alloc);
-    add_row(alloc, text, turns, &mut outcome)?;
+    add_row(alloc, text, turns, watched, &mut outcome)?;
     Ok(outcome)
 }
 
 /// Adds what comes of the forms of a row, in a world of its own.
-fn add_row(alloc: Global, text: &[u8], turns: u64, outcome: &mut Vec<u8>) -> Result<(), Refused> {
-    let mut world = World::new(alloc, turns);
-    add_forms(alloc, &mut world, text, outcome)
+fn add_row(
+    alloc: Global,
+    text: &[u8],
+    turns: u64,
+    watched: bool,
+    outcome: &mut Vec<u8>,
+) -> Result<(), Refused> {
+    let mut world = World::new(alloc, Rematch::new(alloc), turns, 0);
+    add_forms(alloc, &mut world, text, watched, outcome)
 }
 
 /// Adds what comes of forms, in a world with a template.
-fn add_forms(
+fn add_forms<M: Matcher<Mark>>(
     alloc: Global,
-    world: &mut World,
+    world: &mut World<M>,
     text: &[u8],
+    watched: bool,
     outcome: &mut Vec<u8>,
 ) -> Result<(), Refused> {
     define(alloc, world, b"p (slot a) (slot b)")?;
+    watch(world, watched)?;
     add_items(alloc, world, text, outcome)
 }
 
+/// Watches facts, or no more.
+fn watch<M: Matcher<Mark>>(world: &mut World<M>, on: bool) -> Result<(), NoMemory> {
+    match world.watch(WatchItem::Facts, on) {
+        Ok(_) => Ok(()),
+        Err(_) => Err(NoMemory),
+    }
+}
+
 /// Adds what comes of the items of a text.
-fn add_items(
+fn add_items<M: Matcher<Mark>>(
     alloc: Global,
-    world: &mut World,
+    world: &mut World<M>,
     text: &[u8],
     outcome: &mut Vec<u8>,
 ) -> Result<(), Refused> {
@@ -149,7 +193,11 @@ fn add_items(
 }
 
 /// Defines a template.
-fn define(alloc: Global, world: &mut World, text: &[u8]) -> Result<(), Refused> {
+fn define<M: Matcher<Mark>>(
+    alloc: Global,
+    world: &mut World<M>,
+    text: &[u8],
+) -> Result<(), Refused> {
     let mut forms = Vec::new(alloc);
     for item in read_items(alloc, text)? {
         if let Item::Form(form) = item {
@@ -164,9 +212,9 @@ fn define(alloc: Global, world: &mut World, text: &[u8]) -> Result<(), Refused> 
     }
 }
 
-fn add_item(
+fn add_item<M: Matcher<Mark>>(
     alloc: Global,
-    world: &mut World,
+    world: &mut World<M>,
     item: &Item,
     outcome: &mut Vec<u8>,
 ) -> Result<(), Refused> {
@@ -177,13 +225,13 @@ fn add_item(
 }
 
 /// Carries an expression out, and adds what it writes and its answer.
-fn add_outcome(
+fn add_outcome<M: Matcher<Mark>>(
     alloc: Global,
-    world: &mut World,
+    world: &mut World<M>,
     expr: &Expr,
     outcome: &mut Vec<u8>,
 ) -> Result<(), Refused> {
-    let mut out = Out::new(MemSink::new(alloc, 100, 7, None)?);
+    let mut out = Out::new(MemSink::new(alloc, 200, 7, None)?);
     let answer = world.carry_out(expr, &mut out);
     if out.flush().is_ok() {
         outcome.extend_from_slice(out.sink().bytes())?;
@@ -198,9 +246,10 @@ fn line(alloc: Global, answer: Result<Option<Value>, Break>) -> Result<Vec<u8>, 
         Ok(Some(value)) => value_line(alloc, &value),
         Ok(None) => Ok(Vec::new(alloc)),
         Err(Break::Ended(Ended::Fault(fault))) => number_line(alloc, fault.number()),
+        Err(Break::Ended(Ended::Limit(Limit::Firings))) => number_line(alloc, 92),
         Err(Break::Ended(Ended::Limit(Limit::Turns))) => number_line(alloc, 93),
-        Err(Break::Ended(Ended::Limit(Limit::Indices))) => number_line(alloc, 94),
-        Err(Break::Stop(_)) => Err(NoMemory),
+        Err(Break::Ended(Ended::Limit(Limit::Numbers))) => number_line(alloc, 94),
+        Err(Break::Ended(Ended::Exit(_)) | Break::Stop(_)) => Err(NoMemory),
     }
 }
 
@@ -221,6 +270,12 @@ fn number_line(alloc: Global, number: u8) -> Result<Vec<u8>, NoMemory> {
 
 #[test]
 fn carries_out(rt: HostRuntime) -> Result<(), Refused> {
-    assert!(rt; first_wrong(rt.alloc(), &ROWS)?.is_none());
+    assert!(rt; first_wrong(rt.alloc(), &ROWS, false)?.is_none());
+    Ok(())
+}
+
+#[test]
+fn tells_of_watched_facts(rt: HostRuntime) -> Result<(), Refused> {
+    assert!(rt; first_wrong(rt.alloc(), &WATCHED_ROWS, true)?.is_none());
     Ok(())
 }

@@ -43,6 +43,7 @@ fn act(alloc: Global, action: Action, forms: &[Form], parts: Vec<Expr>) -> Resul
         Action::Printout => printout(alloc, forms, parts),
         Action::Print => Ok(Expr::Print(parts)),
         Action::Println => Ok(Expr::Println(parts)),
+        Action::Halt => Ok(Expr::Halt),
     }
 }
 

@@ -10,6 +10,17 @@ const LIMITED: Status = Status {
     ending: Ending::Limit,
 };
 
+/// Scripts that end by `exit`: with a status of their own, and without a fault.
+const EXITED: Status = Status {
+    code: 7,
+    ending: Ending::Exit,
+};
+
+const LEFT: Status = Status {
+    code: 0,
+    ending: Ending::Exit,
+};
+
 /// A call, and what it answers.
 enum Call {
     Feed(&'static [u8], Result<Flow, Stop>),
@@ -29,7 +40,7 @@ struct Talk {
     turns: &'static [Turn],
 }
 
-const TALKS: [Talk; 6] = [
+const TALKS: [Talk; 9] = [
     // An item is carried out as soon as it has ended, and an open string is a fault.
     Talk {
         fail_at: None,
@@ -127,6 +138,66 @@ const TALKS: [Talk; 6] = [
             },
         ],
     },
+    // The same where a rule is due and no firing is left.
+    Talk {
+        fail_at: None,
+        turns: &[
+            Turn {
+                call: Call::Feed(
+                    b"(assert (a 1))(defrule r (a ?x) => (assert (a (+ ?x 1))))(run 6)",
+                    Ok(Flow::GoOn),
+                ),
+                held: b"",
+                written: b"<Fact-1>\n",
+            },
+            Turn {
+                call: Call::Feed(b"(run 0)(run 1)(facts)", Ok(Flow::Ended(LIMITED))),
+                held: b"",
+                written: b"<Fact-1>\n[CB92] firing limit reached\n",
+            },
+            Turn {
+                call: Call::Finish(Ok(LIMITED)),
+                held: b"",
+                written: b"<Fact-1>\n[CB92] firing limit reached\n",
+            },
+        ],
+    },
+    // The same by `exit`.
+    Talk {
+        fail_at: None,
+        turns: &[
+            Turn {
+                call: Call::Feed(b"(exit -1)(exit 7)(run)", Ok(Flow::Ended(EXITED))),
+                held: b"",
+                written: b"[CB17] wrong type\n",
+            },
+            Turn {
+                call: Call::Feed(b" x ", Ok(Flow::Ended(EXITED))),
+                held: b"",
+                written: b"[CB17] wrong type\n",
+            },
+            Turn {
+                call: Call::Finish(Ok(EXITED)),
+                held: b"",
+                written: b"[CB17] wrong type\n",
+            },
+        ],
+    },
+    Talk {
+        fail_at: None,
+        turns: &[
+            Turn {
+                call: Call::Feed(b"(exit)", Ok(Flow::Ended(LEFT))),
+                held: b"",
+                written: b"",
+            },
+            Turn {
+                call: Call::Finish(Ok(LEFT)),
+                held: b"",
+                written: b"",
+            },
+        ],
+    },
     // A write that fails is answered by each later call.
     Talk {
         fail_at: Some(1),
@@ -192,12 +263,16 @@ fn is_answered(alloc: Global, talk: &Talk) -> bool {
 /// Whether each turn goes so in a session that writes to this sink.
 fn all_go_with(alloc: Global, sink: MemSink, turns: &[Turn]) -> bool {
     let mut out = Out::new(sink);
-    let mut session = Session::new(alloc, LIMITS);
+    let mut session = Session::new(alloc, Rematch::new(alloc), LIMITS);
     all_go(&mut session, &mut out, turns)
 }
 
 /// Whether each turn goes so.
-fn all_go(session: &mut Session, out: &mut Out<MemSink>, turns: &[Turn]) -> bool
+fn all_go<M: Matcher<Mark>>(
+    session: &mut Session<M>,
+    out: &mut Out<MemSink>,
+    turns: &[Turn],
+) -> bool
     requires { session.old.stop ≡ None → IsReady out.old }
 {
     for turn in turns {
@@ -209,7 +284,7 @@ fn all_go(session: &mut Session, out: &mut Out<MemSink>, turns: &[Turn]) -> bool
 }
 
 /// Whether the call answers what it should.
-fn answers(session: &mut Session, out: &mut Out<MemSink>, call: &Call) -> bool
+fn answers<M: Matcher<Mark>>(session: &mut Session<M>, out: &mut Out<MemSink>, call: &Call) -> bool
     requires { session.old.stop ≡ None → IsReady out.old }
     ensures { session.new.stop ≡ None → IsReady out.new }
 {
@@ -220,7 +295,7 @@ fn answers(session: &mut Session, out: &mut Out<MemSink>, call: &Call) -> bool
 }
 
 /// Whether the session shows, and the sink has, what they should.
-fn shows(session: &Session, out: &Out<MemSink>, turn: &Turn) -> bool {
+fn shows<M: Matcher<Mark>>(session: &Session<M>, out: &Out<MemSink>, turn: &Turn) -> bool {
     let is_held = session.failed() || session.held() == turn.held;
     is_held && session.failed() == is_stop(&turn.call) && out.sink().bytes() == turn.written
 }

@@ -65,7 +65,7 @@ const FACTS: [Row; 6] = [
     Row {
         steps: &[
             (b"(assert (a) b)", CB09),
-            (b"(run)", CB14),
+            (b"(run)", b""),
             (b"(facts)", b""),
         ],
         status: FAULTY,

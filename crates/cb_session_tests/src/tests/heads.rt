@@ -6,7 +6,7 @@ const HEADS: [Row; 1] = [Row {
         (b"(\"facts\")", CB08),
         (b"(nothing ?x)", CB06),
         (b"(test)", CB06),
-        (b"(defrule r =>)", CB14),
+        (b"(defrule r =>)", b""),
         (b"(+ 1 2)", b"3\n"),
         (b"(lowcase a)", CB14),
         (b"(facts 1)", CB07),
@@ -24,16 +24,6 @@ fn reads_heads(rt: HostRuntime) {
 const REFUSED: [Row; 3] = [
     Row {
         steps: &[
-            (b"(defrule)", CB14),
-            (b"(run)", CB14),
-            (b"(agenda)", CB14),
-            (b"(rules)", CB14),
-            (b"(undefrule)", CB14),
-            (b"(watch)", CB14),
-            (b"(unwatch)", CB14),
-            (b"(set-strategy)", CB14),
-            (b"(exit)", CB14),
-            (b"(halt)", CB14),
             (b"(/)", CB14),
             (b"(**)", CB14),
             (b"(float)", CB14),

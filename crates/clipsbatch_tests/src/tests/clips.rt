@@ -1,7 +1,8 @@
-//! The scripts of `docs/CLIPS.md`, of `README.md` and of the man page, made by `docs/examples.py`.
+//! The scripts of `docs/CLIPS.md` on what differs, made by `docs/examples.py`.
 use super::rows::{AT_A_LIMIT, Example, WITH_A_FAULT, WITHOUT_FAULT};
+use cb_run::{Cause, Outcome};
 
-pub(super) const CLIPS: [Example; 29] = [
+pub(super) const CLIPS_TEXT: [Example; 16] = [
     Example {
         name: "Input and output: 1",
         script: b"(+ 1 2)
@@ -78,6 +79,8 @@ blue
 (printout werror \"w\" crlf)
 (printout (sym-cat t) \"x\" crlf)
 (member$ (create$ b c) (create$ a b c))
+(defrule nested (not (not (a))) => (printout t \"a\" crlf))
+(defrule all (forall (a ?x) (b ?x)) => (printout t \"all\" crlf))
 ",
         written: b"[CB05] floats are not supported
 [CB14] not in this profile
@@ -90,6 +93,8 @@ blue
 [CB14] not in this profile
 [CB14] not in this profile
 [CB17] wrong type
+[CB14] not in this profile
+[CB14] not in this profile
 ",
         outcome: WITH_A_FAULT,
     },
@@ -204,6 +209,9 @@ y[CB17] wrong type
 ",
         outcome: WITH_A_FAULT,
     },
+];
+
+pub(super) const CLIPS_FACTS: [Example; 10] = [
     Example {
         name: "Facts and templates: 1",
         script: b"(assert (color red))
@@ -348,6 +356,264 @@ FALSE
 ",
         outcome: WITH_A_FAULT,
     },
+];
+
+pub(super) const CLIPS_RULES: [Example; 12] = [
+    Example {
+        name: "Rules: 1",
+        script: b"(defrule first (x) => (printout t \"first\" crlf))
+(defrule second (x) => (printout t \"second\" crlf))
+(assert (x))
+(run)
+",
+        written: b"<Fact-1>
+second
+first
+",
+        outcome: WITHOUT_FAULT,
+    },
+    Example {
+        name: "Rules: 2",
+        script: b"(defrule parts (y $?a $?b) => (printout t ?a ?b crlf))
+(assert (y 1 2))
+(run)
+",
+        written: b"<Fact-1>
+(1 2)()
+(1)(2)
+()(1 2)
+",
+        outcome: WITHOUT_FAULT,
+    },
+    Example {
+        name: "Rules: 3",
+        script: b"(defrule join (a ?x) (b) => (printout t ?x crlf))
+(assert (a 1) (a 2) (a 3))
+(assert (b))
+(run)
+",
+        written: b"<Fact-3>
+<Fact-4>
+3
+2
+1
+",
+        outcome: WITHOUT_FAULT,
+    },
+    Example {
+        name: "Rules: 4",
+        script: b"(watch activations)
+(defrule r (or (a ?) (a 1)) =>)
+(defrule s (or (a 1) (a ?)) =>)
+(assert (a 1))
+",
+        written: b"==> Activation 0      r: f-1
+==> Activation 0      r: f-1
+==> Activation 0      s: f-1
+==> Activation 0      s: f-1
+<Fact-1>
+",
+        outcome: WITHOUT_FAULT,
+    },
+    Example {
+        name: "Rules: 5",
+        script: b"(defrule greet (hello) => (printout t \"first\" crlf))
+(defrule greet (hello) => (printout t ?name crlf))
+(assert (hello))
+(run)
+",
+        written: b"[CB11] unbound variable
+<Fact-1>
+first
+",
+        outcome: WITH_A_FAULT,
+    },
+    Example {
+        name: "Rules: 6",
+        script: b"(defglobal ?*least* = 2)
+(defrule large (size ?n&:(> ?n ?*least*)) => (printout t \"large\" crlf))
+(assert (size 3))
+(run)
+",
+        written: b"[CB13] not allowed on a left side
+<Fact-1>
+",
+        outcome: WITH_A_FAULT,
+    },
+    Example {
+        name: "Rules: 7",
+        script: b"(defrule large (size ?n&:(> ?n 2)) => (printout t \"large\" crlf))
+(assert (size many))
+(assert (size 3))
+(run)
+",
+        written: b"<Fact-1>
+<Fact-2>
+large
+",
+        outcome: WITHOUT_FAULT,
+    },
+    Example {
+        name: "Rules: 8",
+        script: b"(defrule tested (size ?n) (test (> ?n 2)) => (printout t \"tested\" crlf))
+(defrule not-large (size ?n&~:(> ?n 2)) => (printout t \"not large\" crlf))
+(assert (size many))
+(run)
+",
+        written: b"<Fact-1>
+not large
+",
+        outcome: WITHOUT_FAULT,
+    },
+    Example {
+        name: "Rules: 9",
+        script: b"(defrule both (a $?x) (b ?x) => (printout t \"both\" crlf))
+(defrule not-red (a $?x&~red) => (printout t \"not red: \" ?x crlf))
+(defrule red (a red&?x) => (printout t \"red: \" ?x crlf))
+(assert (a red) (b red))
+(run)
+",
+        written: b"<Fact-2>
+red: red
+not red: (red)
+",
+        outcome: WITHOUT_FAULT,
+    },
+    Example {
+        name: "Rules: 10",
+        script: b"(deftemplate part (slot count (type INTEGER)))
+(defrule many (part (count many)) => (printout t \"many\" crlf))
+(rules)
+",
+        written: b"many
+For a total of 1 defrule.
+",
+        outcome: WITHOUT_FAULT,
+    },
+    Example {
+        name: "Rules: 11",
+        script: b"(defrule halve (n ?x) => (printout t \"begin \" ?x crlf) (div 10 ?x) (printout t \"end \" ?x crlf))
+(assert (n 1) (n 0))
+(run)
+(agenda)
+",
+        written: b"<Fact-2>
+begin 0
+[CB19] division by zero
+0      halve: f-1
+For a total of 1 activation.
+",
+        outcome: WITH_A_FAULT,
+    },
+    Example {
+        name: "Rules: 12",
+        script: b"(defrule again (n ?x) => (printout t \"again\" crlf) (assert (m ?x)) (facts))
+(assert (n 1))
+(run)
+",
+        written: b"[CB14] not in this profile
+<Fact-1>
+",
+        outcome: WITH_A_FAULT,
+    },
+];
+
+pub(super) const CLIPS_COMMANDS: [Example; 8] = [
+    Example {
+        name: "Commands: 1",
+        script: b"(deffacts d (a))
+(defrule r (a) (not (b)) =>)
+(reset)
+(watch facts)
+(watch activations)
+(reset)
+",
+        written: b"<== f-1     (a)
+==> f-1     (a)
+==> Activation 0      r: f-1,*
+",
+        outcome: WITHOUT_FAULT,
+    },
+    Example {
+        name: "Commands: 2",
+        script: b"(defrule one (b) =>)
+(defrule two (a ?x) (not (b)) =>)
+(defrule three (a ?x) (b) =>)
+(assert (a 1) (a 2))
+(watch facts)
+(watch activations)
+(assert (b))
+",
+        written: b"<Fact-2>
+==> f-3     (b)
+<== Activation 0      two: f-1,*
+<== Activation 0      two: f-2,*
+==> Activation 0      one: f-3
+==> Activation 0      three: f-1,f-3
+==> Activation 0      three: f-2,f-3
+<Fact-3>
+",
+        outcome: WITHOUT_FAULT,
+    },
+    Example {
+        name: "Commands: 3",
+        script: b"(defrule r (a) =>)
+(watch all)
+(assert (a))
+(run)
+(watch globals)
+",
+        written: b"==> f-1     (a)
+==> Activation 0      r: f-1
+<Fact-1>
+FIRE    1 r: f-1
+[CB14] not in this profile
+",
+        outcome: WITH_A_FAULT,
+    },
+    Example {
+        name: "Commands: 4",
+        script: b"(defrule low (declare (salience -10)) (a ?x) (not (b)) (test (> ?x 1)) =>)
+(defrule high (declare (salience 10)) (exists (a ?)) (a ?x) =>)
+(assert (a 1) (a 2))
+(agenda)
+(list-defrules)
+(agenda MAIN)
+",
+        written: b"<Fact-2>
+10     high: *,f-2
+10     high: *,f-1
+-10    low: f-2,*
+For a total of 3 activations.
+[CB14] not in this profile
+[CB07] wrong arguments
+",
+        outcome: WITH_A_FAULT,
+    },
+    Example {
+        name: "Commands: 5",
+        script: b"(exit 300)
+(exit)
+",
+        written: b"[CB17] wrong type
+",
+        outcome: Outcome {
+            status: 1,
+            cause: Cause::Exit,
+        },
+    },
+    Example {
+        name: "Commands: 6",
+        script: b"(undefrule nobody)
+(set-strategy breadth)
+(set-strategy mea)
+",
+        written: b"[CB21] no such rule
+depth
+[CB14] not in this profile
+",
+        outcome: WITH_A_FAULT,
+    },
     Example {
         name: "Limits: 1",
         script: b"(abs (abs (abs (abs (abs (abs (abs (abs (abs (abs (abs (abs (abs (abs (abs (abs (abs (abs (abs (abs
@@ -375,40 +641,14 @@ FALSE
         outcome: AT_A_LIMIT,
     },
     Example {
-        name: "A first transcript: 1",
-        script: b"; What lamps are there, and what do they draw?
-(deftemplate lamp (slot room (default ?NONE)) (slot watts (type INTEGER) (default 60)))
-(deffacts house (lamp (room hall)) (lamp (room attic) (watts (* 4 25))))
-(reset)
-(facts)
-(assert (lamp (room cellar) (watts bright)))
-(bind ?f (assert (lamp (room cellar) (watts (div 60 4)))))
-(retract 1)
-(facts)
-(println \"Watt hours: \" (* 3 (+ 100 15)))
-",
-        written: b"f-1     (lamp (room hall) (watts 60))
-f-2     (lamp (room attic) (watts 100))
-For a total of 2 facts.
-[CB10] value not allowed in slot
-<Fact-3>
-f-2     (lamp (room attic) (watts 100))
-f-3     (lamp (room cellar) (watts 15))
-For a total of 2 facts.
-Watt hours: 345
-",
-        outcome: WITH_A_FAULT,
-    },
-    Example {
-        name: "The man page: 1",
-        script: b"(assert (color red)) (facts) (+ 1 2) (div 1 0)
+        name: "Limits: 2",
+        script: b"(defrule count ?f <- (n ?x) => (retract ?f) (assert (n (+ ?x 1))))
+(assert (n 0))
+(run)
 ",
         written: b"<Fact-1>
-f-1     (color red)
-For a total of 1 fact.
-3
-[CB19] division by zero
+[CB92] firing limit reached
 ",
-        outcome: WITH_A_FAULT,
+        outcome: AT_A_LIMIT,
     },
 ];

@@ -1,10 +1,10 @@
 //! The scripts of `examples/`, made by `docs/examples.py`.
 use super::rows::{Example, WITHOUT_FAULT};
+use cb_run::{Cause, Outcome};
 
-pub(super) const EXAMPLES: [Example; 4] = [
-    Example {
-        name: "cluster.clp",
-        script: b"; The configuration of a small cluster, checked before it is rolled out. Services and settings have templates: a port
+pub(super) const CLUSTER: [Example; 1] = [Example {
+    name: "cluster.clp",
+    script: b"; The configuration of a small cluster, checked before it is rolled out. Services and settings have templates: a port
 ; that isn't a number or a service without a name would be a fault, and the exit status would be 1.
 
 (deftemplate service \"a program that runs on a machine\"
@@ -41,7 +41,7 @@ pub(super) const EXAMPLES: [Example; 4] = [
 (retract ?mail)
 (facts)
 ",
-        written: b"Each cluster:
+    written: b"Each cluster:
 f-1     (service (name db) (port 5432) (host \"db-1.local\") (needs))
 f-2     (setting (of db) (key backup) (value on))
 f-3     (must-run db)
@@ -62,11 +62,124 @@ f-7     (setting (of web) (key \"max clients\") (value 200))
 f-8     (service (name cache) (port 6379) (host \"\") (needs))
 For a total of 7 facts.
 ",
-        outcome: WITHOUT_FAULT,
-    },
-    Example {
-        name: "inventory.clp",
-        script: b"; The contents of the storeroom. Each line of a count is a fact, and a line that both people counted is one fact.
+    outcome: WITHOUT_FAULT,
+}];
+
+pub(super) const HEATING: [Example; 1] = [Example {
+    name: "heating.clp",
+    script: b"; Why does the heating fail? Rules turn what was seen and measured into findings, and a report lists these, the most
+; certain one first.
+
+(deftemplate seen \"a sign that the tenant reports\"
+  (slot sign (type SYMBOL) (default ?NONE)))
+
+(deftemplate reading \"a value that the boiler measures\"
+  (slot of (type SYMBOL) (default ?NONE))
+  (slot value (type INTEGER) (default ?NONE)))
+
+(deftemplate finding \"a possible cause, and how certain it is\"
+  (slot cause (type SYMBOL) (default ?NONE))
+  (slot percent (type INTEGER) (default ?NONE))
+  (slot because (type STRING)))
+
+(defrule low-pressure
+  (reading (of decibar) (value ?p&:(< ?p 10)))
+  =>
+  (assert (finding (cause low-pressure) (percent 95) (because (str-cat \"the gauge shows \" ?p \" decibar\")))))
+
+; A finding may lead to another.
+(defrule leak
+  (finding (cause low-pressure))
+  (seen (sign damp-floor))
+  =>
+  (assert (finding (cause leak) (percent 70) (because \"pressure is lost, and the floor is damp\"))))
+
+(defrule stuck-pump
+  (reading (of flow) (value ?flow))
+  (reading (of return) (value ?return))
+  (test (> (- ?flow ?return) 25))
+  =>
+  (assert (finding (cause stuck-pump) (percent 60) (because \"the water comes back cold\"))))
+
+; A second sign makes a cause more certain. The limit of 80 keeps the rule from firing for the finding that it adds.
+(defrule humming-pump
+  ?f <- (finding (cause stuck-pump) (percent ?p&:(< ?p 80)))
+  (seen (sign humming))
+  =>
+  (retract ?f)
+  (assert (finding (cause stuck-pump) (percent 80) (because \"the water comes back cold, and the pump hums\"))))
+
+; Either sign is enough. If both are seen, the rule fires twice, but the second finding equals the first and isn't added.
+(defrule trapped-air
+  (or (seen (sign gurgling)) (seen (sign cold-at-the-top)))
+  =>
+  (assert (finding (cause trapped-air) (percent 40) (because \"it gurgles, or is cold at the top\"))))
+
+(defrule no-sensor
+  (not (reading (of room)))
+  =>
+  (assert (finding (cause room-sensor) (percent 30) (because \"the room has no reading\"))))
+
+; The report waits, by its salience, until there are no more findings to add.
+
+(defrule heading
+  (declare (salience -10))
+  (exists (finding))
+  =>
+  (println \"Possible causes:\"))
+
+(defrule all-well
+  (declare (salience -10))
+  (not (finding))
+  (not (reported ?))
+  =>
+  (println \"Nothing found.\"))
+
+; Each time, the most certain finding that is left.
+(defrule report
+  (declare (salience -20))
+  ?f <- (finding (cause ?cause) (percent ?p) (because ?why))
+  (not (finding (percent ?q&:(> ?q ?p))))
+  =>
+  (retract ?f)
+  (assert (reported ?cause))
+  (println \"  \" ?p \" % \" ?cause \": \" ?why))
+
+(deffacts visit
+  (reading (of flow) (value 62)) (reading (of return) (value 31)) (reading (of decibar) (value 6))
+  (seen (sign gurgling)) (seen (sign cold-at-the-top)) (seen (sign humming)) (seen (sign damp-floor)))
+
+(println \"First visit\")
+(reset)
+(run)
+
+; The facts of the second visit take the place of those of the first.
+(deffacts visit
+  (reading (of flow) (value 55))
+  (reading (of return) (value 41))
+  (reading (of decibar) (value 15))
+  (reading (of room) (value 20)))
+
+(println \"Second visit\")
+(reset)
+(run)
+",
+    written: b"First visit
+Possible causes:
+  95 % low-pressure: the gauge shows 6 decibar
+  80 % stuck-pump: the water comes back cold, and the pump hums
+  70 % leak: pressure is lost, and the floor is damp
+  40 % trapped-air: it gurgles, or is cold at the top
+  30 % room-sensor: the room has no reading
+Second visit
+Nothing found.
+",
+    outcome: WITHOUT_FAULT,
+}];
+
+pub(super) const INVENTORY: [Example; 1] = [Example {
+    name: "inventory.clp",
+    script: b"; The contents of the storeroom. Each line of a count is a fact, and a line that both people counted is one fact.
 
 (printout t \"Storeroom 4, counted by two people\" crlf)
 
@@ -84,7 +197,7 @@ For a total of 7 facts.
 (printout t \"All that was counted:\" crlf)
 (facts)
 ",
-        written: b"Storeroom 4, counted by two people
+    written: b"Storeroom 4, counted by two people
 <Fact-4>
 <Fact-3>
 <Fact-6>
@@ -97,11 +210,12 @@ f-5     (item bolt m8 345)
 f-6     (item washer m6 280)
 For a total of 6 facts.
 ",
-        outcome: WITHOUT_FAULT,
-    },
-    Example {
-        name: "readings.clp",
-        script: b"; The night's readings of a cold store, checked against the limits of each room.
+    outcome: WITHOUT_FAULT,
+}];
+
+pub(super) const READINGS: [Example; 1] = [Example {
+    name: "readings.clp",
+    script: b"; The night's readings of a cold store, checked against the limits of each room.
 
 (deftemplate reading
   (slot room (type SYMBOL) (default ?NONE))
@@ -157,7 +271,7 @@ For a total of 6 facts.
 (assert (night (readings ?*taken*) (findings ?*found*) (rooms ?*rooms*)))
 (facts)
 ",
-        written: b"dairy, 2 to 6: 5 4
+    written: b"dairy, 2 to 6: 5 4
 freezer, -25 to -18: -24 -16 (too-warm)
 cellar, 8 to 14: 7 (too-cold) 8
 6 readings, 2 outside the limits.
@@ -173,11 +287,114 @@ f-8     (reading (room cellar) (hour 2) (celsius 8))
 f-9     (night (readings 6) (findings 2) (rooms freezer cellar))
 For a total of 9 facts.
 ",
-        outcome: WITHOUT_FAULT,
+    outcome: WITHOUT_FAULT,
+}];
+
+pub(super) const ROLLOUT: [Example; 1] = [Example {
+    name: "rollout.clp",
+    script: b"; A configuration of hosts and services, checked before it is rolled out. The exit status is 10 if there is a problem, so
+; that whatever calls clipsbatch can stop there.
+
+(deftemplate host \"a machine\"
+  (slot name (type SYMBOL) (default ?NONE))
+  (multislot open (type INTEGER)))               ; the ports that the firewall lets through
+
+(deftemplate service \"a program that runs on a host\"
+  (slot name (type SYMBOL) (default ?NONE))
+  (slot on (type SYMBOL) (default ?NONE))
+  (slot port (type INTEGER) (default 8080))
+  (slot public (type SYMBOL) (default no))
+  (multislot needs (type SYMBOL)))               ; names of other services
+
+(deftemplate problem
+  (slot of (type SYMBOL))
+  (slot text (type STRING)))
+
+(defglobal ?*problems* = 0)
+
+; What may be wrong. Each of these rules adds a problem, and none prints.
+
+(defrule unknown-host
+  (service (name ?s) (on ?h))
+  (not (host (name ?h)))
+  =>
+  (assert (problem (of ?s) (text (str-cat \"runs on \" ?h \", which isn't a host\")))))
+
+(defrule missing-service
+  (service (name ?s) (needs $? ?n $?))
+  (not (service (name ?n)))
+  =>
+  (assert (problem (of ?s) (text (str-cat \"needs \" ?n \", which doesn't run\")))))
+
+; However many others share the port, `exists` holds once.
+(defrule port-taken
+  (service (name ?s) (on ?h) (port ?p))
+  (exists (service (name ~?s) (on ?h) (port ?p)))
+  =>
+  (assert (problem (of ?s) (text (str-cat \"shares port \" ?p \" of \" ?h)))))
+
+(defrule port-closed
+  (service (name ?s) (on ?h) (port ?p) (public yes))
+  (host (name ?h) (open $?open))
+  (test (not (member$ ?p ?open)))
+  =>
+  (assert (problem (of ?s) (text (str-cat \"is public, but \" ?h \" lets nothing through to port \" ?p)))))
+
+; Nothing runs on the host. The only host may be idle.
+(defrule idle-host
+  (host (name ?h))
+  (exists (host (name ~?h)))
+  (not (service (on ?h)))
+  =>
+  (assert (problem (of ?h) (text \"has no service\"))))
+
+; The report comes when all checks are done: its salience is lower than theirs.
+
+(defrule tell
+  (declare (salience -10))
+  (problem (of ?who) (text ?text))
+  =>
+  (bind ?*problems* (+ ?*problems* 1))
+  (println ?who \": \" ?text))
+
+(defrule sound
+  (declare (salience -20))
+  (not (problem))
+  =>
+  (println \"No problems.\"))
+
+(deffacts cluster
+  (host (name north) (open 80 443))
+  (host (name south) (open 443))
+  (host (name spare))
+  (service (name web) (on north) (port 443) (public yes) (needs shop search))
+  (service (name shop) (on south) (needs db))
+  (service (name mail) (on south) (port 25) (public yes))
+  (service (name db) (on east) (port 5432))
+  (service (name metrics) (on south)))
+
+(reset)
+(run)
+(println \"Problems: \" ?*problems*)
+(exit (if (> ?*problems* 0) then 10 else 0))      ; status 10
+",
+    written: b"spare: has no service
+web: needs search, which doesn't run
+mail: is public, but south lets nothing through to port 25
+db: runs on east, which isn't a host
+shop: shares port 8080 of south
+metrics: shares port 8080 of south
+Problems: 6
+",
+    outcome: Outcome {
+        status: 10,
+        cause: Cause::Exit,
     },
-    Example {
-        name: "units.clp",
-        script: b"; A cutting list from an American plan, in metric units. There are no floats, so lengths are counted in tenths of a
+}];
+
+pub(super) const UNITS: [Example; 1] = [Example {
+    name: "units.clp",
+    script: b"; A cutting list from an American plan, in metric units. There are no floats, so lengths are counted in tenths of a
 ; millimetre, in which an inch is a whole number.
 
 (defglobal ?*inch* = 254
@@ -224,7 +441,7 @@ For a total of 9 facts.
     (println (if (< ?f 60) then \", too cold to glue\" else \"\")))
   (println \"Done.\"))
 ",
-        written: b"7' 5\" = 2.261 m
+    written: b"7' 5\" = 2.261 m
 3' 0\" = 0.914 m
 0' 11\" = 0.279 m
 1' 2\" = 0.356 m
@@ -239,6 +456,120 @@ The usual saw takes 3 mm a cut.
 -40 F = -40 C, too cold to glue
 Done.
 ",
-        outcome: WITHOUT_FAULT,
-    },
-];
+    outcome: WITHOUT_FAULT,
+}];
+
+pub(super) const WORKSHOP: [Example; 1] = [Example {
+    name: "workshop.clp",
+    script: b"; A day in a workshop with two machines. Each job takes some hours, has a deadline, and may need other jobs first. Of the
+; jobs that are ready, the one with the nearest deadline gets the machine that is free first.
+
+(deftemplate job \"a job that has no machine yet\"
+  (slot name (type SYMBOL) (default ?NONE))
+  (slot hours (type INTEGER) (default 1))
+  (slot deadline (type INTEGER) (default ?NONE))
+  (slot from (type INTEGER))                     ; the hour before which it can't start
+  (slot state (type SYMBOL) (default waiting)))  ; or ready
+
+(deftemplate need \"a job, and another that has to be done before it\"
+  (slot job (type SYMBOL))
+  (slot first (type SYMBOL)))
+
+(deftemplate machine
+  (slot name (type SYMBOL) (default ?NONE))
+  (slot free (type INTEGER)))                    ; the hour from which it is free
+
+(deftemplate planned \"a job with its place in the plan\"
+  (slot job (type SYMBOL))
+  (slot end (type INTEGER))
+  (slot deadline (type INTEGER)))
+
+; Preparing jobs comes before planning one: a job starts after all that it needs, and is ready when all that is planned.
+
+(defrule start-later
+  (declare (salience 20))
+  (need (job ?name) (first ?other))
+  (planned (job ?other) (end ?end))
+  ?j <- (job (name ?name) (hours ?h) (deadline ?d) (from ?from&:(< ?from ?end)) (state ?s))
+  =>
+  (retract ?j)
+  (assert (job (name ?name) (hours ?h) (deadline ?d) (from ?end) (state ?s))))
+
+(defrule become-ready
+  (declare (salience 10))
+  ?j <- (job (name ?name) (hours ?h) (deadline ?d) (from ?from) (state waiting))
+  (not (and (need (job ?name) (first ?other))
+            (job (name ?other))))
+  =>
+  (retract ?j)
+  (assert (job (name ?name) (hours ?h) (deadline ?d) (from ?from) (state ready))))
+
+; \"The nearest\" is said by `not`: there is no ready job with a nearer deadline, and no machine that is free earlier.
+(defrule plan
+  ?j <- (job (name ?name) (hours ?h) (deadline ?d) (from ?from) (state ready))
+  (not (job (state ready) (deadline ?nearer&:(< ?nearer ?d))))
+  ?m <- (machine (name ?machine) (free ?free))
+  (not (machine (free ?earlier&:(< ?earlier ?free))))
+  =>
+  (bind ?start (max ?from ?free))
+  (bind ?end (+ ?start ?h))
+  (retract ?j ?m)
+  (assert (machine (name ?machine) (free ?end))
+          (planned (job ?name) (end ?end) (deadline ?d)))
+  (println ?start \" to \" ?end \", \" ?machine \": \" ?name))
+
+(defrule late
+  (planned (job ?name) (end ?end) (deadline ?d&:(< ?d ?end)))
+  =>
+  (println \"  \" ?name \" is late by \" (- ?end ?d)))
+
+; What is left when no other rule can fire needs itself, in a circle.
+(defrule circle
+  (declare (salience -10))
+  (job (name ?name))
+  =>
+  (println ?name \" can't be planned\"))
+
+(deffacts jobs
+  (machine (name saw))
+  (machine (name mill))
+  (job (name frame) (hours 4) (deadline 9))
+  (job (name boards) (hours 3) (deadline 4))
+  (job (name legs) (hours 2) (deadline 5))
+  (job (name table) (hours 2) (deadline 8))
+  (job (name polish) (deadline 5))
+  (need (job table) (first boards))
+  (need (job table) (first legs))
+  (need (job polish) (first table)))
+
+(println \"Monday:\")
+(reset)
+(run)
+
+; Two jobs that need each other.
+(deffacts jobs
+  (machine (name saw) (free 8))
+  (job (name glue) (deadline 12))
+  (job (name press) (deadline 12))
+  (job (name sand) (hours 2) (deadline 16))
+  (need (job glue) (first press))
+  (need (job press) (first glue)))
+
+(println \"Tuesday:\")
+(reset)
+(run)
+",
+    written: b"Monday:
+0 to 3, mill: boards
+0 to 2, saw: legs
+3 to 5, saw: table
+5 to 6, mill: polish
+  polish is late by 1
+5 to 9, saw: frame
+Tuesday:
+8 to 10, saw: sand
+press can't be planned
+glue can't be planned
+",
+    outcome: WITHOUT_FAULT,
+}];

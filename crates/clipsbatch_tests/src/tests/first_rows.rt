@@ -111,8 +111,8 @@ static COMMAND_ROWS: [Row; 11] = [
         ..CLEAN
     },
     Row {
-        name: "a command of another profile",
-        steps: &[(b"(run)", CB14)],
+        name: "a command that is not supported",
+        steps: &[(b"(list-defrules)", CB14)],
         ..FAULTY
     },
     Row {

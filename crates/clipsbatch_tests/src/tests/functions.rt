@@ -1,7 +1,7 @@
-//! The scripts of `docs/LANGUAGE.md` on expressions, functions, variables and control, made by `docs/examples.py`.
+//! The scripts of `docs/LANGUAGE.md` on expressions, variables and control, made by `docs/examples.py`.
 use super::rows::{AT_A_LIMIT, Example, WITH_A_FAULT, WITHOUT_FAULT};
 
-pub(super) const FUNCTIONS: [Example; 8] = [
+pub(super) const EXPRESSIONS: [Example; 4] = [
     Example {
         name: "Expressions: 1",
         script: b"(+ 1 (* 2 3))
@@ -38,7 +38,7 @@ FALSE
 (max ())
 (max (1 2))
 (max (facts))
-(max (halt))
+(max (defrule))
 (bogus (+ 1) ?)
 ",
         written: b"[CB06] unknown function
@@ -180,6 +180,9 @@ a b
 ",
         outcome: WITH_A_FAULT,
     },
+];
+
+pub(super) const VARIABLES: [Example; 4] = [
     Example {
         name: "Variables: 1",
         script: b"?x

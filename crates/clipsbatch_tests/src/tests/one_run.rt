@@ -20,19 +20,21 @@ fn form_limit(max_form: usize) -> usize
     max_form
 }
 
-/// This number, if loops may take so many turns.
-fn turn_limit(max_turns: u64) -> u64
+/// This number, if rules may fire so often, and loops may take so many turns.
+fn count_limit(count: u64) -> u64
     ensures { result ≤ 1000000000000 }
 {
-    max_turns.min(1_000_000_000_000)
+    count.min(1_000_000_000_000)
 }
 
-fn limits(max_form: usize, max_turns: u64) -> Limits {
-    let max_form = form_limit(max_form);
-    let max_turns = turn_limit(max_turns);
+/// The limits of a run that should go so.
+fn limits(want: Want<'_>) -> Limits {
+    let max_form = form_limit(want.max_form);
+    let max_firings = count_limit(want.max_firings);
+    let max_turns = count_limit(want.max_turns);
     Limits {
         max_form,
-        max_firings: 1000,
+        max_firings,
         max_turns,
     }
 }
@@ -41,6 +43,7 @@ fn limits(max_form: usize, max_turns: u64) -> Limits {
 #[derive(Clone, Copy)]
 pub(super) struct Want<'a> {
     pub(super) max_form: usize,
+    pub(super) max_firings: u64,
     pub(super) max_turns: u64,
     pub(super) written: &'a [u8],
     pub(super) outcome: Outcome,
@@ -50,6 +53,7 @@ pub(super) struct Want<'a> {
 pub(super) fn want_of<'a>(row: &Row, whole: &'a Whole) -> Want<'a> {
     Want {
         max_form: row.max_form,
+        max_firings: row.max_firings,
         max_turns: row.max_turns,
         written: whole.written.as_slice(),
         outcome: row.outcome,
@@ -65,7 +69,7 @@ pub(super) fn outcome_of<S: Source>(
 ) -> Outcome
     requires { IsReady out.old }
 {
-    run(alloc, source, out, limits(want.max_form, want.max_turns))
+    run(alloc, source, out, limits(want))
 }
 
 /// Whether a run that ended so and wrote this is as it should be.

@@ -1,11 +1,18 @@
 //! The scripts of the pages and of `examples/`, in blocks of three lengths.
-use super::clips::CLIPS;
-use super::examples::EXAMPLES;
-use super::functions::FUNCTIONS;
-use super::language::LANGUAGE;
+use super::clips::{CLIPS_COMMANDS, CLIPS_FACTS, CLIPS_RULES, CLIPS_TEXT};
+use super::commands::{COMMANDS, RUNNING, WATCHING};
+use super::examples::{CLUSTER, HEATING, INVENTORY, READINGS, ROLLOUT, UNITS, WORKSHOP};
+use super::facts::{FACTS, TEMPLATES};
+use super::first_scripts::FIRST_SCRIPTS;
+use super::functions::{EXPRESSIONS, VARIABLES};
 use super::one_run::{Want, goes_in_blocks};
 use super::orders::ORDERS;
+use super::patterns::{CHECKS, CONNECTIVES, CONSTANTS, PATTERN_VARIABLES, SLOTS, WAYS};
 use super::rows::Example;
+use super::rule_orders::{
+    AGENDA_ORDERS, DECLARATION_ORDERS, ELEMENT_ORDERS, MATCH_ORDERS, TERM_ORDERS,
+};
+use super::rules::{AGENDA, GROUPS, RULE_FAULTS, RULES};
 use super::tokens::TOKENS;
 use cb_forms::NoMemory;
 use std::alloc::Global;
@@ -14,6 +21,7 @@ use std::alloc::Global;
 fn shows(alloc: Global, example: &Example) -> Result<bool, NoMemory> {
     let want = Want {
         max_form: 2000,
+        max_firings: 1000,
         max_turns: 1000,
         written: example.written,
         outcome: example.outcome,
@@ -37,14 +45,182 @@ fn first_untrue(alloc: Global, examples: &[Example]) -> Result<Option<&'static s
 }
 
 #[test]
-fn carries_the_scripts_of_examples_out(rt: HostRuntime) -> Result<(), NoMemory> {
-    assert_eq!(rt; first_untrue(rt.alloc(), &EXAMPLES)?, None);
+fn evaluates_expressions(rt: HostRuntime) -> Result<(), NoMemory> {
+    assert_eq!(rt; first_untrue(rt.alloc(), &EXPRESSIONS)?, None);
     Ok(())
 }
 
 #[test]
-fn carries_the_scripts_for_users_of_clips_out(rt: HostRuntime) -> Result<(), NoMemory> {
-    assert_eq!(rt; first_untrue(rt.alloc(), &CLIPS)?, None);
+fn sets_variables(rt: HostRuntime) -> Result<(), NoMemory> {
+    assert_eq!(rt; first_untrue(rt.alloc(), &VARIABLES)?, None);
+    Ok(())
+}
+
+#[test]
+fn defines_templates(rt: HostRuntime) -> Result<(), NoMemory> {
+    assert_eq!(rt; first_untrue(rt.alloc(), &TEMPLATES)?, None);
+    Ok(())
+}
+
+#[test]
+fn builds_facts(rt: HostRuntime) -> Result<(), NoMemory> {
+    assert_eq!(rt; first_untrue(rt.alloc(), &FACTS)?, None);
+    Ok(())
+}
+
+#[test]
+fn fits_constants(rt: HostRuntime) -> Result<(), NoMemory> {
+    assert_eq!(rt; first_untrue(rt.alloc(), &CONSTANTS)?, None);
+    Ok(())
+}
+
+#[test]
+fn fits_variables(rt: HostRuntime) -> Result<(), NoMemory> {
+    assert_eq!(rt; first_untrue(rt.alloc(), &PATTERN_VARIABLES)?, None);
+    Ok(())
+}
+
+#[test]
+fn fits_connectives(rt: HostRuntime) -> Result<(), NoMemory> {
+    assert_eq!(rt; first_untrue(rt.alloc(), &CONNECTIVES)?, None);
+    Ok(())
+}
+
+#[test]
+fn fits_expressions(rt: HostRuntime) -> Result<(), NoMemory> {
+    assert_eq!(rt; first_untrue(rt.alloc(), &CHECKS)?, None);
+    Ok(())
+}
+
+#[test]
+fn fits_in_several_ways(rt: HostRuntime) -> Result<(), NoMemory> {
+    assert_eq!(rt; first_untrue(rt.alloc(), &WAYS)?, None);
+    Ok(())
+}
+
+#[test]
+fn fits_slots(rt: HostRuntime) -> Result<(), NoMemory> {
+    assert_eq!(rt; first_untrue(rt.alloc(), &SLOTS)?, None);
+    Ok(())
+}
+
+#[test]
+fn fires_rules(rt: HostRuntime) -> Result<(), NoMemory> {
+    assert_eq!(rt; first_untrue(rt.alloc(), &RULES)?, None);
+    Ok(())
+}
+
+#[test]
+fn fires_rules_with_groups(rt: HostRuntime) -> Result<(), NoMemory> {
+    assert_eq!(rt; first_untrue(rt.alloc(), &GROUPS)?, None);
+    Ok(())
+}
+
+#[test]
+fn refuses_rules(rt: HostRuntime) -> Result<(), NoMemory> {
+    assert_eq!(rt; first_untrue(rt.alloc(), &RULE_FAULTS)?, None);
+    Ok(())
+}
+
+#[test]
+fn orders_the_agenda(rt: HostRuntime) -> Result<(), NoMemory> {
+    assert_eq!(rt; first_untrue(rt.alloc(), &AGENDA)?, None);
+    Ok(())
+}
+
+#[test]
+fn obeys_commands(rt: HostRuntime) -> Result<(), NoMemory> {
+    assert_eq!(rt; first_untrue(rt.alloc(), &COMMANDS)?, None);
+    Ok(())
+}
+
+#[test]
+fn runs_and_lists(rt: HostRuntime) -> Result<(), NoMemory> {
+    assert_eq!(rt; first_untrue(rt.alloc(), &RUNNING)?, None);
+    Ok(())
+}
+
+#[test]
+fn watches_and_exits(rt: HostRuntime) -> Result<(), NoMemory> {
+    assert_eq!(rt; first_untrue(rt.alloc(), &WATCHING)?, None);
+    Ok(())
+}
+
+#[test]
+fn reads_tokens_and_items(rt: HostRuntime) -> Result<(), NoMemory> {
+    assert_eq!(rt; first_untrue(rt.alloc(), &TOKENS)?, None);
+    Ok(())
+}
+
+#[test]
+fn differs_from_clips_in_text(rt: HostRuntime) -> Result<(), NoMemory> {
+    assert_eq!(rt; first_untrue(rt.alloc(), &CLIPS_TEXT)?, None);
+    Ok(())
+}
+
+#[test]
+fn differs_from_clips_in_facts(rt: HostRuntime) -> Result<(), NoMemory> {
+    assert_eq!(rt; first_untrue(rt.alloc(), &CLIPS_FACTS)?, None);
+    Ok(())
+}
+
+#[test]
+fn differs_from_clips_in_rules(rt: HostRuntime) -> Result<(), NoMemory> {
+    assert_eq!(rt; first_untrue(rt.alloc(), &CLIPS_RULES)?, None);
+    Ok(())
+}
+
+#[test]
+fn differs_from_clips_in_commands(rt: HostRuntime) -> Result<(), NoMemory> {
+    assert_eq!(rt; first_untrue(rt.alloc(), &CLIPS_COMMANDS)?, None);
+    Ok(())
+}
+
+#[test]
+fn runs_first_scripts(rt: HostRuntime) -> Result<(), NoMemory> {
+    assert_eq!(rt; first_untrue(rt.alloc(), &FIRST_SCRIPTS)?, None);
+    Ok(())
+}
+
+#[test]
+fn checks_a_cluster(rt: HostRuntime) -> Result<(), NoMemory> {
+    assert_eq!(rt; first_untrue(rt.alloc(), &CLUSTER)?, None);
+    Ok(())
+}
+
+#[test]
+fn finds_why_the_heating_fails(rt: HostRuntime) -> Result<(), NoMemory> {
+    assert_eq!(rt; first_untrue(rt.alloc(), &HEATING)?, None);
+    Ok(())
+}
+
+#[test]
+fn counts_an_inventory(rt: HostRuntime) -> Result<(), NoMemory> {
+    assert_eq!(rt; first_untrue(rt.alloc(), &INVENTORY)?, None);
+    Ok(())
+}
+
+#[test]
+fn checks_readings(rt: HostRuntime) -> Result<(), NoMemory> {
+    assert_eq!(rt; first_untrue(rt.alloc(), &READINGS)?, None);
+    Ok(())
+}
+
+#[test]
+fn checks_a_rollout(rt: HostRuntime) -> Result<(), NoMemory> {
+    assert_eq!(rt; first_untrue(rt.alloc(), &ROLLOUT)?, None);
+    Ok(())
+}
+
+#[test]
+fn converts_units(rt: HostRuntime) -> Result<(), NoMemory> {
+    assert_eq!(rt; first_untrue(rt.alloc(), &UNITS)?, None);
+    Ok(())
+}
+
+#[test]
+fn plans_a_workshop(rt: HostRuntime) -> Result<(), NoMemory> {
+    assert_eq!(rt; first_untrue(rt.alloc(), &WORKSHOP)?, None);
     Ok(())
 }
 
@@ -55,19 +231,31 @@ fn keeps_to_the_order_of_the_language(rt: HostRuntime) -> Result<(), NoMemory> {
 }
 
 #[test]
-fn carries_the_scripts_of_the_language_out(rt: HostRuntime) -> Result<(), NoMemory> {
-    assert_eq!(rt; first_untrue(rt.alloc(), &LANGUAGE)?, None);
+fn keeps_to_the_order_of_elements(rt: HostRuntime) -> Result<(), NoMemory> {
+    assert_eq!(rt; first_untrue(rt.alloc(), &ELEMENT_ORDERS)?, None);
     Ok(())
 }
 
 #[test]
-fn carries_the_scripts_that_compute_out(rt: HostRuntime) -> Result<(), NoMemory> {
-    assert_eq!(rt; first_untrue(rt.alloc(), &FUNCTIONS)?, None);
+fn keeps_to_the_order_of_declarations(rt: HostRuntime) -> Result<(), NoMemory> {
+    assert_eq!(rt; first_untrue(rt.alloc(), &DECLARATION_ORDERS)?, None);
     Ok(())
 }
 
 #[test]
-fn reads_the_tokens_and_items_of_the_language(rt: HostRuntime) -> Result<(), NoMemory> {
-    assert_eq!(rt; first_untrue(rt.alloc(), &TOKENS)?, None);
+fn keeps_to_the_order_of_terms(rt: HostRuntime) -> Result<(), NoMemory> {
+    assert_eq!(rt; first_untrue(rt.alloc(), &TERM_ORDERS)?, None);
+    Ok(())
+}
+
+#[test]
+fn keeps_to_the_order_of_matches(rt: HostRuntime) -> Result<(), NoMemory> {
+    assert_eq!(rt; first_untrue(rt.alloc(), &MATCH_ORDERS)?, None);
+    Ok(())
+}
+
+#[test]
+fn keeps_to_the_order_of_the_agenda(rt: HostRuntime) -> Result<(), NoMemory> {
+    assert_eq!(rt; first_untrue(rt.alloc(), &AGENDA_ORDERS)?, None);
     Ok(())
 }

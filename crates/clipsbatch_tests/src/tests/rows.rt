@@ -12,6 +12,7 @@ pub(super) struct Row {
     /// The bytes after the steps, which write nothing before the script's end, and what that end writes.
     pub(super) rest: Step,
     pub(super) max_form: usize,
+    pub(super) max_firings: u64,
     pub(super) max_turns: u64,
     pub(super) outcome: Outcome,
 }
@@ -40,6 +41,7 @@ pub(super) const CLEAN: Row = Row {
     steps: &[],
     rest: (b"", b""),
     max_form: 1000,
+    max_firings: 1000,
     max_turns: 1000,
     outcome: WITHOUT_FAULT,
 };
@@ -70,13 +72,21 @@ pub(super) const CB11: &[u8] = b"[CB11] unbound variable\n";
 
 pub(super) const CB12: &[u8] = b"[CB12] unknown global variable\n";
 
+pub(super) const CB13: &[u8] = b"[CB13] not allowed on a left side\n";
+
 pub(super) const CB14: &[u8] = b"[CB14] not in this profile\n";
+
+pub(super) const CB16: &[u8] = b"[CB16] bad salience\n";
 
 pub(super) const CB17: &[u8] = b"[CB17] wrong type\n";
 
 pub(super) const CB20: &[u8] = b"[CB20] no such fact\n";
 
+pub(super) const CB21: &[u8] = b"[CB21] no such rule\n";
+
 pub(super) const CB23: &[u8] = b"[CB23] template in use\n";
+
+pub(super) const CB92: &[u8] = b"[CB92] firing limit reached\n";
 
 pub(super) const CB93: &[u8] = b"[CB93] loop limit reached\n";
 

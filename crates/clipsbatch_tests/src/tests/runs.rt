@@ -1,12 +1,15 @@
 //! Each row however its script comes, and with each write and each read failing in turn.
 ghost use Rattle.std.specs.Prelude.{◌<◌};
 
+use super::agenda_rows::agenda_rows;
 use super::calc_rows::{calc_rows, global_rows, loop_rows};
 use super::fault_rows::{fact_fault_rows, template_fault_rows};
 use super::first_rows::{command_rows, item_rows};
+use super::group_rows::group_rows;
 use super::one_run::{Want, goes, goes_in_blocks, want_of};
 use super::pieces::{TwoPieces, Whole, joined, steps_in, written_by};
 use super::rows::{AT_A_LIMIT, Row};
+use super::rule_rows::{firing_rows, rule_rows};
 use super::template_rows::{fact_rows, template_rows};
 use cb_forms::{MemSink, MemSource, NoMemory};
 use cb_run::{Cause, Outcome};
@@ -24,10 +27,14 @@ pub(super) enum Subject {
     Computing,
     Loops,
     Globals,
+    Firings,
+    Rules,
+    Groups,
+    Agenda,
 }
 
 /// All subjects.
-pub(super) const SUBJECTS: [Subject; 9] = [
+pub(super) const SUBJECTS: [Subject; 13] = [
     Subject::Items,
     Subject::Commands,
     Subject::Templates,
@@ -37,6 +44,10 @@ pub(super) const SUBJECTS: [Subject; 9] = [
     Subject::Computing,
     Subject::Loops,
     Subject::Globals,
+    Subject::Firings,
+    Subject::Rules,
+    Subject::Groups,
+    Subject::Agenda,
 ];
 
 /// The rows about a subject.
@@ -51,6 +62,10 @@ pub(super) fn rows_about(subject: Subject) -> &'static [Row] {
         Subject::Computing => calc_rows(),
         Subject::Loops => loop_rows(),
         Subject::Globals => global_rows(),
+        Subject::Firings => firing_rows(),
+        Subject::Rules => rule_rows(),
+        Subject::Groups => group_rows(),
+        Subject::Agenda => agenda_rows(),
     }
 }
 
@@ -135,13 +150,18 @@ fn stops_at_each_write(alloc: Global, row: &Row, whole: &Whole) -> Result<bool, 
     Ok(true)
 }
 
+/// Whether a run that ends so reads no further.
+fn ends_before_the_script(cause: Cause) -> bool {
+    cause == Cause::Limit || cause == Cause::Exit
+}
+
 /// What is written once so many bytes have come and before the script's end is known, and how a run ends whose next read fails.
 fn stopped_after(alloc: Global, row: &Row, came: usize) -> Result<(Vec<u8>, Outcome), NoMemory> {
     let steps = steps_in(row, came);
     let written = written_by(alloc, row, steps)?;
-    // A limit ends the run with the byte that passes it.
-    let is_limited = steps == row.steps.len() && row.outcome == AT_A_LIMIT;
-    Ok((written, if is_limited { row.outcome } else { READ_FAULT }))
+    // A limit ends the run with the byte that passes it, and an `exit` with its last byte.
+    let has_ended = steps == row.steps.len() && ends_before_the_script(row.outcome.cause);
+    Ok((written, if has_ended { row.outcome } else { READ_FAULT }))
 }
 
 /// Whether the read after so many blocks stops the run where it fails: exactly what the bytes before it write is written, and
@@ -158,6 +178,7 @@ fn stops_after_blocks(
     let (written, outcome) = stopped_after(alloc, row, blocks.saturating_mul(block))?;
     let want = Want {
         max_form: row.max_form,
+        max_firings: row.max_firings,
         max_turns: row.max_turns,
         written: written.as_slice(),
         outcome,
@@ -273,6 +294,7 @@ fn hands_on_before_it_reads_on(alloc: Global) -> Result<bool, NoMemory> {
     let mut source = TwoPieces::new(b"abcd", b" (assert (a))");
     let want = Want {
         max_form: 3,
+        max_firings: 0,
         max_turns: 0,
         written: b"[CB91] form too long\n",
         outcome: AT_A_LIMIT,

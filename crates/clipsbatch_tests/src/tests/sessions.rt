@@ -3,7 +3,9 @@ ghost use Rattle.std.specs.Prelude.{◌≡◌, None};
 ghost use Rattle.cb_io.specs.Output.{IsReady};
 
 use cb_forms::{MemSink, NoMemory, Out};
-use cb_session::{Ending, Flow, Limits, Session, Status, Stop};
+use cb_matches::Matcher;
+use cb_rematch::Rematch;
+use cb_session::{Ending, Flow, Limits, Mark, Session, Status, Stop};
 use std::alloc::Global;
 
 /// A call, and what it answers.
@@ -130,8 +132,8 @@ const TALKS: [Talk; 5] = [
 ];
 
 /// Whether these bytes lead there.
-fn feeds(
-    session: &mut Session,
+fn feeds<M: Matcher<Mark>>(
+    session: &mut Session<M>,
     out: &mut Out<MemSink>,
     bytes: &[u8],
     want: Result<Flow, Stop>,
@@ -143,7 +145,11 @@ fn feeds(
 }
 
 /// Whether the script's end leads there.
-fn finishes(session: &mut Session, out: &mut Out<MemSink>, want: Result<Status, Stop>) -> bool
+fn finishes<M: Matcher<Mark>>(
+    session: &mut Session<M>,
+    out: &mut Out<MemSink>,
+    want: Result<Status, Stop>,
+) -> bool
     requires { session.old.stop ≡ None → IsReady out.old }
     ensures { session.new.stop ≡ None → IsReady out.new }
 {
@@ -151,7 +157,7 @@ fn finishes(session: &mut Session, out: &mut Out<MemSink>, want: Result<Status, 
 }
 
 /// Whether the call answers what it should.
-fn answers(session: &mut Session, out: &mut Out<MemSink>, call: &Call) -> bool
+fn answers<M: Matcher<Mark>>(session: &mut Session<M>, out: &mut Out<MemSink>, call: &Call) -> bool
     requires { session.old.stop ≡ None → IsReady out.old }
     ensures { session.new.stop ≡ None → IsReady out.new }
 {
@@ -170,17 +176,17 @@ fn is_stop(call: &Call) -> bool {
 }
 
 /// Whether the session is stopped after a call that should answer a `Stop`, and after no other.
-fn stops(session: &Session, call: &Call) -> bool {
+fn stops<M: Matcher<Mark>>(session: &Session<M>, call: &Call) -> bool {
     session.failed() == is_stop(call)
 }
 
 /// Whether the session shows what is open after this turn, and the sink has what was written.
-fn shows(session: &Session, out: &Out<MemSink>, turn: &Turn) -> bool {
+fn shows<M: Matcher<Mark>>(session: &Session<M>, out: &Out<MemSink>, turn: &Turn) -> bool {
     (session.failed() || session.held() == turn.held) && out.sink().bytes() == turn.written
 }
 
 /// Whether these turns go so, one after another.
-fn go_so(session: &mut Session, out: &mut Out<MemSink>, turns: &[Turn]) -> bool
+fn go_so<M: Matcher<Mark>>(session: &mut Session<M>, out: &mut Out<MemSink>, turns: &[Turn]) -> bool
     requires { session.old.stop ≡ None → IsReady out.old }
 {
     for turn in turns {
@@ -201,7 +207,7 @@ fn goes_so(alloc: Global, talk: &Talk) -> Result<bool, NoMemory> {
         max_firings: 1000,
         max_turns: 1000,
     };
-    let mut session = Session::new(alloc, limits);
+    let mut session = Session::new(alloc, Rematch::new(alloc), limits);
     let mut out = Out::new(MemSink::new(alloc, 1000, 1000, talk.fail_at)?);
     Ok(go_so(&mut session, &mut out, talk.turns))
 }

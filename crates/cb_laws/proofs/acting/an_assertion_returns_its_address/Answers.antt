@@ -1,5 +1,8 @@
-use Rattle.cb_laws.proofs.ActLaws.{address_answered, address_there, asserts_only, asserts_quietly, fault_ends, fault_stays, limit_answered, one_asserted}
+use Rattle.cb_laws.proofs.ActLaws.{address_there, asserts_only, asserts_quietly, is_asserted, is_refused, limit_only, one_asserted}
 use Rattle.cb_laws.proofs.acting.an_assertion_returns_its_address.Goals as goal
+
+pub returns-clause-asserts : goal.returns-clause-asserts
+returns-clause-asserts c = is_asserted
 
 pub returns-clause-asserted : goal.returns-clause-asserted
 returns-clause-asserted c = address_there
@@ -7,17 +10,11 @@ returns-clause-asserted c = address_there
 pub returns-clause-one : goal.returns-clause-one
 returns-clause-one c = one_asserted
 
-pub returns-clause-answered : goal.returns-clause-answered
-returns-clause-answered c = address_answered
-
 pub returns-clause-limit : goal.returns-clause-limit
-returns-clause-limit c = limit_answered
+returns-clause-limit c = limit_only
 
 pub returns-clause-fault : goal.returns-clause-fault
-returns-clause-fault c = fault_stays
-
-pub returns-clause-fault_ends : goal.returns-clause-fault_ends
-returns-clause-fault_ends c = fault_ends
+returns-clause-fault c = is_refused
 
 pub returns-clause-only : goal.returns-clause-only
 returns-clause-only c = asserts_only

@@ -1,4 +1,4 @@
-use Rattle.cb_laws.proofs.RetractLaws.{ends, fault, fine, shrinks}
+use Rattle.cb_laws.proofs.RetractLaws.{all_gone, ends, fault, fine, values_take}
 use Rattle.cb_laws.proofs.retracting.what_is_retracted_is_gone.Goals as goal
 
 pub returns-clause-fine : goal.returns-clause-fine
@@ -10,5 +10,11 @@ returns-clause-fault c = fault
 pub returns-clause-missing : goal.returns-clause-missing
 returns-clause-missing c = ends
 
+pub returns-clause-all : goal.returns-clause-all
+returns-clause-all c = all_gone
+
+pub returns-clause-none_comes : goal.returns-clause-none_comes
+returns-clause-none_comes c = λ vs s fact ix sound. (values_take vs s).kept sound ix fact
+
 pub returns-clause-sound : goal.returns-clause-sound
-returns-clause-sound c = λ m vs sound. (shrinks vs m sound).sound
+returns-clause-sound c = λ vs s sound. (values_take vs s).sound sound

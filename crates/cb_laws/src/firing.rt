@@ -1,0 +1,58 @@
+//! How often rules fire.
+ghost use Rattle.std.specs.Prelude.{◌≡◌, ◌≢◌, ◌⊎◌, ◌+◌, ◌≤◌, ℕ, ℤ, List, Option, None, Some, Err, false, true};
+ghost use Rattle.std.specs.List.{Contains};
+ghost use Rattle.cb_actions.specs.Changes.{moved};
+ghost use Rattle.cb_actions.specs.Runs.{run, spent};
+ghost use Rattle.cb_actions.specs.Worlds.{World};
+ghost use Rattle.cb_actions.specs.declared.act.Ended.TheVariants as ended;
+ghost use Rattle.cb_actions.specs.declared.act.Limit.TheVariants.{Firings};
+ghost use Rattle.cb_agenda.specs.Agendas.{AgendaValue, changed, is_due, popped};
+ghost use Rattle.cb_laws.specs.Firing.{HasCome, IsProper};
+ghost use Rattle.cb_matches.specs.Keys.{KeyValue};
+ghost use Rattle.cb_session.specs.Transcripts.{complete, so_far};
+ghost use Rattle.cb_session.specs.declared.limits.Limits.{Limits};
+ghost use Rattle.cb_working_memory.specs.WorkingMemory.{Memory};
+
+/// A run never leaves more firings than there were, and each match that fires takes one of them: no action gives one back. Of
+/// the firings that are left, `(run n)` takes at most n. Where none is left and a match is due, `(run)` ends at the limit of
+/// firings. Nothing else in a script gives firings back either: there are never more left than the limit.
+pub fn a_run_stays_within_its_firings()
+    ensures never_rise { (asked : Option ℕ) (s : World)
+        → (run asked s).state.firings ≤ s.firings }
+    ensures one_each { (left n : ℕ) (k : KeyValue) (s : World)
+        → (spent left n k s).state.firings ≡ left }
+    ensures at_most { (n : ℕ) (s : World)
+        → s.firings ≤ (run (Some n) s).state.firings + n }
+    ensures none_left { (s : World) (k : KeyValue) → s.firings ≡ 0
+        → (popped s.agenda).1 ≡ Some k
+        → (run None s).answer ≡ Err (ended.Limit Firings) }
+    ensures so_far { (limits : Limits) (p : List ℕ)
+        → (so_far limits p).state.world.firings ≤ limits.max_firings }
+    ensures whole { (limits : Limits) (script : List ℕ)
+        → (complete limits script).state.world.firings ≤ limits.max_firings }
+{}
+
+/// A rule fires once for one match, unless the match went and came again. What fires is taken out of the agenda and is not due
+/// any more, and all else is due as before. Whatever changes facts or rules, what is due after it was due before it, or else
+/// its match was not there before the change and is there after it; and what went and didn't come is not due. In every state
+/// that a script can reach no match is due twice, and so it is after each change and each firing.
+pub fn a_rule_fires_once_for_one_match()
+    ensures taken_out { (a b : AgendaValue) (k : KeyValue) → IsProper a
+        → popped a ≡ (b, Some k) → is_due b k ≡ false }
+    ensures others { (a b : AgendaValue) (k other : KeyValue) → IsProper a
+        → popped a ≡ (b, Some k) → other ≢ k → is_due b other ≡ is_due a other }
+    ensures change { (next : Memory) (line : List ℕ) (s : World) (k : KeyValue)
+        → is_due (moved next line s).state.agenda k ≡ true
+        → (is_due s.agenda k ≡ true) ⊎ HasCome s.memory.network next.network k }
+    ensures changed { (a : AgendaValue) (gone come : List KeyValue)
+        (saliences : List ℤ) (k : KeyValue)
+        → is_due (changed a gone come saliences) k ≡ true
+        → ((is_due a k ≡ true) × (Contains gone k → ⊥)) ⊎ Contains come k }
+    ensures so_far { (limits : Limits) (p : List ℕ)
+        → IsProper (so_far limits p).state.world.agenda }
+    ensures whole { (limits : Limits) (script : List ℕ)
+        → IsProper (complete limits script).state.world.agenda }
+    ensures proper_taken { (a : AgendaValue) → IsProper a → IsProper (popped a).0 }
+    ensures proper_changed { (a : AgendaValue) (gone come : List KeyValue) (saliences : List ℤ)
+        → IsProper a → IsProper (changed a gone come saliences) }
+{}

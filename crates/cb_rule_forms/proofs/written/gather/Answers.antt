@@ -1,0 +1,15 @@
+use Rattle.std.proofs.Common.{◌≢◌, ◌∙◌, ap, length, map, rules, sym}
+use Rattle.cb_rule_forms.specs.Internal.{writtens, written_seen}
+use Rattle.cb_rule_forms.specs.WrittenElements.{gathered}
+use Rattle.cb_rule_forms.proofs.WrittenLaws.{all_gathered, one_gathered, seen_all, seen_one}
+use Rattle.cb_rule_forms.proofs.written.gather.Goals as goal
+
+pub returns-in-And : goal.returns-in-And
+returns-in-And c =
+    let some : length c.args.elements.items ≢ 0 = search rules in
+    seen_all c.args.elements ∙ (sym (all_gathered written_seen c.args.elements.items some) ∙ ap (λ k. gathered k (writtens (map written_seen c.args.elements.items))) (sym c.in-And.is))
+
+pub returns-in-Or : goal.returns-in-Or
+returns-in-Or c =
+    let some : length c.args.elements.items ≢ 0 = search rules in
+    seen_one c.args.elements ∙ (sym (one_gathered written_seen c.args.elements.items some) ∙ ap (λ k. gathered k (writtens (map written_seen c.args.elements.items))) (sym c.in-Or.is))
