@@ -5,7 +5,7 @@ use Rattle.std.proofs.lemmas.Map.Views.{Contains-from_any, list_any-from_Contain
 use Rattle.std.specs.BTreeMap.{insert_entry, is_at}
 use Rattle.std.specs.Cmp.{first_so, second_so, unsigned_Decides}
 use Rattle.std.specs.Cmp.Lexicographic.{bytes_decides, pointwise_decides}
-use Rattle.std.specs.List.{AllByRecursion, Contains, filter, list_any}
+use Rattle.std.specs.List.{AllByRecursion, Contains, list_any}
 use Rattle.std.specs.List.Sorted.{IsStrictlySortedBy}
 use Rattle.std.specs.Map.{keys_of, remove_entry}
 use Rattle.std.specs.Ordering.{is_eq, match_ordering, ordering_reverse}
@@ -19,7 +19,7 @@ use Rattle.cb_agenda.specs.declared.rank.Rank.{Rank}
 use Rattle.cb_agenda.specs.declared.strategy.Strategy.{Strategy}
 use Rattle.cb_laws.proofs.EntryLaws.{before_others, others_rise, rising_filtered, rising_put, rising_taken}
 use Rattle.cb_laws.proofs.MoveLaws.{Moved, moved_so}
-use Rattle.cb_laws.specs.Firing.{AreOnce, HasCome, IsProper, IsThere}
+use Rattle.cb_laws.specs.Firing.{AreOnce, HasCome, IsProper}
 use Rattle.cb_matches.specs.Changes.{come_of, keys_come, keys_gone}
 use Rattle.cb_matches.specs.Internal.KeyLaws.{key_equiv, part_equiv}
 use Rattle.cb_matches.specs.Keys.{KeyValue, PartValue, key_eq, part_eq}

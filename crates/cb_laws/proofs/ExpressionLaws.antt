@@ -1,7 +1,7 @@
 -- What holds of a world however an expression is carried out, where values, turns and `halt` don't matter to it, and asserts and retracts keep it.
-use Rattle.std.proofs.Common.{◌≡◌, ℕ, zero, suc, Bool, true, false, List, [], ◌∷◌, ◌++◌, Option, Some, None, Result, Ok, Err}
+use Rattle.std.proofs.Common.{ℕ, zero, suc, Bool, true, false, List, [], ◌∷◌, ◌++◌, Option, Some, None, Result, Ok, Err}
 use Rattle.cb_actions.specs.Actions.{carried, carried_all, carried_values, round, rounds}
-use Rattle.cb_actions.specs.Acts.{Act, become, give, give_or_fault, stop, ◌>>=◌}
+use Rattle.cb_actions.specs.Acts.{Act, become, give, give_or_fault, ◌>>=◌}
 use Rattle.cb_actions.specs.Definitions.{all_asserted, all_evaluated, globals_after, globals_defined, one_evaluated}
 use Rattle.cb_actions.specs.Effects.{asserted, bound, called, chosen, ends, found, global_bound, retracted, truth_of, turn, turn_of, valued, wanted}
 use Rattle.cb_actions.specs.Worlds.{World}

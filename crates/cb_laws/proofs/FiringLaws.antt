@@ -11,7 +11,7 @@ use Rattle.cb_facts.specs.declared.value.Value.{Value}
 use Rattle.cb_functions.specs.Constants.{false_symbol}
 use Rattle.cb_laws.proofs.ActLaws.{asserts_only}
 use Rattle.cb_laws.proofs.ExpressionLaws.{IsKept, all_keep}
-use Rattle.cb_laws.proofs.RetractLaws.{retracted_takes}
+use Rattle.cb_laws.proofs.RetractedLaws.{retracted_takes}
 use Rattle.cb_lines.specs.Lines.{rule_numbered}
 use Rattle.cb_matches.specs.Keys.{KeyValue}
 use Rattle.cb_matches.specs.Networks.{bindings_of}

@@ -5,6 +5,7 @@ mod MoveLaws
 mod NameFirst
 mod AssertLaws
 mod RetractLaws
+mod RetractedLaws
 mod SlotLaws
 mod DefinedLaws
 mod SlotFormLaws

@@ -2,7 +2,7 @@
 use Rattle.std.proofs.Common.{◌≡◌, ◌⊎◌, inl, inr, ◌+◌, ◌++◌, ℕ, ℤ, Bool, true, false, List, [], Option, Some, None, Result, Ok, Err, codes, flat_map, length, nat_lt, refl, ap, ap₂, if◌then◌else◌}
 use Rattle.std.specs.List.{filter}
 use Rattle.cb_actions.specs.Acts.{Effect, after_writing, follow, give, stop, ◌>>=◌}
-use Rattle.cb_actions.specs.Changes.{activation_lines, come_line, gone_line, if_watched, moved, saliences, tell}
+use Rattle.cb_actions.specs.Changes.{activation_lines, come_line, if_watched, moved, saliences, tell}
 use Rattle.cb_actions.specs.Effects.{added_beside, added_next, fact_added}
 use Rattle.cb_actions.specs.Worlds.{World}
 use Rattle.cb_actions.specs.declared.act.Ended.{Ended}
@@ -12,7 +12,6 @@ use Rattle.cb_agenda.specs.Agendas.{changed, has_stamps, is_due}
 use Rattle.cb_facts.specs.Facts.{FactValue}
 use Rattle.cb_facts.specs.declared.value.Value.{Value}
 use Rattle.cb_facts.specs.declared.value.Value.TheVariants as value
-use Rattle.cb_laws.specs.Memories.{has_stamps_for}
 use Rattle.cb_lines.specs.Lines.{activation_line}
 use Rattle.cb_matches.specs.Changes.{keys_come, keys_gone}
 use Rattle.cb_matches.specs.Keys.{KeyValue}

@@ -12,7 +12,6 @@ use Rattle.cb_actions.specs.declared.act.Ended.TheVariants as ended
 use Rattle.cb_agenda.specs.declared.strategy.Strategy.TheVariants.{Depth}
 use Rattle.cb_exprs.specs.FactTerms.{FactTerm}
 use Rattle.cb_exprs.specs.GlobalTerms.{GlobalTerm}
-use Rattle.cb_exprs.specs.Terms.{Term}
 use Rattle.cb_facts.specs.Results.{ok_then}
 use Rattle.cb_forms.specs.Items.{fitting, over, whole}
 use Rattle.cb_forms.specs.Members.{call_of, head_and_rest}
@@ -45,7 +44,7 @@ use Rattle.cb_templates.specs.Slots.{SlotShape}
 use Rattle.cb_templates.specs.TemplateFaults.{named_template_faults, slots_form_faults}
 use Rattle.cb_templates.specs.TemplateShapes.{slots_said, template_said}
 use Rattle.cb_templates.specs.Internal.SlotReads.{slots_after}
-use Rattle.cb_templates.specs.Templates.{slots_of, with_template, without_comment}
+use Rattle.cb_templates.specs.Templates.{with_template, without_comment}
 use Rattle.cb_templates.specs.contracts.cited.LawsCited.TheImpl as templates_laws
 use Rattle.cb_words.specs.Words.{head_of}
 use Rattle.cb_words.specs.declared.head.Command.{Command as Word}

@@ -1,24 +1,22 @@
 -- What expressions, runs and the commands on rules keep: of facts and templates, of firings, and of the agenda.
-use Rattle.std.proofs.Common.{◌≡◌, ◌≤◌, ◌+◌, ◌-◌, ◌++◌, ℕ, zero, suc, Bool, true, false, List, ℤ, [], ◌∷◌, Option, Some, None, Result, Ok, length, ap, arith, map, nat_eq, nat_lt, not, option_map, sym, subst, if◌then◌else◌}
+use Rattle.std.proofs.Common.{◌≡◌, ◌≤◌, ◌+◌, ◌-◌, ◌++◌, ℕ, zero, suc, Bool, true, false, List, ℤ, [], ◌∷◌, Option, Some, None, Ok, length, ap, arith, map, nat_eq, nat_lt, not, option_map, sym, subst, if◌then◌else◌}
 use Rattle.std.specs.List.{filter}
 use Rattle.std.specs.List.Sorted.{IsStrictlySortedBy}
 use Rattle.cb_actions.specs.Actions.{carried, carried_all}
-use Rattle.cb_actions.specs.Acts.{Act, each, follow, give, stop, ◌>>=◌}
+use Rattle.cb_actions.specs.Acts.{Act, each, give, stop, ◌>>=◌}
 use Rattle.cb_actions.specs.Changes.{activation_lines, moved, rescheduled, saliences, scheduled, tell}
 use Rattle.cb_actions.specs.Commands.{asked_by, exited, exited_with, ran_as, rule_defined, status_in, undefined, undefined_if, without_value}
 use Rattle.cb_actions.specs.Effects.{asserted, retracted, valued}
-use Rattle.cb_actions.specs.Runs.{actions_of, acted, added_rule, all_gone, cleared_world, defined_rule, dropped_rule, due_by, fire_line, fired, forgotten, next_due, numbered, ran, replaced, restarted_world, rule_named, run, spent, started_anew, unless_halted, with_variables_of, without_all, without_facts}
+use Rattle.cb_actions.specs.Runs.{actions_of, acted, added_rule, all_gone, cleared_world, defined_rule, dropped_rule, due_by, fire_line, forgotten, next_due, numbered, ran, replaced, restarted_world, rule_named, run, spent, started_anew, unless_halted, with_variables_of, without_all, without_facts}
 use Rattle.cb_actions.specs.Worlds.{World}
 use Rattle.cb_actions.specs.declared.act.Ended.TheVariants as ended
 use Rattle.cb_actions.specs.declared.act.Limit.TheVariants.{Firings, Numbers}
 use Rattle.cb_actions.specs.declared.watched.Watched.{Watched}
 use Rattle.cb_agenda.specs.Agendas.{changed, has_stamps, popped}
 use Rattle.cb_agenda.specs.declared.strategy.Strategy.{Strategy}
-use Rattle.cb_exprs.specs.Bindings.{Bindings}
-use Rattle.cb_exprs.specs.Terms.{Term, Terms}
+use Rattle.cb_exprs.specs.Terms.{Term}
 use Rattle.cb_facts.specs.declared.value.Value.{Value}
 use Rattle.cb_facts.specs.declared.value.Value.TheVariants as value
-use Rattle.cb_forms.specs.declared.fault.Fault.TheVariants.{NoSuchRule, WrongType}
 use Rattle.cb_functions.specs.Constants.{false_symbol}
 use Rattle.cb_laws.proofs.ActLaws.{asserts_only, asserts_proper}
 use Rattle.cb_laws.proofs.AgendaLaws.{changed_proper, moved_proper, popped_proper}
@@ -27,7 +25,7 @@ use Rattle.cb_laws.proofs.FiringLaws.{never_rise}
 use Rattle.cb_laws.proofs.Keeping.{Keeps, follow_keeps, keeps_then}
 use Rattle.cb_laws.proofs.MoveLaws.{moved_so}
 use Rattle.cb_laws.proofs.ReachedLaws.{asserted_kept, none_kept, retracted_kept, rules_kept}
-use Rattle.cb_laws.proofs.RetractLaws.{retracted_takes}
+use Rattle.cb_laws.proofs.RetractedLaws.{retracted_takes}
 use Rattle.cb_laws.specs.Firing.{IsProper}
 use Rattle.cb_laws.specs.Reached.{AreWellKept, IsTemplate}
 use Rattle.cb_lines.specs.Lines.{rule_numbered}
