@@ -266,7 +266,8 @@ def module(source, content):
 def modules():
     """The files, and what should stand in each."""
     for name, (page, subject, firsts) in FILES.items():
-        yield name, module(f"`{page}` on {subject}", {name: lists(page)[name] for name in firsts})
+        found = lists(page)
+        yield name, module(f"`{page}` on {subject}", {first: found[first] for first in firsts})
     yield "tokens.rt", module(f"the tables of `{LANGUAGE}` on tokens, words, strings and items", {"TOKENS": list(token_scripts())})
     yield "patterns.rt", module(f"the tables of `{LANGUAGE}` on patterns", dict(pattern_lists()))
     first = [example for _, *example in scripts("README.md")]

@@ -15,6 +15,7 @@ use Rattle.cb_lines.specs.Lines.{agenda_line}
 use Rattle.cb_matches.specs.Changes.{keys_come, keys_gone}
 use Rattle.cb_matches.specs.Matches.{matches_of}
 use Rattle.cb_matches.specs.Networks.{all_keys, all_matches, bindings_of, empty_network}
+use Rattle.cb_requests.specs.Reads.{rule_in}
 use Rattle.cb_session.specs.Actions.{acted}
 use Rattle.cb_session.specs.States.{State, first_state}
 use Rattle.cb_session.specs.Transcripts.{begun, after_all, complete, executed, limit_status, so_far, status_of, transcript}
@@ -167,13 +168,13 @@ abbrev told : List Tree
 told = call "defrule" (word "r" ∷ call "a" [] ∷ word "=>" ∷ call "println" (text "x" ∷ []) ∷ []) ∷ call "assert" (call "a" [] ∷ []) ∷ call "run" [] ∷ call "run" [] ∷ []
 
 fires : written_by told ≡ codes "<Fact-1>\nx\n"
-unfolding executed acted head_of operator_of is_reserved digits moved keys_come keys_gone all_keys all_matches matches_of popped bindings_of
+unfolding executed acted head_of operator_of is_reserved digits moved keys_come keys_gone all_keys all_matches matches_of popped bindings_of rule_in
 fires = refl
 
 -- the agenda and the rules, listed
 lists : written_by (call "defrule" (word "r" ∷ word "=>" ∷ []) ∷ call "agenda" [] ∷ call "rules" [] ∷ [])
     ≡ codes "0      r: *\nFor a total of 1 activation.\nr\nFor a total of 1 defrule.\n"
-unfolding executed acted head_of operator_of is_reserved digits moved keys_come keys_gone all_keys all_matches matches_of agenda_list agenda_line
+unfolding executed acted head_of operator_of is_reserved digits moved keys_come keys_gone all_keys all_matches matches_of agenda_list agenda_line rule_in
 lists = refl
 
 -- `exit` ends the script, with the code that it asks for or by whether a fault line was written

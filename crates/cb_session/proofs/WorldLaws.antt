@@ -31,7 +31,7 @@ went_inside writes o o1 s now w r act is h = subst (λ (it : State). Went writes
 -- what was defined goes
 pub definitions_go : (s : State) (deffacts : DeffactsTable) (globals : List GlobalTerm) → deffacts ≡ [] → globals ≡ []
     → definitions_dropped s ≡ record { state = record s { deffacts = deffacts; globals = globals }; written = []; answer = Ok None }
-definitions_go s deffacts globals none no = rw (none, no) refl
+definitions_go s deffacts globals p q = rw (p, q) refl
 
 -- an expression and a name that are lent
 pub lent_term : (lent : Option (Bor Expr)) (o : Option Expr) → option_copied lent ≡ o → option_map (λ e. term_of e.now) lent ≡ option_map term_of o

@@ -358,7 +358,7 @@ FALSE
     },
 ];
 
-pub(super) const CLIPS_RULES: [Example; 11] = [
+pub(super) const CLIPS_RULES: [Example; 12] = [
     Example {
         name: "Rules: 1",
         script: b"(defrule first (x) => (printout t \"first\" crlf))
@@ -467,6 +467,20 @@ not large
     },
     Example {
         name: "Rules: 9",
+        script: b"(defrule both (a $?x) (b ?x) => (printout t \"both\" crlf))
+(defrule not-red (a $?x&~red) => (printout t \"not red: \" ?x crlf))
+(defrule red (a red&?x) => (printout t \"red: \" ?x crlf))
+(assert (a red) (b red))
+(run)
+",
+        written: b"<Fact-2>
+red: red
+not red: (red)
+",
+        outcome: WITHOUT_FAULT,
+    },
+    Example {
+        name: "Rules: 10",
         script: b"(deftemplate part (slot count (type INTEGER)))
 (defrule many (part (count many)) => (printout t \"many\" crlf))
 (rules)
@@ -477,7 +491,7 @@ For a total of 1 defrule.
         outcome: WITHOUT_FAULT,
     },
     Example {
-        name: "Rules: 10",
+        name: "Rules: 11",
         script: b"(defrule halve (n ?x) => (printout t \"begin \" ?x crlf) (div 10 ?x) (printout t \"end \" ?x crlf))
 (assert (n 1) (n 0))
 (run)
@@ -492,7 +506,7 @@ For a total of 1 activation.
         outcome: WITH_A_FAULT,
     },
     Example {
-        name: "Rules: 11",
+        name: "Rules: 12",
         script: b"(defrule again (n ?x) => (printout t \"again\" crlf) (assert (m ?x)) (facts))
 (assert (n 1))
 (run)

@@ -1,5 +1,6 @@
-use Rattle.std.proofs.Common.{◌≡◌, ◌∷◌, [], Err, rules, sym, subst}
+use Rattle.std.proofs.Common.{◌≡◌, ◌∷◌, [], ℕ, Err, rules, sym, subst}
 use Rattle.cb_facts.specs.FactLists.{IndexedFacts}
+use Rattle.cb_facts.specs.Facts.{FactValue}
 use Rattle.cb_io.specs.contracts.cited.LawsCited.TheImpl as io_laws
 use Rattle.cb_lines.specs.Lines.{fact_line}
 use Rattle.cb_session.proofs.ListingLaws.{AreBegun, all_begun, none_begun, one_more, one_off}
@@ -15,13 +16,13 @@ put_text-requires g c = io_laws.ghosts.puts_fine _ g.K.Sink.writes _ _ _ c.loop-
 
 pub loop-ix-preserved : goal.loop-ix-preserved
 loop-ix-preserved g c =
-    let fact = (c.in-Some.ix.now, c.in-Some.fact.now) in
+    let fact : ℕ × FactValue = (c.in-Some.ix.now, c.in-Some.fact.now) in
     let cut : c.loop-ix.ix-iterator ≡ fact ∷ c.next.new.self = search rules in
     one_more g.K.Sink.writes fact_line _ _ _ _ _ _ fact cut c.loop-ix.invariant (c.in_ok-put_text.ensures (fact_line fact) c.fact_line.ensures)
 
 pub returns-in_err-put_text : goal.returns-in_err-put_text
 returns-in_err-put_text g c =
-    let fact = (c.in-Some.ix.now, c.in-Some.fact.now) in
+    let fact : ℕ × FactValue = (c.in-Some.ix.now, c.in-Some.fact.now) in
     let cut : c.loop-ix.ix-iterator ≡ fact ∷ c.next.new.self = search rules in
     let r : c.from_residual.result ≡ Err c.in_err-put_text.field-0.0 = search rules in
     one_off g.K.Sink.writes fact_line _ _ _ _ _ _ fact _ _ cut r c.loop-ix.invariant (c.in_err-put_text.ensures (fact_line fact) c.fact_line.ensures)

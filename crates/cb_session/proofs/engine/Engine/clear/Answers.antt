@@ -22,5 +22,6 @@ pub returns : goal.returns
 returns g c =
     let first = went_inside g.K.Sink.writes _ _ _ _ _ _ cleared_world c.self.view_is c.in_ok-clear.ensures in
     let fine = io_laws.ghosts.puts_fine _ g.K.Sink.writes _ _ _ c.in_ok-clear.ensures.puts in
-    let rest = actions_laws.ghosts.went_quietly _ _ _ g.K.Sink.writes _ _ (Ok None) _ fine (definitions_go _ _ _ c.new.ensures c.new-2.ensures) in
+    let s : State = record { world = c.clear.new.self; deffacts = c.self.inside.deffacts; globals = c.self.inside.globals; is_faulted = c.self.inside.is_faulted } in
+    let rest = actions_laws.ghosts.went_quietly _ _ _ g.K.Sink.writes _ _ (Ok None) _ fine (definitions_go s _ _ c.new.ensures c.new-2.ensures) in
     actions_laws.ghosts.went_then _ _ _ _ g.K.Sink.writes _ _ _ _ _ _ _ (on_world cleared_world c.args.self.now) next first rest
