@@ -18,6 +18,7 @@ mod ReachedLaws
 mod Keeping
 mod ExpressionLaws
 mod WorldLaws
+mod DueLaws
 mod FiringLaws
 mod AgendaLaws
 mod ScriptLaws

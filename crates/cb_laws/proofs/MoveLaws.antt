@@ -21,6 +21,7 @@ use Rattle.cb_working_memory.specs.WorkingMemory.{Memory, greatest_index, grown,
 pub record Moved (s : World) (next : Memory) (line : List ℕ) (t : World) (w : List ℕ) (r : Result (Unit {0}) Ended) : Type 0 where
   pub only : t ≡ record s { memory = next; agenda = t.agenda }
   pub agenda : (t.agenda ≡ s.agenda) ⊎ ((ss : List ℤ) × (t.agenda ≡ changed s.agenda (keys_gone s.memory.network next.network) (keys_come s.memory.network next.network) ss))
+  pub put : r ≡ Ok tt → (ss : List ℤ) × (t.agenda ≡ changed s.agenda (keys_gone s.memory.network next.network) (keys_come s.memory.network next.network) ss)
   pub ends : (r ≡ Ok tt) ⊎ (r ≡ Err (ended.Limit Numbers))
   pub quiet : line ≡ [] → s.watched.activations ≡ false → w ≡ []
   pub room : has_stamps s.agenda (length (keys_come s.memory.network next.network)) ≡ true → r ≡ Ok tt
@@ -57,6 +58,7 @@ module _ (s : World) (next : Memory) (line : List ℕ) where
   moved_by true e = record {
     only = refl;
     agenda = inr (saliences s.rules come, refl);
+    put = λ h. (saliences s.rules come, refl);
     ends = inl refl;
     quiet = λ l a. ap₂ (λ (ws : List ℕ) (b : Bool). ws ++ if_watched b lines) l a;
     room = λ h. refl;
@@ -65,6 +67,7 @@ module _ (s : World) (next : Memory) (line : List ℕ) where
   moved_by false e = record {
     only = refl;
     agenda = inl refl;
+    put = λ h. absurd (cc);
     ends = inr refl;
     quiet = λ l a. ap (λ (ws : List ℕ). ws ++ []) l;
     room = λ h. absurd (cc);

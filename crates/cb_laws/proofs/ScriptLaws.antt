@@ -21,12 +21,13 @@ use Rattle.cb_forms.specs.declared.fault.Fault.{Fault}
 use Rattle.cb_forms.specs.declared.fault.Fault.TheVariants.{MalformedForm, TemplateInUse}
 use Rattle.cb_laws.proofs.DefaultLaws.{slots_suit}
 use Rattle.cb_laws.proofs.DefinedLaws.{other_template, put_template}
+use Rattle.cb_laws.proofs.DueLaws.{due_kept}
 use Rattle.cb_laws.proofs.ExpressionLaws.{anew_keeps, expression_keeps, facts_keep, globals_keep}
 use Rattle.cb_laws.proofs.Keeping.{After, Keeps, follow_keeps, keeps_then}
 use Rattle.cb_laws.proofs.ReachedLaws.{defined_kept, none_kept, not_first}
 use Rattle.cb_laws.proofs.SlotFormLaws.{each_slot}
 use Rattle.cb_laws.proofs.WorldLaws.{HasAtMost, HasProperAgenda, IsKeptByAll, WellKept, agenda_kept, clear_keeps, exited_keeps, firings_kept, no_templates, none_due, ran_as_keeps, restart_keeps, rule_keeps, undefined_keeps, well_kept}
-use Rattle.cb_laws.specs.Firing.{IsProper}
+use Rattle.cb_laws.specs.Firing.{AreMatches, IsProper}
 use Rattle.cb_laws.specs.Reached.{AreWellKept, IsTemplate}
 use Rattle.cb_expr_forms.specs.Scopes.{Scope, plain_scope}
 use Rattle.cb_requests.specs.Arguments.{alone, item_in, optional_in, rule_name_in, strategy_in}
@@ -275,3 +276,8 @@ so_far_proper limits p = so_far_always HasProperAgenda agenda_kept (λ s r templ
 
 pub script_proper : (limits : Limits) (s : List ℕ) → IsProper (complete limits s).state.world.agenda
 script_proper limits s = script_always HasProperAgenda agenda_kept (λ s r template e h. h) limits (none_due 0 Depth) s
+
+-- what is due
+pub so_far_matches : (limits : Limits) (p : List ℕ) → (so_far limits p).status ≡ None → AreMatches (so_far limits p).state.world
+so_far_matches limits p e =
+    subst (λ o. Lasts AreMatches (λ _. Unit {0}) due_kept (λ s r template e h. h) o (so_far limits p).state) e (so_far_kept AreMatches (λ _. Unit {0}) due_kept (λ s r template e h. h) limits (λ k due. absurd (cc)) p)
