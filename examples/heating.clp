@@ -46,43 +46,46 @@
   =>
   (assert (finding (cause trapped-air) (percent 40) (because "it gurgles, or is cold at the top"))))
 
-(defrule no-sensor
-  (not (reading (of room)))
+(defrule broken-sensor
+  (reading (of room) (value ?celsius&:(> ?celsius 50)))
   =>
-  (assert (finding (cause room-sensor) (percent 30) (because "the room has no reading"))))
+  (assert (finding (cause room-sensor) (percent 30) (because (str-cat "no room has " ?celsius " degrees")))))
 
-; The report waits, by its salience, until there are no more findings to add.
+; The report waits, by its salience, until there are no more findings to add. The fact `next` keeps the greatest percent
+; seen so far of those that are left. When no finding has a greater one, the finding that has it is reported.
 
-(defrule heading
+(defglobal ?*causes* = 0)
+
+(deffacts report
+  (next 0))
+
+(defrule more-certain
   (declare (salience -10))
-  (exists (finding))
+  ?n <- (next ?p)
+  (finding (percent ?q&:(> ?q ?p)))
   =>
-  (println "Possible causes:"))
+  (retract ?n)
+  (assert (next ?q)))
 
-(defrule all-well
-  (declare (salience -10))
-  (not (finding))
-  (not (reported ?))
-  =>
-  (println "Nothing found."))
-
-; Each time, the most certain finding that is left.
 (defrule report
   (declare (salience -20))
+  ?n <- (next ?p)
   ?f <- (finding (cause ?cause) (percent ?p) (because ?why))
-  (not (finding (percent ?q&:(> ?q ?p))))
   =>
-  (retract ?f)
-  (assert (reported ?cause))
+  (retract ?n ?f)
+  (assert (next 0))
+  (bind ?*causes* (+ ?*causes* 1))
   (println "  " ?p " % " ?cause ": " ?why))
 
 (deffacts visit
   (reading (of flow) (value 62)) (reading (of return) (value 31)) (reading (of decibar) (value 6))
+  (reading (of room) (value 85))
   (seen (sign gurgling)) (seen (sign cold-at-the-top)) (seen (sign humming)) (seen (sign damp-floor)))
 
 (println "First visit")
 (reset)
 (run)
+(println "Possible causes: " ?*causes*)
 
 ; The facts of the second visit take the place of those of the first.
 (deffacts visit
@@ -94,3 +97,4 @@
 (println "Second visit")
 (reset)
 (run)
+(println "Possible causes: " ?*causes*)

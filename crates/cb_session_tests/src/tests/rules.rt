@@ -1,7 +1,7 @@
 //! Rules: how they are defined, fire, and are in the way of templates.
 use super::*;
 
-const RULES: [Row; 7] = [
+const RULES: [Row; 8] = [
     // Rules fire from the greatest salience, and the newest first.
     Row {
         steps: &[
@@ -76,6 +76,24 @@ const RULES: [Row; 7] = [
         ],
         status: DONE,
     },
+    // Each branch has matches of its own.
+    Row {
+        steps: &[
+            (
+                b"(defrule o (or (a ?x) (and (b ?x) (c))) => (println ?x))",
+                b"",
+            ),
+            (b"(assert (a 1) (b 2) (c))", b"<Fact-3>\n"),
+            (
+                b"(agenda)",
+                b"0      o: f-2,f-3\n0      o: f-1\nFor a total of 2 activations.\n",
+            ),
+            (b"(run)", b"2\n1\n"),
+            (b"(assert (a 2))", b"<Fact-4>\n"),
+            (b"(run)", b"2\n"),
+        ],
+        status: DONE,
+    },
     // A fault or `halt` ends the run, and what came before stands.
     Row {
         steps: &[
@@ -147,6 +165,9 @@ const RULE_FAULTS: [Row; 1] = [
             (b"(defrule r (test) =>)", CB08),
             (b"(defrule r (test (= 1)) =>)", CB07),
             (b"(defrule r (logical (a)) =>)", CB14),
+            (b"(defrule r (or) =>)", CB08),
+            (b"(defrule r (and) =>)", CB08),
+            (b"(defrule r (or (a ?x) (b)) => (println ?x))", CB11),
             (b"(defrule r (declare (salience ?x)) =>)", CB11),
             (b"(defrule r (declare (salience a)) =>)", CB16),
             (b"(defrule r (declare (salience (halt))) =>)", CB14),

@@ -136,6 +136,7 @@ fn stops_at_each_write(alloc: Global, row: &Row, whole: &Whole) -> Result<bool, 
     for taken in 0..whole.written.len() {
         let want = Want {
             max_form: row.max_form,
+            max_firings: row.max_firings,
             max_turns: row.max_turns,
             written: &whole.written[..taken],
             outcome: WRITE_FAULT,
