@@ -1,5 +1,5 @@
 -- What `assert` and `retract` do to the facts once their arguments have values.
-use Rattle.std.proofs.Common.{◌≡◌, ◌∙◌, ℕ, ℤ, true, List, [], ◌∷◌, Option, Some, None, Result, Ok, Err, map, refl, sym, ap, subst}
+use Rattle.std.proofs.Common.{◌≡◌, ◌∙◌, ℕ, ℤ, true, List, [], ◌∷◌, Option, Some, None, Result, Ok, Err, map, refl, sym, ap}
 use Rattle.cb_actions.specs.Actions.{carried, carried_values}
 use Rattle.cb_actions.specs.Acts.{after_writing, follow, give_or_fault, stop, ◌>>=◌}
 use Rattle.cb_actions.specs.Effects.{each_given, fact_added, asserted, is_retractable, parts_of, retracted}

@@ -5,7 +5,7 @@ use Rattle.std.proofs.lemmas.Map.Views.{Contains-from_any, list_any-from_Contain
 use Rattle.std.specs.BTreeMap.{insert_entry, is_at}
 use Rattle.std.specs.Cmp.{first_so, second_so, unsigned_Decides}
 use Rattle.std.specs.Cmp.Lexicographic.{bytes_decides, pointwise_decides}
-use Rattle.std.specs.List.{AllByRecursion, Contains, filter, list_any}
+use Rattle.std.specs.List.{AllByRecursion, Contains, list_any}
 use Rattle.std.specs.List.Sorted.{IsStrictlySortedBy}
 use Rattle.std.specs.Map.{keys_of, remove_entry}
 use Rattle.std.specs.Ordering.{is_eq, match_ordering, ordering_reverse}
@@ -19,7 +19,7 @@ use Rattle.cb_agenda.specs.declared.rank.Rank.{Rank}
 use Rattle.cb_agenda.specs.declared.strategy.Strategy.{Strategy}
 use Rattle.cb_laws.proofs.EntryLaws.{before_others, others_rise, rising_filtered, rising_put, rising_taken}
 use Rattle.cb_laws.proofs.MoveLaws.{Moved, moved_so}
-use Rattle.cb_laws.specs.Firing.{AreOnce, HasCome, IsProper, IsThere}
+use Rattle.cb_laws.specs.Firing.{AreOnce, HasCome, IsProper}
 use Rattle.cb_matches.specs.Changes.{come_of, keys_come, keys_gone}
 use Rattle.cb_matches.specs.Internal.KeyLaws.{key_equiv, part_equiv}
 use Rattle.cb_matches.specs.Keys.{KeyValue, PartValue, key_eq, part_eq}
@@ -36,7 +36,7 @@ part_decides p q = (part_same p q, λ e. subst (λ (r : PartValue). part_eq p r 
     part_itself : (r : PartValue) → part_eq r r ≡ true
     part_itself r = part_equiv.refl r
 
-key_same : (k l : KeyValue) → key_eq k l ≡ true → k ≡ l
+pub key_same : (k l : KeyValue) → key_eq k l ≡ true → k ≡ l
 key_same k l e =
     let rules : k.rule ≡ l.rule = (unsigned_Decides k.rule l.rule).0 (first_so _ _ e) in
     let branches : k.branch ≡ l.branch = (unsigned_Decides k.branch l.branch).0 (first_so _ _ (second_so _ _ e)) in
@@ -46,7 +46,7 @@ key_same k l e =
 key_apart : (k l : KeyValue) → l ≢ k → key_eq l k ≡ false
 key_apart k l n = false_from_ne_true (key_eq l k) (λ e. n (key_same l k e))
 
-among : (k : KeyValue) (ks : List KeyValue) → list_any (key_eq k) ks ≡ true → Contains ks k
+pub among : (k : KeyValue) (ks : List KeyValue) → list_any (key_eq k) ks ≡ true → Contains ks k
 among k ks h = Contains-from_any key_same k ks h
 
 not_among : (k : KeyValue) (ks : List KeyValue) → list_any (key_eq k) ks ≡ false → Contains ks k → ⊥
@@ -55,14 +55,14 @@ not_among k ks h c =
     cc
 
 -- whether some activation is of a match
-abbrev has : KeyValue → Entries → Bool
+abbrev pub has : KeyValue → Entries → Bool
 has k es = list_any (λ e. key_eq k e.1) es
 
-either : (a b : Bool) → (a || b) ≡ true → (a ≡ true) ⊎ (b ≡ true)
+pub either : (a b : Bool) → (a || b) ≡ true → (a ≡ true) ⊎ (b ≡ true)
 either true b h = inl refl
 either false b h = inr h
 
-or_second : (a b : Bool) → b ≡ true → (a || b) ≡ true
+pub or_second : (a b : Bool) → b ≡ true → (a || b) ≡ true
 or_second true b h = refl
 or_second false b h = h
 
@@ -171,7 +171,7 @@ come_so k old (c ∷ new) h = by (list_any (key_eq c) old) refl h (come_so k old
     by true d is more = later (more is)
     by false d is more = first (either (key_eq k c) (list_any (key_eq k) (come_of old new)) is) d more
 
-has_come : (old new : Network) (k : KeyValue) → Contains (keys_come old new) k → HasCome old new k
+pub has_come : (old new : Network) (k : KeyValue) → Contains (keys_come old new) k → HasCome old new k
 unfolding keys_come
 has_come old new k c =
     let both = come_so k (all_keys old) (all_keys new) (list_any-from_Contains key_equiv k (come_of (all_keys old) (all_keys new)) c) in
@@ -214,7 +214,7 @@ once_put c t (x ∷ xs) h none = by (rank_cmp t x.0) (once_put c t xs h.1 (or_fa
     by Greater more = (none_has (has x.1 (insert_entry rank_cmp xs t c)) (λ is. two (has_put x.1 c t xs is)), more)
 
 -- one less by its rank
-has_less : (k : KeyValue) (q : Rank → Bool) (es : Entries) → has k es ≡ false → has k (remove_entry q es) ≡ false
+pub has_less : (k : KeyValue) (q : Rank → Bool) (es : Entries) → has k es ≡ false → has k (remove_entry q es) ≡ false
 has_less k q [] h = h
 has_less k q (x ∷ xs) h = by (q x.0) (has_less k q xs (or_false (key_eq k x.1) (has k xs) h).1)
   where
@@ -267,11 +267,11 @@ unfolding popped
 popped_proper a p = taken_proper a (top_of a.strategy a.entries) p
 
 -- the top stands among the activations
-abbrev Among : Activation → Entries → Type 0
+abbrev pub Among : Activation → Entries → Type 0
 Among e [] = ⊥
 Among e (x ∷ xs) = (e ≡ x) ⊎ Among e xs
 
-top_among : (s : Strategy) (es : Entries) (e : Activation) → top_of s es ≡ Some e → Among e es
+pub top_among : (s : Strategy) (es : Entries) (e : Activation) → top_of s es ≡ Some e → Among e es
 top_among s [] e h = absurd (cc)
 top_among s (x ∷ xs) e h = by (top_of s xs) refl h (top_among s xs)
   where

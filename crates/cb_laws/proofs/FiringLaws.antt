@@ -1,6 +1,8 @@
 -- The firings that a run takes.
 use Rattle.std.proofs.Common.{◌≡◌, ◌≤◌, ◌+◌, ◌-◌, ◌∙◌, ℕ, zero, suc, Bool, true, false, List, Option, Some, None, Result, Ok, Err, ap, arith, option_map, refl, if◌then◌else◌}
-use Rattle.cb_actions.specs.Acts.{follow, give, stop, ◌>>=◌}
+use Rattle.cb_actions.specs.Actions.{carried_all}
+use Rattle.cb_actions.specs.Effects.{asserted, retracted}
+use Rattle.cb_actions.specs.Acts.{Act, follow, give, stop, ◌>>=◌}
 use Rattle.cb_actions.specs.Runs.{actions_of, due_by, ran, run, spent, unless_halted, with_variables_of}
 use Rattle.cb_actions.specs.Worlds.{World}
 use Rattle.cb_actions.specs.declared.act.Ended.{Ended}
@@ -11,7 +13,8 @@ use Rattle.cb_facts.specs.declared.value.Value.{Value}
 use Rattle.cb_functions.specs.Constants.{false_symbol}
 use Rattle.cb_laws.proofs.ActLaws.{asserts_only}
 use Rattle.cb_laws.proofs.ExpressionLaws.{IsKept, all_keep}
-use Rattle.cb_laws.proofs.RetractLaws.{retracted_takes}
+use Rattle.cb_laws.proofs.Keeping.{after_any, from_any}
+use Rattle.cb_laws.proofs.RetractedLaws.{retracted_takes}
 use Rattle.cb_lines.specs.Lines.{rule_numbered}
 use Rattle.cb_matches.specs.Keys.{KeyValue}
 use Rattle.cb_matches.specs.Networks.{bindings_of}
@@ -20,18 +23,22 @@ use Rattle.cb_matches.specs.Networks.{bindings_of}
 abbrev Has : ℕ → World → Type 0
 Has n s = s.firings ≡ n
 
-has_kept : (n : ℕ) → IsKept (Has n)
+has_kept : (n : ℕ) → IsKept (Has n) (Has n)
 has_kept n = record {
+  weaken = λ s h. h;
   env = λ s env h. h;
+  env_limit = λ s env h. h;
   turns = λ s m h. h;
   halted = λ s b h. h;
-  asserts = λ shape vs s h. ap (λ (w : World). w.firings) (asserts_only shape vs s).only ∙ h;
-  retracts = λ vs s h. ap (λ (w : World). w.firings) (retracted_takes vs s).changes.only ∙ h;
+  asserts = λ shape vs s h. after_any (Has n) (asserted shape vs s).state (asserted shape vs s).answer (ap (λ (w : World). w.firings) (asserts_only shape vs s).only ∙ h);
+  retracts = λ vs s h. after_any (Has n) (retracted vs s).state (retracted vs s).answer (ap (λ (w : World). w.firings) (retracted_takes vs s).changes.only ∙ h);
 }
 
 pub one_spent : (left n : ℕ) (k : KeyValue) (s : World) → (spent left n k s).state.firings ≡ left
 one_spent left n k s =
-    all_keep (Has left) (has_kept left) (Some false_symbol) (actions_of (rule_numbered k.rule s.rules)) (with_variables_of (bindings_of s.memory.network k) (record s { firings = left })) refl
+    let before : World = with_variables_of (bindings_of s.memory.network k) (record s { firings = left }) in
+    let act : Act World (Option Value) = carried_all (Some false_symbol) (actions_of (rule_numbered k.rule s.rules)) in
+    from_any (Has left) (act before).state (act before).answer (all_keep (Has left) (Has left) (has_kept left) (Some false_symbol) (actions_of (rule_numbered k.rule s.rules)) before refl)
 
 -- these firings are left of those, where so many were asked for
 abbrev Within : ℕ → Option ℕ → ℕ → Type 0

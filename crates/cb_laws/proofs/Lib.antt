@@ -5,6 +5,7 @@ mod MoveLaws
 mod NameFirst
 mod AssertLaws
 mod RetractLaws
+mod RetractedLaws
 mod SlotLaws
 mod DefinedLaws
 mod SlotFormLaws
@@ -17,6 +18,7 @@ mod ReachedLaws
 mod Keeping
 mod ExpressionLaws
 mod WorldLaws
+mod DueLaws
 mod FiringLaws
 mod AgendaLaws
 mod ScriptLaws

@@ -2,7 +2,7 @@
 use Rattle.std.proofs.Common.{◌≡◌, ◌⊎◌, inl, inr, ◌+◌, ◌++◌, ℕ, ℤ, Bool, true, false, List, [], Option, Some, None, Result, Ok, Err, codes, flat_map, length, nat_lt, refl, ap, ap₂, if◌then◌else◌}
 use Rattle.std.specs.List.{filter}
 use Rattle.cb_actions.specs.Acts.{Effect, after_writing, follow, give, stop, ◌>>=◌}
-use Rattle.cb_actions.specs.Changes.{activation_lines, come_line, gone_line, if_watched, moved, saliences, tell}
+use Rattle.cb_actions.specs.Changes.{activation_lines, come_line, if_watched, moved, saliences, tell}
 use Rattle.cb_actions.specs.Effects.{added_beside, added_next, fact_added}
 use Rattle.cb_actions.specs.Worlds.{World}
 use Rattle.cb_actions.specs.declared.act.Ended.{Ended}
@@ -12,7 +12,6 @@ use Rattle.cb_agenda.specs.Agendas.{changed, has_stamps, is_due}
 use Rattle.cb_facts.specs.Facts.{FactValue}
 use Rattle.cb_facts.specs.declared.value.Value.{Value}
 use Rattle.cb_facts.specs.declared.value.Value.TheVariants as value
-use Rattle.cb_laws.specs.Memories.{has_stamps_for}
 use Rattle.cb_lines.specs.Lines.{activation_line}
 use Rattle.cb_matches.specs.Changes.{keys_come, keys_gone}
 use Rattle.cb_matches.specs.Keys.{KeyValue}
@@ -22,6 +21,7 @@ use Rattle.cb_working_memory.specs.WorkingMemory.{Memory, greatest_index, grown,
 pub record Moved (s : World) (next : Memory) (line : List ℕ) (t : World) (w : List ℕ) (r : Result (Unit {0}) Ended) : Type 0 where
   pub only : t ≡ record s { memory = next; agenda = t.agenda }
   pub agenda : (t.agenda ≡ s.agenda) ⊎ ((ss : List ℤ) × (t.agenda ≡ changed s.agenda (keys_gone s.memory.network next.network) (keys_come s.memory.network next.network) ss))
+  pub put : r ≡ Ok tt → (ss : List ℤ) × (t.agenda ≡ changed s.agenda (keys_gone s.memory.network next.network) (keys_come s.memory.network next.network) ss)
   pub ends : (r ≡ Ok tt) ⊎ (r ≡ Err (ended.Limit Numbers))
   pub quiet : line ≡ [] → s.watched.activations ≡ false → w ≡ []
   pub room : has_stamps s.agenda (length (keys_come s.memory.network next.network)) ≡ true → r ≡ Ok tt
@@ -58,6 +58,7 @@ module _ (s : World) (next : Memory) (line : List ℕ) where
   moved_by true e = record {
     only = refl;
     agenda = inr (saliences s.rules come, refl);
+    put = λ h. (saliences s.rules come, refl);
     ends = inl refl;
     quiet = λ l a. ap₂ (λ (ws : List ℕ) (b : Bool). ws ++ if_watched b lines) l a;
     room = λ h. refl;
@@ -66,6 +67,7 @@ module _ (s : World) (next : Memory) (line : List ℕ) where
   moved_by false e = record {
     only = refl;
     agenda = inl refl;
+    put = λ h. absurd (cc);
     ends = inr refl;
     quiet = λ l a. ap (λ (ws : List ℕ). ws ++ []) l;
     room = λ h. absurd (cc);

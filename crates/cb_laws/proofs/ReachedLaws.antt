@@ -20,7 +20,7 @@ use Rattle.cb_facts.specs.declared.value.Value.{Value}
 use Rattle.cb_facts.specs.declared.value.Value.TheVariants as value
 use Rattle.cb_forms.specs.declared.fault.Fault.{Fault}
 use Rattle.cb_laws.proofs.AssertLaws.{added_stays, adds_alone}
-use Rattle.cb_laws.proofs.RetractLaws.{retracted_takes}
+use Rattle.cb_laws.proofs.RetractedLaws.{retracted_takes}
 use Rattle.cb_laws.proofs.SlotLaws.{default_is, is_built, one_of}
 use Rattle.cb_laws.specs.Reached.{AreSlotsOf, AreWellKept, FillSlots, HasItsDefault, HasItsSlots, IsTemplate}
 use Rattle.cb_matches.specs.Networks.{Conditions}

@@ -10,9 +10,9 @@ use Rattle.cb_actions.specs.Worlds.{World}
 use Rattle.cb_actions.specs.declared.act.Ended.{Ended}
 use Rattle.cb_actions.specs.declared.act.Ended.TheVariants as ended
 use Rattle.cb_agenda.specs.declared.strategy.Strategy.TheVariants.{Depth}
+use Rattle.cb_actions.specs.declared.act.Limit.TheVariants.{Firings, Numbers, Turns}
 use Rattle.cb_exprs.specs.FactTerms.{FactTerm}
 use Rattle.cb_exprs.specs.GlobalTerms.{GlobalTerm}
-use Rattle.cb_exprs.specs.Terms.{Term}
 use Rattle.cb_facts.specs.Results.{ok_then}
 use Rattle.cb_forms.specs.Items.{fitting, over, whole}
 use Rattle.cb_forms.specs.Members.{call_of, head_and_rest}
@@ -21,12 +21,13 @@ use Rattle.cb_forms.specs.declared.fault.Fault.{Fault}
 use Rattle.cb_forms.specs.declared.fault.Fault.TheVariants.{MalformedForm, TemplateInUse}
 use Rattle.cb_laws.proofs.DefaultLaws.{slots_suit}
 use Rattle.cb_laws.proofs.DefinedLaws.{other_template, put_template}
+use Rattle.cb_laws.proofs.DueLaws.{due_kept}
 use Rattle.cb_laws.proofs.ExpressionLaws.{anew_keeps, expression_keeps, facts_keep, globals_keep}
-use Rattle.cb_laws.proofs.Keeping.{Keeps, follow_keeps, keeps_then}
+use Rattle.cb_laws.proofs.Keeping.{After, Keeps, follow_keeps, keeps_then}
 use Rattle.cb_laws.proofs.ReachedLaws.{defined_kept, none_kept, not_first}
 use Rattle.cb_laws.proofs.SlotFormLaws.{each_slot}
 use Rattle.cb_laws.proofs.WorldLaws.{HasAtMost, HasProperAgenda, IsKeptByAll, WellKept, agenda_kept, clear_keeps, exited_keeps, firings_kept, no_templates, none_due, ran_as_keeps, restart_keeps, rule_keeps, undefined_keeps, well_kept}
-use Rattle.cb_laws.specs.Firing.{IsProper}
+use Rattle.cb_laws.specs.Firing.{AreMatches, IsProper}
 use Rattle.cb_laws.specs.Reached.{AreWellKept, IsTemplate}
 use Rattle.cb_expr_forms.specs.Scopes.{Scope, plain_scope}
 use Rattle.cb_requests.specs.Arguments.{alone, item_in, optional_in, rule_name_in, strategy_in}
@@ -45,7 +46,7 @@ use Rattle.cb_templates.specs.Slots.{SlotShape}
 use Rattle.cb_templates.specs.TemplateFaults.{named_template_faults, slots_form_faults}
 use Rattle.cb_templates.specs.TemplateShapes.{slots_said, template_said}
 use Rattle.cb_templates.specs.Internal.SlotReads.{slots_after}
-use Rattle.cb_templates.specs.Templates.{slots_of, with_template, without_comment}
+use Rattle.cb_templates.specs.Templates.{with_template, without_comment}
 use Rattle.cb_templates.specs.contracts.cited.LawsCited.TheImpl as templates_laws
 use Rattle.cb_words.specs.Words.{head_of}
 use Rattle.cb_words.specs.declared.head.Command.{Command as Word}
@@ -146,103 +147,137 @@ template_keeps s (name, slots) (right, free) h =
     (not_first (list_any (λ entry. bytes_eq entry.1.relation name) s.world.memory.network.facts) (is_named_in_rules name s.world.rules || is_named_in_deffacts name s.deffacts) free)
 
 -- What holds of the world is kept by every script, if every template keeps it that is read.
-module _ (P : World → Type 0) (kept : IsKeptByAll P)
+module _ (P Q : World → Type 0) (kept : IsKeptByAll P Q)
     (templates : (s : State) (r : Reading) (template : List ℕ × List SlotShape) → requested s r ≡ Ok (asked.define_template template) → P s.world → P (performed (asked.define_template template) s).state.world) where
   abbrev InWorld : State → Type 0
   InWorld s = P s.world
 
-  reset_keeps : (gs : List GlobalTerm) (facts : List FactTerm) → Keeps P (reset_to gs facts)
-  reset_keeps gs facts =
-      keeps_then P (all_evaluated gs) (λ _. variables_dropped >>= (λ _. restarted_world >>= (λ _. all_asserted facts))) (anew_keeps P kept.acts gs)
-      (λ _. keeps_then P variables_dropped (λ _. restarted_world >>= (λ _. all_asserted facts)) (λ w h. kept.acts.env w (record { variables = []; globals = w.env.globals }) h)
-      (λ _. keeps_then P restarted_world (λ _. all_asserted facts) (restart_keeps P kept) (λ _. facts_keep P kept.acts facts)))
+  abbrev AtLimit : State → Type 0
+  AtLimit s = Q s.world
 
-  performed_keeps : (s : State) (request : Request) → ((template : List ℕ × List SlotShape) → request ≡ asked.define_template template → P (performed (asked.define_template template) s).state.world) → P s.world → P (performed request s).state.world
-  performed_keeps s (asked.act t) template h = expression_keeps P kept.acts t s.world h
+  -- of a script that goes on the one, and of one that has ended the other
+  abbrev pub Lasts : Option Status → State → Type 0
+  Lasts None s = InWorld s
+  Lasts (Some status) s = AtLimit s
+
+  reset_keeps : (gs : List GlobalTerm) (facts : List FactTerm) → Keeps P Q (reset_to gs facts)
+  reset_keeps gs facts =
+      keeps_then P Q (all_evaluated gs) (λ _. variables_dropped >>= (λ _. restarted_world >>= (λ _. all_asserted facts))) (anew_keeps P Q kept.acts gs)
+      (λ _. keeps_then P Q variables_dropped (λ _. restarted_world >>= (λ _. all_asserted facts)) (λ w h. kept.acts.env w (record { variables = []; globals = w.env.globals }) h)
+      (λ _. keeps_then P Q restarted_world (λ _. all_asserted facts) (restart_keeps P Q kept) (λ _. facts_keep P Q kept.acts facts)))
+
+  performed_keeps : (s : State) (request : Request) → ((template : List ℕ × List SlotShape) → request ≡ asked.define_template template → P (performed (asked.define_template template) s).state.world) → P s.world → After InWorld AtLimit (performed request s).state (performed request s).answer
+  performed_keeps s (asked.act t) template h = expression_keeps P Q kept.acts t s.world h
   performed_keeps s (asked.define_template it) template h = template it refl
   performed_keeps s (asked.define_deffacts name facts) template h = h
-  performed_keeps s (asked.define_globals gs) template h = keeps_then InWorld (on_world (globals_defined gs)) (λ _. initials_kept gs) (λ u k. globals_keep P kept.acts gs u.world k) (λ _ u k. k) s h
-  performed_keeps s (asked.define_rule rule) template h = rule_keeps P kept rule s.world h
+  performed_keeps s (asked.define_globals gs) template h = keeps_then InWorld AtLimit (on_world (globals_defined gs)) (λ _. initials_kept gs) (λ u k. globals_keep P Q kept.acts gs u.world k) (λ _ u k. k) s h
+  performed_keeps s (asked.define_rule rule) template h = rule_keeps P Q kept rule s.world h
   performed_keeps s asked.list_facts template h = h
   performed_keeps s asked.list_agenda template h = h
   performed_keeps s asked.list_rules template h = h
   performed_keeps s asked.reset template h = reset_keeps s.globals (kept_facts s.deffacts) s.world h
-  performed_keeps s asked.clear template h = keeps_then InWorld (on_world cleared_world) (λ _. definitions_dropped) (λ u k. clear_keeps P kept u.world k) (λ _ u k. k) s h
-  performed_keeps s (asked.run count) template h = ran_as_keeps P kept count s.world h
-  performed_keeps s (asked.exit status) template h = exited_keeps P kept status s.world h
-  performed_keeps s (asked.undefine name) template h = undefined_keeps P kept name s.world h
+  performed_keeps s asked.clear template h = keeps_then InWorld AtLimit (on_world cleared_world) (λ _. definitions_dropped) (λ u k. clear_keeps P Q kept u.world k) (λ _ u k. k) s h
+  performed_keeps s (asked.run count) template h = ran_as_keeps P Q kept count s.world h
+  performed_keeps s (asked.exit status) template h = exited_keeps P Q kept status s.world h
+  performed_keeps s (asked.undefine name) template h = undefined_keeps P Q kept name s.world h
   performed_keeps s (asked.watch item on) template h = kept.watches s.world (watched_so item on s.world.watched) h
   performed_keeps s (asked.set_strategy strategy) template h = kept.orders s.world strategy h
 
-  acted_keeps : (r : Reading) → Keeps InWorld (acted r)
+  acted_keeps : (r : Reading) → Keeps InWorld AtLimit (acted r)
   unfolding acted
   acted_keeps r s h = by (requested s r) refl
     where
-      by : (request : Result Request Fault) → requested s r ≡ request → InWorld ((give_or_fault request >>= performed_and_shown) s).state
+      by : (request : Result Request Fault) → requested s r ≡ request → After InWorld AtLimit ((give_or_fault request >>= performed_and_shown) s).state ((give_or_fault request >>= performed_and_shown) s).answer
       by (Ok request) is =
-          follow_keeps InWorld (performed request s).state (performed request s).written (performed request s).answer shown
+          follow_keeps InWorld AtLimit (performed request s).state (performed request s).written (performed request s).answer shown
           (performed_keeps s request (λ template e. templates s r template (is ∙ ap Ok e) h) h) (λ v u k. k)
       by (Err f) is = h
 
-  concluded_keeps : (s : State) (w : List ℕ) (r : Result (Unit {0}) Ended) → InWorld s → InWorld (concluded s w r).state
+  concluded_keeps : (s : State) (w : List ℕ) (r : Result (Unit {0}) Ended) → After InWorld AtLimit s r → Lasts (concluded s w r).status (concluded s w r).state
   concluded_keeps s w (Ok v) h = h
   concluded_keeps s w (Err (ended.Fault f)) h = h
-  concluded_keeps s w (Err (ended.Limit limit)) h = h
-  concluded_keeps s w (Err (ended.Exit code)) h = h
+  concluded_keeps s w (Err (ended.Limit Numbers)) h = h
+  concluded_keeps s w (Err (ended.Limit Firings)) h = kept.acts.weaken s.world h
+  concluded_keeps s w (Err (ended.Limit Turns)) h = kept.acts.weaken s.world h
+  concluded_keeps s w (Err (ended.Exit code)) h = kept.acts.weaken s.world h
 
-  pub item_keeps : (s : State) (r : Reading) → InWorld s → InWorld (executed s r).state
+  pub item_keeps : (s : State) (r : Reading) → InWorld s → Lasts (executed s r).status (executed s r).state
   unfolding executed
   item_keeps s r h = concluded_keeps (acted r s).state (acted r s).written (acted r s).answer (acted_keeps r s h)
 
   -- items, one after another
-  status_keeps : (status : Option Status) (run : Run) (item : Reading) → InWorld run.state → InWorld (after_status status run item).state
-  status_keeps None run item h = item_keeps run.state item h
-  status_keeps (Some status) run item h = h
+  status_keeps : (status : Option Status) (run : Run) (item : Reading) → run.status ≡ status → Lasts run.status run.state → Lasts (after_status status run item).status (after_status status run item).state
+  status_keeps None run item e h = item_keeps run.state item (subst (λ o. Lasts o run.state) e h)
+  status_keeps (Some status) run item e h = h
 
-  items_keep : (run : Run) (items : List Reading) → InWorld run.state → InWorld (after_all run items).state
+  items_keep : (run : Run) (items : List Reading) → Lasts run.status run.state → Lasts (after_all run items).status (after_all run items).state
   items_keep run [] h = h
-  items_keep run (item ∷ items) h = items_keep (after run item) items (status_keeps run.status run item h)
+  items_keep run (item ∷ items) h = items_keep (after run item) items (status_keeps run.status run item refl h)
 
-  long_keeps : (status : Option Status) (run : Run) → InWorld run.state → InWorld (too_long_status status run).state
-  long_keeps None run h = h
-  long_keeps (Some status) run h = h
+  long_keeps : (status : Option Status) (run : Run) → run.status ≡ status → Lasts run.status run.state → Lasts (too_long_status status run).status (too_long_status status run).state
+  long_keeps None run e h = kept.acts.weaken run.state.world (subst (λ o. Lasts o run.state) e h)
+  long_keeps (Some status) run e h = h
 
   module _ (limits : Limits) (first : P (first_state limits).world) where
-    run_keeps : (b : Bool) (some all : List Reading) → InWorld (if b then too_long (after_all (begun limits) some) else after_all (begun limits) all).state
-    run_keeps true some all = long_keeps (after_all (begun limits) some).status (after_all (begun limits) some) (items_keep (begun limits) some first)
+    abbrev run_by : Bool → List Reading → List Reading → Run
+    run_by b some all = if b then too_long (after_all (begun limits) some) else after_all (begun limits) all
+
+    run_keeps : (b : Bool) (some all : List Reading) → Lasts (run_by b some all).status (run_by b some all).state
+    run_keeps true some all = long_keeps (after_all (begun limits) some).status (after_all (begun limits) some) refl (items_keep (begun limits) some first)
     run_keeps false some all = items_keep (begun limits) all first
 
-    pub so_far_kept : (p : List ℕ) → InWorld (so_far limits p).state
+    pub so_far_kept : (p : List ℕ) → Lasts (so_far limits p).status (so_far limits p).state
     unfolding so_far
     so_far_kept p = run_keeps (over limits.max_form p) (fitting limits.max_form p) (whole p)
 
-    pub script_kept : (s : List ℕ) → InWorld (complete limits s).state
+    pub script_kept : (s : List ℕ) → Lasts (complete limits s).status (complete limits s).state
     unfolding complete
     script_kept s = run_keeps (over limits.max_form s) (fitting limits.max_form s) (fitting limits.max_form s)
+
+-- where it makes no difference whether the script has ended
+module _ (P : World → Type 0) (kept : IsKeptByAll P P)
+    (templates : (s : State) (r : Reading) (template : List ℕ × List SlotShape) → requested s r ≡ Ok (asked.define_template template) → P s.world → P (performed (asked.define_template template) s).state.world) where
+  whatever : (o : Option Status) (s : State) → Lasts P P kept templates o s → P s.world
+  whatever None s h = h
+  whatever (Some status) s h = h
+
+  pub item_always : (s : State) (r : Reading) → P s.world → P (executed s r).state.world
+  item_always s r h = whatever (executed s r).status (executed s r).state (item_keeps P P kept templates s r h)
+
+  pub so_far_always : (limits : Limits) → P (first_state limits).world → (p : List ℕ) → P (so_far limits p).state.world
+  so_far_always limits first p = whatever (so_far limits p).status (so_far limits p).state (so_far_kept P P kept templates limits first p)
+
+  pub script_always : (limits : Limits) → P (first_state limits).world → (s : List ℕ) → P (complete limits s).state.world
+  script_always limits first s = whatever (complete limits s).status (complete limits s).state (script_kept P P kept templates limits first s)
 
 -- facts and templates
 template_read : (s : State) (r : Reading) (template : List ℕ × List SlotShape) → requested s r ≡ Ok (asked.define_template template) → Kept s → Kept (performed (asked.define_template template) s).state
 template_read s r template e h = template_keeps s template (subst (IfSound s) e (sound s r)) h
 
 pub item_well : (s : State) (r : Reading) → Kept s → Kept (executed s r).state
-item_well s r h = item_keeps WellKept well_kept template_read s r h
+item_well s r h = item_always WellKept well_kept template_read s r h
 
 pub so_far_well : (limits : Limits) (p : List ℕ) → Kept (so_far limits p).state
-so_far_well limits p = so_far_kept WellKept well_kept template_read limits (none_kept [] 0 [] no_templates) p
+so_far_well limits p = so_far_always WellKept well_kept template_read limits (none_kept [] 0 [] no_templates) p
 
 pub script_well : (limits : Limits) (s : List ℕ) → Kept (complete limits s).state
-script_well limits s = script_kept WellKept well_kept template_read limits (none_kept [] 0 [] no_templates) s
+script_well limits s = script_always WellKept well_kept template_read limits (none_kept [] 0 [] no_templates) s
 
 -- firings
 pub so_far_within : (limits : Limits) (p : List ℕ) → (so_far limits p).state.world.firings ≤ limits.max_firings
-so_far_within limits p = so_far_kept (HasAtMost limits.max_firings) (firings_kept limits.max_firings) (λ s r template e h. h) limits (omega arith) p
+so_far_within limits p = so_far_always (HasAtMost limits.max_firings) (firings_kept limits.max_firings) (λ s r template e h. h) limits (omega arith) p
 
 pub script_within : (limits : Limits) (s : List ℕ) → (complete limits s).state.world.firings ≤ limits.max_firings
-script_within limits s = script_kept (HasAtMost limits.max_firings) (firings_kept limits.max_firings) (λ s r template e h. h) limits (omega arith) s
+script_within limits s = script_always (HasAtMost limits.max_firings) (firings_kept limits.max_firings) (λ s r template e h. h) limits (omega arith) s
 
 -- the agenda
 pub so_far_proper : (limits : Limits) (p : List ℕ) → IsProper (so_far limits p).state.world.agenda
-so_far_proper limits p = so_far_kept HasProperAgenda agenda_kept (λ s r template e h. h) limits (none_due 0 Depth) p
+so_far_proper limits p = so_far_always HasProperAgenda agenda_kept (λ s r template e h. h) limits (none_due 0 Depth) p
 
 pub script_proper : (limits : Limits) (s : List ℕ) → IsProper (complete limits s).state.world.agenda
-script_proper limits s = script_kept HasProperAgenda agenda_kept (λ s r template e h. h) limits (none_due 0 Depth) s
+script_proper limits s = script_always HasProperAgenda agenda_kept (λ s r template e h. h) limits (none_due 0 Depth) s
+
+-- what is due
+pub so_far_matches : (limits : Limits) (p : List ℕ) → (so_far limits p).status ≡ None → AreMatches (so_far limits p).state.world
+so_far_matches limits p e =
+    subst (λ o. Lasts AreMatches (λ _. Unit {0}) due_kept (λ s r template e h. h) o (so_far limits p).state) e (so_far_kept AreMatches (λ _. Unit {0}) due_kept (λ s r template e h. h) limits (λ k due. absurd (cc)) p)

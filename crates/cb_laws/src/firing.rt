@@ -1,13 +1,15 @@
 //! How often rules fire.
 ghost use Rattle.std.specs.Prelude.{◌≡◌, ◌≢◌, ◌⊎◌, ◌+◌, ◌≤◌, ℕ, ℤ, List, Option, None, Some, Err, false, true};
 ghost use Rattle.std.specs.List.{Contains};
+ghost use Rattle.cb_actions.specs.Actions.{carried};
 ghost use Rattle.cb_actions.specs.Changes.{moved};
 ghost use Rattle.cb_actions.specs.Runs.{run, spent};
 ghost use Rattle.cb_actions.specs.Worlds.{World};
 ghost use Rattle.cb_actions.specs.declared.act.Ended.TheVariants as ended;
-ghost use Rattle.cb_actions.specs.declared.act.Limit.TheVariants.{Firings};
+ghost use Rattle.cb_actions.specs.declared.act.Limit.TheVariants.{Firings, Numbers};
 ghost use Rattle.cb_agenda.specs.Agendas.{AgendaValue, changed, is_due, popped};
-ghost use Rattle.cb_laws.specs.Firing.{HasCome, IsProper};
+ghost use Rattle.cb_exprs.specs.Terms.{Term};
+ghost use Rattle.cb_laws.specs.Firing.{AreMatches, HasCome, IsProper, IsThere};
 ghost use Rattle.cb_matches.specs.Keys.{KeyValue};
 ghost use Rattle.cb_session.specs.Transcripts.{complete, so_far};
 ghost use Rattle.cb_session.specs.declared.limits.Limits.{Limits};
@@ -55,4 +57,22 @@ pub fn a_rule_fires_once_for_one_match()
     ensures proper_taken { (a : AgendaValue) → IsProper a → IsProper (popped a).0 }
     ensures proper_changed { (a : AgendaValue) (gone come : List KeyValue) (saliences : List ℤ)
         → IsProper a → IsProper (changed a gone come saliences) }
+{}
+
+/// What is due is a match that is there, in every state of a script that has not ended: a change of facts or rules puts on the
+/// agenda what comes, and takes off what goes. So what fires is a match of the facts that are there then. Only at the limit of
+/// numbers, with which the script ends, may something be due that is no match any more.
+pub fn what_is_due_is_a_match()
+    ensures fires { (s : World) (k : KeyValue) → AreMatches s
+        → (popped s.agenda).1 ≡ Some k → IsThere s.memory.network k }
+    ensures taken_out { (s : World) → AreMatches s
+        → AreMatches (record s { agenda = (popped s.agenda).0 }) }
+    ensures change { (next : Memory) (line : List ℕ) (s : World) → AreMatches s
+        → (moved next line s).answer ≢ Err (ended.Limit Numbers)
+        → AreMatches (moved next line s).state }
+    ensures expression { (t : Term) (s : World) → AreMatches s
+        → (carried t s).answer ≢ Err (ended.Limit Numbers)
+        → AreMatches (carried t s).state }
+    ensures so_far { (limits : Limits) (p : List ℕ) → (so_far limits p).status ≡ None
+        → AreMatches (so_far limits p).state.world }
 {}

@@ -1,5 +1,5 @@
 use Rattle.cb_laws.proofs.ActLaws.{index_taken, named_taken}
-use Rattle.cb_laws.proofs.RetractLaws.{fine_left, missing_left, retract_answers, retracted_takes, wrong_first, wrong_stays}
+use Rattle.cb_laws.proofs.RetractedLaws.{fine_left, missing_left, retract_answers, retracted_takes, wrong_first, wrong_stays}
 use Rattle.cb_laws.proofs.acting.a_retraction_takes_what_is_named.Goals as goal
 
 pub returns-clause-fine : goal.returns-clause-fine
