@@ -15,7 +15,7 @@ use Rattle.cb_forms.specs.declared.token.Token.TheVariants as token
 use Rattle.cb_functions.specs.Internal.Operations.{operator_of}
 use Rattle.cb_rule_forms.specs.Relations.{patterns_relations}
 use Rattle.cb_rule_forms.specs.Rules.{rule_faults, rule_of}
-use Rattle.cb_rules.specs.Elements.{pattern, test, Elements, elements, no_elements}
+use Rattle.cb_rules.specs.Elements.{pattern, test, group, Elements, elements, no_elements}
 use Rattle.cb_rules.specs.RuleValues.{RuleValue}
 use Rattle.cb_templates.specs.Reserved.{is_reserved}
 use Rattle.cb_words.specs.Words.{head_of}
@@ -257,3 +257,55 @@ by_each_branch : on_left (form "or" (form "a" (var "x" ∷ []) ∷ bare "b" ∷ 
     ≡ Some UnboundVariable ∷ Some UnboundVariable ∷ None ∷ []
 unfolding head_of is_reserved
 by_each_branch = refl
+
+-- (a ?x) (exists (b ?x) (test TRUE)) (not (and (c) (a)))
+abbrev with_groups : List Tree
+with_groups =
+    form "a" (var "x" ∷ []) ∷ form "exists" (form "b" (var "x" ∷ []) ∷ form "test" (word "TRUE" ∷ []) ∷ []) ∷ form "not" (form "and" (bare "c" ∷ bare "a" ∷ []) ∷ []) ∷ []
+
+-- the pattern of the relation without a field
+abbrev of_none : String → PatternValue
+of_none relation = record { relation = codes relation; parts = fields [] }
+
+-- a group has the elements that stand in it, those of an `and` one by one
+groups_in_a_branch : branches_in with_groups
+    ≡ Ok (elements (pattern None (of_one "a" false) ∷ group true (elements (pattern None (of_one "b" false) ∷ test (expr.constant (value.Symbol (codes "TRUE"))) ∷ [])) ∷ group false (elements (pattern None (of_none "c") ∷ pattern None (of_none "a") ∷ [])) ∷ []) ∷ [])
+unfolding is_reserved
+groups_in_a_branch = refl
+
+-- its layout tells the pattern from the groups, and the relations of the groups are named
+layout_of_groups : layouts_in with_groups ≡ Ok ((true ∷ false ∷ false ∷ []) ∷ [])
+unfolding is_reserved
+layout_of_groups = refl
+
+relations_of_groups : relations_in with_groups [] ≡ Ok (codes "a" ∷ codes "b" ∷ codes "c" ∷ [])
+unfolding is_reserved
+relations_of_groups = refl
+
+-- (not), (not (a) (b)), (not ?f <- (a) (b)), (not (logical (a)) (b)), (not (and)), (exists), (exists 5), (exists (declare)): the number of members comes first
+groups_wrong : map (λ t. on_left (t ∷ [])) (form "not" [] ∷ form "not" (bare "a" ∷ bare "b" ∷ []) ∷ form "not" (var "f" ∷ word "<-" ∷ bare "a" ∷ bare "b" ∷ []) ∷ form "not" (form "logical" (bare "a" ∷ []) ∷ bare "b" ∷ []) ∷ form "not" (form "and" [] ∷ []) ∷ form "exists" [] ∷ form "exists" (number (pos 5) ∷ []) ∷ form "exists" (bare "declare" ∷ []) ∷ [])
+    ≡ Some MalformedForm ∷ Some MalformedForm ∷ Some MalformedForm ∷ Some MalformedForm ∷ Some MalformedForm ∷ Some MalformedForm ∷ Some MalformedForm ∷ Some MalformedForm ∷ []
+unfolding is_reserved
+groups_wrong = refl
+
+-- (not ?f <- (a)), (not (or)), (not (not (a))), (exists (exists (a))), (not (and (or))), (forall (a) (b)), ?f <- (not (a))
+groups_left_out : map on_left ((form "not" (var "f" ∷ word "<-" ∷ bare "a" ∷ []) ∷ []) ∷ (form "not" (form "or" [] ∷ []) ∷ []) ∷ (form "not" (form "not" (bare "a" ∷ []) ∷ []) ∷ []) ∷ (form "exists" (form "exists" (bare "a" ∷ []) ∷ []) ∷ []) ∷ (form "not" (form "and" (form "or" [] ∷ []) ∷ []) ∷ []) ∷ (form "forall" (bare "a" ∷ bare "b" ∷ []) ∷ []) ∷ (var "f" ∷ word "<-" ∷ form "not" (bare "a" ∷ []) ∷ []) ∷ [])
+    ≡ Some NotInProfile ∷ Some NotInProfile ∷ Some NotInProfile ∷ Some NotInProfile ∷ Some NotInProfile ∷ Some NotInProfile ∷ Some NotInProfile ∷ []
+unfolding is_reserved
+groups_left_out = refl
+
+-- (exists (a ?x)) (b ~?x), (exists (a ?x) (b ~?x)), (a ?x) (not (b ~?x)), (not (a ?x)) ?x <- (b): what a group binds is known in it alone
+variables_of_groups : map on_left ((form "exists" (form "a" (var "x" ∷ []) ∷ []) ∷ form "b" (tilde ∷ var "x" ∷ []) ∷ []) ∷ (form "exists" (form "a" (var "x" ∷ []) ∷ form "b" (tilde ∷ var "x" ∷ []) ∷ []) ∷ []) ∷ (form "a" (var "x" ∷ []) ∷ form "not" (form "b" (tilde ∷ var "x" ∷ []) ∷ []) ∷ []) ∷ (form "not" (form "a" (var "x" ∷ []) ∷ []) ∷ var "x" ∷ word "<-" ∷ bare "b" ∷ []) ∷ [])
+    ≡ Some UnboundVariable ∷ None ∷ None ∷ None ∷ []
+unfolding is_reserved
+variables_of_groups = refl
+
+-- (exists (k ?x)) => (println ?x)
+group_and_actions : fault_in (form "exists" (form "k" (var "x" ∷ []) ∷ []) ∷ []) (form "println" (var "x" ∷ []) ∷ []) ≡ Some UnboundVariable
+unfolding head_of is_reserved
+group_and_actions = refl
+
+-- (or (not (a)) (and (exists (b)) (c))): a group is one way
+branches_with_groups : ways_of (form "or" (form "not" (bare "a" ∷ []) ∷ form "and" (form "exists" (bare "b" ∷ []) ∷ bare "c" ∷ []) ∷ []) ∷ []) ≡ Ok ((codes "a" ∷ []) ∷ (codes "b" ∷ codes "c" ∷ []) ∷ [])
+unfolding is_reserved
+branches_with_groups = refl

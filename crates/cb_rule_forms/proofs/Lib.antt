@@ -1,6 +1,7 @@
 pub mod Arrows
 pub mod CountLaws
 mod Examples
+pub mod KnownLaws
 pub mod MentionLaws
 pub mod NameLaws
 mod PlaceLaws

@@ -10,7 +10,7 @@ use Rattle.cb_forms.specs.declared.fault.Fault.{Fault}
 use Rattle.cb_rule_forms.specs.Branches.{combined, ways_through, ways_through_all, ways_through_one}
 use Rattle.cb_rule_forms.specs.Elements.{element_faults, elements_faults}
 use Rattle.cb_rule_forms.specs.Internal.{writtens}
-use Rattle.cb_rule_forms.specs.WrittenElements.{Written, wrong, written_pattern, written_test, all_of, one_of, Writtens, none_written, written}
+use Rattle.cb_rule_forms.specs.WrittenElements.{Written, wrong, written_pattern, written_test, all_of, one_of, written_group, Writtens, none_written, written}
 use Rattle.cb_templates.specs.FaultLists.{ReadsAs, first_of}
 use Rattle.cb_templates.specs.contracts.cited.LawsCited.TheImpl as templates_laws
 
@@ -99,6 +99,7 @@ mutual
   ways_right s (written_test t) h = alone_right s (written_test t) h
   ways_right s (all_of ws) h = all_right s ws h
   ways_right s (one_of ws) h = one_right s ws h
+  ways_right s (written_group positive ws) h = alone_right s (written_group positive ws) h
 
   pub all_right : (s : Scope) (ws : Writtens) → elements_faults s ws ≡ [] → ways_faults s (ways_through_all ws) ≡ []
   all_right s none_written h = refl

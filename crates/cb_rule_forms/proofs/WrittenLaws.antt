@@ -1,11 +1,11 @@
 -- Elements as they are written, one after another and by the word that a list begins with.
-use Rattle.std.proofs.Common.{◌≡◌, ◌≢◌, ◌<◌, ◌+◌, ◌∙◌, ◌++◌, ℕ, Bool, List, [], ◌∷◌, Option, Some, None, Vec, Global, arith, length, map, option_map, refl, sym, ap}
+use Rattle.std.proofs.Common.{◌≡◌, ◌≢◌, ◌<◌, ◌+◌, ◌∙◌, ◌++◌, ℕ, Bool, List, [], ◌∷◌, Option, Some, None, false, true, Vec, Global, arith, length, map, option_map, refl, sym, ap}
 use Rattle.cb_expr_forms.specs.Internal.Sizes.{tree_size, trees_size}
 use Rattle.cb_forms.specs.Members.{call_of, symbol_of}
 use Rattle.cb_forms.specs.Trees.{Tree, atom, branch, Trees, no_trees, tree}
 use Rattle.cb_forms.specs.declared.fault.Fault.TheVariants.{MalformedForm}
 use Rattle.cb_rule_forms.specs.Internal.{before, writtens, written_seen, written_step}
-use Rattle.cb_rule_forms.specs.WrittenElements.{Written, wrong, all_of, one_of, Writtens, written, gathered, listed, written_alone, written_in}
+use Rattle.cb_rule_forms.specs.WrittenElements.{Written, wrong, all_of, one_of, written_group, Writtens, written, gathered, listed, negated, written_alone, written_in}
 use Rattle.cb_rule_forms.specs.declared.written.Kind.TheVariants as kind
 use Rattle.cb_rule_forms.specs.declared.written.Written as declared
 use Rattle.cb_rule_forms.specs.declared.written.Written.TheFolds.{fold-roll-Written}
@@ -60,6 +60,9 @@ seen_all ws = ap written_seen (sym (is.rolls-All ws)) ∙ fold-roll-Written Writ
 pub seen_one : (ws : Vec declared.Written Global) → written_seen (views.One ws) ≡ one_of (writtens (map written_seen ws.items))
 seen_one ws = ap written_seen (sym (is.rolls-One ws)) ∙ fold-roll-Written Written written_step (program.One ws)
 
+pub seen_group : (positive : Bool) (ws : Vec declared.Written Global) → written_seen (views.Group positive ws) ≡ written_group positive (writtens (map written_seen ws.items))
+seen_group positive ws = ap written_seen (sym (is.rolls-Group positive ws)) ∙ fold-roll-Written Written written_step (program.Group positive ws)
+
 -- one or more members
 pub all_gathered : {X : Type 0} (see : X → Written) (xs : List X) → length xs ≢ 0 → gathered kind.And (writtens (map see xs)) ≡ all_of (writtens (map see xs))
 all_gathered see [] h = absurd (h refl)
@@ -68,3 +71,22 @@ all_gathered see (x ∷ xs) h = refl
 pub one_gathered : {X : Type 0} (see : X → Written) (xs : List X) → length xs ≢ 0 → gathered kind.Or (writtens (map see xs)) ≡ one_of (writtens (map see xs))
 one_gathered see [] h = absurd (h refl)
 one_gathered see (x ∷ xs) h = refl
+
+pub group_gathered : {X : Type 0} (see : X → Written) (xs : List X) → length xs ≢ 0 → gathered kind.Exists (writtens (map see xs)) ≡ written_group true (writtens (map see xs))
+group_gathered see [] h = absurd (h refl)
+group_gathered see (x ∷ xs) h = refl
+
+pub not_gathered : {X : Type 0} (see : X → Written) (xs : List X) → length xs ≢ 0 → gathered kind.Not (writtens (map see xs)) ≡ negated (writtens (map see xs))
+not_gathered see [] h = absurd (h refl)
+not_gathered see (x ∷ xs) h = refl
+
+-- one member, and another number of them
+pub negated_one : {X : Type 0} (see : X → Written) (xs : List X) → length xs ≡ 1 → negated (writtens (map see xs)) ≡ written_group false (writtens (map see xs))
+negated_one see [] h = absurd (cc)
+negated_one see (x ∷ []) h = refl
+negated_one see (x ∷ y ∷ xs) h = absurd (omega arith)
+
+pub negated_other : {X : Type 0} (see : X → Written) (xs : List X) → length xs ≢ 1 → negated (writtens (map see xs)) ≡ wrong MalformedForm
+negated_other see [] h = refl
+negated_other see (x ∷ []) h = absurd (h refl)
+negated_other see (x ∷ y ∷ xs) h = refl

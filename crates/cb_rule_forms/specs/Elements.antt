@@ -6,8 +6,8 @@ use Rattle.cb_expr_forms.specs.Scopes.{Scope}
 use Rattle.cb_forms.specs.declared.fault.Fault.{Fault}
 use Rattle.cb_pattern_forms.specs.PatternFaults.{pattern_faults}
 use Rattle.cb_pattern_forms.specs.Patterns.{pattern_of}
-use Rattle.cb_rule_forms.specs.WrittenElements.{Written, wrong, written_pattern, written_test, all_of, one_of, Writtens, none_written, written}
-use Rattle.cb_rules.specs.Elements.{Element, pattern, test}
+use Rattle.cb_rule_forms.specs.WrittenElements.{Written, wrong, written_pattern, written_test, all_of, one_of, written_group, Writtens, none_written, written}
+use Rattle.cb_rules.specs.Elements.{Element, pattern, test, group, elements}
 use Rattle.cb_templates.specs.Templates.{Templates}
 
 abbrev mutual
@@ -18,6 +18,7 @@ abbrev mutual
   element_faults s (written_test t) = faults_of s t
   element_faults s (all_of ws) = elements_faults s ws
   element_faults s (one_of ws) = elements_faults s ws
+  element_faults s (written_group positive ws) = elements_faults s ws
 
   -- the same of elements, from left to right
   pub elements_faults : Scope → Writtens → List Fault
@@ -32,6 +33,7 @@ abbrev mutual
   written_elements templates (written_test t) = test (expr_of templates t) ∷ []
   written_elements templates (all_of ws) = each_written templates ws
   written_elements templates (one_of ws) = each_written templates ws
+  written_elements templates (written_group positive ws) = group positive (elements (each_written templates ws)) ∷ []
 
   pub each_written : Templates → Writtens → List Element
   each_written templates none_written = []

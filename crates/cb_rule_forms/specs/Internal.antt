@@ -14,22 +14,27 @@ use Rattle.cb_forms.specs.Trees.{tree_of}
 use Rattle.cb_forms.specs.declared.fault.Fault.{Fault}
 use Rattle.cb_forms.specs.declared.fault.Fault.TheVariants.{BadSalience, NotInProfile}
 use Rattle.cb_rule_forms.specs.Declarations.{salience_in}
-use Rattle.cb_rule_forms.specs.WrittenElements.{Written, wrong, written_pattern, written_test, all_of, one_of, Writtens, none_written, written, written_alone, addressed}
+use Rattle.cb_rule_forms.specs.WrittenElements.{Written, wrong, written_pattern, written_test, all_of, one_of, written_group, Writtens, none_written, written, written_alone, addressed}
 use Rattle.cb_rule_forms.specs.Mentions.{Mention, known_after, known_in, mention_faults, variables_faults, with_name}
-use Rattle.cb_rule_forms.specs.declared.element.ElementForm.{ElementForm}
-use Rattle.cb_rule_forms.specs.declared.element.ElementForm.TheVariants as form
+use Rattle.cb_rule_forms.specs.declared.element.ElementForm.{ElementForm, fold-ElementForm}
+use Rattle.cb_rule_forms.specs.declared.element.ElementForm.TheOpen as form
 use Rattle.cb_rule_forms.specs.declared.element.PatternForm.{PatternForm}
 use Rattle.cb_rule_forms.specs.declared.written.Next.{Next}
 use Rattle.cb_rule_forms.specs.declared.written.Next.TheVariants as next
 use Rattle.cb_rule_forms.specs.declared.written.Written as declared
 use Rattle.cb_rule_forms.specs.declared.written.Written.TheOpen as program
-use Rattle.cb_rules.specs.Elements.{Element, pattern, test, Elements, elements}
+use Rattle.cb_rules.specs.Elements.{Element, pattern, test, group, Elements, elements}
 use Rattle.cb_templates.specs.FaultLists.{ReadsAs, unless}
+
+-- one element that was read, with those of a group in their place
+abbrev pub form_step : form.ElementForm-F Element → Element
+form_step (form.Pattern p) = pattern p.address (record { relation = p.relation; parts = asked_parts p.parts })
+form_step (form.Test e) = test (term_of e)
+form_step (form.Group positive inner) = group positive (elements inner.items)
 
 -- the element that was read
 abbrev pub form_value : ElementForm → Element
-form_value (form.Pattern p) = pattern p.address (record { relation = p.relation; parts = asked_parts p.parts })
-form_value (form.Test e) = test (term_of e)
+form_value = fold-ElementForm Element form_step
 
 -- the branches that were read
 abbrev pub branches_read : List (Vec ElementForm Global) → List Elements
@@ -60,6 +65,7 @@ written_step (program.Pattern x relation fs) = written_pattern (option_map (λ n
 written_step (program.Test t) = written_test (tree_of t.now)
 written_step (program.All ws) = all_of (writtens ws.items)
 written_step (program.One ws) = one_of (writtens ws.items)
+written_step (program.Group positive ws) = written_group positive (writtens ws.items)
 
 abbrev pub written_seen : declared.Written → Written
 written_seen = declared.fold-Written Written written_step

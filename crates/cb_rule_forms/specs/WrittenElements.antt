@@ -25,6 +25,8 @@ mutual
     all_of : Writtens → Written
     -- `(or element ..)`
     one_of : Writtens → Written
+    -- `(exists element ..)`, or, where it is not positive, `(not element)`
+    written_group : Bool → Writtens → Written
 
   -- elements, from left to right
   pub data Writtens : Type 0 where
@@ -36,18 +38,30 @@ abbrev pub kind_of : Bool → List ℕ → Option Kind
 kind_of inside word =
     if bytes_eq word (codes "and") then Some kind.And else (
     if inside then None else (
-    if bytes_eq word (codes "or") then Some kind.Or else None))
+    if bytes_eq word (codes "or") then Some kind.Or else (
+    if bytes_eq word (codes "not") then Some kind.Not else (
+    if bytes_eq word (codes "exists") then Some kind.Exists else None))))
 
 -- whether the members stand in a group
 abbrev pub members_inside : Bool → Kind → Bool
 members_inside inside kind.And = inside
 members_inside inside kind.Or = inside
+members_inside inside kind.Not = true
+members_inside inside kind.Exists = true
 
--- the element of these members, of which there must be one or more
+-- what `not` makes of its members, which must be one
+abbrev pub negated : Writtens → Written
+negated none_written = wrong MalformedForm
+negated (written w none_written) = written_group false (written w none_written)
+negated (written w (written x ws)) = wrong MalformedForm
+
+-- the element of these members, of which there must be one or more, and for `not` one
 abbrev pub gathered : Kind → Writtens → Written
 gathered k none_written = wrong MalformedForm
 gathered kind.And (written w ws) = all_of (written w ws)
 gathered kind.Or (written w ws) = one_of (written w ws)
+gathered kind.Not (written w ws) = negated (written w ws)
+gathered kind.Exists (written w ws) = written_group true (written w ws)
 
 -- a test, by what follows its word
 abbrev pub test_form : Option Tree → Written

@@ -24,6 +24,8 @@ pub(crate) enum ElementForm {
     Pattern(PatternForm),
     /// `(test expression)`
     Test(Expr),
+    /// A group: `exists` where it is positive, else `not`.
+    Group(bool, Vec<ElementForm>),
 }
 
 /// A pattern as it was read, with the variable that takes the fact's address.
@@ -84,7 +86,27 @@ pub(crate) fn read_written(
         Written::All(members) | Written::One(members) => {
             read_each(names, scope, elements, members.as_slice())
         }
+        Written::Group(positive, members) => {
+            let inner = read_group(names, scope, members.as_slice())?;
+            Ok(elements.push(ElementForm::Group(*positive, inner))?)
+        }
     }
+}
+
+/// The elements of a group, or the first fault of its members.
+#[cycle(reading)]
+fn read_group(
+    names: &mut Names,
+    scope: &Scope<'_>,
+    members: &[Written<'_>],
+) -> Result<Vec<ElementForm>, Refused>
+    ensures { ReadsAs (λ es. map form_value es.items) result
+        (elements_faults scope.now (writtens (map written_seen members.now)))
+        (each_written scope.now.templates (writtens (map written_seen members.now))) }
+{
+    let mut inner = Vec::new(names.alloc());
+    read_each(names, scope, &mut inner, members)?;
+    Ok(inner)
 }
 
 /// The pattern of this relation with what follows it, or its first fault.

@@ -74,7 +74,8 @@ fn keep_known(alloc: Global, names: NameList, known: &NameList) -> Result<NameLi
 }
 
 /// Adds the variables that elements bind to those that have a value, or gives the first fault of a variable.
-pub(crate) fn bind_elements(known: &mut NameList, elements: &[ElementForm]) -> Result<(), Refused>
+#[cycle(binding)]
+fn bind_elements(known: &mut NameList, elements: &[ElementForm]) -> Result<(), Refused>
     ensures { KnowsElements known.old (map form_value elements.now) known.new result }
 {
     for element in elements {
@@ -84,6 +85,9 @@ pub(crate) fn bind_elements(known: &mut NameList, elements: &[ElementForm]) -> R
 }
 
 /// Adds the variables that an element binds to those that have a value, or gives the first fault of a variable.
+///
+/// It calls itself as deep as groups are nested.
+#[cycle(binding)]
 fn bind_element(known: &mut NameList, element: &ElementForm) -> Result<(), Refused>
     ensures { ReadsAs (λ _. known.new) result (variable_faults known.old (form_value element.now))
         (known_past known.old (form_value element.now)) }
@@ -91,7 +95,20 @@ fn bind_element(known: &mut NameList, element: &ElementForm) -> Result<(), Refus
     match element {
         ElementForm::Pattern(form) => bind_pattern(known, form),
         ElementForm::Test(expr) => need_all(known, expr),
+        ElementForm::Group(_, inner) => bind_group(known, inner.as_slice()),
     }
+}
+
+/// The first fault of a variable in a group. What its elements bind is known in it alone.
+#[cycle(binding)]
+fn bind_group(known: &mut NameList, inner: &[ElementForm]) -> Result<(), Refused>
+    ensures { ReadsAs (λ _. known.new) result
+        (variables_faults known.old (rules.elements (map form_value inner.now))) known.old }
+{
+    let count = known.len();
+    bind_elements(known, inner)?;
+    known.truncate(count);
+    Ok(())
 }
 
 /// Where a variable of an expression has no value, the fault is CB11.

@@ -43,6 +43,7 @@ fn add_branches(found: &mut NameList, branches: &[Vec<ElementForm>]) -> Result<(
 }
 
 /// Adds the relations of the patterns of elements, those that are not among the names.
+#[cycle(naming)]
 fn add_relations(found: &mut NameList, branch: &[ElementForm]) -> Result<(), NoMemory>
     ensures { OnOk result (found.new
         ≡ with_names found.old (patterns_relations (elements (map form_value branch.now)))) }
@@ -53,7 +54,10 @@ fn add_relations(found: &mut NameList, branch: &[ElementForm]) -> Result<(), NoM
     Ok(())
 }
 
-/// Adds the relation of an element that is a pattern, if it is not among the names.
+/// Adds the relations of the patterns of an element, those that are not among the names.
+///
+/// It calls itself as deep as groups are nested.
+#[cycle(naming)]
 fn add_relation(found: &mut NameList, element: &ElementForm) -> Result<(), NoMemory>
     ensures { OnOk result (found.new
         ≡ with_names found.old (pattern_relations (form_value element.now))) }
@@ -61,6 +65,7 @@ fn add_relation(found: &mut NameList, element: &ElementForm) -> Result<(), NoMem
     match element {
         ElementForm::Pattern(form) => add_name(found, &form.relation),
         ElementForm::Test(_) => Ok(()),
+        ElementForm::Group(_, inner) => add_relations(found, inner.as_slice()),
     }
 }
 

@@ -177,6 +177,7 @@ fn close_branches<T>(
 }
 
 /// The elements with their patterns closed.
+#[cycle(closing)]
 fn close_elements<T>(alloc: Global, elements: Vec<ElementForm>) -> Result<Vec<Ce<T>>, NoMemory>
     ensures { IfOk result (λ es. map element_of es.items ≡ map form_value elements.items) }
 {
@@ -187,7 +188,10 @@ fn close_elements<T>(alloc: Global, elements: Vec<ElementForm>) -> Result<Vec<Ce
     Ok(closed)
 }
 
-/// An element with its pattern closed.
+/// An element with its patterns closed.
+///
+/// It calls itself as deep as groups are nested.
+#[cycle(closing)]
 fn close_element<T>(alloc: Global, element: ElementForm) -> Result<Ce<T>, NoMemory>
     ensures { IfOk result (λ e. element_of e ≡ form_value element) }
 {
@@ -197,6 +201,10 @@ fn close_element<T>(alloc: Global, element: ElementForm) -> Result<Ce<T>, NoMemo
             pattern: Pattern::new(alloc, form.relation, form.parts)?,
         }),
         ElementForm::Test(expr) => Ok(Ce::Test(expr)),
+        ElementForm::Group(positive, inner) => Ok(Ce::Group {
+            positive,
+            inner: close_elements(alloc, inner)?,
+        }),
     }
 }
 

@@ -130,7 +130,10 @@ fn count_ways(element: &Written<'_>) -> usize
     match element {
         Written::All(members) => count_all(members.as_slice()),
         Written::One(members) => count_one(members.as_slice()),
-        Written::Wrong(_) | Written::Pattern(_, _, _) | Written::Test(_) => 1,
+        Written::Wrong(_)
+        | Written::Pattern(_, _, _)
+        | Written::Test(_)
+        | Written::Group(_, _) => 1,
     }
 }
 
@@ -173,9 +176,10 @@ fn follow<'w, 'a>(
     match element {
         Written::All(members) => follow_all(alloc, ways, members.as_slice()),
         Written::One(members) => follow_one(alloc, ways, members.as_slice()),
-        Written::Wrong(_) | Written::Pattern(_, _, _) | Written::Test(_) => {
-            lengthen(alloc, ways, element)
-        }
+        Written::Wrong(_)
+        | Written::Pattern(_, _, _)
+        | Written::Test(_)
+        | Written::Group(_, _) => lengthen(alloc, ways, element),
     }
 }
 

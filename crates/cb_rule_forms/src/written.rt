@@ -4,7 +4,7 @@ ghost use Rattle.cb_expr_forms.specs.Internal.Sizes.{trees_size};
 ghost use Rattle.cb_forms.specs.Members.{members};
 ghost use Rattle.cb_forms.specs.Trees.{tree_of};
 ghost use Rattle.cb_rule_forms.specs.Internal.{next_size, next_seen, writtens, written_seen};
-ghost use Rattle.cb_rule_forms.specs.WrittenElements.{address_of, addressed, gathered, kind_of, listed, members_inside, none_written, plain_form, variable_of, written_in};
+ghost use Rattle.cb_rule_forms.specs.WrittenElements.{address_of, addressed, gathered, kind_of, listed, members_inside, negated, none_written, plain_form, variable_of, written_in};
 ghost use Rattle.cb_rule_forms.specs.WrittenElements as element;
 
 use crate::sections::only_of;
@@ -26,6 +26,8 @@ pub(crate) enum Written<'a> {
     All(Vec<Written<'a>>),
     /// `(or element ..)`
     One(Vec<Written<'a>>),
+    /// `(exists element ..)` where it is positive, else `(not element)`.
+    Group(bool, Vec<Written<'a>>),
 }
 
 /// The kinds of elements that have elements as members.
@@ -35,6 +37,10 @@ pub(crate) enum Kind {
     And,
     /// `or`
     Or,
+    /// `not`
+    Not,
+    /// `exists`
+    Exists,
 }
 
 /// The next forms of a left side.
@@ -155,6 +161,12 @@ fn kind_of(inside: bool, word: &[u8]) -> Option<Kind>
     if word == b"or".as_slice() {
         return Some(Kind::Or);
     }
+    if word == b"not".as_slice() {
+        return Some(Kind::Not);
+    }
+    if word == b"exists".as_slice() {
+        return Some(Kind::Exists);
+    }
     None
 }
 
@@ -164,10 +176,11 @@ fn members_inside(inside: bool, kind: Kind) -> bool
 {
     match kind {
         Kind::And | Kind::Or => inside,
+        Kind::Not | Kind::Exists => true,
     }
 }
 
-/// The element of these members, of which there must be one or more.
+/// The element of these members, of which there must be one or more, and for `not` one.
 fn gather<'a>(kind: Kind, elements: Vec<Written<'a>>) -> Written<'a>
     ensures { written_seen result ≡ gathered kind (writtens (map written_seen elements.entry.items)) }
 {
@@ -177,6 +190,19 @@ fn gather<'a>(kind: Kind, elements: Vec<Written<'a>>) -> Written<'a>
     match kind {
         Kind::And => Written::All(elements),
         Kind::Or => Written::One(elements),
+        Kind::Not => negate(elements),
+        Kind::Exists => Written::Group(true, elements),
+    }
+}
+
+/// What `not` makes of its members, which must be one.
+fn negate<'a>(elements: Vec<Written<'a>>) -> Written<'a>
+    ensures { written_seen result ≡ negated (writtens (map written_seen elements.entry.items)) }
+{
+    if elements.len() == 1 {
+        Written::Group(false, elements)
+    } else {
+        Written::Wrong(Fault::MalformedForm)
     }
 }
 

@@ -1,7 +1,7 @@
-use Rattle.std.proofs.Common.{◌≢◌, ◌∙◌, ap, length, map, rules, sym}
+use Rattle.std.proofs.Common.{◌≢◌, ◌∙◌, ap, length, true, map, rules, sym}
 use Rattle.cb_rule_forms.specs.Internal.{writtens, written_seen}
 use Rattle.cb_rule_forms.specs.WrittenElements.{gathered}
-use Rattle.cb_rule_forms.proofs.WrittenLaws.{all_gathered, one_gathered, seen_all, seen_one}
+use Rattle.cb_rule_forms.proofs.WrittenLaws.{all_gathered, group_gathered, not_gathered, one_gathered, seen_all, seen_group, seen_one}
 use Rattle.cb_rule_forms.proofs.written.gather.Goals as goal
 
 pub returns-in-And : goal.returns-in-And
@@ -13,3 +13,13 @@ pub returns-in-Or : goal.returns-in-Or
 returns-in-Or c =
     let some : length c.args.elements.items ≢ 0 = search rules in
     seen_one c.args.elements ∙ (sym (one_gathered written_seen c.args.elements.items some) ∙ ap (λ k. gathered k (writtens (map written_seen c.args.elements.items))) (sym c.in-Or.is))
+
+pub returns-in-Not : goal.returns-in-Not
+returns-in-Not c =
+    let some : length c.args.elements.items ≢ 0 = search rules in
+    c.negate.ensures ∙ (sym (not_gathered written_seen c.args.elements.items some) ∙ ap (λ k. gathered k (writtens (map written_seen c.args.elements.items))) (sym c.in-Not.is))
+
+pub returns-in-Exists : goal.returns-in-Exists
+returns-in-Exists c =
+    let some : length c.args.elements.items ≢ 0 = search rules in
+    seen_group true c.args.elements ∙ (sym (group_gathered written_seen c.args.elements.items some) ∙ ap (λ k. gathered k (writtens (map written_seen c.args.elements.items))) (sym c.in-Exists.is))

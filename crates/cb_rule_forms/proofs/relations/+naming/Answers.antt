@@ -4,10 +4,10 @@ use Rattle.cb_rule_forms.specs.Internal.{form_value}
 use Rattle.cb_rule_forms.specs.Relations.{pattern_relations, patterns_relations}
 use Rattle.cb_rules.specs.Elements.{elements}
 use Rattle.cb_rule_forms.proofs.NameLaws.{two_parts}
-use Rattle.cb_rule_forms.proofs.relations.add_relations.Goals as goal
+use Rattle.cb_rule_forms.proofs.relations.+naming.Goals as goal
 
-pub loop-element-preserved : goal.loop-element-preserved
-loop-element-preserved c =
+pub add_relations-loop-element-preserved : goal.add_relations-loop-element-preserved
+add_relations-loop-element-preserved t c =
     let all = c.args.branch.now in
     let i = c.loop-element.element-index in
     let item = c.element-item.result in
