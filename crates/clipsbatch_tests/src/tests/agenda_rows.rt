@@ -98,8 +98,8 @@ static AGENDA_ROWS: [Row; 11] = [
             (b"(assert (a))", b"<Fact-1>\n"),
             (b"(defrule r (a) =>)", b"==> Activation 0      r: f-1\n"),
             (
-                b"(defrule r (a) (a) =>)",
-                b"<== Activation 0      r: f-1\n==> Activation 0      r: f-1,f-1\n",
+                b"(defrule r (a) (not (b)) =>)",
+                b"<== Activation 0      r: f-1\n==> Activation 0      r: f-1,*\n",
             ),
         ],
         ..CLEAN
@@ -110,14 +110,11 @@ static AGENDA_ROWS: [Row; 11] = [
         steps: &[
             (b"(watch all)", b""),
             (b"(defrule e =>)", b"==> Activation 0      e: *\n"),
-            (
-                b"(defrule n (test TRUE) =>)",
-                b"==> Activation 0      n: *\n",
-            ),
+            (b"(defrule n (not (a)) =>)", b"==> Activation 0      n: *\n"),
             (b"(deffacts d (a))", b""),
             (
                 b"(reset)",
-                b"==> Activation 0      e: *\n==> Activation 0      n: *\n==> f-1     (a)\n",
+                b"==> Activation 0      e: *\n==> Activation 0      n: *\n==> f-1     (a)\n<== Activation 0      n: *\n",
             ),
         ],
         ..CLEAN

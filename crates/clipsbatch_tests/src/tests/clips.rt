@@ -79,7 +79,7 @@ blue
 (printout werror \"w\" crlf)
 (printout (sym-cat t) \"x\" crlf)
 (member$ (create$ b c) (create$ a b c))
-(defrule none (not (a)) => (printout t \"none\" crlf))
+(defrule nested (not (not (a))) => (printout t \"a\" crlf))
 (defrule all (forall (a ?x) (b ?x)) => (printout t \"all\" crlf))
 ",
         written: b"[CB05] floats are not supported
@@ -522,7 +522,7 @@ pub(super) const CLIPS_COMMANDS: [Example; 8] = [
     Example {
         name: "Commands: 1",
         script: b"(deffacts d (a))
-(defrule r (a) =>)
+(defrule r (a) (not (b)) =>)
 (reset)
 (watch facts)
 (watch activations)
@@ -530,14 +530,15 @@ pub(super) const CLIPS_COMMANDS: [Example; 8] = [
 ",
         written: b"<== f-1     (a)
 ==> f-1     (a)
-==> Activation 0      r: f-1
+==> Activation 0      r: f-1,*
 ",
         outcome: WITHOUT_FAULT,
     },
     Example {
         name: "Commands: 2",
         script: b"(defrule one (b) =>)
-(defrule two (a ?x) (b) =>)
+(defrule two (a ?x) (not (b)) =>)
+(defrule three (a ?x) (b) =>)
 (assert (a 1) (a 2))
 (watch facts)
 (watch activations)
@@ -545,9 +546,11 @@ pub(super) const CLIPS_COMMANDS: [Example; 8] = [
 ",
         written: b"<Fact-2>
 ==> f-3     (b)
+<== Activation 0      two: f-1,*
+<== Activation 0      two: f-2,*
 ==> Activation 0      one: f-3
-==> Activation 0      two: f-1,f-3
-==> Activation 0      two: f-2,f-3
+==> Activation 0      three: f-1,f-3
+==> Activation 0      three: f-2,f-3
 <Fact-3>
 ",
         outcome: WITHOUT_FAULT,
@@ -570,17 +573,17 @@ FIRE    1 r: f-1
     },
     Example {
         name: "Commands: 4",
-        script: b"(defrule low (declare (salience -10)) (a ?x) (test (> ?x 1)) =>)
-(defrule high (declare (salience 10)) (a ?x) =>)
+        script: b"(defrule low (declare (salience -10)) (a ?x) (not (b)) (test (> ?x 1)) =>)
+(defrule high (declare (salience 10)) (exists (a ?)) (a ?x) =>)
 (assert (a 1) (a 2))
 (agenda)
 (list-defrules)
 (agenda MAIN)
 ",
         written: b"<Fact-2>
-10     high: f-2
-10     high: f-1
--10    low: f-2
+10     high: *,f-2
+10     high: *,f-1
+-10    low: f-2,*
 For a total of 3 activations.
 [CB14] not in this profile
 [CB07] wrong arguments

@@ -254,9 +254,9 @@ For a total of 1 fact.
     },
     Example {
         name: "agenda, rules, undefrule and set-strategy: 1",
-        script: b"(defrule all (declare (salience -10)) (a ?x) (test (> ?x 1)) (c) => (println \"all\"))
+        script: b"(defrule all (declare (salience -10)) (a ?x) (test (> ?x 1)) (not (b ?x)) (exists (a ?y)) (c) => (println \"all\"))
 (defrule any (declare (salience 9999)) (or (a 1) (c)) => (println \"any\"))
-(defrule none (test (< 1 2)) => (println \"none\"))
+(defrule no (not (b ?)) => (println \"no\"))
 (assert (a 1) (a 2) (a 3) (c))
 (agenda)
 (set-strategy breadth)
@@ -266,16 +266,16 @@ For a total of 1 fact.
         written: b"<Fact-4>
 9999   any: f-4
 9999   any: f-1
-0      none: *
--10    all: f-3,f-4
--10    all: f-2,f-4
+0      no: *
+-10    all: f-3,*,*,f-4
+-10    all: f-2,*,*,f-4
 For a total of 5 activations.
 depth
 9999   any: f-1
 9999   any: f-4
-0      none: *
--10    all: f-2,f-4
--10    all: f-3,f-4
+0      no: *
+-10    all: f-2,*,*,f-4
+-10    all: f-3,*,*,f-4
 For a total of 5 activations.
 breadth
 ",
@@ -311,7 +311,7 @@ pub(super) const WATCHING: [Example; 4] = [
     Example {
         name: "watch and unwatch: 1",
         script: b"(watch all)
-(defrule mark (a ?x) => (retract 1) (println \"marked \" ?x))
+(defrule mark (a ?x) (not (b ?x)) => (retract 1) (println \"marked \" ?x))
 (defrule start => (println \"start\"))
 (assert (a 1) (a 2))
 (run)
@@ -323,13 +323,13 @@ pub(super) const WATCHING: [Example; 4] = [
 ",
         written: b"==> Activation 0      start: *
 ==> f-1     (a 1)
-==> Activation 0      mark: f-1
+==> Activation 0      mark: f-1,*
 ==> f-2     (a 2)
-==> Activation 0      mark: f-2
+==> Activation 0      mark: f-2,*
 <Fact-2>
-FIRE    1 mark: f-2
+FIRE    1 mark: f-2,*
 <== f-1     (a 1)
-<== Activation 0      mark: f-1
+<== Activation 0      mark: f-1,*
 marked 2
 FIRE    2 start: *
 start
@@ -348,7 +348,7 @@ start
         script: b"(watch facts)
 (watch activations)
 (defrule alone => (println \"alone\"))
-(defrule tested (test TRUE) =>)
+(defrule no-a (not (a)) =>)
 (deffacts d (a) (b))
 (assert (c))
 (reset)
@@ -358,17 +358,17 @@ start
 (rules)
 ",
         written: b"==> Activation 0      alone: *
-==> Activation 0      tested: *
+==> Activation 0      no-a: *
 ==> f-1     (c)
 <Fact-1>
 <== f-1     (c)
 ==> Activation 0      alone: *
-==> Activation 0      tested: *
+==> Activation 0      no-a: *
 ==> f-1     (a)
+<== Activation 0      no-a: *
 ==> f-2     (b)
-0      tested: *
 0      alone: *
-For a total of 2 activations.
+For a total of 1 activation.
 <== f-1     (a)
 <== f-2     (b)
 ",

@@ -115,46 +115,43 @@ pub(super) const HEATING: [Example; 1] = [Example {
   =>
   (assert (finding (cause trapped-air) (percent 40) (because \"it gurgles, or is cold at the top\"))))
 
-(defrule broken-sensor
-  (reading (of room) (value ?celsius&:(> ?celsius 50)))
+(defrule no-sensor
+  (not (reading (of room)))
   =>
-  (assert (finding (cause room-sensor) (percent 30) (because (str-cat \"no room has \" ?celsius \" degrees\")))))
+  (assert (finding (cause room-sensor) (percent 30) (because \"the room has no reading\"))))
 
-; The report waits, by its salience, until there are no more findings to add. The fact `next` keeps the greatest percent
-; seen so far of those that are left. When no finding has a greater one, the finding that has it is reported.
+; The report waits, by its salience, until there are no more findings to add.
 
-(defglobal ?*causes* = 0)
-
-(deffacts report
-  (next 0))
-
-(defrule more-certain
+(defrule heading
   (declare (salience -10))
-  ?n <- (next ?p)
-  (finding (percent ?q&:(> ?q ?p)))
+  (exists (finding))
   =>
-  (retract ?n)
-  (assert (next ?q)))
+  (println \"Possible causes:\"))
 
+(defrule all-well
+  (declare (salience -10))
+  (not (finding))
+  (not (reported ?))
+  =>
+  (println \"Nothing found.\"))
+
+; Each time, the most certain finding that is left.
 (defrule report
   (declare (salience -20))
-  ?n <- (next ?p)
   ?f <- (finding (cause ?cause) (percent ?p) (because ?why))
+  (not (finding (percent ?q&:(> ?q ?p))))
   =>
-  (retract ?n ?f)
-  (assert (next 0))
-  (bind ?*causes* (+ ?*causes* 1))
+  (retract ?f)
+  (assert (reported ?cause))
   (println \"  \" ?p \" % \" ?cause \": \" ?why))
 
 (deffacts visit
   (reading (of flow) (value 62)) (reading (of return) (value 31)) (reading (of decibar) (value 6))
-  (reading (of room) (value 85))
   (seen (sign gurgling)) (seen (sign cold-at-the-top)) (seen (sign humming)) (seen (sign damp-floor)))
 
 (println \"First visit\")
 (reset)
 (run)
-(println \"Possible causes: \" ?*causes*)
 
 ; The facts of the second visit take the place of those of the first.
 (deffacts visit
@@ -166,17 +163,16 @@ pub(super) const HEATING: [Example; 1] = [Example {
 (println \"Second visit\")
 (reset)
 (run)
-(println \"Possible causes: \" ?*causes*)
 ",
     written: b"First visit
+Possible causes:
   95 % low-pressure: the gauge shows 6 decibar
   80 % stuck-pump: the water comes back cold, and the pump hums
   70 % leak: pressure is lost, and the floor is damp
   40 % trapped-air: it gurgles, or is cold at the top
-  30 % room-sensor: no room has 85 degrees
-Possible causes: 5
+  30 % room-sensor: the room has no reading
 Second visit
-Possible causes: 0
+Nothing found.
 ",
     outcome: WITHOUT_FAULT,
 }];
@@ -301,21 +297,14 @@ pub(super) const ROLLOUT: [Example; 1] = [Example {
 
 (deftemplate host \"a machine\"
   (slot name (type SYMBOL) (default ?NONE))
-  (slot memory (type INTEGER) (default 16))
   (multislot open (type INTEGER)))               ; the ports that the firewall lets through
 
 (deftemplate service \"a program that runs on a host\"
   (slot name (type SYMBOL) (default ?NONE))
   (slot on (type SYMBOL) (default ?NONE))
   (slot port (type INTEGER) (default 8080))
-  (slot memory (type INTEGER) (default 4))
   (slot public (type SYMBOL) (default no))
   (multislot needs (type SYMBOL)))               ; names of other services
-
-(deftemplate load \"the services of a host, and what memory they need together\"
-  (slot host (type SYMBOL))
-  (multislot services (type SYMBOL))
-  (slot memory (type INTEGER)))
 
 (deftemplate problem
   (slot of (type SYMBOL))
@@ -323,55 +312,26 @@ pub(super) const ROLLOUT: [Example; 1] = [Example {
 
 (defglobal ?*problems* = 0)
 
-; Counting comes first: its salience is higher than that of the checks. A name is added to a list that hasn't got it.
-
-(deffacts lists
-  (hosts)
-  (services))
-
-(defrule count-host
-  (declare (salience 20))
-  (host (name ?h))
-  ?list <- (hosts $?names&:(not (member$ ?h ?names)))
-  =>
-  (retract ?list)
-  (assert (hosts ?names ?h) (load (host ?h))))
-
-(defrule count-service
-  (declare (salience 20))
-  (service (name ?s))
-  ?list <- (services $?names&:(not (member$ ?s ?names)))
-  =>
-  (retract ?list)
-  (assert (services ?names ?s)))
-
-(defrule add-load
-  (declare (salience 10))
-  (service (name ?s) (on ?h) (memory ?m))
-  ?load <- (load (host ?h) (services $?names&:(not (member$ ?s ?names))) (memory ?sum))
-  =>
-  (retract ?load)
-  (assert (load (host ?h) (services ?names ?s) (memory (+ ?sum ?m)))))
-
 ; What may be wrong. Each of these rules adds a problem, and none prints.
 
 (defrule unknown-host
   (service (name ?s) (on ?h))
-  (hosts $?names&:(not (member$ ?h ?names)))
+  (not (host (name ?h)))
   =>
   (assert (problem (of ?s) (text (str-cat \"runs on \" ?h \", which isn't a host\")))))
 
 (defrule missing-service
   (service (name ?s) (needs $? ?n $?))
-  (services $?names&:(not (member$ ?n ?names)))
+  (not (service (name ?n)))
   =>
   (assert (problem (of ?s) (text (str-cat \"needs \" ?n \", which doesn't run\")))))
 
+; However many others share the port, `exists` holds once.
 (defrule port-taken
   (service (name ?s) (on ?h) (port ?p))
-  (service (name ?other&~?s) (on ?h) (port ?p))
+  (exists (service (name ~?s) (on ?h) (port ?p)))
   =>
-  (assert (problem (of ?s) (text (str-cat \"shares port \" ?p \" of \" ?h \" with \" ?other)))))
+  (assert (problem (of ?s) (text (str-cat \"shares port \" ?p \" of \" ?h)))))
 
 (defrule port-closed
   (service (name ?s) (on ?h) (port ?p) (public yes))
@@ -380,18 +340,16 @@ pub(super) const ROLLOUT: [Example; 1] = [Example {
   =>
   (assert (problem (of ?s) (text (str-cat \"is public, but \" ?h \" lets nothing through to port \" ?p)))))
 
-(defrule memory-short
-  (host (name ?h) (memory ?m))
-  (load (host ?h) (memory ?sum&:(> ?sum ?m)))
-  =>
-  (assert (problem (of ?h) (text (str-cat \"has \" ?m \" GB of memory, and its services need \" ?sum)))))
-
+; Nothing runs on the host. The only host may be idle.
 (defrule idle-host
-  (load (host ?h) (services))
+  (host (name ?h))
+  (exists (host (name ~?h)))
+  (not (service (on ?h)))
   =>
   (assert (problem (of ?h) (text \"has no service\"))))
 
 ; The report comes when all checks are done: its salience is lower than theirs.
+
 (defrule tell
   (declare (salience -10))
   (problem (of ?who) (text ?text))
@@ -399,9 +357,15 @@ pub(super) const ROLLOUT: [Example; 1] = [Example {
   (bind ?*problems* (+ ?*problems* 1))
   (println ?who \": \" ?text))
 
+(defrule sound
+  (declare (salience -20))
+  (not (problem))
+  =>
+  (println \"No problems.\"))
+
 (deffacts cluster
   (host (name north) (open 80 443))
-  (host (name south) (memory 8) (open 443))
+  (host (name south) (open 443))
   (host (name spare))
   (service (name web) (on north) (port 443) (public yes) (needs shop search))
   (service (name shop) (on south) (needs db))
@@ -414,14 +378,13 @@ pub(super) const ROLLOUT: [Example; 1] = [Example {
 (println \"Problems: \" ?*problems*)
 (exit (if (> ?*problems* 0) then 10 else 0))      ; status 10
 ",
-    written: b"mail: is public, but south lets nothing through to port 25
-shop: shares port 8080 of south with metrics
-metrics: shares port 8080 of south with shop
+    written: b"spare: has no service
 web: needs search, which doesn't run
-spare: has no service
+mail: is public, but south lets nothing through to port 25
 db: runs on east, which isn't a host
-south: has 8 GB of memory, and its services need 12
-Problems: 7
+shop: shares port 8080 of south
+metrics: shares port 8080 of south
+Problems: 6
 ",
     outcome: Outcome {
         status: 10,
@@ -506,7 +469,11 @@ pub(super) const WORKSHOP: [Example; 1] = [Example {
   (slot hours (type INTEGER) (default 1))
   (slot deadline (type INTEGER) (default ?NONE))
   (slot from (type INTEGER))                     ; the hour before which it can't start
-  (multislot needs (type SYMBOL)))               ; jobs that it waits for; if there are none, it is ready
+  (slot state (type SYMBOL) (default waiting)))  ; or ready
+
+(deftemplate need \"a job, and another that has to be done before it\"
+  (slot job (type SYMBOL))
+  (slot first (type SYMBOL)))
 
 (deftemplate machine
   (slot name (type SYMBOL) (default ?NONE))
@@ -517,49 +484,37 @@ pub(super) const WORKSHOP: [Example; 1] = [Example {
   (slot end (type INTEGER))
   (slot deadline (type INTEGER)))
 
-; When a job is planned, those that wait for it wait no more, and start when it is done.
-(defrule make-ready
+; Preparing jobs comes before planning one: a job starts after all that it needs, and is ready when all that is planned.
+
+(defrule start-later
   (declare (salience 20))
+  (need (job ?name) (first ?other))
   (planned (job ?other) (end ?end))
-  ?j <- (job (name ?name) (hours ?h) (deadline ?d) (from ?from) (needs $?these ?other $?those))
+  ?j <- (job (name ?name) (hours ?h) (deadline ?d) (from ?from&:(< ?from ?end)) (state ?s))
   =>
   (retract ?j)
-  (assert (job (name ?name) (hours ?h) (deadline ?d) (from (max ?from ?end)) (needs ?these ?those))))
+  (assert (job (name ?name) (hours ?h) (deadline ?d) (from ?end) (state ?s))))
 
-; Two facts keep the nearest deadline and the earliest hour that were seen so far. A better one takes the place.
-
-(deffacts choice
-  (nearest none)
-  (earliest none))
-
-(defrule nearer
+(defrule become-ready
   (declare (salience 10))
-  ?n <- (nearest ?old)
-  (job (needs) (deadline ?d&:(or (eq ?old none) (< ?d ?old))))
+  ?j <- (job (name ?name) (hours ?h) (deadline ?d) (from ?from) (state waiting))
+  (not (and (need (job ?name) (first ?other))
+            (job (name ?other))))
   =>
-  (retract ?n)
-  (assert (nearest ?d)))
+  (retract ?j)
+  (assert (job (name ?name) (hours ?h) (deadline ?d) (from ?from) (state ready))))
 
-(defrule earlier
-  (declare (salience 10))
-  ?e <- (earliest ?old)
-  (machine (free ?free&:(or (eq ?old none) (< ?free ?old))))
-  =>
-  (retract ?e)
-  (assert (earliest ?free)))
-
-; When there is nothing better, a job takes a machine, and the choice begins again.
+; \"The nearest\" is said by `not`: there is no ready job with a nearer deadline, and no machine that is free earlier.
 (defrule plan
-  ?n <- (nearest ?d)
-  ?j <- (job (name ?name) (hours ?h) (deadline ?d) (from ?from) (needs))
-  ?e <- (earliest ?free)
+  ?j <- (job (name ?name) (hours ?h) (deadline ?d) (from ?from) (state ready))
+  (not (job (state ready) (deadline ?nearer&:(< ?nearer ?d))))
   ?m <- (machine (name ?machine) (free ?free))
+  (not (machine (free ?earlier&:(< ?earlier ?free))))
   =>
   (bind ?start (max ?from ?free))
   (bind ?end (+ ?start ?h))
-  (retract ?n ?j ?e ?m)
-  (assert (nearest none) (earliest none)
-          (machine (name ?machine) (free ?end))
+  (retract ?j ?m)
+  (assert (machine (name ?machine) (free ?end))
           (planned (job ?name) (end ?end) (deadline ?d)))
   (println ?start \" to \" ?end \", \" ?machine \": \" ?name))
 
@@ -571,9 +526,9 @@ pub(super) const WORKSHOP: [Example; 1] = [Example {
 ; What is left when no other rule can fire needs itself, in a circle.
 (defrule circle
   (declare (salience -10))
-  (job (name ?name) (needs $? ?other $?))
+  (job (name ?name))
   =>
-  (println ?name \" can't be planned, since it waits for \" ?other))
+  (println ?name \" can't be planned\"))
 
 (deffacts jobs
   (machine (name saw))
@@ -581,8 +536,11 @@ pub(super) const WORKSHOP: [Example; 1] = [Example {
   (job (name frame) (hours 4) (deadline 9))
   (job (name boards) (hours 3) (deadline 4))
   (job (name legs) (hours 2) (deadline 5))
-  (job (name table) (hours 2) (deadline 8) (needs boards legs))
-  (job (name polish) (deadline 5) (needs table)))
+  (job (name table) (hours 2) (deadline 8))
+  (job (name polish) (deadline 5))
+  (need (job table) (first boards))
+  (need (job table) (first legs))
+  (need (job polish) (first table)))
 
 (println \"Monday:\")
 (reset)
@@ -591,9 +549,11 @@ pub(super) const WORKSHOP: [Example; 1] = [Example {
 ; Two jobs that need each other.
 (deffacts jobs
   (machine (name saw) (free 8))
-  (job (name glue) (deadline 12) (needs press))
-  (job (name press) (deadline 12) (needs glue))
-  (job (name sand) (hours 2) (deadline 16)))
+  (job (name glue) (deadline 12))
+  (job (name press) (deadline 12))
+  (job (name sand) (hours 2) (deadline 16))
+  (need (job glue) (first press))
+  (need (job press) (first glue)))
 
 (println \"Tuesday:\")
 (reset)
@@ -604,12 +564,12 @@ pub(super) const WORKSHOP: [Example; 1] = [Example {
 0 to 2, saw: legs
 3 to 5, saw: table
 5 to 6, mill: polish
-5 to 9, saw: frame
   polish is late by 1
+5 to 9, saw: frame
 Tuesday:
 8 to 10, saw: sand
-press can't be planned, since it waits for glue
-glue can't be planned, since it waits for press
+press can't be planned
+glue can't be planned
 ",
     outcome: WITHOUT_FAULT,
 }];

@@ -1,13 +1,99 @@
-//! Rules with branches, and with groups, which are refused.
+//! Rules with groups and with branches.
 use super::rows::*;
 
-static GROUP_ROWS: [Row; 3] = [
+static GROUP_ROWS: [Row; 9] = [
+    // The match comes anew when the fact is gone, and fires again.
+    Row {
+        name: "a fact that is not there",
+        steps: &[
+            (b"(defrule n (not (stop)) => (printout t \"go\" crlf))", b""),
+            (b"(run)", b"go\n"),
+            (b"(run)", b""),
+            (b"(assert (stop))", b"<Fact-1>\n"),
+            (b"(retract 1)", b""),
+            (b"(run)", b"go\n"),
+        ],
+        ..CLEAN
+    },
+    Row {
+        name: "two facts that are not there together",
+        steps: &[
+            (
+                b"(defrule g (not (and (a ?x) (b ?x))) => (printout t \"none\" crlf))",
+                b"",
+            ),
+            (b"(assert (a 1))", b"<Fact-1>\n"),
+            (b"(assert (b 1))", b"<Fact-2>\n"),
+            (b"(run)", b""),
+        ],
+        ..CLEAN
+    },
     Row {
         name: "a rule of two branches",
         steps: &[
             (b"(defrule o (or (a) (b)) => (printout t \"x\" crlf))", b""),
             (b"(assert (a) (b))", b"<Fact-2>\n"),
             (b"(run)", b"x\nx\n"),
+        ],
+        ..CLEAN
+    },
+    Row {
+        name: "activations that a fact takes away",
+        steps: &[
+            (b"(watch activations)", b""),
+            (b"(defrule m (a ?x) (not (b ?x)) =>)", b""),
+            (
+                b"(assert (a 1) (a 2))",
+                b"==> Activation 0      m: f-1,*\n==> Activation 0      m: f-2,*\n<Fact-2>\n",
+            ),
+            (
+                b"(assert (b 1))",
+                b"<== Activation 0      m: f-1,*\n<Fact-3>\n",
+            ),
+        ],
+        ..CLEAN
+    },
+    Row {
+        name: "two facts that have one value",
+        steps: &[
+            (
+                b"(defrule x (exists (a ?n) (b ?n)) => (printout t yes crlf))",
+                b"",
+            ),
+            (b"(assert (a 1) (b 2))", b"<Fact-2>\n"),
+            (b"(run)", b""),
+            (b"(assert (a 2))", b"<Fact-3>\n"),
+            (b"(assert (b 1))", b"<Fact-4>\n"),
+            (b"(run)", b"yes\n"),
+        ],
+        ..CLEAN
+    },
+    Row {
+        name: "a fact that is not there between two others",
+        steps: &[
+            (
+                b"(defrule m (a ?x) (not (b ?x)) (c ?x) => (printout t ?x crlf))",
+                b"",
+            ),
+            (b"(assert (a 1) (a 2) (c 1) (c 2) (b 2))", b"<Fact-5>\n"),
+            (b"(run)", b"1\n"),
+            (b"(retract 5)", b""),
+            (b"(run)", b"2\n"),
+        ],
+        ..CLEAN
+    },
+    Row {
+        name: "a test in a group",
+        steps: &[
+            (
+                b"(defrule g (not (and (n ?x) (test (> ?x 3)))) => (printout t small crlf))",
+                b"",
+            ),
+            (b"(assert (n 2))", b"<Fact-1>\n"),
+            (b"(run)", b"small\n"),
+            (b"(assert (n 9))", b"<Fact-2>\n"),
+            (b"(retract 2)", b""),
+            (b"(run)", b"small\n"),
         ],
         ..CLEAN
     },
@@ -24,16 +110,13 @@ static GROUP_ROWS: [Row; 3] = [
         ..CLEAN
     },
     Row {
-        name: "groups, which are not supported",
-        steps: &[
-            (b"(defrule n (not (a)) =>)", CB14),
-            (b"(defrule n (exists (a)) =>)", CB14),
-        ],
+        name: "a group in a group",
+        steps: &[(b"(defrule n (not (not (a))) =>)", CB14)],
         ..FAULTY
     },
 ];
 
-/// Branches, and groups that are refused.
+/// Groups of patterns and tests, and branches.
 pub(super) fn group_rows() -> &'static [Row] {
     &GROUP_ROWS
 }

@@ -12,7 +12,7 @@ use super::rows::Example;
 use super::rule_orders::{
     AGENDA_ORDERS, DECLARATION_ORDERS, ELEMENT_ORDERS, MATCH_ORDERS, TERM_ORDERS,
 };
-use super::rules::{AGENDA, BRANCHES, RULE_FAULTS, RULES};
+use super::rules::{AGENDA, GROUPS, RULE_FAULTS, RULES};
 use super::tokens::TOKENS;
 use cb_forms::NoMemory;
 use std::alloc::Global;
@@ -111,8 +111,8 @@ fn fires_rules(rt: HostRuntime) -> Result<(), NoMemory> {
 }
 
 #[test]
-fn fires_rules_with_branches(rt: HostRuntime) -> Result<(), NoMemory> {
-    assert_eq!(rt; first_untrue(rt.alloc(), &BRANCHES)?, None);
+fn fires_rules_with_groups(rt: HostRuntime) -> Result<(), NoMemory> {
+    assert_eq!(rt; first_untrue(rt.alloc(), &GROUPS)?, None);
     Ok(())
 }
 

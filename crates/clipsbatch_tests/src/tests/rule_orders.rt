@@ -1,7 +1,22 @@
 //! Points of rules and of the agenda that are easily taken otherwise.
 use super::rows::{Example, WITH_A_FAULT, WITHOUT_FAULT};
 
-pub(super) const ELEMENT_ORDERS: [Example; 6] = [
+pub(super) const ELEMENT_ORDERS: [Example; 7] = [
+    Example {
+        name: "shows an address in a group",
+        script: b"(defrule r (not ?f <- (a)) =>)
+(defrule r (not ?f <- (a) (b)) =>)
+(defrule r (exists ?f <- (a)) =>)
+(defrule r (forall ?f <- (a)) =>)
+(defrule r (forall ?f <- (a) (b)) =>)",
+        written: b"[CB14] not in this profile
+[CB08] malformed form
+[CB14] not in this profile
+[CB14] not in this profile
+[CB14] not in this profile
+",
+        outcome: WITH_A_FAULT,
+    },
     Example {
         name: "shows what may follow an address",
         script: b"(defrule r ?f <- =>)
@@ -10,7 +25,7 @@ pub(super) const ELEMENT_ORDERS: [Example; 6] = [
 (defrule r ?f <- (5) =>)
 (defrule r ?f <- (test TRUE) =>)
 (defrule r ?f <- ?g <- (a) =>)
-(defrule r ?f <- (not (a (x))) =>)",
+(defrule r (not ?f <- (a (x))) =>)",
         written: b"[CB14] not in this profile
 [CB14] not in this profile
 [CB14] not in this profile
@@ -42,7 +57,7 @@ pub(super) const ELEMENT_ORDERS: [Example; 6] = [
         name: "shows the faults of elements from left to right",
         script: b"(defrule r (and (logical (a)) 5) =>)
 (defrule r (or (p ~~x ) 5) =>)
-(defrule r (and (test (bogus)) 5) =>)
+(defrule r (exists (test (bogus)) 5) =>)
 (defrule r (logical (a)) 5 =>)",
         written: b"[CB14] not in this profile
 [CB08] malformed form
@@ -52,12 +67,16 @@ pub(super) const ELEMENT_ORDERS: [Example; 6] = [
         outcome: WITH_A_FAULT,
     },
     Example {
-        name: "shows elements without members",
-        script: b"(defrule r (and) =>)
+        name: "shows the number of elements before their kinds",
+        script: b"(defrule r (not (logical (a)) (b)) =>)
+(defrule r (not) =>)
+(defrule r (exists) =>)
+(defrule r (and) =>)
 (defrule r (or) =>)
-(defrule r (and (or) (logical)) =>)
-(defrule r (or (logical) (and)) =>)",
+(defrule r (forall (logical (a))) =>)",
         written: b"[CB08] malformed form
+[CB08] malformed form
+[CB08] malformed form
 [CB08] malformed form
 [CB08] malformed form
 [CB14] not in this profile
@@ -66,20 +85,12 @@ pub(super) const ELEMENT_ORDERS: [Example; 6] = [
     },
     Example {
         name: "shows elements that are not supported",
-        script: b"(defrule r (not) =>)
-(defrule r (not (a) (b)) =>)
-(defrule r (not ?f <- (a)) =>)
-(defrule r (exists) =>)
-(defrule r (exists (a ~~b)) =>)
-(defrule r (forall (a) (or (b))) =>)
+        script: b"(defrule r (not (or)) =>)
 (defrule r (logical) =>)
 (defrule r (object) =>)
-(defrule r (or (and (not (a))) (b ~~c)) =>)",
+(defrule r (not (and (or))) =>)
+(defrule r (forall (a) (or (b))) =>)",
         written: b"[CB14] not in this profile
-[CB14] not in this profile
-[CB14] not in this profile
-[CB14] not in this profile
-[CB14] not in this profile
 [CB14] not in this profile
 [CB14] not in this profile
 [CB14] not in this profile
@@ -173,7 +184,7 @@ For a total of 1 defrule.
         script: b"(defrule r (a ~?x) (b (x)) =>)
 (defrule r ?x <- (a ?x) ?x <- (b) =>)
 (defrule r (a ?f) ?f <- (b ~?y) =>)
-(defrule r ?f <- (b) (a ?f) =>)
+(defrule r (not (a ?f)) ?f <- (b) =>)
 (defrule r (a ~?y) ?f <- (a) ?f <- (b) =>)
 (defrule r (or (a ?x) (b)) (c ~?x) =>)
 (rules)",
@@ -334,14 +345,16 @@ red
 
 pub(super) const MATCH_ORDERS: [Example; 10] = [
     Example {
-        name: "shows variables of branches in actions",
-        script: b"(defrule b (or (k ?x) (m)) => (println ?x))
+        name: "shows variables of groups and of branches in actions",
+        script: b"(defrule a (exists (k ?x)) => (println ?x))
+(defrule b (or (k ?x) (m)) => (println ?x))
 (defrule c (or (k ?x) (m)) => (println ?x) (bind ?x 9))
 (assert (k 1))
 (run)
 (assert (m))
 (run)",
         written: b"[CB11] unbound variable
+[CB11] unbound variable
 <Fact-1>
 1
 <Fact-2>
@@ -431,13 +444,13 @@ For a total of 5 activations.
     Example {
         name: "shows what a basis lists",
         script: b"(assert (a 1) (b 1))
-(defrule r (test TRUE) (a ?x) (test (> ?x 0)) (b ?) =>)
+(defrule r (test TRUE) (a ?x) (not (z)) (exists (b ?x)) (b ?) =>)
 (defrule s (test TRUE) =>)
 (defrule u (test FALSE) =>)
 (agenda)",
         written: b"<Fact-2>
 0      s: *
-0      r: f-1,f-2
+0      r: f-1,*,*,f-2
 For a total of 2 activations.
 ",
         outcome: WITHOUT_FAULT,
@@ -613,7 +626,7 @@ For a total of 4 activations.
     },
     Example {
         name: "shows what keeps a relation in use",
-        script: b"(defrule r (k) => (if TRUE then (bind ?x (assert (j (assert (i)))))))
+        script: b"(defrule r (not (k)) => (if TRUE then (bind ?x (assert (j (assert (i)))))))
 (deftemplate k)
 (deftemplate j)
 (deftemplate i)
@@ -649,20 +662,18 @@ For a total of 4 activations.
         script: b"(watch facts)
 (watch activations)
 (defrule r (a) =>)
-(defrule n (a) (a ?) =>)
+(defrule n (not (a ?)) (a) =>)
 (assert (a) (a 1) (a 2))
 (retract *)",
         written: b"==> f-1     (a)
 ==> Activation 0      r: f-1
+==> Activation 0      n: *,f-1
 ==> f-2     (a 1)
-==> Activation 0      n: f-1,f-2
+<== Activation 0      n: *,f-1
 ==> f-3     (a 2)
-==> Activation 0      n: f-1,f-3
 <Fact-3>
 <== f-1     (a)
 <== Activation 0      r: f-1
-<== Activation 0      n: f-1,f-2
-<== Activation 0      n: f-1,f-3
 <== f-2     (a 1)
 <== f-3     (a 2)
 ",

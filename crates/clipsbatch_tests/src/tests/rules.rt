@@ -88,7 +88,48 @@ begun
     },
 ];
 
-pub(super) const BRANCHES: [Example; 4] = [
+pub(super) const GROUPS: [Example; 6] = [
+    Example {
+        name: "Groups: 1",
+        script: b"(defrule free (room ?r) (not (guest ? ?r)) => (println ?r \" is free\"))
+(defrule taken (room ?r) (exists (guest ? ?r)) => (println ?r \" is taken\"))
+(defrule calm (not (and (guest ?who ?) (late ?who))) => (println \"no guest is late\"))
+(assert (room 1) (room 2) (guest ann 2) (guest bob 2))
+(run)
+(retract 3 4)
+(run)
+(assert (late cid) (guest cid 1))
+(retract 5)
+(run)
+",
+        written: b"<Fact-4>
+2 is taken
+1 is free
+no guest is late
+2 is free
+<Fact-6>
+no guest is late
+1 is taken
+",
+        outcome: WITHOUT_FAULT,
+    },
+    Example {
+        name: "Groups: 2",
+        script: b"(defrule first (a ?x) (not (b ?x)) => (println \"first \" ?x))
+(defrule second (not (b ?x)) (a ?x) => (println \"second \" ?x))
+(assert (b 1) (a 1) (a 2))
+(run)
+(retract 1)
+(run)
+",
+        written: b"<Fact-3>
+first 2
+second 2
+second 1
+first 1
+",
+        outcome: WITHOUT_FAULT,
+    },
     Example {
         name: "Branches: 1",
         script: b"(set-strategy breadth)
@@ -151,7 +192,7 @@ two
     },
     Example {
         name: "The relations of a rule: 1",
-        script: b"(defrule move (or (room ?r) (full ?r)) => (if TRUE then (assert (guest ?r))))
+        script: b"(defrule move (room ?r) (not (full ?r)) => (if TRUE then (assert (guest ?r))))
 (deftemplate room (slot number))
 (deftemplate full)
 (deftemplate guest (slot room))
@@ -208,21 +249,21 @@ pub(super) const RULE_FAULTS: [Example; 2] = [
     Example {
         name: "Faults of a rule: 2",
         script: b"(defrule r (logical (a)) (test) =>)
-(defrule r (not) =>)
-(defrule r (exists (a ~~b)) =>)
+(defrule r (not (a) (b)) =>)
+(defrule r (not (exists)) =>)
+(defrule r (exists) =>)
+(defrule r (exists (a) (or (b ~~c))) =>)
+(defrule r (not ?f <- (a)) =>)
 (defrule r (forall (a) (b)) =>)
-(defrule r (and) =>)
-(defrule r (or (a ~~b) (not (a))) =>)
-(defrule r (or (not (a)) (a ~~b)) =>)
 (defrule r (or (a ?x) (b)) (c ~?x) =>)
-(defrule r (or (a ?x) (b)) => (println ?x))
+(defrule r (exists (a ?x)) => (println ?x))
 ",
         written: b"[CB14] not in this profile
-[CB14] not in this profile
-[CB14] not in this profile
+[CB08] malformed form
 [CB14] not in this profile
 [CB08] malformed form
-[CB08] malformed form
+[CB14] not in this profile
+[CB14] not in this profile
 [CB14] not in this profile
 [CB11] unbound variable
 [CB11] unbound variable
@@ -313,23 +354,23 @@ For a total of 4 activations.
     Example {
         name: "The agenda: 4",
         script: b"(defrule once (a ?x) => (println ?x))
+(defrule none (not (a ?)) => (println \"none\"))
 (assert (a 1))
 (run)
 (assert (a 1))
 (run)
 (retract 1)
-(assert (a 1))
 (run)
-(assert (a 2))
-(retract 3)
+(assert (a 1))
+(retract 2)
 (run)
 ",
         written: b"<Fact-1>
 1
 <Fact-1>
+none
 <Fact-2>
-1
-<Fact-3>
+none
 ",
         outcome: WITHOUT_FAULT,
     },
