@@ -37,7 +37,7 @@ FILES = {
     "rules.rt": (
         LANGUAGE,
         "rules and the agenda",
-        {"RULES": "Rules", "BRANCHES": "Branches", "RULE_FAULTS": "Faults of a rule", "AGENDA": "The agenda"},
+        {"RULES": "Rules", "GROUPS": "Groups", "RULE_FAULTS": "Faults of a rule", "AGENDA": "The agenda"},
     ),
     "commands.rt": (
         LANGUAGE,

@@ -52,7 +52,7 @@
   (assert (finding (cause room-sensor) (percent 30) (because (str-cat "no room has " ?celsius " degrees")))))
 
 ; The report waits, by its salience, until there are no more findings to add. The fact `next` keeps the greatest percent
-; seen so far of those that are left. When no finding has a greater one, the finding that has it is reported.
+; seen so far of those that are left. When no finding has a greater one, those with this percent are reported.
 
 (defglobal ?*causes* = 0)
 
