@@ -46,46 +46,43 @@
   =>
   (assert (finding (cause trapped-air) (percent 40) (because "it gurgles, or is cold at the top"))))
 
-(defrule broken-sensor
-  (reading (of room) (value ?celsius&:(> ?celsius 50)))
+(defrule no-sensor
+  (not (reading (of room)))
   =>
-  (assert (finding (cause room-sensor) (percent 30) (because (str-cat "no room has " ?celsius " degrees")))))
+  (assert (finding (cause room-sensor) (percent 30) (because "the room has no reading"))))
 
-; The report waits, by its salience, until there are no more findings to add. The fact `next` keeps the greatest percent
-; seen so far of those that are left. When no finding has a greater one, those with this percent are reported.
+; The report waits, by its salience, until there are no more findings to add.
 
-(defglobal ?*causes* = 0)
-
-(deffacts report
-  (next 0))
-
-(defrule more-certain
+(defrule heading
   (declare (salience -10))
-  ?n <- (next ?p)
-  (finding (percent ?q&:(> ?q ?p)))
+  (exists (finding))
   =>
-  (retract ?n)
-  (assert (next ?q)))
+  (println "Possible causes:"))
 
+(defrule all-well
+  (declare (salience -10))
+  (not (finding))
+  (not (reported ?))
+  =>
+  (println "Nothing found."))
+
+; Each time, the most certain finding that is left.
 (defrule report
   (declare (salience -20))
-  ?n <- (next ?p)
   ?f <- (finding (cause ?cause) (percent ?p) (because ?why))
+  (not (finding (percent ?q&:(> ?q ?p))))
   =>
-  (retract ?n ?f)
-  (assert (next 0))
-  (bind ?*causes* (+ ?*causes* 1))
+  (retract ?f)
+  (assert (reported ?cause))
   (println "  " ?p " % " ?cause ": " ?why))
 
 (deffacts visit
   (reading (of flow) (value 62)) (reading (of return) (value 31)) (reading (of decibar) (value 6))
-  (reading (of room) (value 85))
   (seen (sign gurgling)) (seen (sign cold-at-the-top)) (seen (sign humming)) (seen (sign damp-floor)))
 
 (println "First visit")
 (reset)
 (run)
-(println "Possible causes: " ?*causes*)
 
 ; The facts of the second visit take the place of those of the first.
 (deffacts visit
@@ -97,4 +94,3 @@
 (println "Second visit")
 (reset)
 (run)
-(println "Possible causes: " ?*causes*)

@@ -6,7 +6,11 @@
   (slot hours (type INTEGER) (default 1))
   (slot deadline (type INTEGER) (default ?NONE))
   (slot from (type INTEGER))                     ; the hour before which it can't start
-  (multislot needs (type SYMBOL)))               ; jobs that it waits for; if there are none, it is ready
+  (slot state (type SYMBOL) (default waiting)))  ; or ready
+
+(deftemplate need "a job, and another that has to be done before it"
+  (slot job (type SYMBOL))
+  (slot first (type SYMBOL)))
 
 (deftemplate machine
   (slot name (type SYMBOL) (default ?NONE))
@@ -17,49 +21,37 @@
   (slot end (type INTEGER))
   (slot deadline (type INTEGER)))
 
-; When a job is planned, those that wait for it wait no more, and start when it is done.
-(defrule make-ready
+; Preparing jobs comes before planning one: a job starts after all that it needs, and is ready when all that is planned.
+
+(defrule start-later
   (declare (salience 20))
+  (need (job ?name) (first ?other))
   (planned (job ?other) (end ?end))
-  ?j <- (job (name ?name) (hours ?h) (deadline ?d) (from ?from) (needs $?these ?other $?those))
+  ?j <- (job (name ?name) (hours ?h) (deadline ?d) (from ?from&:(< ?from ?end)) (state ?s))
   =>
   (retract ?j)
-  (assert (job (name ?name) (hours ?h) (deadline ?d) (from (max ?from ?end)) (needs ?these ?those))))
+  (assert (job (name ?name) (hours ?h) (deadline ?d) (from ?end) (state ?s))))
 
-; Two facts keep the nearest deadline and the earliest hour that were seen so far. A better one takes the place.
-
-(deffacts choice
-  (nearest none)
-  (earliest none))
-
-(defrule nearer
+(defrule become-ready
   (declare (salience 10))
-  ?n <- (nearest ?old)
-  (job (needs) (deadline ?d&:(or (eq ?old none) (< ?d ?old))))
+  ?j <- (job (name ?name) (hours ?h) (deadline ?d) (from ?from) (state waiting))
+  (not (and (need (job ?name) (first ?other))
+            (job (name ?other))))
   =>
-  (retract ?n)
-  (assert (nearest ?d)))
+  (retract ?j)
+  (assert (job (name ?name) (hours ?h) (deadline ?d) (from ?from) (state ready))))
 
-(defrule earlier
-  (declare (salience 10))
-  ?e <- (earliest ?old)
-  (machine (free ?free&:(or (eq ?old none) (< ?free ?old))))
-  =>
-  (retract ?e)
-  (assert (earliest ?free)))
-
-; When there is nothing better, a job takes a machine, and the choice begins again.
+; "The nearest" is said by `not`: there is no ready job with a nearer deadline, and no machine that is free earlier.
 (defrule plan
-  ?n <- (nearest ?d)
-  ?j <- (job (name ?name) (hours ?h) (deadline ?d) (from ?from) (needs))
-  ?e <- (earliest ?free)
+  ?j <- (job (name ?name) (hours ?h) (deadline ?d) (from ?from) (state ready))
+  (not (job (state ready) (deadline ?nearer&:(< ?nearer ?d))))
   ?m <- (machine (name ?machine) (free ?free))
+  (not (machine (free ?earlier&:(< ?earlier ?free))))
   =>
   (bind ?start (max ?from ?free))
   (bind ?end (+ ?start ?h))
-  (retract ?n ?j ?e ?m)
-  (assert (nearest none) (earliest none)
-          (machine (name ?machine) (free ?end))
+  (retract ?j ?m)
+  (assert (machine (name ?machine) (free ?end))
           (planned (job ?name) (end ?end) (deadline ?d)))
   (println ?start " to " ?end ", " ?machine ": " ?name))
 
@@ -71,9 +63,9 @@
 ; What is left when no other rule can fire needs itself, in a circle.
 (defrule circle
   (declare (salience -10))
-  (job (name ?name) (needs $? ?other $?))
+  (job (name ?name))
   =>
-  (println ?name " can't be planned, since it waits for " ?other))
+  (println ?name " can't be planned"))
 
 (deffacts jobs
   (machine (name saw))
@@ -81,8 +73,11 @@
   (job (name frame) (hours 4) (deadline 9))
   (job (name boards) (hours 3) (deadline 4))
   (job (name legs) (hours 2) (deadline 5))
-  (job (name table) (hours 2) (deadline 8) (needs boards legs))
-  (job (name polish) (deadline 5) (needs table)))
+  (job (name table) (hours 2) (deadline 8))
+  (job (name polish) (deadline 5))
+  (need (job table) (first boards))
+  (need (job table) (first legs))
+  (need (job polish) (first table)))
 
 (println "Monday:")
 (reset)
@@ -91,9 +86,11 @@
 ; Two jobs that need each other.
 (deffacts jobs
   (machine (name saw) (free 8))
-  (job (name glue) (deadline 12) (needs press))
-  (job (name press) (deadline 12) (needs glue))
-  (job (name sand) (hours 2) (deadline 16)))
+  (job (name glue) (deadline 12))
+  (job (name press) (deadline 12))
+  (job (name sand) (hours 2) (deadline 16))
+  (need (job glue) (first press))
+  (need (job press) (first glue)))
 
 (println "Tuesday:")
 (reset)
