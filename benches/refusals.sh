@@ -91,6 +91,10 @@ rule_scripts() {
 (deftemplate part (slot name) (multislot sizes))(defrule a "text" (declare (salience (* 2 5))) ?f <- (part (sizes $? ?s&:(> ?s 2) $?) (name ?n&~red|blue)) (q ~?f ?n) => (retract ?f) (println ?n))(watch all)(assert (q 1 bolt))(assert (part (name bolt) (sizes 1 8 9)))(run)(facts)
 (defrule a (p ?x&red|"blue"|=(sym-cat g ?x)|:(eq ?x 7) ~?x&:(neq ?x (create$ 1 ?x))) => (println ?x))(assert (p red 1) (p "blue" red) (p 7 7))(run)(defrule a (p ?x) =>)(rules)(undefrule *)
 (defrule count ?n <- (n ?x&:(< ?x 20)) => (retract ?n) (assert (n (+ ?x 1))))(deffacts start (n 0))(reset)(run 5)(agenda)(set-strategy breadth)(run)(facts)(clear)(rules)
+(defrule x (exists (a ?n) (b ?n)) => (printout t yes crlf))(assert (a 1) (b 2))(run)(assert (a 2))(assert (b 1))(run)(defrule n (not (stop)) => (printout t "go" crlf))(run)(run)(assert (stop))(retract 5)(run)
+(watch activations)(defrule m (a ?x) (not (b ?x)) (c ?x) => (printout t ?x crlf))(assert (a 1) (a 2) (c 1) (c 2) (b 2))(run)(retract 5)(run)(defrule g (not (and (n ?x) (test (> ?x 3)))) => (printout t small crlf))(assert (n 2))(run)(assert (n 9))(retract 6)(run)
+(defrule o (or (p ?x) (and (q ?x) (not (r ?x)))) (exists (s) (t)) => (printout t ?x crlf))(assert (p 1) (q 2) (s) (t))(agenda)(run)(defrule n (not (not (a))) =>)(defrule n (exists (a ?x)) => (println ?x))(deftemplate s)
+(watch all)(defrule e =>)(defrule n (not (a)) =>)(deffacts d (a))(reset)(rules)(undefrule e)(undefrule e)(undefrule *)(unwatch all)(watch x)(exit 256)(exit)
 (defrule a (p) => (bind ?y (+ 1 2)) (if (> ?y 2) then (assert (q ?y "z") (r)) else (while FALSE)) (halt))(defrule b (q ?y $?) => (div ?y 0))(watch rules)(assert (p))(run)(run)(exit 3)
 END
     # Many ways.

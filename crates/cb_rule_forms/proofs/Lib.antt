@@ -1,4 +1,5 @@
 pub mod Arrows
+pub mod ChoiceLaws
 pub mod CountLaws
 mod Examples
 pub mod KnownLaws

@@ -1,4 +1,5 @@
 pub mod Branches
+pub mod Choices
 pub mod Declarations
 pub mod Elements
 pub mod Internal

@@ -192,3 +192,42 @@ const RULE_FAULTS: [Row; 1] = [
 fn tells_the_first_fault_of_a_rule(rt: HostRuntime) {
     assert_eq!(rt; first_wrong(rt.alloc(), &RULE_FAULTS), None);
 }
+
+const GROUPS: [Row; 2] = [
+    // The first fault of a group, and what is bound in it outside.
+    Row {
+        steps: &[
+            (b"(defrule r (not) =>)", CB08),
+            (b"(defrule r (not (a) (b)) =>)", CB08),
+            (b"(defrule r (exists) =>)", CB08),
+            (b"(defrule r (not ?f <- (a)) =>)", CB14),
+            (b"(defrule r (not (or (a))) =>)", CB14),
+            (b"(defrule r (exists (not (a))) =>)", CB14),
+            (b"(defrule r (forall (a) (b)) =>)", CB14),
+            (b"(defrule r ?f <- (exists (a)) =>)", CB14),
+            (b"(defrule r (exists (a (b))) =>)", CB09),
+            (b"(defrule r (exists (a ?x)) (b ~?x) =>)", CB11),
+            (b"(defrule r (exists (a ?x)) => (println ?x))", CB11),
+        ],
+        status: FAULTY,
+    },
+    // A `not` opens again when the last fact behind it goes; its relation is in use.
+    Row {
+        steps: &[
+            (b"(defrule n (a ?x) (not (b ?x)) => (println ?x))", b""),
+            (b"(assert (b 1) (a 1) (a 2))", b"<Fact-3>\n"),
+            (b"(run)", b"2\n"),
+            (b"(retract 1)", b""),
+            (b"(run)", b"1\n"),
+            (b"(deftemplate b (slot v))", CB23),
+            (b"(undefrule n)", b""),
+            (b"(deftemplate b (slot v))", b""),
+        ],
+        status: FAULTY,
+    },
+];
+
+#[test]
+fn reads_groups(rt: HostRuntime) {
+    assert_eq!(rt; first_wrong(rt.alloc(), &GROUPS), None);
+}
