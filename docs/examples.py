@@ -50,8 +50,8 @@ FILES = {
         {"CLIPS_TEXT": "Input and output", "CLIPS_FACTS": "Facts and templates", "CLIPS_RULES": "Rules", "CLIPS_COMMANDS": "Commands"},
     ),
 }
-# The tables of patterns.
-PATTERNS = ("CONSTANTS", "PATTERN_VARIABLES", "CONNECTIVES", "CHECKS", "WAYS", "SLOTS")
+# The files of the tables of patterns, with their lists.
+PATTERNS = {"patterns.rt": ("CONSTANTS", "PATTERN_VARIABLES", "CONNECTIVES"), "pattern_ways.rt": ("CHECKS", "WAYS", "SLOTS")}
 
 
 def sections(page):
@@ -206,7 +206,8 @@ def pattern_script(pattern, fitting, others):
 
 def pattern_lists():
     """The scripts of the tables of patterns, a list for each table. A row without a pattern has another fact for the last."""
-    for name, (_, body) in zip(PATTERNS, tables("Patterns")[1:], strict=True):
+    names = [name for chosen in PATTERNS.values() for name in chosen]
+    for name, (_, body) in zip(names, tables("Patterns")[1:], strict=True):
         patterns = []
         for pattern, fact, ways, others in (map(code, row) for row in body):
             if pattern:
@@ -269,7 +270,9 @@ def modules():
         found = lists(page)
         yield name, module(f"`{page}` on {subject}", {first: found[first] for first in firsts})
     yield "tokens.rt", module(f"the tables of `{LANGUAGE}` on tokens, words, strings and items", {"TOKENS": list(token_scripts())})
-    yield "patterns.rt", module(f"the tables of `{LANGUAGE}` on patterns", dict(pattern_lists()))
+    patterns = dict(pattern_lists())
+    for name, chosen in PATTERNS.items():
+        yield name, module(f"the tables of `{LANGUAGE}` on patterns", {each: patterns[each] for each in chosen})
     first = [example for _, *example in scripts("README.md")]
     yield "first_scripts.rt", module("`README.md` and of the man page", {"FIRST_SCRIPTS": [*first, *piped_scripts()]})
     yield "examples.rt", module("`examples/`", dict(files()))

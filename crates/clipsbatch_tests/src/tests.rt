@@ -12,6 +12,7 @@ mod group_rows;
 mod one_run;
 mod orders;
 mod page_runs;
+mod pattern_ways;
 mod patterns;
 mod pieces;
 mod refused_runs;

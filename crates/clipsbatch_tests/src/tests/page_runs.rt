@@ -7,7 +7,8 @@ use super::first_scripts::FIRST_SCRIPTS;
 use super::functions::{EXPRESSIONS, VARIABLES};
 use super::one_run::{Want, goes_in_blocks};
 use super::orders::ORDERS;
-use super::patterns::{CHECKS, CONNECTIVES, CONSTANTS, PATTERN_VARIABLES, SLOTS, WAYS};
+use super::pattern_ways::{CHECKS, SLOTS, WAYS};
+use super::patterns::{CONNECTIVES, CONSTANTS, PATTERN_VARIABLES};
 use super::rows::Example;
 use super::rule_orders::{
     AGENDA_ORDERS, DECLARATION_ORDERS, ELEMENT_ORDERS, MATCH_ORDERS, TERM_ORDERS,
