@@ -6,6 +6,7 @@ mod Faulty
 mod Heads
 mod Ifs
 mod Known
+mod PlaceLaws
 mod PlanLaws
 mod RightLaws
 mod SideLaws
