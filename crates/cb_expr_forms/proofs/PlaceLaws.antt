@@ -45,16 +45,6 @@ notes_new old new name copy place same absent u =
     λ q. u.0 q ∙ ap (λ t. cond t (Some place) (place_at old q)) (sym (texts_ties copy q) ∙ ap (λ n. bytes_eq n q) same)
     ∙ put (bytes_eq name q) (place_at old q) place (λ e. ap (place_at old) (sym ((bytes_decides name q).0 e)) ∙ none (place_at old name) absent)
 
-stays : (t : Bool) (o : Option ℕ) (place : ℕ) → (t ≡ true → is_some o ≡ true) → o ≡ option_or o (if_is t place)
-stays t (Some i) place e = refl
-stays false None place e = refl
-stays true None place e = let never : false ≡ true = e refl in cc
-
--- a name that has a place keeps it
-pub notes_known : (firsts : BTreeMap (List ℕ) ℕ) (name : List ℕ) (place : ℕ) → is_some (place_at firsts name) ≡ true → NotesPlace firsts firsts name place
-notes_known firsts name place known =
-    λ q. stays (bytes_eq name q) (place_at firsts q) place (λ e. ap (λ n. is_some (place_at firsts n)) (sym ((bytes_decides name q).0 e)) ∙ known)
-
 -- the places of names, and the place of one more
 pub has_places-noted : (old new : BTreeMap (List ℕ) ℕ) (names : List (List ℕ)) (name : List ℕ) → HasPlaces old names → NotesPlace old new name (length names)
     → HasPlaces new (names ++ name ∷ [])
