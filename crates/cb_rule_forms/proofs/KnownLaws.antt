@@ -3,7 +3,7 @@ use Rattle.std.proofs.Common.{◌≡◌, ◌∙◌, ◌++◌, ℕ, Bool, true, f
 use Rattle.std.proofs.Math.Seq.{take-append_seam}
 use Rattle.std.proofs.lemmas.List.{append-nil}
 use Rattle.cb_expr_forms.specs.Scopes.{is_known}
-use Rattle.cb_rule_forms.specs.Mentions.{Mention, address, place, needed, after_mention, known_after, known_in, known_past, pattern_mentions, with_name}
+use Rattle.cb_rule_forms.specs.Mentions.{Mention, address, place, needed, after_mention, known_after, known_in, known_past, pattern_mentions}
 use Rattle.cb_rules.specs.Elements.{Element, pattern, test, group, Elements, no_elements, element}
 
 -- the second begins with the first

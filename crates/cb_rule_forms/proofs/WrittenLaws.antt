@@ -3,6 +3,7 @@ use Rattle.std.proofs.Common.{◌≡◌, ◌≢◌, ◌<◌, ◌+◌, ◌∙◌,
 use Rattle.cb_expr_forms.specs.Internal.Sizes.{tree_size, trees_size}
 use Rattle.cb_forms.specs.Members.{call_of, symbol_of}
 use Rattle.cb_forms.specs.Trees.{Tree, atom, branch, Trees, no_trees, tree}
+use Rattle.cb_forms.specs.declared.fault.Fault.{Fault}
 use Rattle.cb_forms.specs.declared.fault.Fault.TheVariants.{MalformedForm}
 use Rattle.cb_rule_forms.specs.Internal.{before, writtens, written_seen, written_step}
 use Rattle.cb_rule_forms.specs.WrittenElements.{Written, wrong, all_of, one_of, written_group, Writtens, written, gathered, listed, negated, written_alone, written_in}
@@ -59,6 +60,10 @@ seen_all ws = ap written_seen (sym (is.rolls-All ws)) ∙ fold-roll-Written Writ
 
 pub seen_one : (ws : Vec declared.Written Global) → written_seen (views.One ws) ≡ one_of (writtens (map written_seen ws.items))
 seen_one ws = ap written_seen (sym (is.rolls-One ws)) ∙ fold-roll-Written Written written_step (program.One ws)
+
+pub seen_wrong : (f : Fault) → written_seen (is.Wrong f) ≡ wrong f
+unfolding declared.roll-Written denote.Hole.Carrier.roll
+seen_wrong f = fold-roll-Written Written written_step (program.Wrong f)
 
 pub seen_group : (positive : Bool) (ws : Vec declared.Written Global) → written_seen (views.Group positive ws) ≡ written_group positive (writtens (map written_seen ws.items))
 seen_group positive ws = ap written_seen (sym (is.rolls-Group positive ws)) ∙ fold-roll-Written Written written_step (program.Group positive ws)

@@ -44,8 +44,8 @@ pub(crate) struct PatternForm {
 pub(crate) fn read_each(
     names: &mut Names,
     scope: &Scope<'_>,
-    elements: &mut Vec<ElementForm>,
     each: &[Written<'_>],
+    elements: &mut Vec<ElementForm>,
 ) -> Result<(), Refused>
     ensures { ReadsAs (λ _. map form_value elements.new.items) result
         (elements_faults scope.now (writtens (map written_seen each.now)))
@@ -53,7 +53,7 @@ pub(crate) fn read_each(
         ++ each_written scope.now.templates (writtens (map written_seen each.now))) }
 {
     for written in each {
-        read_written(names, scope, elements, written)?;
+        read_written(names, scope, written, elements)?;
     }
     Ok(())
 }
@@ -65,8 +65,8 @@ pub(crate) fn read_each(
 pub(crate) fn read_written(
     names: &mut Names,
     scope: &Scope<'_>,
-    elements: &mut Vec<ElementForm>,
     written: &Written<'_>,
+    elements: &mut Vec<ElementForm>,
 ) -> Result<(), Refused>
     ensures { ReadsAs (λ _. map form_value elements.new.items) result
         (element_faults scope.now (written_seen written.now))
@@ -84,29 +84,14 @@ pub(crate) fn read_written(
             Ok(elements.push(ElementForm::Test(expr))?)
         }
         Written::All(members) | Written::One(members) => {
-            read_each(names, scope, elements, members.as_slice())
+            read_each(names, scope, members.as_slice(), elements)
         }
         Written::Group(positive, members) => {
-            let inner = read_group(names, scope, members.as_slice())?;
+            let mut inner = Vec::new(names.alloc());
+            read_each(names, scope, members.as_slice(), &mut inner)?;
             Ok(elements.push(ElementForm::Group(*positive, inner))?)
         }
     }
-}
-
-/// The elements of a group, or the first fault of its members.
-#[cycle(reading)]
-fn read_group(
-    names: &mut Names,
-    scope: &Scope<'_>,
-    members: &[Written<'_>],
-) -> Result<Vec<ElementForm>, Refused>
-    ensures { ReadsAs (λ es. map form_value es.items) result
-        (elements_faults scope.now (writtens (map written_seen members.now)))
-        (each_written scope.now.templates (writtens (map written_seen members.now))) }
-{
-    let mut inner = Vec::new(names.alloc());
-    read_each(names, scope, &mut inner, members)?;
-    Ok(inner)
 }
 
 /// The pattern of this relation with what follows it, or its first fault.
@@ -151,7 +136,7 @@ pub(crate) fn read_way(
 {
     let mut elements = Vec::new(names.alloc());
     for written in way {
-        read_written(names, scope, &mut elements, written)?;
+        read_written(names, scope, written, &mut elements)?;
     }
     Ok(elements)
 }

@@ -48,7 +48,7 @@ fn check_elements(
         (elements_faults scope.now (writtens (map written_seen elements.now))) tt }
 {
     let mut read = Vec::new(names.alloc());
-    read_each(names, scope, &mut read, elements)
+    read_each(names, scope, elements, &mut read)
 }
 
 /// The elements of each way, or the first fault of those that stand in it.
@@ -130,10 +130,8 @@ fn count_ways(element: &Written<'_>) -> usize
     match element {
         Written::All(members) => count_all(members.as_slice()),
         Written::One(members) => count_one(members.as_slice()),
-        Written::Wrong(_)
-        | Written::Pattern(_, _, _)
-        | Written::Test(_)
-        | Written::Group(_, _) => 1,
+        Written::Wrong(_) | Written::Pattern(_, _, _) | Written::Test(_) | Written::Group(_, _) =>
+            1,
     }
 }
 
@@ -176,10 +174,8 @@ fn follow<'w, 'a>(
     match element {
         Written::All(members) => follow_all(alloc, ways, members.as_slice()),
         Written::One(members) => follow_one(alloc, ways, members.as_slice()),
-        Written::Wrong(_)
-        | Written::Pattern(_, _, _)
-        | Written::Test(_)
-        | Written::Group(_, _) => lengthen(alloc, ways, element),
+        Written::Wrong(_) | Written::Pattern(_, _, _) | Written::Test(_) | Written::Group(_, _) =>
+            lengthen(alloc, ways, element),
     }
 }
 

@@ -1,4 +1,4 @@
-use Rattle.std.proofs.Common.{◌≡◌, [], drop, map}
+use Rattle.std.proofs.Common.{◌≡◌, [], drop}
 use Rattle.std.specs.List.{filter, flat_map, list_all}
 use Rattle.cb_expr_forms.specs.Scopes.{is_known}
 use Rattle.cb_rule_forms.specs.Internal.{branches_read}
