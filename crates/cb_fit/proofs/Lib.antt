@@ -16,6 +16,7 @@ mod Places
 mod Related
 mod Rows
 mod Segments
+mod ShapeTested
 mod Splits
 mod Standing
 mod Takes

@@ -1,11 +1,12 @@
 -- What a pattern asks by its constants and lengths alone.
-use Rattle.std.specs.Prelude.{ℕ, List, None, filter, map}
+use Rattle.std.specs.Prelude.{ℕ, Bool, true, false, List, [], ◌∷◌, None, filter, map}
 use Rattle.cb_constraints.specs.Constraints.{Check, Demand, nothing, each, either, Constraint}
 use Rattle.cb_constraints.specs.Holding.{is_constant}
 use Rattle.cb_constraints.specs.PatternValues.{Parts, fields, slots, PatternValue, SlotValue}
 use Rattle.cb_exprs.specs.Bindings.{no_bindings}
 use Rattle.cb_facts.specs.Facts.{FactValue}
 use Rattle.cb_fit.specs.Related.{Fits}
+use Rattle.cb_fit.specs.Ways.{WayValue, ways}
 
 -- the checks for constants; a variable or an expression, with `~` or without, counts as true
 abbrev pub constants_in : List Check → List Check
@@ -41,3 +42,12 @@ loose p = record { relation = p.relation; parts = loose_parts p.parts }
 -- a fact has the shape of a pattern where it fits, variables and expressions aside
 abbrev pub HasShape : PatternValue → FactValue → Type 0
 HasShape p f = (cuts : List ℕ) × Fits (loose p) f cuts no_bindings no_bindings
+
+-- there is a way
+abbrev pub has_way : List WayValue → Bool
+has_way [] = false
+has_way (w ∷ ws) = true
+
+-- the same as a test
+abbrev pub has_shape : PatternValue → FactValue → Bool
+has_shape p f = has_way (ways (loose p) f no_bindings)

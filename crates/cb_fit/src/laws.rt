@@ -1,5 +1,5 @@
 //! Laws of ways: each is the contract of a function that does nothing.
-ghost use Rattle.std.specs.Prelude.{◌≡◌, ◌≢◌, ◌∷◌, ℕ, List, [], AllPairs, Contains, length};
+ghost use Rattle.std.specs.Prelude.{◌≡◌, ◌≢◌, ◌↔◌, ◌∷◌, ℕ, List, [], AllPairs, Contains, length, true};
 ghost use Rattle.std.specs.Cmp.Lexicographic.{slice_cmp};
 ghost use Rattle.std.specs.Ordering.{nat_cmp};
 ghost use Rattle.std.specs.declared.cmp.Ordering.TheVariants.{Less};
@@ -13,7 +13,7 @@ ghost use Rattle.cb_facts.specs.declared.value.Value.{Value};
 ghost use Rattle.cb_constraints.specs.Bound.{newly_bound};
 ghost use Rattle.cb_fit.specs.Laws.{any_fields, of_length, of_one, one_field};
 ghost use Rattle.cb_fit.specs.Related.{Fits};
-ghost use Rattle.cb_fit.specs.Shapes.{HasShape, loose, loose_demand};
+ghost use Rattle.cb_fit.specs.Shapes.{HasShape, has_shape, loose, loose_demand};
 ghost use Rattle.cb_fit.specs.Ways.{WayValue, taken_way, ways};
 
 /// The list of the ways has each way in which the pattern fits the fact, and no other.
@@ -53,6 +53,11 @@ pub fn a_fact_that_fits_has_the_shape()
     ensures cuts { (p : PatternValue) (f : FactValue) (cuts : List ℕ)
         → (before after any : Bindings)
         → Fits p f cuts before after → Fits (loose p) f cuts any any }
+{}
+
+/// The shape can be tested: a fact has it just where the pattern without its variables and expressions has a way.
+pub fn the_shape_can_be_tested()
+    ensures { (p : PatternValue) (f : FactValue) → has_shape p f ≡ true ↔ HasShape p f }
 {}
 
 /// The shape gives no variable a value.

@@ -11,6 +11,7 @@ mod fitting; // `fit`: from the pattern and the fact to the ways
 mod following; // what follows the beginning of a way: the rest of a row, the rows of the slots after it, the way
 pub mod laws; // laws of ways
 mod lengths; // whether a fact has as many fields as a pattern can take; asked before anything else
+mod loose; // what a pattern asks without its variables and expressions
 mod may_take; // whether a row may take fields, by their number and by constants alone
 mod meter; // how often patterns were tested
 mod open_choices; // the choices that are open

@@ -2,7 +2,9 @@
 ghost use Rattle.std.specs.Prelude.{◌≡◌, IfOk};
 ghost use Rattle.cb_constraints.specs.PartValues.{asked_parts};
 ghost use Rattle.cb_fit.specs.Meters.{one_test_more};
+ghost use Rattle.cb_fit.specs.Shapes.{loose};
 
+use crate::loose::loose_parts;
 use crate::meter::Meter;
 use cb_constraints::{Body, Parts};
 use cb_facts::Name;
@@ -46,6 +48,15 @@ impl<T> Pattern<T> {
             body: Body::new(alloc, parts)?,
             mark: PhantomData,
         })
+    }
+
+    /// The pattern without its variables and expressions: it keeps lengths and constants, so it fits just the facts that have the
+    /// pattern's shape. Growth is refused as `NoMemory`, and so is a count of sharers that is full.
+    pub fn loose(&self, alloc: Global) -> Result<Pattern<T>, NoMemory>
+        ensures { IfOk result (λ q. q ≡ loose self.now) }
+    {
+        let parts = loose_parts(alloc, self.body.parts())?;
+        Pattern::new(alloc, self.relation.clone()?, parts)
     }
 
     /// The relation of the facts that it is for.
