@@ -10,15 +10,14 @@ ghost use Rattle.cb_matches.specs.Keys.{key_eq};
 ghost use Rattle.cb_matches.specs.Networks.{Network, all_matches, with_rule};
 ghost use Rattle.cb_matches.specs.Matchers.{new_matcher};
 
-use crate::come::keys_come;
-use crate::join::Setting;
-use crate::matching::{Match, NumberedRule, match_rules};
+use crate::matching::{NumberedRule, match_rules};
 use cb_exprs::Env;
 use cb_facts::{Fact, FactList};
 use cb_fit::Meter;
 use cb_forms::NoMemory;
 use cb_functions::Constants;
 use cb_matches::{Delta, Key, Matcher};
+use cb_partials::{Match, Setting, keys_come, made};
 use cb_rules::Ce;
 use std::alloc::Global;
 use std::marker::Model;
@@ -244,14 +243,6 @@ fn keep_others(alloc: Global, matches: &[Match], id: u64) -> Result<Vec<Match>, 
         }
     }
     Ok(kept)
-}
-
-/// The symbols that functions return. They are made if they are not there yet.
-fn made(alloc: Global, constants: &mut Option<Constants>) -> Result<&Constants, NoMemory> {
-    if constants.is_none() {
-        *constants = Some(Constants::new(alloc)?);
-    }
-    constants.as_ref().ok_or(NoMemory)
 }
 
 /// Takes the rule with this number away.

@@ -2,7 +2,7 @@ use Rattle.std.proofs.Common.{◌≡◌, ◌++◌, [], ◌∷◌, drop, map}
 use Rattle.std.specs.List.{filter}
 use Rattle.cb_rules.specs.Elements.{element_of, elements}
 use Rattle.cb_matches.specs.Matches.{after_all, group_holds}
-use Rattle.cb_rematch.proofs.satisfy.+satisfying.Given as goal
+use Rattle.cb_partials.proofs.satisfy.+satisfying.Given as goal
 
 abbrev pub invariant-satisfy_all-loop-element : goal.invariant-satisfy_all-loop-element
 invariant-satisfy_all-loop-element g l =

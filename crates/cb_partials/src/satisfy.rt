@@ -5,8 +5,9 @@ ghost use Rattle.cb_rules.specs.Elements.{element_of, elements};
 ghost use Rattle.cb_exprs.specs.Terms.{term_of};
 ghost use Rattle.cb_matches.specs.Matches.{after, after_all, group_holds, test_holds};
 
-use crate::join::{Setting, join};
+use crate::join::join;
 use crate::partial::Partial;
+use crate::setting::Setting;
 use cb_eval::eval;
 use cb_exprs::{Env, Expr};
 use cb_facts::Refused;
@@ -53,8 +54,9 @@ fn satisfy<T>(
     }
 }
 
-/// Those for which a test holds.
-fn satisfy_test(
+/// Of these partial matches those for which a test holds. Growth is refused as `NoMemory`, and so is a count of sharers that is
+/// full.
+pub fn satisfy_test(
     setting: &Setting<'_>,
     test: &Expr,
     partials: Vec<Partial>,

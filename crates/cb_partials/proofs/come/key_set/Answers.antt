@@ -3,8 +3,8 @@ use Rattle.std.specs.BTreeSet.{contains}
 use Rattle.std.specs.List.{list_any}
 use Rattle.std.specs.Map.{keys_of}
 use Rattle.cb_matches.specs.Keys.{key_cmp, key_eq}
-use Rattle.cb_rematch.proofs.Known.{next_key, one_more}
-use Rattle.cb_rematch.proofs.come.key_set.Goals as goal
+use Rattle.cb_partials.proofs.Known.{next_key, one_more}
+use Rattle.cb_partials.proofs.come.key_set.Goals as goal
 
 pub loop-found-preserved : goal.loop-found-preserved
 loop-found-preserved c = λ k.

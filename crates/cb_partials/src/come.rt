@@ -13,8 +13,8 @@ use std::alloc::Global;
 use std::collections::BTreeSet;
 
 /// The keys of the new matches that are not among the old ones. The old ones are looked up in a set, so that many matches take
-/// no more than some steps each.
-pub(crate) fn keys_come(alloc: Global, old: &[Match], new: &[Match]) -> Result<Vec<Key>, NoMemory>
+/// no more than some steps each. Growth is refused as `NoMemory`, and so is a count of sharers that is full.
+pub fn keys_come(alloc: Global, old: &[Match], new: &[Match]) -> Result<Vec<Key>, NoMemory>
     ensures { IfOk result (λ keys. keys.items ≡ come_of (keys_of old.now) (keys_of new.now)) }
 {
     let known = key_set(alloc, old)?;
