@@ -1,8 +1,7 @@
 -- The keys of rules where one is added, and where one is taken away.
 use Rattle.std.proofs.Common.{◌≡◌, ◌≢◌, ℕ, ◌<◌, Bool, true, false, not, List, [], ◌∷◌, ◌++◌, filter, nat_eq, inl, inr, refl, sym, ◌∙◌, ap, ap₂, subst, arith, cond}
-use Rattle.std.proofs.lemmas.Bool.Decides.{Decides-eqb}
 use Rattle.std.proofs.lemmas.List.{append-nil, append_assoc}
-use Rattle.std.specs.List.{All, flat_map, list_any}
+use Rattle.std.specs.List.{flat_map}
 use Rattle.cb_facts.specs.FactLists.{IndexedFacts}
 use Rattle.cb_joins.proofs.Deltas.{come_in_parts, in_any, key_Decides}
 use Rattle.cb_joins.proofs.Networks.{of_branches, of_rules, rule_keys_more}
@@ -10,7 +9,7 @@ use Rattle.cb_joins.specs.Internal.Keys.{branch_keys, rule_keys}
 use Rattle.cb_joins.specs.Internal.Rules.{HaveOwnNumbers}
 use Rattle.cb_matches.specs.Changes.{IsAbove, come_of}
 use Rattle.cb_matches.specs.Keys.{KeyValue, key_eq}
-use Rattle.cb_matches.specs.Lemmas.Lists.{by_test, chain_append, chain_filter, contains_in, in_contains, in_either, in_filter, in_left, in_right}
+use Rattle.cb_matches.specs.Lemmas.Lists.{by_test, chain_append, chain_filter, in_contains, in_either, in_filter, in_left, in_right}
 use Rattle.cb_matches.specs.Lemmas.Members.{In}
 use Rattle.cb_matches.specs.Networks.{Conditions}
 use Rattle.cb_rules.specs.Elements.{Elements}

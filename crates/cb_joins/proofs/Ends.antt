@@ -1,5 +1,5 @@
 -- The matches at the end of a branch without groups, where a fact is added and where one is taken out.
-use Rattle.std.proofs.Common.{◌≡◌, ◌≢◌, ℕ, Bool, true, not, List, [], ◌∷◌, ◌++◌, filter, map, inl, inr, sym, ◌∙◌, ap, subst}
+use Rattle.std.proofs.Common.{◌≡◌, ◌≢◌, ℕ, Bool, not, List, [], ◌∷◌, ◌++◌, filter, map, inl, inr, sym, ◌∙◌, ap, subst}
 use Rattle.std.specs.List.Sorted.{IsPermutation, IsSorted}
 use Rattle.std.specs.Map.{keys_of}
 use Rattle.cb_exprs.specs.Bindings.{Bindings}
@@ -14,7 +14,7 @@ use Rattle.cb_joins.specs.Internal.Rules.{AreMatches, took_fact}
 use Rattle.cb_matches.specs.Changes.{come_of}
 use Rattle.cb_matches.specs.Keys.{KeyValue, key_cmp}
 use Rattle.cb_matches.specs.Lemmas.Lists.{chain_append, chain_filter, chain_map, filter_in, in_either, in_filter, in_left, in_map, in_right, map_in}
-use Rattle.cb_matches.specs.Lemmas.Members.{AreSame, Chain, In}
+use Rattle.cb_matches.specs.Lemmas.Members.{AreSame, In}
 use Rattle.cb_matches.specs.Lemmas.Order.{IsAhead, IsApart, IsEarlier, IsRising, IsSorted as IsSortedPartials, WaysRise}
 use Rattle.cb_matches.specs.Lemmas.Parts.{never_earlier}
 use Rattle.cb_matches.specs.Matches.{Partial, matches_of, no_parts}

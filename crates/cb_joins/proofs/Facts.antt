@@ -1,5 +1,5 @@
 -- One fact more or less among those in rising order of their indices.
-use Rattle.std.proofs.Common.{◌≡◌, ◌≢◌, ℕ, ◌<◌, Bool, true, false, List, [], ◌∷◌, Option, None, Some, ◌⊎◌, inl, inr, refl, sym, ◌∙◌, ap, ap₂, subst, arith, cond}
+use Rattle.std.proofs.Common.{◌≡◌, ◌≢◌, ℕ, ◌<◌, Bool, true, false, [], ◌∷◌, Option, None, Some, ◌⊎◌, inl, inr, refl, sym, ◌∙◌, ap, ap₂, subst, arith, cond}
 use Rattle.std.proofs.lemmas.Bool.{cases_order, eq-eqb, eqb-true}
 use Rattle.std.specs.BTreeMap.{insert_entry, is_at}
 use Rattle.std.specs.Cmp.{nat_cmp_is, unsigned_tied}

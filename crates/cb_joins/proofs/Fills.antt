@@ -1,5 +1,5 @@
 -- What is kept for an element, found over all facts.
-use Rattle.std.proofs.Common.{◌≡◌, ◌≢◌, ℕ, Bool, true, false, List, [], ◌∷◌, ◌++◌, Option, filter, map, refl, sym, ◌∙◌, ap, ap₂, subst, cond}
+use Rattle.std.proofs.Common.{◌≡◌, ◌≢◌, ℕ, false, List, [], ◌∷◌, ◌++◌, Option, filter, map, refl, sym, ◌∙◌, ap, ap₂, subst, cond}
 use Rattle.std.specs.List.{flat_map}
 use Rattle.cb_constraints.specs.PatternValues.{PatternValue}
 use Rattle.cb_exprs.specs.Bindings.{no_bindings}

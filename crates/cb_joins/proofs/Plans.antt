@@ -1,5 +1,5 @@
 -- What is kept for a branch, whichever way its matches are found.
-use Rattle.std.proofs.Common.{◌≡◌, ◌<◌, ℕ, List, map, sym, ap, subst}
+use Rattle.std.proofs.Common.{◌≡◌, ℕ, List, map, sym, subst}
 use Rattle.std.specs.List.Sorted.{IsPermutation, IsSorted}
 use Rattle.std.specs.List.{All}
 use Rattle.std.specs.Map.{keys_of}
@@ -10,9 +10,8 @@ use Rattle.cb_exprs.specs.Bindings.{Bindings}
 use Rattle.cb_facts.specs.FactLists.{IndexedFacts}
 use Rattle.cb_joins.proofs.Ends.{keys_sorted, matches_listed}
 use Rattle.cb_joins.specs.Internal.Keys.{keys_in_branch}
-use Rattle.cb_joins.specs.Internal.Nodes.{AreNodes, IsLooseToo, IsNode, node_elements, partials_before}
-use Rattle.cb_joins.specs.Internal.Rules.{AreBranches, AreMatches, CanBeFilled, IsPlan, IsRule, plan_elements}
-use Rattle.cb_joins.specs.declared.branch.Branch.{Branch}
+use Rattle.cb_joins.specs.Internal.Nodes.{IsLooseToo, IsNode, node_elements, partials_before}
+use Rattle.cb_joins.specs.Internal.Rules.{AreMatches, CanBeFilled, IsPlan, IsRule, plan_elements}
 use Rattle.cb_joins.specs.declared.branch.Plan.{Plan}
 use Rattle.cb_joins.specs.declared.branch.Plan.TheVariants as plan
 use Rattle.cb_joins.specs.declared.node.Node.{Node}
@@ -20,7 +19,7 @@ use Rattle.cb_joins.specs.declared.node.Node.TheVariants as node
 use Rattle.cb_joins.specs.declared.rules.Rule.{Rule}
 use Rattle.cb_matches.specs.Keys.{KeyValue, key_cmp}
 use Rattle.cb_matches.specs.Lemmas.Order.{IsRising, WaysRise}
-use Rattle.cb_matches.specs.Matches.{Partial, matches_of}
+use Rattle.cb_matches.specs.Matches.{Partial}
 use Rattle.cb_rules.specs.Elements.{element_of, elements}
 
 -- what follows of an answer from two things that hold of it

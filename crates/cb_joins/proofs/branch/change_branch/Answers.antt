@@ -1,4 +1,4 @@
-use Rattle.std.proofs.Common.{◌≡◌, map, ap, subst, sym, ◌∙◌}
+use Rattle.std.proofs.Common.{map, ap, subst, sym, ◌∙◌}
 use Rattle.std.specs.Map.{keys_of}
 use Rattle.std.specs.Result.{OnOk}
 use Rattle.cb_facts.specs.FactLists.{IndexedFacts}

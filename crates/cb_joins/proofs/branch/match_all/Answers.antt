@@ -1,4 +1,4 @@
-use Rattle.std.proofs.Common.{◌≡◌, ◌++◌, [], map, ap, ◌∙◌}
+use Rattle.std.proofs.Common.{◌≡◌, ◌++◌, map, ap, ◌∙◌}
 use Rattle.std.specs.Map.{keys_of}
 use Rattle.cb_joins.proofs.Networks.{keys_keyed}
 use Rattle.cb_joins.proofs.branch.match_all.Goals as goal

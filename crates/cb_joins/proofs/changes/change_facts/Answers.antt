@@ -1,8 +1,7 @@
-use Rattle.std.proofs.Common.{◌≡◌, subst}
 use Rattle.cb_joins.proofs.Answered.{delta_is}
 use Rattle.cb_joins.proofs.changes.change_facts.Goals as goal
 use Rattle.cb_joins.specs.Internal.Changes.{facts_before}
-use Rattle.cb_joins.specs.Internal.Rules.{HaveOwnNumbers, kept_rules}
+use Rattle.cb_joins.specs.Internal.Rules.{kept_rules}
 
 pub returns-clause-delta : goal.returns-clause-delta
 returns-clause-delta g c =

@@ -1,4 +1,4 @@
-use Rattle.std.proofs.Common.{◌≡◌, ◌++◌, [], nat_eq, not, sym, ap, subst, ◌∙◌}
+use Rattle.std.proofs.Common.{◌++◌, nat_eq, not, sym, ap, subst, ◌∙◌}
 use Rattle.std.specs.List.{filter, flat_map}
 use Rattle.cb_facts.specs.FactLists.{IndexedFacts}
 use Rattle.cb_joins.proofs.Answered.{come_is, gone_is}
