@@ -6,8 +6,8 @@ ghost use Rattle.cb_session.specs.Sessions.{fresh_session};
 
 use crate::outcome::{Cause, Outcome};
 use cb_forms::{Out, ReadFault, Sink, Source};
+use cb_joins::Joins;
 use cb_matches::Matcher;
-use cb_rematch::Rematch;
 use cb_session::{Flow, Limits, Mark, Session};
 use std::alloc::Global;
 
@@ -28,7 +28,7 @@ pub fn run<S: Source, K: Sink>(
         (S.left source.old) (S.left source.new) (S.reads source.old) (S.reads source.new)
         (K.writes out.old.sink) (K.writes out.new.sink) }
 {
-    let mut session = Session::new(alloc, Rematch::new(alloc), limits);
+    let mut session = Session::new(alloc, Joins::new(alloc), limits);
     follow(&mut session, source, out)
 }
 

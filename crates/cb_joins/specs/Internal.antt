@@ -1,0 +1,5 @@
+-- What only the code needs.
+pub mod Changes
+pub mod Keys
+pub mod Nodes
+pub mod Rules
