@@ -6,8 +6,7 @@
 #
 #     benches/rules.sh
 #
-# It proves and builds the program first. The matcher finds all matches anew at each change, so programs with many facts are not
-# measured here yet. No test depends on it.
+# It proves and builds the program first. No test depends on it.
 set -eu
 
 . "$(dirname "$0")/built.sh"
@@ -64,6 +63,12 @@ cat >"$place/commands" <<'END'
 (run)
 END
 against_clips 'greatest common divisors, 5,000 of them, by three rules'
+
+cat >"$place/constructs" <<'END'
+(defrule pair (left ?x ?y) (right ?x ?z) => (assert (pair ?y ?z)))
+END
+awk 'BEGIN { for (i = 1; i <= 400; i++) printf "(assert (left %d l%d) (right %d r%d))\n", i, i, i, i; print "(run)" }' >"$place/commands"
+against_clips 'a join of 400 facts with 400'
 
 # The time of counting to so many.
 counting() {
