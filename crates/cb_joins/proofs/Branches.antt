@@ -1,5 +1,5 @@
 -- The partial matches before each element of a branch.
-use Rattle.std.proofs.Common.{◌≡◌, ℕ, zero, suc, ◌+◌, ◌<◌, ◌≤◌, List, [], ◌∷◌, ◌++◌, Some, length, take, drop, inl, refl, ◌∙◌, ap, arith, get_or}
+use Rattle.std.proofs.Common.{◌≡◌, ℕ, ◌+◌, ◌<◌, List, [], ◌∷◌, ◌++◌, Some, length, take, drop, inl, refl, ◌∙◌, ap, get_or}
 use Rattle.std.proofs.lemmas.List.{drop_more, take_more}
 use Rattle.cb_rules.specs.Elements.{Element, elements}
 use Rattle.cb_facts.specs.FactLists.{IndexedFacts}
@@ -33,12 +33,6 @@ pub probes_more : (f : Fact) (fs fs' : IndexedFacts) (es : List Element) (k : �
     → probes (Some f.1) fs fs' (elements (drop k es)) old new
     ≡ element_probes (Some f.1) fs fs' (get_or es k d) old new + probes (Some f.1) fs fs' (elements (drop (k + 1) es)) (after (get_or es k d) fs old) (after (get_or es k d) fs' new)
 probes_more f fs fs' es k d old new h = ap (λ it. probes (Some f.1) fs fs' (elements it) old new) (drop_more es k d h)
-
-pub probes_end : (f : Fact) (fs fs' : IndexedFacts) (es : List Element) (k : ℕ) (old new : List Partial) → length es ≤ k → probes (Some f.1) fs fs' (elements (drop k es)) old new ≡ 0
-probes_end f fs fs' [] zero old new h = refl
-probes_end f fs fs' [] (suc k) old new h = refl
-probes_end f fs fs' (e ∷ es) zero old new h = absurd (omega (arith, h))
-probes_end f fs fs' (e ∷ es) (suc k) old new h = probes_end f fs fs' es k old new (omega (arith, h))
 
 -- before the first element
 pub none_comes : Comes (no_parts ∷ []) (no_parts ∷ []) []

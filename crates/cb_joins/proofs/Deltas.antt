@@ -7,19 +7,12 @@ use Rattle.std.specs.List.{list_any}
 use Rattle.cb_joins.specs.Internal.Changes.{Change}
 use Rattle.cb_joins.specs.Internal.Keys.{key_of}
 use Rattle.cb_matches.specs.Lemmas.Members.{AreSame, In}
-use Rattle.cb_matches.specs.Lemmas.Order.{IsAhead, IsSorted}
 use Rattle.cb_partials.specs.Probes.{has_parts}
-use Rattle.cb_matches.specs.Lemmas.Lists.{by_test, filter_in, in_filter, in_map, map_in, one_chain}
-use Rattle.cb_matches.specs.Lemmas.Parts.{earlier_trans, never_earlier}
+use Rattle.cb_matches.specs.Lemmas.Lists.{by_test, filter_in, in_filter, in_map, map_in}
 use Rattle.cb_joins.proofs.Steps.{and_both, and_first, and_second, not_true}
 use Rattle.cb_matches.specs.Changes.{come_of}
 use Rattle.cb_matches.specs.Keys.{KeyValue, PartValue, key_eq, part_eq}
 use Rattle.cb_matches.specs.Matches.{Partial}
-
--- two sorted lists with the same members are one
-pub one_list : (xs ys : List Partial) → IsSorted xs → IsSorted ys → ((z : Partial) → In z xs → In z ys) → ((z : Partial) → In z ys → In z xs) → xs ≡ ys
-one_list xs ys c d to from =
-    one_chain IsAhead (λ m h. never_earlier m.parts h) (λ l m n h k. earlier_trans l.parts m.parts n.parts h k) xs ys c d to from
 
 make_part : ℕ → List ℕ → PartValue
 make_part ix cuts = record { index = ix; cuts = cuts }

@@ -1,7 +1,6 @@
 -- What is kept for a branch, whichever way its matches are found.
 use Rattle.std.proofs.Common.{◌≡◌, ℕ, List, map, sym, subst}
 use Rattle.std.specs.List.Sorted.{IsPermutation, IsSorted}
-use Rattle.std.specs.List.{All}
 use Rattle.std.specs.Map.{keys_of}
 use Rattle.std.specs.Result.{OnOk}
 use Rattle.std.specs.declared.result.Result.{Result}
@@ -10,16 +9,11 @@ use Rattle.cb_exprs.specs.Bindings.{Bindings}
 use Rattle.cb_facts.specs.FactLists.{IndexedFacts}
 use Rattle.cb_joins.proofs.Ends.{keys_sorted, matches_listed}
 use Rattle.cb_joins.specs.Internal.Keys.{keys_in_branch}
-use Rattle.cb_joins.specs.Internal.Nodes.{IsLooseToo, IsNode, node_elements, partials_before}
-use Rattle.cb_joins.specs.Internal.Rules.{AreMatches, CanBeFilled, IsPlan, IsRule, plan_elements}
+use Rattle.cb_joins.specs.Internal.Rules.{AreMatches, IsPlan, plan_elements}
 use Rattle.cb_joins.specs.declared.branch.Plan.{Plan}
 use Rattle.cb_joins.specs.declared.branch.Plan.TheVariants as plan
-use Rattle.cb_joins.specs.declared.node.Node.{Node}
-use Rattle.cb_joins.specs.declared.node.Node.TheVariants as node
-use Rattle.cb_joins.specs.declared.rules.Rule.{Rule}
 use Rattle.cb_matches.specs.Keys.{KeyValue, key_cmp}
 use Rattle.cb_matches.specs.Lemmas.Order.{IsRising, WaysRise}
-use Rattle.cb_matches.specs.Matches.{Partial}
 use Rattle.cb_rules.specs.Elements.{element_of, elements}
 
 -- what follows of an answer from two things that hold of it
@@ -38,15 +32,3 @@ module _ {T : Type 0} where
   pub plan_keys : WaysRise → (rule n : ℕ) (fs : IndexedFacts) → IsRising fs → (ms : List (KeyValue × Bindings)) (p : Plan T) → IsPlan rule n fs ms p
       → (ls : List KeyValue) → IsPermutation (keys_of ms) ls → IsSorted key_cmp ls → ls ≡ keys_in_branch rule n (plan_elements p) fs
   plan_keys rise rule n fs rising ms p is ls moves sorted = keys_sorted rule n (plan_elements p) rise fs rising ms (plan_matches rise rule n fs rising ms p is) ls moves sorted
-
-  node_is_loose : (fs : IndexedFacts) (ms : List Partial) (n : Node T) → IsNode fs ms n → IsLooseToo n
-  node_is_loose fs ms (node.Pattern place) is = is.is_loose
-  node_is_loose fs ms (node.Test e) is = tt
-
-  -- what is kept can be found anew
-  plan_can : (rule n : ℕ) (fs : IndexedFacts) (ms : List (KeyValue × Bindings)) (p : Plan T) → IsPlan rule n fs ms p → CanBeFilled p
-  plan_can rule n fs ms (plan.Joined nodes) is = λ k d h. node_is_loose fs (partials_before (node_elements nodes.items) fs k) _ (is.0 k d h)
-  plan_can rule n fs ms (plan.Anew ces) is = is.0
-
-  pub rules_can : (fs : IndexedFacts) (rules : List (Rule T)) → All (IsRule fs) rules → All (λ r. All (λ b. CanBeFilled b.plan) r.branches.items) rules
-  rules_can fs rules are k d h j e i = plan_can _ j fs _ _ (are k d h j e i)

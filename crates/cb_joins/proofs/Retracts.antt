@@ -24,7 +24,7 @@ use Rattle.cb_matches.specs.Matches.{Partial, after_all, matches_of, next, no_pa
 use Rattle.cb_partials.specs.Probes.{is_candidate}
 use Rattle.cb_rules.specs.Elements.{Elements, element, elements, group, no_elements, pattern, test}
 
--- a partial match that took it not
+-- no part of a partial match took the fact with this index
 abbrev pub stays : ℕ → Partial → Bool
 stays ix m = not (took_fact ix m.parts)
 

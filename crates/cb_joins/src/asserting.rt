@@ -31,7 +31,8 @@ pub(crate) fn assert_nodes<T>(
     requires nodes { AreNodes facts.0 nodes.old }
     ensures elements { OnOk result (node_elements nodes.new ≡ node_elements nodes.old) }
     ensures nodes { OnOk result (AreNodes facts.1 nodes.new) }
-    ensures come { IfOk result (λ all. Comes (matches_of (elements (node_elements nodes.old)) facts.0)
+    ensures come { IfOk result (λ all. Comes (matches_of (elements
+        (node_elements nodes.old)) facts.0)
         (matches_of (elements (node_elements nodes.old)) facts.1) all.items) }
     ensures probes { OnOk result (meter.new ≤ meter.old
         + branch_probes (Some one.now.1) facts.0 facts.1 (elements (node_elements nodes.old))) }
@@ -76,7 +77,8 @@ fn assert_place<T>(
     ensures address { OnOk result (place.new.address ≡ place.old.address) }
     ensures pattern { OnOk result (place.new.pattern ≡ place.old.pattern) }
     ensures loose { OnOk result (place.new.loose ≡ place.old.loose) }
-    ensures candidates { OnOk result (place.new.candidates.items ≡ candidates_with place.old one.now) }
+    ensures candidates { OnOk result
+        (place.new.candidates.items ≡ candidates_with place.old one.now) }
     ensures begun { OnOk result (place.new.begun.items ≡ place.old.begun.items ++ come.items) }
     ensures come { IfOk result (λ all. all.items ≡ place_come place.old one.now come.items) }
     ensures probes { OnOk result (meter.new ≤ meter.old
@@ -101,7 +103,8 @@ fn join_place<T>(
     ensures address { OnOk result (place.new.address ≡ place.old.address) }
     ensures pattern { OnOk result (place.new.pattern ≡ place.old.pattern) }
     ensures loose { OnOk result (place.new.loose ≡ place.old.loose) }
-    ensures candidates { OnOk result (place.new.candidates.items ≡ candidates_with place.old one.now) }
+    ensures candidates { OnOk result
+        (place.new.candidates.items ≡ candidates_with place.old one.now) }
     ensures begun { OnOk result (place.new.begun.items ≡ place.old.begun.items) }
     ensures come { IfOk result (λ all. all.items ≡ place_come place.old one.now come.now) }
     ensures probes { OnOk result (meter.new ≤ meter.old

@@ -57,11 +57,13 @@ pub(crate) fn change_branch<T>(
 ) -> Result<(), NoMemory>
     requires base { IsFactBase setting.now.facts.now }
     requires made { IsMade change.now setting.now.facts.now }
-    requires branch { IsBranch rule number (facts_before change.now setting.now.facts.now) branch.old }
+    requires branch { IsBranch rule number
+        (facts_before change.now setting.now.facts.now) branch.old }
     ensures elements { OnOk result (plan_elements branch.new.plan ≡ plan_elements branch.old.plan) }
     ensures branch { OnOk result (IsBranch rule number setting.now.facts.now branch.new) }
     ensures delta { OnOk result (Tells delta.old delta.new
-        (keys_in_branch rule number (plan_elements branch.old.plan) (facts_before change.now setting.now.facts.now))
+        (keys_in_branch rule number (plan_elements branch.old.plan)
+        (facts_before change.now setting.now.facts.now))
         (keys_in_branch rule number (plan_elements branch.old.plan) setting.now.facts.now)) }
     ensures probes { has_group (plan_elements branch.old.plan) ≡ false → OnOk result
         (meter.new ≤ meter.old + branch_probes (fact_added change.now)
@@ -95,11 +97,13 @@ fn change_chain<T>(
     requires base { IsFactBase setting.now.facts.now }
     requires made { IsMade change.now setting.now.facts.now }
     requires joined { IsJoined branch.old.plan }
-    requires branch { IsBranch rule number (facts_before change.now setting.now.facts.now) branch.old }
+    requires branch { IsBranch rule number
+        (facts_before change.now setting.now.facts.now) branch.old }
     ensures elements { OnOk result (plan_elements branch.new.plan ≡ plan_elements branch.old.plan) }
     ensures branch { OnOk result (IsBranch rule number setting.now.facts.now branch.new) }
     ensures delta { OnOk result (Tells delta.old delta.new
-        (keys_in_branch rule number (plan_elements branch.old.plan) (facts_before change.now setting.now.facts.now))
+        (keys_in_branch rule number (plan_elements branch.old.plan)
+        (facts_before change.now setting.now.facts.now))
         (keys_in_branch rule number (plan_elements branch.old.plan) setting.now.facts.now)) }
     ensures probes { OnOk result
         (meter.new ≤ meter.old + branch_probes (fact_added change.now)
@@ -135,12 +139,15 @@ fn change_joined<T>(
     requires base { IsFactBase setting.now.facts.now }
     requires made { IsMade change.now setting.now.facts.now }
     requires nodes { AreNodes (facts_before change.now setting.now.facts.now) nodes.old }
-    requires matches { AreMatches rule number (elements (node_elements nodes.old)) (facts_before change.now setting.now.facts.now) matches.old.items }
+    requires matches { AreMatches rule number (elements (node_elements nodes.old))
+        (facts_before change.now setting.now.facts.now) matches.old.items }
     ensures elements { OnOk result (node_elements nodes.new ≡ node_elements nodes.old) }
     ensures nodes { OnOk result (AreNodes setting.now.facts.now nodes.new) }
-    ensures matches { OnOk result (AreMatches rule number (elements (node_elements nodes.old)) setting.now.facts.now matches.new.items) }
+    ensures matches { OnOk result (AreMatches rule number (elements
+        (node_elements nodes.old)) setting.now.facts.now matches.new.items) }
     ensures delta { OnOk result (Tells delta.old delta.new
-        (keys_in_branch rule number (elements (node_elements nodes.old)) (facts_before change.now setting.now.facts.now))
+        (keys_in_branch rule number (elements (node_elements nodes.old))
+        (facts_before change.now setting.now.facts.now))
         (keys_in_branch rule number (elements (node_elements nodes.old)) setting.now.facts.now)) }
     ensures probes { OnOk result
         (meter.new ≤ meter.old + branch_probes (fact_added change.now)
@@ -171,12 +178,15 @@ fn assert_joined<T>(
     requires base { IsFactBase setting.now.facts.now }
     requires made { fact_at setting.now.facts.now one.now.0 ≡ Some one.now.1 }
     requires nodes { AreNodes (without_fact setting.now.facts.now one.now.0) nodes.old }
-    requires matches { AreMatches rule number (elements (node_elements nodes.old)) (without_fact setting.now.facts.now one.now.0) matches.old.items }
+    requires matches { AreMatches rule number (elements (node_elements nodes.old))
+        (without_fact setting.now.facts.now one.now.0) matches.old.items }
     ensures elements { OnOk result (node_elements nodes.new ≡ node_elements nodes.old) }
     ensures nodes { OnOk result (AreNodes setting.now.facts.now nodes.new) }
-    ensures matches { OnOk result (AreMatches rule number (elements (node_elements nodes.old)) setting.now.facts.now matches.new.items) }
+    ensures matches { OnOk result (AreMatches rule number (elements
+        (node_elements nodes.old)) setting.now.facts.now matches.new.items) }
     ensures delta { OnOk result (Tells delta.old delta.new
-        (keys_in_branch rule number (elements (node_elements nodes.old)) (without_fact setting.now.facts.now one.now.0))
+        (keys_in_branch rule number (elements (node_elements nodes.old))
+        (without_fact setting.now.facts.now one.now.0))
         (keys_in_branch rule number (elements (node_elements nodes.old)) setting.now.facts.now)) }
     ensures probes { OnOk result
         (meter.new ≤ meter.old + branch_probes (Some one.now.1)
@@ -204,12 +214,15 @@ fn retract_joined<T>(
     requires base { IsFactBase setting.now.facts.now }
     requires made { fact_at setting.now.facts.now one.now.0 ≡ None }
     requires nodes { AreNodes (with_fact setting.now.facts.now one.now.0 one.now.1) nodes.old }
-    requires matches { AreMatches rule number (elements (node_elements nodes.old)) (with_fact setting.now.facts.now one.now.0 one.now.1) matches.old.items }
+    requires matches { AreMatches rule number (elements (node_elements nodes.old))
+        (with_fact setting.now.facts.now one.now.0 one.now.1) matches.old.items }
     ensures elements { OnOk result (node_elements nodes.new ≡ node_elements nodes.old) }
     ensures nodes { OnOk result (AreNodes setting.now.facts.now nodes.new) }
-    ensures matches { OnOk result (AreMatches rule number (elements (node_elements nodes.old)) setting.now.facts.now matches.new.items) }
+    ensures matches { OnOk result (AreMatches rule number (elements
+        (node_elements nodes.old)) setting.now.facts.now matches.new.items) }
     ensures delta { OnOk result (Tells delta.old delta.new
-        (keys_in_branch rule number (elements (node_elements nodes.old)) (with_fact setting.now.facts.now one.now.0 one.now.1))
+        (keys_in_branch rule number (elements (node_elements nodes.old))
+        (with_fact setting.now.facts.now one.now.0 one.now.1))
         (keys_in_branch rule number (elements (node_elements nodes.old)) setting.now.facts.now)) }
 {
     the_ways_rise_by_their_cuts();
@@ -231,7 +244,8 @@ fn match_anew<T>(
     meter: &mut Meter<T>,
 ) -> Result<(), NoMemory>
     ensures matches { OnOk result (matches.new.items
-        ≡ map (keyed rule number) (matches_of (elements (map element_of branch.now)) setting.now.facts.now)) }
+        ≡ map (keyed rule number) (matches_of (elements
+        (map element_of branch.now)) setting.now.facts.now)) }
     ensures delta { OnOk result (Tells delta.old delta.new
         (keys_of matches.old.items) (keys_of matches.new.items)) }
 {
@@ -343,9 +357,11 @@ fn match_all<T>(
     meter: &mut Meter<T>,
 ) -> Result<(), NoMemory>
     ensures matches { OnOk result (matches.new.items
-        ≡ map (keyed rule number) (matches_of (elements (map element_of branch.now)) setting.now.facts.now)) }
+        ≡ map (keyed rule number) (matches_of (elements
+        (map element_of branch.now)) setting.now.facts.now)) }
     ensures come { OnOk result (come.new.items ≡ come.old.items
-        ++ keys_in_branch rule number (elements (map element_of branch.now)) setting.now.facts.now) }
+        ++ keys_in_branch rule number (elements
+        (map element_of branch.now)) setting.now.facts.now) }
 {
     let mut found = Vec::new(setting.alloc);
     match_branch(setting, rule, number, branch, &mut found, meter)?;

@@ -179,7 +179,11 @@ pub(crate) fn add_numbered<T>(
     ensures keeping { OnOk result (IsKeeping facts.now rules.new.items) }
     ensures delta { IfOk result (IsDelta
         (record { rules = kept_rules rules.old.items; facts = facts.now })
-        (record { rules = kept_rules rules.old.items ++ (id, branches_of branches.items) ∷ []; facts = facts.now })) }
+        (record {
+          rules = kept_rules rules.old.items ++
+              (id, branches_of branches.items) ∷ [];
+          facts = facts.now;
+        })) }
 {
     let setting = Setting {
         alloc,
@@ -208,7 +212,11 @@ pub(crate) fn drop_rule<T>(
     ensures keeping { OnOk result (IsKeeping facts.now rules.new.items) }
     ensures delta { IfOk result (IsDelta
         (record { rules = kept_rules rules.old.items; facts = facts.now })
-        (record { rules = filter (λ r. not (nat_eq id r.0)) (kept_rules rules.old.items); facts = facts.now })) }
+        (record {
+          rules = filter (λ r. not (nat_eq id r.0))
+              (kept_rules rules.old.items);
+          facts = facts.now;
+        })) }
 {
     let _count = facts.len();
     let setting = Setting {

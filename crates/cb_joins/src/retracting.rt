@@ -70,7 +70,7 @@ pub(crate) fn retract_matches(
     Ok(keys)
 }
 
-/// Keeps the matches that took the fact with this index not.
+/// Keeps the matches that didn't take the fact with this index.
 fn keep_others(matches: &mut Vec<Match>, ix: u64)
     ensures { matches.new.items ≡ filter (λ m. not (took_fact ix m.0.parts)) matches.old.items }
 {

@@ -1,7 +1,6 @@
 //! Rules, and what a change does to them.
-ghost use Rattle.std.specs.Prelude.{◌≡◌, ◌≤◌, ◌+◌, ◌++◌, All, IfOk, OnOk};
+ghost use Rattle.std.specs.Prelude.{◌≡◌, ◌≤◌, ◌+◌, ◌++◌, [], All, OnOk, if◌then◌else◌, nat_eq, not};
 ghost use Rattle.std.specs.List.{filter, flat_map};
-ghost use Rattle.std.specs.Prelude.{[], if◌then◌else◌, nat_eq, not};
 ghost use Rattle.cb_facts.specs.FactLists.{IsFactBase};
 ghost use Rattle.cb_joins.specs.Groups.{HasNoGroups, HaveNoGroups};
 ghost use Rattle.cb_joins.specs.Internal.Changes.{IsMade, fact_added, facts_before};
@@ -68,7 +67,8 @@ fn change_rule<T>(
     ensures stay { OnOk result (kept_rule rule.new ≡ kept_rule rule.old) }
     ensures rule { OnOk result (IsRule setting.now.facts.now rule.new) }
     ensures delta { OnOk result (Tells delta.old delta.new
-        (branch_keys rule.old.id 0 (kept_rule rule.old).1 (facts_before change.now setting.now.facts.now))
+        (branch_keys rule.old.id 0 (kept_rule rule.old).1
+        (facts_before change.now setting.now.facts.now))
         (branch_keys rule.old.id 0 (kept_rule rule.old).1 setting.now.facts.now)) }
     ensures probes { HaveNoGroups (kept_rule rule.old).1 → OnOk result
         (meter.new ≤ meter.old + branches_probes (fact_added change.now)
@@ -96,11 +96,13 @@ fn change_branches<T>(
 ) -> Result<(), NoMemory>
     requires base { IsFactBase setting.now.facts.now }
     requires made { IsMade change.now setting.now.facts.now }
-    requires branches { AreBranches rule (facts_before change.now setting.now.facts.now) branches.old }
+    requires branches { AreBranches rule
+        (facts_before change.now setting.now.facts.now) branches.old }
     ensures stay { OnOk result (kept_branches branches.new ≡ kept_branches branches.old) }
     ensures branches { OnOk result (AreBranches rule setting.now.facts.now branches.new) }
     ensures delta { OnOk result (Tells delta.old delta.new
-        (branch_keys rule 0 (kept_branches branches.old) (facts_before change.now setting.now.facts.now))
+        (branch_keys rule 0 (kept_branches branches.old)
+        (facts_before change.now setting.now.facts.now))
         (branch_keys rule 0 (kept_branches branches.old) setting.now.facts.now)) }
     ensures probes { HaveNoGroups (kept_branches branches.old) → OnOk result
         (meter.new ≤ meter.old + branches_probes (fact_added change.now)

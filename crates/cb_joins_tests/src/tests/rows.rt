@@ -1,0 +1,177 @@
+//! Stories that both matchers are told.
+use crate::tests::building::{Asked, Element, Field, Mark};
+use crate::tests::changing::{Change, Story, told};
+use cb_fit::Meter;
+use cb_forms::NoMemory;
+use cb_joins::Joins;
+use cb_rematch::Rematch;
+use std::alloc::Global;
+
+/// A story, and how many keys go and come in it.
+struct Row {
+    story: Story,
+    keys: usize,
+}
+
+const A_X: Asked = Asked {
+    relation: b'a',
+    fields: &[Field::Is(b'x')],
+};
+
+const B_X: Asked = Asked {
+    relation: b'b',
+    fields: &[Field::Is(b'x')],
+};
+
+const B_X_Y: Asked = Asked {
+    relation: b'b',
+    fields: &[Field::Is(b'x'), Field::Is(b'y')],
+};
+
+const A_NOT_X: Asked = Asked {
+    relation: b'a',
+    fields: &[Field::Differs(b'x')],
+};
+
+const L_REST: Asked = Asked {
+    relation: b'l',
+    fields: &[Field::Rest, Field::Number(1), Field::Rest],
+};
+
+const A_ANY: Asked = Asked {
+    relation: b'a',
+    fields: &[Field::Any],
+};
+
+const ROWS: [Row; 7] = [
+    // (a ?x) (b ?x): the second pattern first, and then a fact that nothing goes with
+    Row {
+        story: Story {
+            first: &[],
+            branches: &[&[Element::Pattern(A_X), Element::Pattern(B_X)]],
+            then: &[
+                Change::Assert(3, b'b', &[1]),
+                Change::Assert(4, b'a', &[1]),
+                Change::Assert(1, b'a', &[2]),
+                Change::Assert(2, b'b', &[2]),
+                Change::Retract(3),
+                Change::Retract(1),
+            ],
+        },
+        keys: 4,
+    },
+    // the same, with the facts there first
+    Row {
+        story: Story {
+            first: &[
+                Change::Assert(9, b'a', &[1]),
+                Change::Assert(2, b'a', &[2]),
+                Change::Assert(5, b'b', &[1]),
+                Change::Assert(4, b'b', &[2]),
+            ],
+            branches: &[&[Element::Pattern(A_X), Element::Pattern(B_X)]],
+            then: &[Change::DropRule],
+        },
+        keys: 4,
+    },
+    // (a ?x) (a ?x): one fact in both places
+    Row {
+        story: Story {
+            first: &[Change::Assert(2, b'a', &[7])],
+            branches: &[&[Element::Pattern(A_X), Element::Addressed(A_X)]],
+            then: &[
+                Change::Assert(1, b'a', &[8]),
+                Change::Retract(2),
+                Change::Restart,
+                Change::Assert(3, b'a', &[8]),
+            ],
+        },
+        keys: 4,
+    },
+    // (a ?x) (a ~?x): a new fact joins those that are there in both places
+    Row {
+        story: Story {
+            first: &[],
+            branches: &[&[Element::Pattern(A_X), Element::Pattern(A_NOT_X)]],
+            then: &[
+                Change::Assert(4, b'a', &[1]),
+                Change::Assert(2, b'a', &[2]),
+                Change::Assert(3, b'a', &[3]),
+                Change::Retract(2),
+            ],
+        },
+        keys: 10,
+    },
+    // (l $? 1 $?): a fact in several ways; and a branch of two patterns beside it
+    Row {
+        story: Story {
+            first: &[Change::Assert(1, b'b', &[5, 6])],
+            branches: &[
+                &[Element::Pattern(L_REST)],
+                &[Element::Pattern(A_ANY), Element::Pattern(B_X_Y)],
+            ],
+            then: &[
+                Change::Assert(6, b'l', &[1, 2, 1, 1]),
+                Change::Assert(5, b'a', &[9]),
+                Change::Retract(6),
+                Change::Retract(1),
+            ],
+        },
+        keys: 8,
+    },
+    // (a ?x) (not (b ?x))
+    Row {
+        story: Story {
+            first: &[Change::Assert(1, b'a', &[1])],
+            branches: &[&[Element::Pattern(A_X), Element::Group(false, &[B_X])]],
+            then: &[
+                Change::Assert(2, b'b', &[1]),
+                Change::Assert(3, b'a', &[2]),
+                Change::Retract(2),
+                Change::Restart,
+            ],
+        },
+        keys: 4,
+    },
+    // (exists (a ?x) (b ?x)) (a ?x), and a branch without groups
+    Row {
+        story: Story {
+            first: &[],
+            branches: &[
+                &[Element::Group(true, &[A_X, B_X]), Element::Pattern(A_X)],
+                &[Element::Pattern(B_X)],
+            ],
+            then: &[
+                Change::Assert(1, b'a', &[1]),
+                Change::Assert(2, b'a', &[2]),
+                Change::Assert(3, b'b', &[2]),
+                Change::DropRule,
+            ],
+        },
+        keys: 6,
+    },
+];
+
+fn is_told(alloc: Global, row: &Row) -> Result<bool, NoMemory> {
+    let mut meter = Meter::new(Mark);
+    let mut one = Joins::new(alloc);
+    let mut other = Rematch::new(alloc);
+    Ok(told(alloc, &mut one, &mut other, &row.story, &mut meter)? == Some(row.keys))
+}
+
+/// The first row that the two tell differently, or with another number of keys.
+fn wrong_row(alloc: Global) -> Result<Option<usize>, NoMemory> {
+    for (i, row) in ROWS.iter().enumerate() {
+        if !is_told(alloc, row)? {
+            return Ok(Some(i));
+        }
+    }
+    Ok(None)
+}
+
+#[test]
+fn both_matchers_tell_the_same(rt: HostRuntime) -> Result<(), NoMemory> {
+    let wrong = wrong_row(rt.alloc())?;
+    assert!(rt; wrong.is_none(), "{wrong:?}");
+    Ok(())
+}
