@@ -1,5 +1,5 @@
 -- The match with a key is among those of its branch alone.
-use Rattle.std.proofs.Common.{◌≡◌, ◌≢◌, ℕ, ◌+◌, ◌<◌, zero, suc, Bool, true, List, [], ◌∷◌, Option, None, Some, map, nat_eq, inl, inr, refl, sym, ◌∙◌, ap, ap₂, subst, arith, cond, length, get_or}
+use Rattle.std.proofs.Common.{◌≡◌, ◌≢◌, ℕ, ◌+◌, ◌<◌, zero, suc, Bool, false, true, List, [], ◌∷◌, ◌++◌, Option, None, Some, map, nat_eq, inl, inr, refl, sym, ◌∙◌, ap, ap₂, subst, arith, cond, length, get_or}
 use Rattle.std.proofs.lemmas.Bool.Decides.{Decides-eqb}
 use Rattle.std.specs.List.{All, flat_map, slice_get}
 use Rattle.std.specs.Map.{lookup}
@@ -51,6 +51,18 @@ not_in k [] e h i = i
 not_in k (x ∷ xs) e h (inl i) = let t : key_eq k x.0 ≡ true = (key_Decides k x.0).1 (ap (λ it. it.0) i) in let s : Some x.1 ≡ None = subst (λ b. looked x xs k b ≡ None) t h in cc
 not_in k (x ∷ xs) e h (inr i) =
     by_test (key_eq k x.0) (λ t. let s : Some x.1 ≡ None = subst (λ b. looked x xs k b ≡ None) t h in cc) (λ t. not_in k xs e (subst (λ b. looked x xs k b ≡ None) t h) i)
+
+-- the last of the matches: where it has another key, the match is among the others; where it has the key, it is the one
+pub last_other : (k : KeyValue) (xs : List Match) (x : Match) → key_eq k x.0 ≡ false → lookup (key_eq k) (xs ++ x ∷ []) ≡ lookup (key_eq k) xs
+last_other k [] x h = ap (looked x [] k) h
+last_other k (y ∷ ys) x h = ap (λ o. cond (key_eq k y.0) (Some y.1) o) (last_other k ys x h)
+
+pub last_found : (k : KeyValue) (xs : List Match) (x : Match) → Chain HaveOther (xs ++ x ∷ []) → key_eq k x.0 ≡ true → lookup (key_eq k) (xs ++ x ∷ []) ≡ Some x.1
+last_found k xs x once h = in_found k (xs ++ x ∷ []) x.1 once (in_right (k, x.1) xs (x ∷ []) (inl (ap (λ a. (a, x.1)) ((key_Decides k x.0).0 h))))
+
+pub own_first : (xs : List Match) (x : Match) → Chain HaveOther (xs ++ x ∷ []) → Chain HaveOther xs
+own_first [] x once = tt
+own_first (y ∷ ys) x once = (λ z i. once.0 z (in_left z ys (x ∷ []) i), own_first ys x once.1)
 
 by_answer : (P : Option Bindings → Type 0) (o : Option Bindings) → (o ≡ None → P None) → ((e : Bindings) → o ≡ Some e → P (Some e)) → P o
 by_answer P None none some = none refl
@@ -146,7 +158,7 @@ module _ {T : Type 0} where
     other_rules : (r : Rule T) (rs : List (Rule T)) → All (IsRule fs) (r ∷ rs) → All (IsRule fs) rs
     other_rules r rs are k d h = are (suc k) d (omega (arith, h))
 
-    kept_once : (k : KeyValue) (rules : List (Rule T)) → All (IsRule fs) rules → Chain HaveOther (kept_matches k.rule k.branch rules)
+    pub kept_once : (k : KeyValue) (rules : List (Rule T)) → All (IsRule fs) rules → Chain HaveOther (kept_matches k.rule k.branch rules)
     kept_once k [] are = tt
     kept_once k (r ∷ rs) are =
         by_test (nat_eq k.rule r.id)

@@ -24,10 +24,14 @@ use Rattle.cb_rules.specs.Elements.{Elements, element_of, elements}
 abbrev pub took_fact : ℕ → List PartValue → Bool
 took_fact ix ps = list_any (λ q. nat_eq ix q.index) ps
 
+-- no key twice
+abbrev pub HaveOwnKeys : List (KeyValue × Bindings) → Type 0
+HaveOwnKeys ms = Chain (λ (m : KeyValue × Bindings) (l : KeyValue × Bindings). m.0 ≢ l.0) ms
+
 -- these matches of a branch, in any order, none twice
 pub record AreMatches (rule n : ℕ) (es : Elements) (fs : IndexedFacts) (ms : List (KeyValue × Bindings)) : Type 0 where
   pub same : AreSame ms (map (keyed rule n) (matches_of es fs))
-  pub once : Chain (λ (m : KeyValue × Bindings) (l : KeyValue × Bindings). m.0 ≢ l.0) ms
+  pub once : HaveOwnKeys ms
 
 -- no number twice
 abbrev pub HaveOwnNumbers : Conditions → Type 0
