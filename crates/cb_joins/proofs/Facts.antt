@@ -1,5 +1,5 @@
 -- One fact more or less among those in rising order of their indices.
-use Rattle.std.proofs.Common.{◌≡◌, ◌≢◌, ℕ, ◌<◌, Bool, true, false, [], ◌∷◌, Option, None, Some, ◌⊎◌, inl, inr, refl, sym, ◌∙◌, ap, ap₂, subst, arith, cond}
+use Rattle.std.proofs.Common.{◌≡◌, ◌≢◌, ℕ, ◌<◌, ◌++◌, Bool, true, false, List, [], ◌∷◌, flat_map, Option, None, Some, ◌⊎◌, inl, inr, refl, sym, ◌∙◌, ap, ap₂, subst, arith, cond}
 use Rattle.std.proofs.lemmas.Bool.{cases_order, eq-eqb, eqb-true}
 use Rattle.std.specs.BTreeMap.{insert_entry, is_at}
 use Rattle.std.specs.Cmp.{nat_cmp_is, unsigned_tied}
@@ -125,6 +125,29 @@ module _ (ix : ℕ) (f : FactValue) where
   rising_without (e ∷ es) c =
       by_test (at e) (λ t. subst (λ b. IsRising (left e es b)) (sym t) c.1)
       (λ t. subst (λ b. IsRising (left e es b)) (sym t) (λ z h. c.0 z (left_in es z h), rising_without es c.1))
+
+-- what facts give, one after another, where this one gives nothing
+module _ {A : Type 0} (g : Fact → List A) (ix : ℕ) (f : FactValue) (none : g (ix, f) ≡ []) where
+  pub flat_with : (fs : IndexedFacts) → fact_at fs ix ≡ None → flat_map g (with_fact fs ix f) ≡ flat_map g fs
+  flat_with [] h = ap (λ xs. xs ++ []) none
+  flat_with (e ∷ es) h = elim (cases_order ix e.0) as (λ _. flat_map g (with_fact (e ∷ es) ix f) ≡ flat_map g (e ∷ es)) [
+    | inl same ↦ absurd (none_of_some e.1 (subst (λ o. looked ix e es o ≡ None) (sym (nat_cmp_is ix e.0 Equal same)) h))
+    | inr apart ↦ elim apart as (λ _. flat_map g (with_fact (e ∷ es) ix f) ≡ flat_map g (e ∷ es)) [
+      | inl less ↦ subst (λ o. flat_map g (put ix f e es o) ≡ flat_map g (e ∷ es)) (nat_cmp_is ix e.0 Less less) (ap (λ xs. xs ++ flat_map g (e ∷ es)) none)
+      | inr more ↦ subst (λ o. flat_map g (put ix f e es o) ≡ flat_map g (e ∷ es)) (nat_cmp_is ix e.0 Greater more)
+          (ap (λ xs. g e ++ xs) (flat_with es (subst (λ o. looked ix e es o ≡ None) (sym (nat_cmp_is ix e.0 Greater more)) h)))
+    ]
+  ]
+
+  pub flat_without : (fs : IndexedFacts) → fact_at fs ix ≡ Some f → flat_map g (without_fact fs ix) ≡ flat_map g fs
+  flat_without [] h = cc
+  flat_without (e ∷ es) h =
+      by_test (at ix f e)
+      (λ t. let value : Some e.1 ≡ Some f = subst (λ b. found ix f e es b ≡ Some f) t h in
+      let same : f ≡ e.1 = cc in
+      let is : (ix, f) ≡ e = ap₂ (λ (i : ℕ) (v : FactValue). (i, v)) (at_index ix f e t) same in
+      subst (λ b. flat_map g (left ix f e es b) ≡ flat_map g (e ∷ es)) (sym t) (sym (ap (λ xs. xs ++ flat_map g es) (ap g (sym is) ∙ none))))
+      (λ t. subst (λ b. flat_map g (left ix f e es b) ≡ flat_map g (e ∷ es)) (sym t) (ap (λ xs. g e ++ xs) (flat_without es (subst (λ b. found ix f e es b ≡ Some f) t h))))
 
 -- a fact more or less leads from one list to one other
 one_rising : (fs gs : IndexedFacts) → IsRising fs → IsRising gs → ((z : Fact) → In z fs → In z gs) → ((z : Fact) → In z gs → In z fs) → fs ≡ gs

@@ -16,3 +16,4 @@ mod Retracts
 mod Sorting
 mod Steps
 mod Turns
+pub mod Unasked

@@ -14,6 +14,7 @@ ghost use Rattle.cb_matches.specs.Networks.{keyed};
 ghost use Rattle.cb_partials.specs.Probes.{branch_probes};
 ghost use Rattle.cb_rules.specs.Elements.{element_of, elements};
 
+use crate::asking::ask_for;
 use crate::asserting::assert_nodes;
 use crate::fact_change::FactChange;
 use crate::filling::fill_nodes;
@@ -72,12 +73,13 @@ pub(crate) fn change_branch<T>(
 {
     match &branch.plan {
         Plan::Joined(_) => change_chain(setting, rule, number, branch, change, delta, meter),
-        Plan::Anew(elements) => match_anew(
+        Plan::Anew(elements) => change_anew(
             setting,
             rule,
             number,
             elements.as_slice(),
             &mut branch.matches,
+            change,
             delta,
             meter,
         ),
@@ -231,6 +233,32 @@ fn retract_joined<T>(
     keys.sort()?;
     delta.gone.append(&mut keys)?;
     Ok(())
+}
+
+/// Finds all matches of a branch with groups, unless none of its patterns is for the fact: then they are as they were.
+fn change_anew<T>(
+    setting: &Setting<'_>,
+    rule: u64,
+    number: u64,
+    branch: &[Ce<T>],
+    matches: &mut Vec<Match>,
+    change: &FactChange,
+    delta: &mut Delta,
+    meter: &mut Meter<T>,
+) -> Result<(), NoMemory>
+    requires made { IsMade change.now setting.now.facts.now }
+    requires matches { matches.old.items ≡ map (keyed rule number) (matches_of (elements
+        (map element_of branch.now)) (facts_before change.now setting.now.facts.now)) }
+    ensures matches { OnOk result (matches.new.items
+        ≡ map (keyed rule number) (matches_of (elements
+        (map element_of branch.now)) setting.now.facts.now)) }
+    ensures delta { OnOk result (Tells delta.old delta.new
+        (keys_of matches.old.items) (keys_of matches.new.items)) }
+{
+    if !ask_for(branch, change.relation()) {
+        return Ok(());
+    }
+    match_anew(setting, rule, number, branch, matches, delta, meter)
 }
 
 /// Finds all matches of a branch with groups, in place of those that there were.

@@ -1,4 +1,7 @@
 //! A change of the facts.
+ghost use Rattle.std.specs.Prelude.{◌≡◌};
+ghost use Rattle.cb_joins.specs.Internal.Changes.{fact_changed};
+
 use crate::indexed::Indexed;
 
 /// A change of the facts.
@@ -8,4 +11,15 @@ pub(crate) enum FactChange {
     Assert(Indexed),
     /// This fact is taken out.
     Retract(Indexed),
+}
+
+impl FactChange {
+    /// The relation of the fact.
+    pub(crate) fn relation(&self) -> &[u8]
+        ensures { result.now ≡ (fact_changed self.now).1.relation }
+    {
+        match self {
+            FactChange::Assert(one) | FactChange::Retract(one) => one.fact.relation(),
+        }
+    }
 }

@@ -3,11 +3,12 @@
 //! A branch without groups is a chain of nodes, one for each element. The node of a pattern keeps the facts that have the pattern's
 //! shape, and the partial matches before it. Where a fact is added, what comes at a node is joined with these facts, and what was
 //! there with the new fact. Where one is taken out, what took it goes, and no pattern is tested. A branch with groups is matched
-//! anew at each change.
+//! anew at each change of a fact that one of its patterns is for.
 //!
 //! `docs/ARCHITECTURE.md` says where it belongs.
 #![tactic(auto)]
 
+mod asking; // which facts elements ask for
 mod asserting; // a branch without groups, where a fact is added
 mod branch; // a branch, and what a change does to it
 mod changes; // what each call of the matcher does to its rules and facts

@@ -42,6 +42,11 @@ abbrev pub facts_before : FactChange → IndexedFacts → IndexedFacts
 facts_before (change.Assert f) fs = without_fact fs f.0
 facts_before (change.Retract f) fs = with_fact fs f.0 f.1
 
+-- the fact that the change adds or takes out
+abbrev pub fact_changed : FactChange → ℕ × FactValue
+fact_changed (change.Assert f) = f
+fact_changed (change.Retract f) = f
+
 -- the fact that the change adds, if it adds one
 abbrev pub fact_added : FactChange → Option FactValue
 fact_added (change.Assert f) = Some f.1

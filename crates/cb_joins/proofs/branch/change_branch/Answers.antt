@@ -20,11 +20,11 @@ returns-in-Anew-clause-delta g c =
     let fs : IndexedFacts = facts_before c.args.change.now fs' in
     let es : Elements = elements (map element_of c.in-Anew.elements.items) in
     let old = c.args.branch.now.matches.items in
-    let new = c.match_anew.new.matches.items in
+    let new = c.change_anew.new.matches.items in
     let was = subst (λ p. IsPlan r n fs old p) c.in-Anew.is c.requires.branch in
     let before = ap keys_of was.1 ∙ keys_keyed r n (matches_of es fs) in
-    subst (λ e. OnOk c.match_anew.result (Tells c.args.delta.now c.match_anew.new.delta (keys_in_branch r n e fs) (keys_in_branch r n e fs'))) (sym (ap plan_elements c.in-Anew.is))
-    (on_ok c.match_anew.result c.match_anew.ensures.matches c.match_anew.ensures.delta
+    subst (λ e. OnOk c.change_anew.result (Tells c.args.delta.now c.change_anew.new.delta (keys_in_branch r n e fs) (keys_in_branch r n e fs'))) (sym (ap plan_elements c.in-Anew.is))
+    (on_ok c.change_anew.result c.change_anew.ensures.matches c.change_anew.ensures.delta
     (λ is told.
     let after = ap keys_of (is ∙ ap (λ ces. map (keyed r n) (matches_of (elements (map element_of ces)) fs')) c.as_slice.ensures.value) ∙ keys_keyed r n (matches_of es fs') in
-    subst (λ ks. Tells c.args.delta.now c.match_anew.new.delta ks (keys_in_branch r n es fs')) before (subst (λ ks. Tells c.args.delta.now c.match_anew.new.delta (keys_of old) ks) after told)))
+    subst (λ ks. Tells c.args.delta.now c.change_anew.new.delta ks (keys_in_branch r n es fs')) before (subst (λ ks. Tells c.args.delta.now c.change_anew.new.delta (keys_of old) ks) after told)))
