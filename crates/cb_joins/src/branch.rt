@@ -14,7 +14,7 @@ ghost use Rattle.cb_matches.specs.Networks.{keyed};
 ghost use Rattle.cb_partials.specs.Probes.{branch_probes};
 ghost use Rattle.cb_rules.specs.Elements.{element_of, elements};
 
-use crate::asking::ask_for;
+use crate::asking::{ask_for, nodes_ask_for};
 use crate::asserting::assert_nodes;
 use crate::fact_change::FactChange;
 use crate::filling::fill_nodes;
@@ -127,7 +127,7 @@ fn change_chain<T>(
     }
 }
 
-/// The same, by what is kept for its elements.
+/// The same, by what is kept for its elements. Where none of its patterns is for the fact, all of it stays as it is.
 fn change_joined<T>(
     setting: &Setting<'_>,
     rule: u64,
@@ -156,6 +156,9 @@ fn change_joined<T>(
         (facts_before change.now setting.now.facts.now) setting.now.facts.now
         (elements (node_elements nodes.old))) }
 {
+    if !nodes_ask_for(nodes, change.relation()) {
+        return Ok(());
+    }
     match change {
         FactChange::Assert(one) => {
             assert_joined(setting, rule, number, nodes, matches, one, delta, meter)

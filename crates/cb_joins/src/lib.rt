@@ -3,7 +3,7 @@
 //! A branch without groups is a chain of nodes, one for each element. The node of a pattern keeps the facts that have the pattern's
 //! shape, and the partial matches before it. Where a fact is added, what comes at a node is joined with these facts, and what was
 //! there with the new fact. Where one is taken out, what took it goes, and no pattern is tested. A branch with groups is matched
-//! anew at each change of a fact that one of its patterns is for.
+//! anew. A branch of which no pattern is for the fact that changes stays as it is.
 //!
 //! `docs/ARCHITECTURE.md` says where it belongs.
 #![tactic(auto)]
