@@ -67,8 +67,8 @@ against_clips 'greatest common divisors, 5,000 of them, by three rules'
 cat >"$place/constructs" <<'END'
 (defrule pair (left ?x ?y) (right ?x ?z) => (assert (pair ?y ?z)))
 END
-awk 'BEGIN { for (i = 1; i <= 400; i++) printf "(assert (left %d l%d) (right %d r%d))\n", i, i, i, i; print "(run)" }' >"$place/commands"
-against_clips 'a join of 400 facts with 400'
+awk 'BEGIN { for (i = 1; i <= 2000; i++) printf "(assert (left %d l%d) (right %d r%d))\n", i, i, i, i; print "(run)" }' >"$place/commands"
+against_clips 'a join of 2,000 facts with 2,000'
 
 # The time of counting to so many.
 counting() {
