@@ -1,5 +1,6 @@
 -- What only the code needs.
 pub mod Changes
+pub mod Flat
 pub mod Keys
 pub mod Nodes
 pub mod Rules

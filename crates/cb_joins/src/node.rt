@@ -1,11 +1,10 @@
-//! What is kept for each element of a branch.
-use crate::indexed::Indexed;
+//! The elements of a branch as nodes, each of which goes on from lists of partial matches.
 use cb_exprs::Expr;
-use cb_facts::Name;
+use cb_facts::{Fact, Name};
 use cb_fit::Pattern;
-use cb_partials::Partial;
+use std::collections::BTreeMap;
 
-/// A pattern, and what is kept before it.
+/// A pattern, and the facts that could fit it.
 #[derive(Drop)]
 pub(crate) struct Place<T> {
     /// The variable of the `?f <-` before the pattern.
@@ -13,15 +12,22 @@ pub(crate) struct Place<T> {
     pub(crate) pattern: Pattern<T>,
     /// The pattern without its variables and expressions.
     pub(crate) loose: Pattern<T>,
-    /// The facts that have the pattern's shape, in any order.
-    pub(crate) candidates: Vec<Indexed>,
-    /// The partial matches before the pattern, in any order.
-    pub(crate) begun: Vec<Partial>,
+    /// The facts that have the pattern's shape, by their indices.
+    pub(crate) candidates: BTreeMap<u64, Fact>,
 }
 
-/// An element of a branch without groups.
+/// An element of a branch. List 0 is before the first element; the node at place k makes list k + 1 of the lists before it.
 #[derive(Drop)]
 pub(crate) enum Node<T> {
-    Pattern(Place<T>),
-    Test(Expr),
+    /// A pattern, joined with the partial matches of list `from`.
+    Pattern { from: usize, place: Place<T> },
+    /// A test of the partial matches of list `from`.
+    Test { from: usize, test: Expr },
+    /// A group, whose elements stand before it, and make list `inner` of list `from`. The partial matches of that have `width` parts.
+    Group {
+        from: usize,
+        inner: usize,
+        positive: bool,
+        width: usize,
+    },
 }
