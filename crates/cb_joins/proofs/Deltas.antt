@@ -4,7 +4,7 @@ use Rattle.std.proofs.lemmas.Bool.Decides.{Decides-eqb}
 use Rattle.std.specs.Bool.{Decides}
 use Rattle.std.specs.Cmp.Lexicographic.{pointwise, pointwise_decides}
 use Rattle.std.specs.List.{list_any}
-use Rattle.cb_joins.specs.Internal.Changes.{Change}
+use Rattle.cb_joins.specs.Internal.Changes.{PartialMoves}
 use Rattle.cb_joins.specs.Internal.Keys.{key_of}
 use Rattle.cb_matches.specs.Lemmas.Members.{AreSame, In}
 use Rattle.cb_partials.specs.Probes.{has_parts}
@@ -46,7 +46,7 @@ any_in eq decides z [] h = cc
 any_in eq decides z (x ∷ xs) h =
     by_test (eq z x) (λ t. inl ((decides z x).0 t)) (λ t. inr (any_in eq decides z xs (subst (λ b. (b || list_any (eq z) xs) ≡ true) t h)))
 
-or_second : (a b : Bool) → b ≡ true → (a || b) ≡ true
+pub or_second : (a b : Bool) → b ≡ true → (a || b) ≡ true
 or_second true b h = refl
 or_second false b h = h
 
@@ -56,9 +56,9 @@ in_any eq decides z (x ∷ xs) (inl e) = ap (λ b. b || list_any (eq z) xs) ((de
 in_any eq decides z (x ∷ xs) (inr h) = or_second (eq z x) (list_any (eq z) xs) (in_any eq decides z xs h)
 
 -- the keys of what comes are those that come
-pub come_members : (rule branch : ℕ) (old new kept gone come : List Partial) → Change old new kept gone come
+pub come_members : (rule branch : ℕ) (old new gone come : List Partial) → PartialMoves old new gone come
     → AreSame (map (key_of rule branch) come) (come_of (map (key_of rule branch) old) (map (key_of rule branch) new))
-come_members rule branch old new kept gone come c =
+come_members rule branch old new gone come c =
     let f = key_of rule branch in
     let is_new : KeyValue → Bool = λ k. not (list_any (key_eq k) (map f old)) in (
       λ k h. let m = in_map f k come h in
@@ -70,9 +70,9 @@ come_members rule branch old new kept gone come c =
           (λ t. ap not t)),
       λ k h. let i = in_filter is_new k (map f new) h in
           let m = in_map f k new i.0 in
-          elim (c.new_splits m.0 m.1) as (λ _. In k (map f come)) [
+          elim (c.came m.0 m.1) as (λ _. In k (map f come)) [
             | inl kept_in ↦ absurd (not_true (list_any (key_eq k) (map f old))
-                (in_any key_eq key_Decides k (map f old) (subst (λ it. In it (map f old)) (sym m.2) (map_in f old m.0 (c.kept_old m.0 kept_in)))) i.1)
+                (in_any key_eq key_Decides k (map f old) (subst (λ it. In it (map f old)) (sym m.2) (map_in f old m.0 kept_in))) i.1)
             | inr came ↦ subst (λ it. In it (map f come)) (sym m.2) (map_in f come m.0 came)
           ],
     )

@@ -17,13 +17,13 @@ use Rattle.cb_matches.specs.Lemmas.Lists.{by_test, chain_weaker, one_chain}
 use Rattle.cb_matches.specs.Lemmas.Members.{In}
 use Rattle.cb_matches.specs.Lemmas.Order.{IsRising}
 
-abbrev put : ℕ → FactValue → Fact → IndexedFacts → Ordering → IndexedFacts
+abbrev pub put : ℕ → FactValue → Fact → IndexedFacts → Ordering → IndexedFacts
 put ix f e es o = match_ordering o ((ix, f) ∷ e ∷ es) ((e.0, f) ∷ es) (e ∷ insert_entry nat_cmp es ix f)
 
-abbrev looked : ℕ → Fact → IndexedFacts → Ordering → Option FactValue
+abbrev pub looked : ℕ → Fact → IndexedFacts → Ordering → Option FactValue
 looked ix e es o = cond (is_eq o) (Some e.1) (lookup (is_at (nat_cmp ix)) es)
 
-none_of_some : (v : FactValue) → Some v ≡ None → ⊥
+pub none_of_some : (v : FactValue) → Some v ≡ None → ⊥
 none_of_some v h = cc
 
 pub added_fact : (fs : IndexedFacts) (ix : ℕ) (f : FactValue) → fact_at fs ix ≡ None → Added (ix, f) fs (with_fact fs ix f)
@@ -114,7 +114,7 @@ module _ (ix : ℕ) (f : FactValue) where
         absent = λ g i d. elim i as (λ _. ⊥) [ inl k ↦ at_other e t (ap (λ it. it.0) (sym k) ∙ d) | inr k ↦ rest.absent g k d ];
       }))
 
-  left_in : (fs : IndexedFacts) (z : Fact) → In z (without_fact fs ix) → In z fs
+  pub left_in : (fs : IndexedFacts) (z : Fact) → In z (without_fact fs ix) → In z fs
   left_in [] z h = h
   left_in (e ∷ es) z h =
       by_test (at e) (λ t. inr (subst (λ b. In z (left e es b)) t h))

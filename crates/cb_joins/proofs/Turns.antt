@@ -1,87 +1,151 @@
--- One turn of the loop over the elements of a branch, where a fact is added.
-use Rattle.std.proofs.Common.{◌≡◌, ◌≢◌, ℕ, ◌+◌, ◌<◌, ◌≤◌, List, drop, length, set, sym, ap, ap₂, subst, ◌∙◌, arith, Some, inl, inr, get_or, get_or-set_other, get_or-set_same}
+-- One turn of the loop over the nodes of a branch, where the facts change.
+use Rattle.std.proofs.Common.{◌≡◌, ◌≢◌, ℕ, suc, ◌+◌, ◌<◌, ◌≤◌, List, [], ◌∷◌, ◌++◌, Option, drop, length, set, sym, ap, subst, ◌∙◌, arith, inl, inr, get_or, get_or-set_other, get_or-set_same}
+use Rattle.std.proofs.Math.ListN.{length-set}
 use Rattle.std.proofs.Math.Seq.{map-set_same}
 use Rattle.std.proofs.lemmas.Bool.{cases_eq}
-use Rattle.std.proofs.lemmas.List.{get_or-map, length-map}
-use Rattle.cb_rules.specs.Elements.{Element, elements}
+use Rattle.std.proofs.lemmas.List.{drop_more, get_or-map, length-append, length-map}
+use Rattle.std.specs.BTreeSet.{BTreeSet}
 use Rattle.cb_facts.specs.FactLists.{IndexedFacts}
-use Rattle.cb_joins.specs.Internal.Changes.{Added, Comes}
-use Rattle.cb_joins.specs.Internal.Nodes.{HaveIndices, IsNodeAfter, IsNode, Shapeless, partials_before, node_element, node_elements, node_come, node_probes}
-use Rattle.cb_matches.specs.Lemmas.Order.{IsOnce, WaysRise}
-use Rattle.cb_partials.specs.Probes.{element_probes, probes}
+use Rattle.cb_facts.specs.Facts.{FactValue}
+use Rattle.cb_joins.proofs.Widths.{lists_are_once, lists_are_wide}
+use Rattle.cb_joins.specs.Internal.Changes.{Holds, IsMoved}
+use Rattle.cb_joins.specs.Internal.Flat.{AreLists, AreWidths, FlatNode, IsWell, flat_node, flat_nodes, flat_probes, flat_probes_of, grouping, joining, node_list, testing}
+use Rattle.cb_joins.specs.Internal.Nodes.{AreWhole, HaveIndices, HaveParts, IsReady, branch_lists}
+use Rattle.cb_joins.specs.Internal.Steps.{AreAround, HasWidth, IsStep, NamesListsBelow}
+use Rattle.cb_joins.specs.declared.moved.Moved.{Moved}
 use Rattle.cb_joins.specs.declared.node.Node.{Node}
-use Rattle.cb_joins.proofs.Asserts.{node_bound, node_comes, node_now, same_element}
-use Rattle.cb_joins.proofs.Branches.{before_more, once_before, probes_more}
-use Rattle.cb_matches.specs.Lemmas.Growth.{Fact}
-use Rattle.cb_matches.specs.Matches.{Partial, after}
+use Rattle.cb_matches.specs.Lemmas.Order.{IsOnce, WaysRise}
+use Rattle.cb_matches.specs.Matches.{Partial, no_parts}
 
--- the invariant after one more element
-pub record Now {T : Type 0} (f : Fact) (fs fs' : IndexedFacts) (es : List Element) (nodes : List (Node T)) (i : ℕ) (q : Node T) (found : List Partial) (m' bound : ℕ) : Type 0 where
-  pub stay_now : node_elements (set nodes i q) ≡ es
-  pub done_now : (k : ℕ) (d : Node T) → k < i + 1 → IsNode fs' (partials_before es fs' k) (get_or (set nodes i q) k d)
-  pub left_now : (k : ℕ) (d : Node T) → i + 1 ≤ k → k < length nodes → IsNode fs (partials_before es fs k) (get_or (set nodes i q) k d)
-  pub come_now : Comes (partials_before es fs (i + 1)) (partials_before es fs' (i + 1)) found
-  pub tests_now : m' + probes (Some f.1) fs fs' (elements (drop (i + 1) es)) (partials_before es fs (i + 1)) (partials_before es fs' (i + 1)) ≤ bound
+pub names_below : (k : ℕ) (n : FlatNode) (ws : ℕ → ℕ) → IsWell k n ws → NamesListsBelow (suc k) n
+names_below k (joining from x p) ws h = h
+names_below k (testing from t) ws h = h
+names_below k (grouping from inner positive width) ws h = (h.0, h.1)
 
-module _ {T : Type 0} (rise : WaysRise) (shapeless : Shapeless) (f : Fact) (fs fs' : IndexedFacts) (added : Added f fs fs') (indices : HaveIndices fs')
-    (es : List Element) (nodes : List (Node T)) (i : ℕ) (n q : Node T) (come found : List Partial) (m m' bound : ℕ)
-    (l : i < length nodes) (is : n ≡ get_or nodes i n)
-    (stay : node_elements nodes ≡ es)
-    (done : (k : ℕ) (d : Node T) → k < i → IsNode fs' (partials_before es fs' k) (get_or nodes k d))
-    (left : (k : ℕ) (d : Node T) → i ≤ k → k < length nodes → IsNode fs (partials_before es fs k) (get_or nodes k d))
-    (comes : Comes (partials_before es fs i) (partials_before es fs' i) come)
-    (tests : m + probes (Some f.1) fs fs' (elements (drop i es)) (partials_before es fs i) (partials_before es fs' i) ≤ bound)
-    (after_it : IsNodeAfter n f come q) (found_is : found ≡ node_come n f come) (more : m' ≤ m + node_probes n f come)
+has_width : (k : ℕ) (n : FlatNode) (ws : ℕ → ℕ) → IsWell k n ws → HasWidth ws n
+has_width k (joining from x p) ws h = tt
+has_width k (testing from t) ws h = tt
+has_width k (grouping from inner positive width) ws h = h.2
+
+-- one more at the end of a list
+before_end : {A : Type 0} (xs : List A) (x : A) (k : ℕ) (d : A) → k < length xs → get_or (xs ++ x ∷ []) k d ≡ get_or xs k d
+before_end [] x k d h = absurd (omega (arith, h))
+before_end (y ∷ ys) x 0 d h = refl
+before_end (y ∷ ys) x (suc k) d h = before_end ys x k d (omega (arith, h))
+
+at_end : {A : Type 0} (xs : List A) (x : A) (d : A) → get_or (xs ++ x ∷ []) (length xs) d ≡ x
+at_end [] x d = refl
+at_end (y ∷ ys) x d = at_end ys x d
+
+module _ {T : Type 0} (rise : WaysRise) (fs fs' : IndexedFacts) (indices : HaveIndices fs) (indices' : HaveIndices fs') (ns : List FlatNode) (whole : AreWhole ns)
+    (nodes : List (Node T)) (lists : List (BTreeSet Partial)) (all : List Moved) (i : ℕ) (n : Node T)
+    (l : i < length nodes) (is : n ≡ get_or nodes i n) (stay : flat_nodes nodes ≡ ns)
+    (lists_long : length lists ≡ suc (length ns)) (all_long : length all ≡ suc i)
+    (left : (k : ℕ) (d : Node T) → i ≤ k → k < length nodes → IsReady fs (get_or nodes k d))
+    (lists_done : (k : ℕ) (d : BTreeSet Partial) → k < suc i → Holds (get_or lists k d).keys (branch_lists ns fs' k))
+    (lists_left : (k : ℕ) (d : BTreeSet Partial) → i < k → k < suc (length ns) → Holds (get_or lists k d).keys (branch_lists ns fs k))
+    (moves : (k : ℕ) (d : Moved) → k < suc i → IsMoved (branch_lists ns fs k) (branch_lists ns fs' k) (get_or all k d))
   where
-    e_is : (d : Element) → get_or es i d ≡ node_element n
-    e_is d = ap (λ it. get_or it i d) (sym stay) ∙ (get_or-map node_element nodes i n d l ∙ ap node_element (sym is))
+  abbrev old : ℕ → List Partial
+  old = branch_lists ns fs
 
-    within : i < length es
-    within = let long : length es ≡ length nodes = ap length (sym stay) ∙ length-map nodes node_element in omega (arith, long, l)
+  abbrev new : ℕ → List Partial
+  new = branch_lists ns fs'
 
-    kept : IsNode fs (partials_before es fs i) n
-    kept = subst (λ it. IsNode fs (partials_before es fs i) it) (sym is) (left i n (omega (arith)) l)
+  abbrev ws : ℕ → ℕ
+  ws = whole.widths.0
 
-    new_once : IsOnce (partials_before es fs' i)
-    new_once = once_before rise es fs' i indices
+  wide : AreWidths ns ws
+  wide = whole.widths.1
 
-    next_is : (gs : IndexedFacts) → after (node_element n) gs (partials_before es gs i) ≡ partials_before es gs (i + 1)
-    next_is gs = sym (before_more es gs i (node_element n) within ∙ ap (λ it. after it gs (partials_before es gs i)) (e_is (node_element n)))
+  start_wide : HaveParts 0 (no_parts ∷ [])
+  start_wide z (inl e) = ap (λ it. length it.parts) e
+  start_wide z (inr h) = absurd h
 
-    kept_now : IsNode fs' (partials_before es fs' i) q
-    kept_now = node_now rise shapeless f fs fs' (partials_before es fs i) (partials_before es fs' i) come added indices comes new_once n q kept after_it
+  pub within : i < length ns
+  within = let long : length ns ≡ length nodes = ap length (sym stay) ∙ length-map nodes flat_node in omega (arith, long, l)
 
-    stays : node_elements (set nodes i q) ≡ es
-    stays = map-set_same node_element nodes i q n (same_element rise shapeless f fs fs' (partials_before es fs i) (partials_before es fs' i) come added indices comes new_once n q after_it ∙ ap node_element is) ∙ stay
+  node_is : (d : FlatNode) → get_or ns i d ≡ flat_node n
+  node_is d = ap (λ it. get_or it i d) (sym stay) ∙ (get_or-map flat_node nodes i n d l ∙ ap flat_node (sym is))
 
-    now_done : (k : ℕ) (d : Node T) → k < i + 1 → IsNode fs' (partials_before es fs' k) (get_or (set nodes i q) k d)
-    now_done k d h =
-        elim (cases_eq k i) as (λ _. IsNode fs' (partials_before es fs' k) (get_or (set nodes i q) k d)) [
-          | inl e ↦ subst (λ j. IsNode fs' (partials_before es fs' j) (get_or (set nodes i q) j d)) (sym e) (subst (λ it. IsNode fs' (partials_before es fs' i) it) (sym (get_or-set_same nodes i q d l)) kept_now)
-          | inr ne ↦ subst (λ it. IsNode fs' (partials_before es fs' k) it) (sym (get_or-set_other nodes i k q d ne)) (done k d (omega (arith, h, ne)))
+  well : IsWell i (flat_node n) ws
+  well = subst (λ it. IsWell i it ws) (node_is (flat_node n)) (wide.well i (flat_node n) within)
+
+  pub below : NamesListsBelow (length all) (flat_node n)
+  below = subst (λ it. NamesListsBelow it (flat_node n)) (sym all_long) (names_below i (flat_node n) ws well)
+
+  next_is : (gs : IndexedFacts) → branch_lists ns gs (suc i) ≡ node_list (flat_node n) gs (branch_lists ns gs)
+  next_is gs = (whole.lists gs (no_parts ∷ [])).each i (flat_node n) within ∙ ap (λ it. node_list it gs (branch_lists ns gs)) (node_is (flat_node n))
+
+  -- before the node is changed
+  pub around : (own : BTreeSet Partial) (none : BTreeSet Partial) → own ≡ get_or lists (suc i) own → AreAround ws fs old new (set lists (suc i) none) all n own.keys
+  around own none own_is = record {
+    wide = λ k h. let j : k < suc (length ns) = (let w = within in omega (arith, h, all_long, w)) in (lists_are_wide ns fs (no_parts ∷ []) old ws wide (whole.lists fs (no_parts ∷ [])) start_wide k j, lists_are_wide ns fs' (no_parts ∷ []) new ws wide (whole.lists fs' (no_parts ∷ [])) start_wide k j);
+    once = λ k h. let j : k < suc (length ns) = (let w = within in omega (arith, h, all_long, w)) in lists_are_once rise ns fs' (no_parts ∷ []) new ws indices' wide (whole.lists fs' (no_parts ∷ [])) (λ z h. absurd h, tt) k j;
+    width = has_width i (flat_node n) ws well;
+    ready = subst (IsReady fs) (sym is) (left i n (omega (arith)) l);
+    lists = λ k d h. let ne : k ≢ suc i = omega (arith, h, all_long) in
+        subst (λ it. Holds it.keys (new k)) (sym (get_or-set_other lists k (suc i) none d ne)) (lists_done k d (omega (arith, h, all_long)));
+    moved = λ k d h. moves k d (omega (arith, h, all_long));
+    own = subst (Holds own.keys) (next_is fs) (subst (λ it. Holds it.keys (old (suc i))) (sym own_is) (lists_left (suc i) own (omega (arith)) (let w = within in omega (arith, w))));
+  }
+
+  -- after it
+  module _ (q : Node T) (own' none : BTreeSet Partial) (r : Moved) (same : flat_node q ≡ flat_node n) (step : IsStep fs fs' old new q own'.keys r)
+      (done : (k : ℕ) (d : Node T) → k < i → IsReady fs' (get_or nodes k d)) where
+    abbrev lists' : List (BTreeSet Partial)
+    lists' = set (set lists (suc i) none) (suc i) own'
+
+    pub stay_now : flat_nodes (set nodes i q) ≡ ns
+    stay_now = map-set_same flat_node nodes i q n (same ∙ ap flat_node is) ∙ stay
+
+    pub done_now : (k : ℕ) (d : Node T) → k < i + 1 → IsReady fs' (get_or (set nodes i q) k d)
+    done_now k d h =
+        elim (cases_eq k i) as (λ _. IsReady fs' (get_or (set nodes i q) k d)) [
+          | inl e ↦ subst (λ j. IsReady fs' (get_or (set nodes i q) j d)) (sym e) (subst (IsReady fs') (sym (get_or-set_same nodes i q d l)) step.ready)
+          | inr ne ↦ subst (IsReady fs') (sym (get_or-set_other nodes i k q d ne)) (done k d (omega (arith, h, ne)))
         ]
 
-    now_left : (k : ℕ) (d : Node T) → i + 1 ≤ k → k < length nodes → IsNode fs (partials_before es fs k) (get_or (set nodes i q) k d)
-    now_left k d h j = let ne : k ≢ i = omega (arith, h) in subst (λ it. IsNode fs (partials_before es fs k) it) (sym (get_or-set_other nodes i k q d ne)) (left k d (omega (arith, h)) j)
+    pub left_now : (k : ℕ) (d : Node T) → i + 1 ≤ k → k < length nodes → IsReady fs (get_or (set nodes i q) k d)
+    left_now k d h j = let ne : k ≢ i = omega (arith, h) in subst (IsReady fs) (sym (get_or-set_other nodes i k q d ne)) (left k d (omega (arith, h)) j)
 
-    now_comes : Comes (partials_before es fs (i + 1)) (partials_before es fs' (i + 1)) found
-    now_comes =
-        subst (λ it. Comes (partials_before es fs (i + 1)) (partials_before es fs' (i + 1)) it) (sym found_is)
-        (subst (λ it. Comes it (partials_before es fs' (i + 1)) (node_come n f come)) (next_is fs)
-        (subst (λ it. Comes (after (node_element n) fs (partials_before es fs i)) it (node_come n f come)) (next_is fs')
-        (node_comes rise shapeless f fs fs' (partials_before es fs i) (partials_before es fs' i) come added indices comes new_once n kept)))
+    mid_long : length (set lists (suc i) none) ≡ suc (length ns)
+    mid_long = length-set lists (suc i) none ∙ lists_long
 
-    now_tests : m' + probes (Some f.1) fs fs' (elements (drop (i + 1) es)) (partials_before es fs (i + 1)) (partials_before es fs' (i + 1)) ≤ bound
-    now_tests =
-        let split : probes (Some f.1) fs fs' (elements (drop i es)) (partials_before es fs i) (partials_before es fs' i)
-        ≡ element_probes (Some f.1) fs fs' (node_element n) (partials_before es fs i) (partials_before es fs' i) + probes (Some f.1) fs fs' (elements (drop (i + 1) es)) (partials_before es fs (i + 1)) (partials_before es fs' (i + 1)) =
-        probes_more f fs fs' es i (node_element n) (partials_before es fs i) (partials_before es fs' i) within
-        ∙ (ap (λ it. element_probes (Some f.1) fs fs' it (partials_before es fs i) (partials_before es fs' i)
-        + probes (Some f.1) fs fs' (elements (drop (i + 1) es)) (after it fs (partials_before es fs i)) (after it fs' (partials_before es fs' i))) (e_is (node_element n))
-        ∙ ap₂ (λ a b. element_probes (Some f.1) fs fs' (node_element n) (partials_before es fs i) (partials_before es fs' i) + probes (Some f.1) fs fs' (elements (drop (i + 1) es)) a b) (next_is fs) (next_is fs')) in
-        let own : node_probes n f come ≡ element_probes (Some f.1) fs fs' (node_element n) (partials_before es fs i) (partials_before es fs' i) =
-        node_bound rise shapeless f fs fs' (partials_before es fs i) (partials_before es fs' i) come added indices comes new_once n kept in
-        omega (arith, tests, split, own, more)
+    other_list : (k : ℕ) (d : BTreeSet Partial) → k ≢ suc i → get_or lists' k d ≡ get_or lists k d
+    other_list k d ne = get_or-set_other (set lists (suc i) none) k (suc i) own' d ne ∙ get_or-set_other lists k (suc i) none d ne
 
-    pub turn : Now f fs fs' es nodes i q found m' bound
-    turn = record { stay_now = stays; done_now = now_done; left_now = now_left; come_now = now_comes; tests_now = now_tests }
+    pub lists_long_now : length lists' ≡ suc (length ns)
+    lists_long_now = length-set (set lists (suc i) none) (suc i) own' ∙ mid_long
+
+    pub lists_done_now : (k : ℕ) (d : BTreeSet Partial) → k < suc (i + 1) → Holds (get_or lists' k d).keys (new k)
+    lists_done_now k d h =
+        elim (cases_eq k (suc i)) as (λ _. Holds (get_or lists' k d).keys (new k)) [
+          | inl e ↦ subst (λ j. Holds (get_or lists' j d).keys (new j)) (sym e)
+              (subst (λ it. Holds it.keys (new (suc i))) (sym (get_or-set_same (set lists (suc i) none) (suc i) own' d (let w = within in let m = mid_long in omega (arith, w, m))))
+              (subst (Holds own'.keys) (sym (next_is fs' ∙ ap (λ it. node_list it fs' new) (sym same))) step.own))
+          | inr ne ↦ subst (λ it. Holds it.keys (new k)) (sym (other_list k d ne)) (lists_done k d (omega (arith, h, ne)))
+        ]
+
+    pub lists_left_now : (k : ℕ) (d : BTreeSet Partial) → i + 1 < k → k < suc (length ns) → Holds (get_or lists' k d).keys (old k)
+    lists_left_now k d h j = let ne : k ≢ suc i = omega (arith, h) in subst (λ it. Holds it.keys (old k)) (sym (other_list k d ne)) (lists_left k d (omega (arith, h)) j)
+
+    pub all_long_now : length (all ++ r ∷ []) ≡ suc (i + 1)
+    all_long_now = length-append all (r ∷ []) ∙ (let a = all_long in omega (arith, a))
+
+    pub moves_now : (k : ℕ) (d : Moved) → k < suc (i + 1) → IsMoved (old k) (new k) (get_or (all ++ r ∷ []) k d)
+    moves_now k d h =
+        elim (cases_eq k (suc i)) as (λ _. IsMoved (old k) (new k) (get_or (all ++ r ∷ []) k d)) [
+          | inl e ↦ subst (λ j. IsMoved (old j) (new j) (get_or (all ++ r ∷ []) j d)) (sym e)
+              (subst (IsMoved (old (suc i)) (new (suc i))) (sym (ap (λ j. get_or (all ++ r ∷ []) j d) (sym all_long) ∙ at_end all r d))
+              (subst (λ it. IsMoved it (new (suc i)) r) (sym (next_is fs ∙ ap (λ it. node_list it fs old) (sym same)))
+              (subst (λ it. IsMoved (node_list (flat_node q) fs old) it r) (sym (next_is fs' ∙ ap (λ it. node_list it fs' new) (sym same))) step.moved)))
+          | inr ne ↦ subst (IsMoved (old k) (new k)) (sym (before_end all r k d (let a = all_long in omega (arith, h, ne, a)))) (moves k d (omega (arith, h, ne)))
+        ]
+
+    pub tests_now : (added : Option FactValue) (t t' bound : ℕ) → t + flat_probes added fs' old new (drop i ns) ≤ bound → t' ≤ t + flat_probes_of added fs' old new (flat_node n)
+        → t' + flat_probes added fs' old new (drop (i + 1) ns) ≤ bound
+    tests_now added t t' bound h more =
+        let split : flat_probes added fs' old new (drop i ns) ≡ flat_probes_of added fs' old new (flat_node n) + flat_probes added fs' old new (drop (i + 1) ns) =
+        ap (flat_probes added fs' old new) (drop_more ns i (flat_node n) within) ∙ ap (λ it. flat_probes_of added fs' old new it + flat_probes added fs' old new (drop (i + 1) ns)) (node_is (flat_node n)) in
+        omega (arith, h, split, more)

@@ -2,5 +2,6 @@
 pub mod Changes
 pub mod Flat
 pub mod Keys
+pub mod Memories
 pub mod Nodes
-pub mod Rules
+pub mod Steps

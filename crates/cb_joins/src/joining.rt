@@ -1,5 +1,5 @@
 //! Partial matches joined with facts.
-ghost use Rattle.std.specs.Prelude.{◌≡◌, ◌≤◌, ◌+◌, ◌*◌, ◌++◌, IfOk, OnOk, flat_map, length};
+ghost use Rattle.std.specs.Prelude.{◌≡◌, ◌≤◌, ◌+◌, ◌*◌, ◌++◌, ◌∷◌, [], IfOk, OnOk, flat_map, length};
 ghost use Rattle.cb_exprs.specs.Bindings.{no_bindings};
 ghost use Rattle.cb_fit.specs.Shapes.{has_way};
 ghost use Rattle.cb_fit.specs.Ways.{ways};
@@ -11,20 +11,21 @@ use cb_facts::{Fact, Name};
 use cb_fit::{Meter, Pattern, fit};
 use cb_forms::NoMemory;
 use cb_partials::{Partial, Setting, extend};
+use std::collections::{BTreeMap, BTreeSet};
 
 /// Adds each of these partial matches with each of these facts.
 pub(crate) fn join<T>(
     setting: &Setting<'_>,
     address: &Option<Name>,
     pattern: &Pattern<T>,
-    facts: &[Indexed],
+    facts: &BTreeMap<u64, Fact>,
     partials: &[Partial],
     found: &mut Vec<Partial>,
     meter: &mut Meter<T>,
 ) -> Result<(), NoMemory>
     ensures found { OnOk result (found.new.items
-        ≡ found.old.items ++ next address.now pattern.now facts.now partials.now) }
-    ensures probes { meter.new ≤ meter.old + length partials.now * length facts.now }
+        ≡ found.old.items ++ next address.now pattern.now facts.now.entries partials.now) }
+    ensures probes { meter.new ≤ meter.old + length partials.now * length facts.now.entries }
 {
     for partial in partials {
         join_one(setting, address, pattern, facts, partial, found, meter)?;
@@ -37,16 +38,38 @@ fn join_one<T>(
     setting: &Setting<'_>,
     address: &Option<Name>,
     pattern: &Pattern<T>,
-    facts: &[Indexed],
+    facts: &BTreeMap<u64, Fact>,
     partial: &Partial,
     found: &mut Vec<Partial>,
     meter: &mut Meter<T>,
 ) -> Result<(), NoMemory>
     ensures found { OnOk result (found.new.items ≡ found.old.items
-        ++ flat_map (extended address.now pattern.now partial.now) facts.now) }
-    ensures probes { meter.new ≤ meter.old + length facts.now }
+        ++ flat_map (extended address.now pattern.now partial.now) facts.now.entries) }
+    ensures probes { meter.new ≤ meter.old + length facts.now.entries }
 {
-    for one in facts {
+    for (ix, fact) in facts.iter() {
+        extend(
+            setting, address, pattern, partial, *ix, fact, found, meter,
+        )?;
+    }
+    Ok(())
+}
+
+/// Adds each partial match of a list with one fact.
+pub(crate) fn join_fact<T>(
+    setting: &Setting<'_>,
+    address: &Option<Name>,
+    pattern: &Pattern<T>,
+    one: &Indexed,
+    list: &BTreeSet<Partial>,
+    found: &mut Vec<Partial>,
+    meter: &mut Meter<T>,
+) -> Result<(), NoMemory>
+    ensures found { OnOk result (found.new.items
+        ≡ found.old.items ++ next address.now pattern.now (one.now ∷ []) list.now.keys) }
+    ensures probes { meter.new ≤ meter.old + length list.now.keys }
+{
+    for partial in list.iter() {
         extend(
             setting, address, pattern, partial, one.ix, &one.fact, found, meter,
         )?;

@@ -8,20 +8,14 @@
 //! `docs/ARCHITECTURE.md` says where it belongs.
 #![tactic(auto)]
 
-mod asking; // which facts elements ask for
-mod asserting; // a branch without groups, where a fact is added
-mod branch; // a branch, and what a change does to it
-mod changes; // what each call of the matcher does to its rules and facts
 mod fact_change; // a change of the facts
-mod filling; // what is kept for a branch, found over all facts
-mod finding; // the match with a key
+mod group; // a test or a group, and what a change does behind it
 mod indexed; // a fact and its index
 mod joining; // partial matches joined with facts
-mod joins; // the matcher
-mod keeping; // partial matches at the end of a branch, kept as its matches
-mod node; // what is kept for an element
+mod memory; // lists of partial matches, kept in the order of their parts
+mod moved; // what one change does to a list of partial matches
+mod node; // the elements of a branch as nodes
+mod nodes; // the nodes of a branch, and what a change does to their lists
+mod place; // a pattern, and what a change does at it
 mod planning; // what is to be kept for a branch, by its elements
-mod retracting; // a branch without groups, where a fact is taken out
-mod rules; // rules, and what a change does to them
-
-pub use joins::Joins;
+mod taking; // what is taken out of a list, and what is added to it

@@ -1,101 +1,126 @@
 //! What is to be kept for a branch, by its elements.
-ghost use Rattle.std.specs.Prelude.{◌≡◌, All, IfOk, false, map};
-ghost use Rattle.cb_joins.specs.Groups.{has_group, is_group};
-ghost use Rattle.cb_joins.specs.Internal.Nodes.{IsLooseToo, node_element, node_elements};
-ghost use Rattle.cb_joins.specs.Internal.Rules.{CanBeFilled, kept_branches, plan_elements};
-ghost use Rattle.cb_rules.specs.Elements.{branches_of, element_of, elements};
+ghost use Rattle.std.specs.Prelude.{◌≡◌, ◌≤◌, ◌+◌, ◌++◌, All, IfOk, OnOk, length, map};
+ghost use Rattle.cb_fit.specs.Shapes.{loose};
+ghost use Rattle.cb_joins.specs.Internal.Flat.{IsLooseToo, branch_last, branch_nodes, flat_all, flat_node, flat_nodes, flat_one, joining, last_list, parts_of};
+ghost use Rattle.cb_rules.specs.Elements.{element_of, elements};
 
-use crate::branch::{Branch, Plan};
 use crate::node::{Node, Place};
+use cb_facts::Name;
+use cb_fit::Pattern;
 use cb_forms::NoMemory;
 use cb_rules::Ce;
 use std::alloc::Global;
+use std::collections::BTreeMap;
 
-/// Branches of these elements, before anything is found for them.
-pub(crate) fn plan_branches<T>(
-    alloc: Global,
-    branches: Vec<Vec<Ce<T>>>,
-) -> Result<Vec<Branch<T>>, NoMemory>
-    ensures elements { IfOk result (λ all. kept_branches all.items ≡ branches_of branches.items) }
-    ensures plans { IfOk result (λ all. All (λ b. CanBeFilled b.plan) all.items) }
-{
-    let mut all = Vec::new(alloc);
-    for branch in branches {
-        let plan = plan_branch(alloc, branch)?;
-        all.push(Branch {
-            plan,
-            matches: Vec::new(alloc),
-        })?;
-    }
-    Ok(all)
+/// The elements of a branch as nodes.
+#[derive(Drop)]
+pub(crate) struct Plan<T> {
+    /// The nodes, each behind those that it goes on from.
+    pub(crate) nodes: Vec<Node<T>>,
+    /// The number of the list at the end of the branch.
+    pub(crate) last: usize,
 }
 
-/// What is to be kept for a branch of these elements, before it is found.
-fn plan_branch<T>(alloc: Global, branch: Vec<Ce<T>>) -> Result<Plan<T>, NoMemory>
-    ensures elements { IfOk result
-        (λ plan. plan_elements plan ≡ elements (map element_of branch.items)) }
-    ensures plan { IfOk result CanBeFilled }
-{
-    if has_group(branch.as_slice()) {
-        return Ok(Plan::Anew(branch));
-    }
-    Ok(Plan::Joined(make_nodes(alloc, branch)?))
-}
-
-/// Whether one of these elements is a group.
-fn has_group<T>(branch: &[Ce<T>]) -> bool
-    ensures { result ≡ has_group (elements (map element_of branch.now)) }
-{
-    for element in branch {
-        if is_group(element) {
-            return true;
-        }
-    }
-    false
-}
-
-/// Whether an element is a group.
-fn is_group<T>(element: &Ce<T>) -> bool
-    ensures { result ≡ is_group (element_of element.now) }
-{
-    match element {
-        Ce::Pattern { .. } | Ce::Test(_) => false,
-        Ce::Group { .. } => true,
-    }
-}
-
-/// What is to be kept for elements of which none is a group.
-fn make_nodes<T>(alloc: Global, branch: Vec<Ce<T>>) -> Result<Vec<Node<T>>, NoMemory>
-    requires { has_group (elements (map element_of branch.items)) ≡ false }
-    ensures elements { IfOk result
-        (λ nodes. node_elements nodes.items ≡ map element_of branch.items) }
-    ensures loose { IfOk result (λ nodes. All IsLooseToo nodes.items) }
+/// What is to be kept for a branch of these elements, before anything is found.
+pub(crate) fn plan_nodes<T>(alloc: Global, branch: Vec<Ce<T>>) -> Result<Plan<T>, NoMemory>
+    ensures nodes { IfOk result (λ plan. flat_nodes plan.nodes.items
+        ≡ branch_nodes (elements (map element_of branch.items))) }
+    ensures last { IfOk result
+        (λ plan. plan.last ≡ branch_last (elements (map element_of branch.items))) }
+    ensures loose { IfOk result (λ plan. All IsLooseToo plan.nodes.items) }
 {
     let mut nodes = Vec::new(alloc);
-    for element in branch {
-        nodes.push(make_node(alloc, element)?)?;
-    }
-    Ok(nodes)
+    let last = add_nodes(alloc, branch, 0, 0, &mut nodes)?;
+    Ok(Plan { nodes, last })
 }
 
-/// The same of one element.
-fn make_node<T>(alloc: Global, element: Ce<T>) -> Result<Node<T>, NoMemory>
-    requires { is_group (element_of element) ≡ false }
-    ensures element { IfOk result (λ node. node_element node ≡ element_of element) }
-    ensures loose { IfOk result IsLooseToo }
+/// Adds the nodes of elements that go on from list `from`, whose partial matches have `width` parts. The answer is the number of the
+/// list behind them.
+///
+/// It calls itself as deep as groups are nested.
+#[cycle(planning)]
+fn add_nodes<T>(
+    alloc: Global,
+    branch: Vec<Ce<T>>,
+    from: usize,
+    width: usize,
+    nodes: &mut Vec<Node<T>>,
+) -> Result<usize, NoMemory>
+    requires width { width ≤ length nodes.old.items }
+    requires before { All IsLooseToo nodes.old.items }
+    ensures nodes { OnOk result (flat_nodes nodes.new.items ≡ flat_nodes nodes.old.items
+        ++ flat_all (elements (map element_of branch.items)) from (length nodes.old.items + 1)
+        width) }
+    ensures last { IfOk result (λ last. last
+        ≡ last_list (elements (map element_of branch.items)) from (length nodes.old.items + 1)) }
+    ensures loose { OnOk result (All IsLooseToo nodes.new.items) }
+{
+    let mut last = from;
+    let mut parts = width;
+    for element in branch {
+        parts = add_node(alloc, element, last, parts, nodes)?;
+        last = nodes.len();
+    }
+    Ok(last)
+}
+
+/// The same of one element. The answer is how many parts the partial matches behind it have.
+#[cycle(planning)]
+fn add_node<T>(
+    alloc: Global,
+    element: Ce<T>,
+    from: usize,
+    width: usize,
+    nodes: &mut Vec<Node<T>>,
+) -> Result<usize, NoMemory>
+    requires width { width ≤ length nodes.old.items }
+    requires before { All IsLooseToo nodes.old.items }
+    ensures nodes { OnOk result (flat_nodes nodes.new.items ≡ flat_nodes nodes.old.items
+        ++ flat_one (element_of element) from (length nodes.old.items + 1) width) }
+    ensures width { IfOk result (λ wider. wider ≡ width + parts_of (element_of element)) }
+    ensures loose { OnOk result (All IsLooseToo nodes.new.items) }
 {
     match element {
         Ce::Pattern { address, pattern } => {
-            let loose = pattern.loose(alloc)?;
-            Ok(Node::Pattern(Place {
-                address,
-                pattern,
-                loose,
-                candidates: Vec::new(alloc),
-                begun: Vec::new(alloc),
-            }))
+            let node = pattern_node(alloc, from, address, pattern)?;
+            nodes.push(node)?;
+            Ok(width + 1)
         }
-        Ce::Test(test) => Ok(Node::Test(test)),
-        Ce::Group { .. } => unreachable!(),
+        Ce::Test(test) => {
+            nodes.push(Node::Test { from, test })?;
+            Ok(width)
+        }
+        Ce::Group { positive, inner } => {
+            let last = add_nodes(alloc, inner, from, width, nodes)?;
+            nodes.push(Node::Group {
+                from,
+                inner: last,
+                positive,
+                width,
+            })?;
+            Ok(width)
+        }
     }
+}
+
+/// The node of a pattern, without candidates.
+fn pattern_node<T>(
+    alloc: Global,
+    from: usize,
+    address: Option<Name>,
+    pattern: Pattern<T>,
+) -> Result<Node<T>, NoMemory>
+    ensures node { IfOk result (λ node. flat_node node ≡ joining from address pattern) }
+    ensures loose { IfOk result IsLooseToo }
+{
+    let loose = pattern.loose(alloc)?;
+    Ok(Node::Pattern {
+        from,
+        place: Place {
+            address,
+            pattern,
+            loose,
+            candidates: BTreeMap::new(alloc),
+        },
+    })
 }

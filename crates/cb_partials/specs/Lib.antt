@@ -1,1 +1,3 @@
+pub mod Internal
+pub mod Partials
 pub mod Probes

@@ -1,24 +1,39 @@
--- What one change of the facts does to a list of partial matches.
-use Rattle.std.specs.Prelude.{◌≡◌, ◌⊎◌, ℕ, List, [], Option, Some, None}
+-- What one change of the facts does to the facts and to lists of partial matches.
+use Rattle.std.specs.Prelude.{◌≡◌, ◌⊎◌, ℕ, List, [], ◌∷◌, Option, Some, None}
 use Rattle.cb_facts.specs.FactLists.{IndexedFacts, fact_at, with_fact, without_fact}
 use Rattle.cb_facts.specs.Facts.{FactValue}
 use Rattle.cb_joins.specs.declared.fact_change.FactChange.{FactChange}
 use Rattle.cb_joins.specs.declared.fact_change.FactChange.TheVariants as change
-use Rattle.cb_matches.specs.Lemmas.Members.{In}
+use Rattle.cb_joins.specs.declared.moved.Moved.{Moved}
+use Rattle.cb_matches.specs.Keys.{PartValue}
+use Rattle.cb_matches.specs.Lemmas.Members.{AreSame, In}
 use Rattle.cb_matches.specs.Lemmas.Order.{IsOnce}
 use Rattle.cb_matches.specs.Matches.{Partial}
 
--- what stays, goes and comes from one list to another; what goes is apart from all that there is then, and what comes from all
--- that there was
-pub record Change (old new kept gone come : List Partial) : Type 0 where
-  pub old_splits : (z : Partial) → In z old → In z kept ⊎ In z gone
-  pub new_splits : (z : Partial) → In z new → In z kept ⊎ In z come
-  pub kept_old : (z : Partial) → In z kept → In z old
-  pub kept_new : (z : Partial) → In z kept → In z new
-  pub gone_old : (z : Partial) → In z gone → In z old
-  pub come_new : (z : Partial) → In z come → In z new
-  pub gone_apart : (z y : Partial) → In z gone → In y new → z.parts ≡ y.parts → ⊥
-  pub come_apart : (z y : Partial) → In z come → In y old → z.parts ≡ y.parts → ⊥
+module _ {A K : Type 0} (key : A → K) where
+  -- what goes and comes from one list to another: what goes is apart, by its key, from all that there is then, and what comes from
+  -- all that there was
+  pub record Moves (old new gone come : List A) : Type 0 where
+    pub stays : (z : A) → In z old → In z new ⊎ In z gone
+    pub came : (z : A) → In z new → In z old ⊎ In z come
+    pub gone_old : (z : A) → In z gone → In z old
+    pub come_new : (z : A) → In z come → In z new
+    pub gone_apart : (z y : A) → In z gone → In y new → key z ≡ key y → ⊥
+    pub come_apart : (z y : A) → In z come → In y old → key z ≡ key y → ⊥
+
+abbrev pub parts_of_partial : Partial → List PartValue
+parts_of_partial m = m.parts
+
+abbrev pub index_of_fact : ℕ × FactValue → ℕ
+index_of_fact f = f.0
+
+-- partial matches, by their parts
+abbrev pub PartialMoves : List Partial → List Partial → List Partial → List Partial → Type 0
+PartialMoves = Moves parts_of_partial
+
+-- facts, by their indices
+abbrev pub FactMoves : IndexedFacts → IndexedFacts → IndexedFacts → IndexedFacts → Type 0
+FactMoves = Moves index_of_fact
 
 -- one fact more, under an index that no fact had
 pub record Added (f : ℕ × FactValue) (fs fs' : IndexedFacts) : Type 0 where
@@ -27,10 +42,16 @@ pub record Added (f : ℕ × FactValue) (fs fs' : IndexedFacts) : Type 0 where
   pub there : In f fs'
   pub absent : (g : ℕ × FactValue) → In g fs → g.0 ≡ f.0 → ⊥
 
--- what comes at one place of a branch without groups, where a fact is added: nothing goes
-pub record Comes (old new come : List Partial) : Type 0 where
-  pub change : Change old new old [] come
-  pub once : IsOnce come
+-- what the program tells of a list that it moved
+pub record IsMoved (old new : List Partial) (m : Moved) : Type 0 where
+  pub moves : PartialMoves old new m.gone.items m.come.items
+  pub gone_once : IsOnce m.gone.items
+  pub come_once : IsOnce m.come.items
+
+-- these are the partial matches of a list, in any order, none twice
+pub record Holds (held ms : List Partial) : Type 0 where
+  pub same : AreSame held ms
+  pub once : IsOnce held
 
 -- the facts are those after the change
 abbrev pub IsMade : FactChange → IndexedFacts → Type 0
@@ -51,3 +72,12 @@ fact_changed (change.Retract f) = f
 abbrev pub fact_added : FactChange → Option FactValue
 fact_added (change.Assert f) = Some f.1
 fact_added (change.Retract f) = None
+
+-- the facts that it takes out, and those that it adds
+abbrev pub facts_gone : FactChange → IndexedFacts
+facts_gone (change.Assert f) = []
+facts_gone (change.Retract f) = f ∷ []
+
+abbrev pub facts_come : FactChange → IndexedFacts
+facts_come (change.Assert f) = f ∷ []
+facts_come (change.Retract f) = []

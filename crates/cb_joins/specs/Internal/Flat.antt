@@ -6,6 +6,7 @@ use Rattle.cb_constraints.specs.PatternValues.{PatternValue}
 use Rattle.cb_exprs.specs.Terms.{Term, term_of}
 use Rattle.cb_facts.specs.FactLists.{IndexedFacts}
 use Rattle.cb_facts.specs.Facts.{FactValue}
+use Rattle.cb_fit.specs.Shapes.{loose}
 use Rattle.cb_joins.specs.declared.node.Node.{Node}
 use Rattle.cb_joins.specs.declared.node.Node.TheVariants as node
 use Rattle.cb_matches.specs.Keys.{PartValue, part_eq}
@@ -28,6 +29,12 @@ module _ {T : Type 0} where
 
   abbrev pub flat_nodes : List (Node T) → List FlatNode
   flat_nodes nodes = map flat_node nodes
+
+  -- the pattern of a node is kept without its variables and expressions too
+  abbrev pub IsLooseToo : Node T → Type 0
+  IsLooseToo (node.Pattern from place) = place.loose ≡ loose place.pattern
+  IsLooseToo (node.Test from e) = Unit {0}
+  IsLooseToo (node.Group from inner positive width) = Unit {0}
 
 -- z goes on from these parts
 abbrev pub begins : List PartValue → Partial → Bool
@@ -89,6 +96,14 @@ lists_from (n ∷ ns) fs ls = lists_from ns fs (ls ++ node_list n fs (λ k. slic
 
 abbrev pub lists_of : List FlatNode → IndexedFacts → List Partial → Lists
 lists_of ns fs first k = slice_index_or (lists_from ns fs (first ∷ [])) k []
+
+-- their widths in the same way
+abbrev pub widths_from : List FlatNode → List ℕ → List ℕ
+widths_from [] ws = ws
+widths_from (n ∷ ns) ws = widths_from ns (ws ++ node_width n (λ k. slice_index_or ws k 0) ∷ [])
+
+abbrev pub widths_of : List FlatNode → ℕ → ℕ
+widths_of ns k = slice_index_or (widths_from ns (0 ∷ [])) k 0
 
 abbrev mutual
   -- how many nodes come before the last one of an element

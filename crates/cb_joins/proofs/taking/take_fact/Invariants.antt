@@ -1,0 +1,13 @@
+use Rattle.std.specs.List.{list_any}
+use Rattle.cb_joins.proofs.Takings.{Taking}
+use Rattle.cb_joins.specs.Internal.Memories.{begins_with}
+use Rattle.cb_matches.specs.Lemmas.Members.{In}
+use Rattle.cb_matches.specs.Matches.{Partial}
+use Rattle.cb_joins.proofs.taking.take_fact.Given as goal
+
+abbrev pub invariant-loop-partial : goal.invariant-loop-partial
+invariant-loop-partial l = record {
+  taking : Taking (λ z. list_any (λ m. begins_with m.parts l.ix z) l.partials.keys) (λ z. list_any (λ m. begins_with m.parts l.ix z) l.partial-iterator)
+      l.initial.list.keys l.list.keys l.initial.gone.items l.gone.items;
+  among : (m : Partial) → In m l.partial-iterator → In m l.partials.keys;
+}

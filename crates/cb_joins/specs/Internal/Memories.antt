@@ -1,0 +1,43 @@
+-- Sets of partial matches in the order of their parts.
+use Rattle.std.specs.Prelude.{◌≡◌, ◌≢◌, ◌⊎◌, ◌<◌, ℕ, Bool, false, not, ◌&&◌, List, [], ◌∷◌, Option, Some, None, length, nat_eq, slice_get}
+use Rattle.std.specs.List.{filter}
+use Rattle.std.specs.Option.{option_map_or}
+use Rattle.cb_joins.specs.Internal.Flat.{begins}
+use Rattle.cb_matches.specs.Keys.{PartValue}
+use Rattle.cb_matches.specs.Lemmas.Members.{In}
+use Rattle.cb_matches.specs.Matches.{Partial}
+
+-- z goes on from these parts with the fact of this index
+abbrev pub begins_with : List PartValue → ℕ → Partial → Bool
+begins_with ps ix z = begins ps z && option_map_or (λ (p : PartValue). nat_eq ix p.index) (slice_get z.parts (length ps)) false
+
+-- the same, of any fact where no index is given
+abbrev pub begins_as : List PartValue → Option ℕ → Partial → Bool
+begins_as ps None = begins ps
+begins_as ps (Some ix) = begins_with ps ix
+
+-- the first part with this index, if one is given
+abbrev pub first_part : Option ℕ → List PartValue
+first_part None = []
+first_part (Some ix) = record { index = ix; cuts = [] } ∷ []
+
+-- a set with m more, unless one with its parts is there
+pub record IsAdded (old : List Partial) (m : Partial) (new : List Partial) : Type 0 where
+  pub stays : (z : Partial) → In z old → In z new
+  pub only : (z : Partial) → In z new → In z old ⊎ (z ≡ m)
+  pub added : ((z : Partial) → In z old → z.parts ≢ m.parts) → In m new
+
+-- the first that passes the test was taken out, if one did
+pub record IsTaken (test : Partial → Bool) (old : List Partial) (m : Partial) (new : List Partial) : Type 0 where
+  pub taken : filter test old ≡ m ∷ filter test new
+  pub others : filter (λ z. not (test z)) new ≡ filter (λ z. not (test z)) old
+  pub fewer : length new < length old
+
+abbrev pub IsFirstTaken : (Partial → Bool) → List Partial → Option Partial → List Partial → Type 0
+IsFirstTaken test old None new = (filter test old ≡ []) × (new ≡ old)
+IsFirstTaken test old (Some m) new = IsTaken test old m new
+
+-- the one of these with these parts
+abbrev pub IsFound : List PartValue → List Partial → Option Partial → Type 0
+IsFound ps ms None = (z : Partial) → In z ms → z.parts ≢ ps
+IsFound ps ms (Some m) = In m ms × (m.parts ≡ ps)

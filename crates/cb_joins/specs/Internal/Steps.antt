@@ -1,0 +1,107 @@
+-- What a change does at one node.
+use Rattle.std.specs.Prelude.{◌≡◌, ◌≢◌, ◌⊎◌, ◌+◌, ◌*◌, ◌<◌, ℕ, Bool, true, false, List, Option, filter, length, map, not, slice_index_or, take}
+use Rattle.std.specs.BTreeSet.{BTreeSet}
+use Rattle.std.specs.List.{list_any}
+use Rattle.cb_constraints.specs.PatternValues.{PatternValue}
+use Rattle.cb_facts.specs.FactLists.{IndexedFacts}
+use Rattle.cb_facts.specs.Facts.{FactValue}
+use Rattle.cb_joins.specs.Internal.Changes.{Holds, IsMoved}
+use Rattle.cb_joins.specs.Internal.Flat.{FlatNode, joining, testing, grouping, Lists, begins, flat_node, holds_by, node_list}
+use Rattle.cb_joins.specs.Internal.Nodes.{HaveParts, IsPlace, IsReady}
+use Rattle.cb_joins.specs.declared.moved.Moved.{Moved}
+use Rattle.cb_joins.specs.declared.node.Node.{Node}
+use Rattle.cb_joins.specs.declared.node.Place.{Place}
+use Rattle.cb_matches.specs.Keys.{PartValue}
+use Rattle.cb_matches.specs.Lemmas.Members.{AreSame, In}
+use Rattle.cb_matches.specs.Lemmas.Order.{IsOnce}
+use Rattle.cb_matches.specs.Matches.{Partial, next}
+use Rattle.cb_partials.specs.Probes.{added_probes, is_candidate, partials_come, partials_kept}
+
+-- those of a list that pass a test are taken out of it, and stand behind what was gone before, in any order
+pub record IsTaken (test : Partial → Bool) (list list' gone gone' : List Partial) : Type 0 where
+  pub left : list' ≡ filter (λ z. not (test z)) list
+  pub stay : (z : Partial) → In z gone → In z gone'
+  pub taken : (z : Partial) → In z list → test z ≡ true → In z gone'
+  pub only : (z : Partial) → In z gone' → In z gone ⊎ (In z list × (test z ≡ true))
+  pub once : IsOnce list → IsOnce gone → ((z y : Partial) → In z gone → In y list → z.parts ≢ y.parts) → IsOnce gone'
+
+-- these are added to a list, each unless one with its parts is there
+pub record IsWith (list more list' : List Partial) : Type 0 where
+  pub stay : (z : Partial) → In z list → In z list'
+  pub only : (z : Partial) → In z list' → In z list ⊎ In z more
+  pub added : IsOnce more → ((z y : Partial) → In z more → In y list → z.parts ≢ y.parts) → (z : Partial) → In z more → In z list'
+  pub once : IsOnce list → IsOnce list'
+
+-- how often a pattern may be tested where a change leads from one list before it to another
+abbrev pub pattern_probes : PatternValue → Option FactValue → IndexedFacts → List Partial → List Partial → ℕ
+pattern_probes p added fs' old new = length (partials_come old new) * length (filter (is_candidate p) fs') + added_probes p added (length (partials_kept old new))
+
+module _ {T : Type 0} where
+  -- a pattern before a change: the list before it has changed already, and its own list not yet
+  pub record IsBefore (n : ℕ) (fs : IndexedFacts) (old new : List Partial) (place : Place T) (before own : List Partial) (moved : Moved) : Type 0 where
+    pub long : HaveParts n old
+    pub long_now : HaveParts n new
+    pub once_now : IsOnce new
+    pub is_place : IsPlace place fs
+    pub is_before : Holds before new
+    pub is_moved : IsMoved old new moved
+    pub is_own : Holds own (next place.address place.pattern fs old)
+
+  -- and after it
+  pub record IsAfter (fs fs' : IndexedFacts) (old new : List Partial) (place : Place T) (own : List Partial) (moved : Moved) : Type 0 where
+    pub is_place : IsPlace place fs'
+    pub is_own : Holds own (next place.address place.pattern fs' new)
+    pub is_moved : IsMoved (next place.address place.pattern fs old) (next place.address place.pattern fs' new) moved
+
+-- the group holds for m, where these are complete
+abbrev pub group_with : Bool → List Partial → Partial → Bool
+group_with positive complete m = holds_by positive (list_any (begins m.parts) complete)
+
+-- the first parts of each
+abbrev pub beginnings : ℕ → List Partial → List (List PartValue)
+beginnings n ms = map (λ m. take n m.parts) ms
+
+-- while the partial matches before a group are settled one by one: `old` is what was behind it, `new` what is before it now,
+-- `lost` what went before it, and of those with these parts it is known already whether they are behind it
+pub record IsSettled (is : Partial → Bool) (old new lost : List Partial) (settled : List (List PartValue)) (own gone come : List Partial) : Type 0 where
+  pub within : (z : Partial) → In z own → In z new × (In z old ⊎ In z come)
+  pub known : (z : Partial) → In z own → In z.parts settled → is z ≡ true
+  pub full : (z : Partial) → In z new → is z ≡ true → In z.parts settled → In z own
+  pub splits : (z : Partial) → In z old → In z own ⊎ In z gone
+  pub went : (z : Partial) → In z gone → In z old × (In z lost ⊎ (is z ≡ false))
+  pub came : (z : Partial) → In z come → In z own × (is z ≡ true)
+  pub apart : (z y : Partial) → In z come → In y old → z.parts ≢ y.parts
+  pub gone_apart : (z y : Partial) → In z gone → In y own → z.parts ≢ y.parts
+  pub lost_apart : (z y : Partial) → In z lost → In y new → z.parts ≢ y.parts
+  pub own_once : IsOnce own
+  pub gone_once : IsOnce gone
+  pub come_once : IsOnce come
+
+-- the node goes on from lists with smaller numbers
+abbrev pub NamesListsBelow : ℕ → FlatNode → Type 0
+NamesListsBelow k (joining from x p) = from < k
+NamesListsBelow k (testing from t) = from < k
+NamesListsBelow k (grouping from inner positive width) = (from < k) × (inner < k)
+
+-- the group's width is that of the list before it
+abbrev pub HasWidth : (ℕ → ℕ) → FlatNode → Type 0
+HasWidth ws (joining from x p) = Unit {0}
+HasWidth ws (testing from t) = Unit {0}
+HasWidth ws (grouping from inner positive width) = width ≡ ws from
+
+module _ {T : Type 0} where
+  -- a node before a change, where the lists before it have changed already
+  pub record AreAround (ws : ℕ → ℕ) (fs : IndexedFacts) (old new : Lists) (lists : List (BTreeSet Partial)) (moved : List Moved) (n : Node T) (own : List Partial) : Type 0 where
+    pub wide : (k : ℕ) → k < length moved → HaveParts (ws k) (old k) × HaveParts (ws k) (new k)
+    pub once : (k : ℕ) → k < length moved → IsOnce (new k)
+    pub width : HasWidth ws (flat_node n)
+    pub ready : IsReady fs n
+    pub are_lists : (k : ℕ) (d : BTreeSet Partial) → k < length moved → Holds (slice_index_or lists k d).keys (new k)
+    pub are_moved : (k : ℕ) (d : Moved) → k < length moved → IsMoved (old k) (new k) (slice_index_or moved k d)
+    pub is_own : Holds own (node_list (flat_node n) fs old)
+
+  -- and after it
+  pub record IsStep (fs fs' : IndexedFacts) (old new : Lists) (n : Node T) (own : List Partial) (m : Moved) : Type 0 where
+    pub ready : IsReady fs' n
+    pub is_own : Holds own (node_list (flat_node n) fs' new)
+    pub is_moved : IsMoved (node_list (flat_node n) fs old) (node_list (flat_node n) fs' new) m

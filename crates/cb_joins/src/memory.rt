@@ -1,0 +1,205 @@
+//! Lists of partial matches, kept in the order of their parts.
+//!
+//! Those that go on from given parts stand next to each other in this order. The first of them is looked up, so that a call takes
+//! some steps for each that it takes out, and no step for the others.
+ghost use Rattle.std.specs.Prelude.{◌≡◌, ◌++◌, IfOk, OnOk, false, nat_eq, not, slice_get};
+ghost use Rattle.std.specs.BTreeSet.{IsOrdered};
+ghost use Rattle.std.specs.List.{filter, list_any};
+ghost use Rattle.std.specs.Option.{option_copied, option_map_or};
+ghost use Rattle.std.specs.Ordering.{is_le};
+ghost use Rattle.cb_joins.specs.Internal.Flat.{begins};
+ghost use Rattle.cb_joins.specs.Internal.Memories.{IsAdded, IsFirstTaken, IsFound, begins_as, begins_with, first_part};
+ghost use Rattle.cb_matches.specs.Keys.{PartValue};
+ghost use Rattle.cb_matches.specs.Lemmas.Order.{IsOnce};
+ghost use Rattle.cb_partials.specs.Partials.{partial_cmp};
+ghost use Rattle.cb_partials.specs.Probes.{has_parts};
+
+use cb_exprs::Env;
+use cb_matches::Part;
+use cb_partials::Partial;
+use cb_forms::NoMemory;
+use std::alloc::Global;
+use std::collections::BTreeSet;
+use std::ops::Bound;
+
+/// Adds a partial match, unless one with its parts is there. Growth is refused as `NoMemory`.
+pub(crate) fn add(list: &mut BTreeSet<Partial>, partial: Partial) -> Result<(), NoMemory>
+    ensures added { OnOk result (IsAdded list.old.keys partial list.new.keys) }
+    ensures once { OnOk result (IsOnce list.new.keys) }
+{
+    list.insert(partial)?;
+    Ok(())
+}
+
+/// Whether one has the parts of this one.
+pub(crate) fn has(list: &BTreeSet<Partial>, partial: &Partial) -> bool
+    ensures { result ≡ has_parts list.now.keys partial.now }
+{
+    list.contains(partial)
+}
+
+/// Moves those that go on from these parts to `gone`. Growth is refused as `NoMemory`, and so is a count of sharers that is full.
+pub(crate) fn take_begun(
+    alloc: Global,
+    list: &mut BTreeSet<Partial>,
+    parts: &[Part],
+    gone: &mut Vec<Partial>,
+) -> Result<(), NoMemory>
+    ensures list { OnOk result (list.new.keys ≡ filter (λ z. not (begins parts.now z)) list.old.keys) }
+    ensures gone { OnOk result (gone.new.items
+        ≡ gone.old.items ++ filter (begins parts.now) list.old.keys) }
+{
+    take_all(alloc, list, parts, None, gone)
+}
+
+/// Moves those that go on from these parts with the fact of this index to `gone`. Growth is refused as `NoMemory`, and so is a
+/// count of sharers that is full.
+pub(crate) fn take_with_fact(
+    alloc: Global,
+    list: &mut BTreeSet<Partial>,
+    parts: &[Part],
+    ix: u64,
+    gone: &mut Vec<Partial>,
+) -> Result<(), NoMemory>
+    ensures list { OnOk result (list.new.keys
+        ≡ filter (λ z. not (begins_with parts.now ix z)) list.old.keys) }
+    ensures gone { OnOk result (gone.new.items
+        ≡ gone.old.items ++ filter (begins_with parts.now ix) list.old.keys) }
+{
+    take_all(alloc, list, parts, Some(ix), gone)
+}
+
+/// Whether one goes on from these parts. Growth is refused as `NoMemory`.
+pub(crate) fn has_begun(
+    alloc: Global,
+    list: &BTreeSet<Partial>,
+    parts: &[Part],
+) -> Result<bool, NoMemory>
+    ensures { IfOk result (λ has. has ≡ list_any (begins parts.now) list.now.keys) }
+{
+    let probe = probe(alloc, parts, None)?;
+    Ok(first_begun(list, &probe, parts, None).is_some())
+}
+
+/// The partial match with these parts. Growth is refused as `NoMemory`, and so is a count of sharers that is full.
+pub(crate) fn find(
+    alloc: Global,
+    list: &BTreeSet<Partial>,
+    parts: &[Part],
+) -> Result<Option<Partial>, NoMemory>
+    ensures { IfOk result (IsFound parts.now list.now.keys) }
+{
+    let probe = probe(alloc, parts, None)?;
+    match list.get(&probe) {
+        Some(found) => Ok(Some(found.clone()?)),
+        None => Ok(None),
+    }
+}
+
+/// Moves those that go on from these parts to `gone`, where an index is given only those with its fact next.
+fn take_all(
+    alloc: Global,
+    list: &mut BTreeSet<Partial>,
+    parts: &[Part],
+    ix: Option<u64>,
+    gone: &mut Vec<Partial>,
+) -> Result<(), NoMemory>
+    ensures list { OnOk result (list.new.keys
+        ≡ filter (λ z. not (begins_as parts.now ix z)) list.old.keys) }
+    ensures gone { OnOk result (gone.new.items
+        ≡ gone.old.items ++ filter (begins_as parts.now ix) list.old.keys) }
+{
+    let probe = probe(alloc, parts, ix)?;
+    while let Some(partial) = take_first(list, &probe, parts, ix)? {
+        gone.push(partial)?;
+    }
+    Ok(())
+}
+
+/// Takes the first one out that goes on so, if one does.
+fn take_first(
+    list: &mut BTreeSet<Partial>,
+    probe: &Partial,
+    parts: &[Part],
+    ix: Option<u64>,
+) -> Result<Option<Partial>, NoMemory>
+    requires { probe.now.parts ≡ parts.now ++ first_part ix }
+    ensures { IfOk result
+        (λ taken. IsFirstTaken (begins_as parts.now ix) list.old.keys taken list.new.keys) }
+{
+    let key = match first_begun(list, probe, parts, ix) {
+        Some(found) => found.clone()?,
+        None => return Ok(None),
+    };
+    Ok(list.take(&key))
+}
+
+/// The first one that goes on so.
+fn first_begun<'a>(
+    list: &'a BTreeSet<Partial>,
+    probe: &Partial,
+    parts: &[Part],
+    ix: Option<u64>,
+) -> Option<&'a Partial>
+    requires { probe.now.parts ≡ parts.now ++ first_part ix }
+    ensures first { option_copied result ≡ slice_get (filter (begins_as parts.now ix) list.now.keys) 0 }
+    ensures ordered { IsOrdered partial_cmp list.now }
+{
+    match first_from(list, probe) {
+        Some(found) if goes_on(found, parts, ix) => Some(found),
+        _ => None,
+    }
+}
+
+/// The first one that isn't before the probe.
+fn first_from<'a>(list: &'a BTreeSet<Partial>, probe: &Partial) -> Option<&'a Partial>
+    ensures first { option_copied result
+        ≡ slice_get (filter (λ z. is_le (partial_cmp probe.now z)) list.now.keys) 0 }
+    ensures ordered { IsOrdered partial_cmp list.now }
+{
+    list.range((Bound::Included(probe), Bound::Unbounded))
+        .next()
+}
+
+/// Whether a partial match goes on from these parts, where an index is given with its fact.
+fn goes_on(partial: &Partial, parts: &[Part], ix: Option<u64>) -> bool
+    ensures { result ≡ begins_as parts.now ix partial.now }
+{
+    if !partial.parts.starts_with(parts) {
+        return false;
+    }
+    match ix {
+        Some(ix) => has_fact_at(partial, parts.len(), ix),
+        None => true,
+    }
+}
+
+/// Whether the part at this place is of the fact of this index.
+fn has_fact_at(partial: &Partial, place: usize, ix: u64) -> bool
+    ensures { result ≡ option_map_or (λ (p : PartValue). nat_eq ix p.index) (slice_get partial.now.parts place) false }
+{
+    match partial.parts.get(place) {
+        Some(part) => part.index == ix,
+        None => false,
+    }
+}
+
+/// What stands in the order where those that go on so begin.
+fn probe(alloc: Global, parts: &[Part], ix: Option<u64>) -> Result<Partial, NoMemory>
+    ensures { IfOk result (λ m. m.parts ≡ parts.now ++ first_part ix) }
+{
+    let mut all = Vec::new(alloc);
+    for part in parts {
+        all.push(part.clone()?)?;
+    }
+    if let Some(index) = ix {
+        all.push(Part {
+            index,
+            cuts: Vec::new(alloc),
+        })?;
+    }
+    Ok(Partial {
+        parts: all,
+        env: Env::new(alloc),
+    })
+}

@@ -1,0 +1,166 @@
+//! A pattern of a branch, and what a change does at it.
+ghost use Rattle.std.specs.Prelude.{◌≡◌, ◌≤◌, ◌+◌, ◌*◌, ℕ, IfOk, List, OnOk, None, Some, length};
+ghost use Rattle.cb_facts.specs.FactLists.{IsFactBase, fact_at, with_fact, without_fact};
+ghost use Rattle.cb_fit.specs.Shapes.{loose};
+ghost use Rattle.cb_joins.specs.Internal.Changes.{IsMade, fact_added, facts_before};
+ghost use Rattle.cb_joins.specs.Internal.Nodes.{candidates_with, found_with};
+ghost use Rattle.cb_joins.specs.Internal.Steps.{IsAfter, IsBefore, pattern_probes};
+ghost use Rattle.cb_matches.specs.Matches.{Partial, next};
+ghost use Rattle.cb_partials.specs.Probes.{added_probes};
+
+use crate::fact_change::FactChange;
+use crate::indexed::Indexed;
+use crate::joining::{fits_loosely, join, join_fact};
+use crate::moved::Moved;
+use crate::node::Place;
+use crate::taking::{add_all, take_behind, take_fact};
+use cb_fit::Meter;
+use cb_fit::laws::{no_shape_gives_no_ways, the_ways_rise_by_their_cuts};
+use cb_forms::NoMemory;
+use cb_partials::{Partial, Setting};
+use std::collections::BTreeSet;
+
+/// Changes the facts of a pattern. `before` is the list that it goes on from, as it is after the change, and `moved` what went from
+/// it and came to it; `own` is the list behind the pattern. The facts are those after the change.
+pub(crate) fn change_place<T>(
+    setting: &Setting<'_>,
+    place: &mut Place<T>,
+    before: &BTreeSet<Partial>,
+    moved: &Moved,
+    own: &mut BTreeSet<Partial>,
+    change: &FactChange,
+    meter: &mut Meter<T>,
+) -> Result<Moved, NoMemory>
+    requires base { IsFactBase setting.now.facts.now }
+    requires made { IsMade change.now setting.now.facts.now }
+    ensures address { OnOk result (place.new.address ≡ place.old.address) }
+    ensures pattern { OnOk result (place.new.pattern ≡ place.old.pattern) }
+    ensures after { IfOk result (λ r. (n : ℕ) (old new : List Partial)
+        → IsBefore n (facts_before change.now setting.now.facts.now) old new place.old before.now.keys own.old.keys moved.now
+        → IsAfter (facts_before change.now setting.now.facts.now) setting.now.facts.now old new place.new own.new.keys r) }
+    ensures probes { OnOk result ((n : ℕ) (old new : List Partial)
+        → IsBefore n (facts_before change.now setting.now.facts.now) old new place.old before.now.keys own.old.keys moved.now
+        → meter.new ≤ meter.old + pattern_probes place.old.pattern (fact_added change.now) setting.now.facts.now old new) }
+{
+    match change {
+        FactChange::Assert(one) => assert_place(setting, place, before, moved, own, one, meter),
+        FactChange::Retract(one) => retract_place(setting, place, before, moved, own, one, meter),
+    }
+}
+
+/// The same where a fact is added.
+fn assert_place<T>(
+    setting: &Setting<'_>,
+    place: &mut Place<T>,
+    before: &BTreeSet<Partial>,
+    moved: &Moved,
+    own: &mut BTreeSet<Partial>,
+    one: &Indexed,
+    meter: &mut Meter<T>,
+) -> Result<Moved, NoMemory>
+    requires base { IsFactBase setting.now.facts.now }
+    requires there { fact_at setting.now.facts.now one.now.0 ≡ Some one.now.1 }
+    ensures address { OnOk result (place.new.address ≡ place.old.address) }
+    ensures pattern { OnOk result (place.new.pattern ≡ place.old.pattern) }
+    ensures after { IfOk result (λ r. (n : ℕ) (old new : List Partial)
+        → IsBefore n (without_fact setting.now.facts.now one.now.0) old new place.old before.now.keys own.old.keys moved.now
+        → IsAfter (without_fact setting.now.facts.now one.now.0) setting.now.facts.now old new place.new own.new.keys r) }
+    ensures probes { OnOk result ((n : ℕ) (old new : List Partial)
+        → IsBefore n (without_fact setting.now.facts.now one.now.0) old new place.old before.now.keys own.old.keys moved.now
+        → meter.new ≤ meter.old + pattern_probes place.old.pattern (Some one.now.1) setting.now.facts.now old new) }
+{
+    no_shape_gives_no_ways();
+    the_ways_rise_by_their_cuts();
+    let mut gone = Vec::new(setting.alloc);
+    take_behind(setting.alloc, own, moved.gone.as_slice(), &mut gone)?;
+    let come = find_with(setting, place, before, moved.come.as_slice(), one, meter)?;
+    add_all(own, come.as_slice())?;
+    Ok(Moved { gone, come })
+}
+
+/// Finds what comes behind a pattern where a fact is added, and keeps the fact if it has the shape.
+fn find_with<T>(
+    setting: &Setting<'_>,
+    place: &mut Place<T>,
+    before: &BTreeSet<Partial>,
+    came: &[Partial],
+    one: &Indexed,
+    meter: &mut Meter<T>,
+) -> Result<Vec<Partial>, NoMemory>
+    ensures address { OnOk result (place.new.address ≡ place.old.address) }
+    ensures pattern { OnOk result (place.new.pattern ≡ place.old.pattern) }
+    ensures loose { OnOk result (place.new.loose ≡ place.old.loose) }
+    ensures candidates { OnOk result (place.old.loose ≡ loose place.old.pattern
+        → place.new.candidates.entries ≡ candidates_with place.old one.now) }
+    ensures come { IfOk result (λ all. place.old.loose ≡ loose place.old.pattern
+        → all.items ≡ found_with place.old one.now came.now before.now.keys) }
+    ensures probes { OnOk result (place.old.loose ≡ loose place.old.pattern
+        → meter.new ≤ meter.old + (length came.now * length place.old.candidates.entries
+        + added_probes place.old.pattern (Some one.now.1) (length before.now.keys))) }
+{
+    let mut come = Vec::new(setting.alloc);
+    join(
+        setting,
+        &place.address,
+        &place.pattern,
+        &place.candidates,
+        came,
+        &mut come,
+        meter,
+    )?;
+    if !fits_loosely(setting, &place.loose, &one.fact, meter)? {
+        return Ok(come);
+    }
+    join_fact(
+        setting,
+        &place.address,
+        &place.pattern,
+        one,
+        before,
+        &mut come,
+        meter,
+    )?;
+    place.candidates.insert(one.ix, one.fact.clone()?)?;
+    Ok(come)
+}
+
+/// The same where a fact is taken out.
+fn retract_place<T>(
+    setting: &Setting<'_>,
+    place: &mut Place<T>,
+    before: &BTreeSet<Partial>,
+    moved: &Moved,
+    own: &mut BTreeSet<Partial>,
+    one: &Indexed,
+    meter: &mut Meter<T>,
+) -> Result<Moved, NoMemory>
+    requires base { IsFactBase setting.now.facts.now }
+    requires free { fact_at setting.now.facts.now one.now.0 ≡ None }
+    ensures address { OnOk result (place.new.address ≡ place.old.address) }
+    ensures pattern { OnOk result (place.new.pattern ≡ place.old.pattern) }
+    ensures after { IfOk result (λ r. (n : ℕ) (old new : List Partial)
+        → IsBefore n (with_fact setting.now.facts.now one.now.0 one.now.1) old new place.old before.now.keys own.old.keys moved.now
+        → IsAfter (with_fact setting.now.facts.now one.now.0 one.now.1) setting.now.facts.now old new place.new own.new.keys r) }
+    ensures probes { OnOk result ((n : ℕ) (old new : List Partial)
+        → IsBefore n (with_fact setting.now.facts.now one.now.0 one.now.1) old new place.old before.now.keys own.old.keys moved.now
+        → meter.new ≤ meter.old + pattern_probes place.old.pattern None setting.now.facts.now old new) }
+{
+    no_shape_gives_no_ways();
+    the_ways_rise_by_their_cuts();
+    let mut gone = Vec::new(setting.alloc);
+    take_behind(setting.alloc, own, moved.gone.as_slice(), &mut gone)?;
+    take_fact(setting.alloc, own, before, one.ix, &mut gone)?;
+    place.candidates.remove(&one.ix);
+    let mut come = Vec::new(setting.alloc);
+    join(
+        setting,
+        &place.address,
+        &place.pattern,
+        &place.candidates,
+        moved.come.as_slice(),
+        &mut come,
+        meter,
+    )?;
+    add_all(own, come.as_slice())?;
+    Ok(Moved { gone, come })
+}

@@ -1,0 +1,2 @@
+-- What only the code needs.
+pub mod PartialLaws
