@@ -9,7 +9,9 @@ use Rattle.std.specs.declared.cmp.Ordering.{Ordering}
 use Rattle.std.specs.declared.cmp.Ordering.TheVariants.{Less, Equal, Greater}
 use Rattle.cb_facts.specs.FactLists.{IndexedFacts, IsFactBase, fact_at, with_fact, without_fact}
 use Rattle.cb_facts.specs.Facts.{FactValue}
-use Rattle.cb_joins.specs.Internal.Changes.{Added}
+use Rattle.cb_joins.specs.Internal.Changes.{Added, IsMade, facts_before}
+use Rattle.cb_joins.specs.declared.fact_change.FactChange.{FactChange}
+use Rattle.cb_joins.specs.declared.fact_change.FactChange.TheVariants as change
 use Rattle.cb_joins.specs.Internal.Nodes.{HaveIndices}
 use Rattle.cb_matches.specs.Lemmas.Growth.{Fact}
 use Rattle.cb_matches.specs.Lemmas.Indices.{rising_keys}
@@ -175,3 +177,7 @@ pub before_taken : (ix : ℕ) (f : FactValue) (fs : IndexedFacts) → IsRising f
 before_taken ix f fs rising there free =
     one_after (ix, f) (without_fact fs ix) (with_fact (without_fact fs ix) ix f) fs (rising_with (without_fact fs ix) ix f free (rising_without ix f fs rising)) rising
     (added_fact (without_fact fs ix) ix f free) (taken_fact ix f fs rising there)
+
+pub indices_before : (c : FactChange) (fs : IndexedFacts) → IsRising fs → IsMade c fs → HaveIndices (facts_before c fs)
+indices_before (change.Assert f) fs rising made = indices_of (without_fact fs f.0) (rising_without f.0 f.1 fs rising)
+indices_before (change.Retract f) fs rising made = indices_of (with_fact fs f.0 f.1) (rising_with fs f.0 f.1 made rising)

@@ -8,12 +8,12 @@ use Rattle.cb_joins.proofs.Named.{AllAt, IsBelow, at_each, below_all, from_each}
 use Rattle.cb_matches.specs.Matches.{Partial, next, test_holds}
 use Rattle.cb_rules.specs.Elements.{Elements}
 
-in_front : {A : Type 0} (none : A) (xs : List A) (x : A) (k : ℕ) → k < length xs → slice_index_or (xs ++ x ∷ []) k none ≡ slice_index_or xs k none
+pub in_front : {A : Type 0} (none : A) (xs : List A) (x : A) (k : ℕ) → k < length xs → slice_index_or (xs ++ x ∷ []) k none ≡ slice_index_or xs k none
 in_front none [] x k h = absurd (omega (arith, h))
 in_front none (y ∷ xs) x zero h = refl
 in_front none (y ∷ xs) x (suc k) h = in_front none xs x k (omega (arith, h))
 
-at_end : {A : Type 0} (none : A) (xs : List A) (x : A) → slice_index_or (xs ++ x ∷ []) (length xs) none ≡ x
+pub at_end : {A : Type 0} (none : A) (xs : List A) (x : A) → slice_index_or (xs ++ x ∷ []) (length xs) none ≡ x
 at_end none [] x = refl
 at_end none (y ∷ xs) x = at_end none xs x
 

@@ -1,7 +1,7 @@
 -- What one change does behind a test, and behind a group.
-use Rattle.std.proofs.Common.{◌≡◌, ◌≢◌, ℕ, not, Bool, true, false, List, [], ◌∷◌, ◌++◌, ◌⊎◌, filter, length, map, take, inl, inr, refl, sym, ◌∙◌, ap, subst, arith}
+use Rattle.std.proofs.Common.{◌≡◌, ◌≢◌, ◌<◌, ℕ, zero, suc, not, Bool, true, false, List, [], ◌∷◌, ◌++◌, ◌⊎◌, filter, length, map, take, inl, inr, refl, sym, ◌∙◌, ap, subst, arith}
 use Rattle.std.proofs.Math.Bool.{beq}
-use Rattle.std.proofs.Math.Seq.{take-append_seam}
+use Rattle.std.proofs.Math.Seq.{take-append_seam, take-length}
 use Rattle.std.proofs.lemmas.List.{append-nil}
 use Rattle.std.specs.List.{list_any}
 use Rattle.cb_joins.proofs.Beginnings.{begins_to, in_some, some_in, to_begins, true_false}
@@ -197,9 +197,9 @@ module _ (positive has : Bool) (complete before old new lost : List Partial) (se
 
   pub taken_out : (own' gone' : List Partial) → not (beq has positive) ≡ true → own' ≡ filter (λ z. not (begins ps z)) own → gone' ≡ gone ++ filter (begins ps) own
       → IsSettled is old new lost (settled ++ ps ∷ []) own' gone' come
-  taken_out own' gone' no own_is gone_is =
+  taken_out own' gone' unheld own_is gone_is =
       settled_out is (alike positive complete) old new lost settled ps own gone come s own' gone'
-      (λ z e. of_parts z e ∙ holds_not positive has no)
+      (λ z e. of_parts z e ∙ holds_not positive has unheld)
       (λ z h. let i = in_filter (λ z. not (begins ps z)) z own (subst (λ it. In z it) own_is h) in (i.0, λ e. not_true (begins ps z) (begins_these z e) i.1))
       (λ z h. by_test (begins ps z)
       (λ t. inr (these_parts z h t, subst (λ it. In z it) (sym gone_is) (in_right z gone (filter (begins ps) own) (filter_in (begins ps) z own h t))))
@@ -236,6 +236,25 @@ module _ (positive has : Bool) (complete before old new lost : List Partial) (se
         settled_in is (alike positive complete) old new lost settled ps own gone come s m own'
         (holds.same.0 m m_in) m_parts (of_parts m m_parts ∙ holds_so positive has so) absent added.stays added.only
         (added.added (λ z h e. absent z h (e ∙ m_parts))) once one_new
+
+short_take : {A : Type 0} (n : ℕ) (xs : List A) → length xs < n → length (take n xs) < n
+short_take zero xs h = absurd (omega (arith, h))
+short_take (suc n) [] h = omega (arith)
+short_take (suc n) (x ∷ xs) h = let more : length (take n xs) < n = short_take n xs (omega (arith, h)) in omega (arith, more)
+
+-- fewer parts than those before the group have
+pub too_short : (is : Partial → Bool) → ((z y : Partial) → z.parts ≡ y.parts → is z ≡ is y) → (old new lost : List Partial) (settled : List (List PartValue)) (own gone come : List Partial) (n : ℕ) (ps : List PartValue)
+    → HaveParts n new → length ps < n → IsSettled is old new lost settled own gone come → IsSettled is old new lost (settled ++ take n ps ∷ []) own gone come
+too_short is same old new lost settled own gone come n ps long l s =
+    let never : (z : Partial) → In z new → z.parts ≡ take n ps → ⊥ = λ z h e. let m : length z.parts ≡ n = long z h in let k : length z.parts ≡ length (take n ps) = ap length e in let t = short_take n ps l in absurd (omega (arith, m, k, t)) in
+    settled_as_is is same old new lost settled (take n ps) own gone come s (λ z h e. absurd (never z (s.within z h).0 e)) (λ z h t e. absurd (never z h e))
+
+-- what is settled after all of some
+pub beginnings_in : (n : ℕ) (w : Partial) (ms : List Partial) → In w ms → In (take n w.parts) (beginnings n ms)
+beginnings_in n w ms h = map_in (λ m. take n m.parts) ms w h
+
+pub whole_beginning : (n : ℕ) (z : Partial) → length z.parts ≡ n → take n z.parts ≡ z.parts
+whole_beginning n z e = ap (λ i. take i z.parts) (sym e) ∙ take-length z.parts
 
 -- a list that is the same in its members says the same of a group
 pub any_same : (q : Partial → Bool) (xs ys : List Partial) → AreSame xs ys → list_any q xs ≡ list_any q ys

@@ -1,3 +1,4 @@
+mod Around
 mod Beginnings
 mod Begun
 mod Counts

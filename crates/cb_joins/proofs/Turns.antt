@@ -7,8 +7,10 @@ use Rattle.std.proofs.lemmas.List.{drop_more, get_or-map, length-append, length-
 use Rattle.std.specs.BTreeSet.{BTreeSet}
 use Rattle.cb_facts.specs.FactLists.{IndexedFacts}
 use Rattle.cb_facts.specs.Facts.{FactValue}
+use Rattle.cb_joins.proofs.Flat.{at_end, in_front}
 use Rattle.cb_joins.proofs.Widths.{lists_are_once, lists_are_wide}
-use Rattle.cb_joins.specs.Internal.Changes.{Holds, IsMoved}
+use Rattle.cb_joins.proofs.Moves.{none_moves}
+use Rattle.cb_joins.specs.Internal.Changes.{Holds, IsMoved, PartialMoves, parts_of_partial}
 use Rattle.cb_joins.specs.Internal.Flat.{AreLists, AreWidths, FlatNode, IsWell, flat_node, flat_nodes, flat_probes, flat_probes_of, grouping, joining, node_list, testing}
 use Rattle.cb_joins.specs.Internal.Nodes.{AreWhole, HaveIndices, HaveParts, IsReady, branch_lists}
 use Rattle.cb_joins.specs.Internal.Steps.{AreAround, HasWidth, IsStep, NamesListsBelow}
@@ -27,15 +29,13 @@ has_width k (joining from x p) ws h = tt
 has_width k (testing from t) ws h = tt
 has_width k (grouping from inner positive width) ws h = h.2
 
--- one more at the end of a list
-before_end : {A : Type 0} (xs : List A) (x : A) (k : ℕ) (d : A) → k < length xs → get_or (xs ++ x ∷ []) k d ≡ get_or xs k d
-before_end [] x k d h = absurd (omega (arith, h))
-before_end (y ∷ ys) x 0 d h = refl
-before_end (y ∷ ys) x (suc k) d h = before_end ys x k d (omega (arith, h))
-
-at_end : {A : Type 0} (xs : List A) (x : A) (d : A) → get_or (xs ++ x ∷ []) (length xs) d ≡ x
-at_end [] x d = refl
-at_end (y ∷ ys) x d = at_end ys x d
+-- nothing goes or comes
+pub nothing_moves : (ms : List Partial) (m : Moved) → m.gone.items ≡ [] → m.come.items ≡ [] → IsMoved ms ms m
+nothing_moves ms m gone come = record {
+  moves = subst (λ it. PartialMoves ms ms it m.come.items) (sym gone) (subst (PartialMoves ms ms []) (sym come) (none_moves parts_of_partial ms));
+  gone_once = subst IsOnce (sym gone) tt;
+  come_once = subst IsOnce (sym come) tt;
+}
 
 module _ {T : Type 0} (rise : WaysRise) (fs fs' : IndexedFacts) (indices : HaveIndices fs) (indices' : HaveIndices fs') (ns : List FlatNode) (whole : AreWhole ns)
     (nodes : List (Node T)) (lists : List (BTreeSet Partial)) (all : List Moved) (i : ℕ) (n : Node T)
@@ -84,10 +84,10 @@ module _ {T : Type 0} (rise : WaysRise) (fs fs' : IndexedFacts) (indices : HaveI
     once = λ k h. let j : k < suc (length ns) = (let w = within in omega (arith, h, all_long, w)) in lists_are_once rise ns fs' (no_parts ∷ []) new ws indices' wide (whole.lists fs' (no_parts ∷ [])) (λ z h. absurd h, tt) k j;
     width = has_width i (flat_node n) ws well;
     ready = subst (IsReady fs) (sym is) (left i n (omega (arith)) l);
-    lists = λ k d h. let ne : k ≢ suc i = omega (arith, h, all_long) in
-        subst (λ it. Holds it.keys (new k)) (sym (get_or-set_other lists k (suc i) none d ne)) (lists_done k d (omega (arith, h, all_long)));
-    moved = λ k d h. moves k d (omega (arith, h, all_long));
-    own = subst (Holds own.keys) (next_is fs) (subst (λ it. Holds it.keys (old (suc i))) (sym own_is) (lists_left (suc i) own (omega (arith)) (let w = within in omega (arith, w))));
+    are_lists = λ k d h. let ne : k ≢ suc i = omega (arith, h, all_long) in
+        subst (λ it. Holds it.keys (new k)) (sym (get_or-set_other lists (suc i) k none d ne)) (lists_done k d (omega (arith, h, all_long)));
+    are_moved = λ k d h. moves k d (omega (arith, h, all_long));
+    is_own = subst (Holds own.keys) (next_is fs) (subst (λ it. Holds it.keys (old (suc i))) (sym own_is) (lists_left (suc i) own (omega (arith)) (let w = within in omega (arith, w))));
   }
 
   -- after it
@@ -113,7 +113,7 @@ module _ {T : Type 0} (rise : WaysRise) (fs fs' : IndexedFacts) (indices : HaveI
     mid_long = length-set lists (suc i) none ∙ lists_long
 
     other_list : (k : ℕ) (d : BTreeSet Partial) → k ≢ suc i → get_or lists' k d ≡ get_or lists k d
-    other_list k d ne = get_or-set_other (set lists (suc i) none) k (suc i) own' d ne ∙ get_or-set_other lists k (suc i) none d ne
+    other_list k d ne = get_or-set_other (set lists (suc i) none) (suc i) k own' d ne ∙ get_or-set_other lists (suc i) k none d ne
 
     pub lists_long_now : length lists' ≡ suc (length ns)
     lists_long_now = length-set (set lists (suc i) none) (suc i) own' ∙ mid_long
@@ -123,7 +123,7 @@ module _ {T : Type 0} (rise : WaysRise) (fs fs' : IndexedFacts) (indices : HaveI
         elim (cases_eq k (suc i)) as (λ _. Holds (get_or lists' k d).keys (new k)) [
           | inl e ↦ subst (λ j. Holds (get_or lists' j d).keys (new j)) (sym e)
               (subst (λ it. Holds it.keys (new (suc i))) (sym (get_or-set_same (set lists (suc i) none) (suc i) own' d (let w = within in let m = mid_long in omega (arith, w, m))))
-              (subst (Holds own'.keys) (sym (next_is fs' ∙ ap (λ it. node_list it fs' new) (sym same))) step.own))
+              (subst (Holds own'.keys) (sym (next_is fs' ∙ ap (λ it. node_list it fs' new) (sym same))) step.is_own))
           | inr ne ↦ subst (λ it. Holds it.keys (new k)) (sym (other_list k d ne)) (lists_done k d (omega (arith, h, ne)))
         ]
 
@@ -137,10 +137,10 @@ module _ {T : Type 0} (rise : WaysRise) (fs fs' : IndexedFacts) (indices : HaveI
     moves_now k d h =
         elim (cases_eq k (suc i)) as (λ _. IsMoved (old k) (new k) (get_or (all ++ r ∷ []) k d)) [
           | inl e ↦ subst (λ j. IsMoved (old j) (new j) (get_or (all ++ r ∷ []) j d)) (sym e)
-              (subst (IsMoved (old (suc i)) (new (suc i))) (sym (ap (λ j. get_or (all ++ r ∷ []) j d) (sym all_long) ∙ at_end all r d))
+              (subst (IsMoved (old (suc i)) (new (suc i))) (sym (ap (λ j. get_or (all ++ r ∷ []) j d) (sym all_long) ∙ at_end d all r))
               (subst (λ it. IsMoved it (new (suc i)) r) (sym (next_is fs ∙ ap (λ it. node_list it fs old) (sym same)))
-              (subst (λ it. IsMoved (node_list (flat_node q) fs old) it r) (sym (next_is fs' ∙ ap (λ it. node_list it fs' new) (sym same))) step.moved)))
-          | inr ne ↦ subst (IsMoved (old k) (new k)) (sym (before_end all r k d (let a = all_long in omega (arith, h, ne, a)))) (moves k d (omega (arith, h, ne)))
+              (subst (λ it. IsMoved (node_list (flat_node q) fs old) it r) (sym (next_is fs' ∙ ap (λ it. node_list it fs' new) (sym same))) step.is_moved)))
+          | inr ne ↦ subst (IsMoved (old k) (new k)) (sym (in_front d all r k (let a = all_long in omega (arith, h, ne, a)))) (moves k d (omega (arith, h, ne)))
         ]
 
     pub tests_now : (added : Option FactValue) (t t' bound : ℕ) → t + flat_probes added fs' old new (drop i ns) ≤ bound → t' ≤ t + flat_probes_of added fs' old new (flat_node n)

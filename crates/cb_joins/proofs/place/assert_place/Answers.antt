@@ -1,0 +1,57 @@
+use Rattle.std.proofs.Common.{◌≡◌, ◌≤◌, ◌+◌, ◌*◌, ◌∙◌, [], List, Some, ap, length, rules, subst, sym}
+use Rattle.std.specs.Cmp.Lexicographic.{slice_cmp}
+use Rattle.std.specs.List.{list_any}
+use Rattle.std.specs.Ordering.{nat_cmp}
+use Rattle.std.specs.declared.cmp.Ordering.TheVariants.{Less}
+use Rattle.cb_facts.specs.FactLists.{IndexedFacts, without_fact}
+use Rattle.cb_fit.specs.Ways.{WayValue, ways}
+use Rattle.cb_joins.proofs.Facts.{rising_base, taken_fact}
+use Rattle.cb_joins.proofs.Patterns.{added_bound, added_now}
+use Rattle.cb_joins.specs.Internal.Changes.{Added}
+use Rattle.cb_joins.specs.Internal.Flat.{begins}
+use Rattle.cb_joins.specs.Internal.Nodes.{found_with}
+use Rattle.cb_joins.specs.Internal.Steps.{IsTaken, IsWith}
+use Rattle.cb_matches.specs.Lemmas.Lists.{chain_from_pairs}
+use Rattle.cb_matches.specs.Lemmas.Order.{IsRising, WaysRise}
+use Rattle.cb_matches.specs.Matches.{Partial}
+use Rattle.cb_partials.specs.Probes.{added_probes}
+use Rattle.cb_joins.proofs.place.assert_place.Goals as goal
+
+pub returns-clause-after : goal.returns-clause-after
+returns-clause-after g c n old new b =
+    let fs' : IndexedFacts = c.args.setting.now.facts.now in
+    let f = c.args.one.now in
+    let rising : IsRising fs' = rising_base fs' c.requires.base in
+    let added : Added f (without_fact fs' f.0) fs' = taken_fact f.0 f.1 fs' rising c.requires.there in
+    let rise : WaysRise = λ p f b. chain_from_pairs (λ (v : WayValue) (w : WayValue). slice_cmp nat_cmp v.cuts w.cuts ≡ Less) (ways p f b) (c.the_ways_rise_by_their_cuts.ensures p f b) in
+    let lost : List Partial = c.args.moved.now.gone.items in
+    let came : List Partial = c.args.moved.now.come.items in
+    let s1 : c.as_slice.result.now ≡ lost = search rules in
+    let s2 : c.as_slice-2.result.now ≡ came = search rules in
+    let s3 : c.as_slice-3.result.now ≡ c.in_ok-come.come.items = search rules in
+    let own = c.args.own.now.keys in
+    let left = c.take_behind.new.list.keys in
+    let out = c.take_behind.new.gone.items in
+    let taken : IsTaken (λ z. list_any (λ m. begins m.parts z) lost) own left [] out =
+    subst (λ it. IsTaken (λ z. list_any (λ m. begins m.parts z) lost) own left it out) c.new-gone.ensures.items
+    (subst (λ it. IsTaken (λ z. list_any (λ m. begins m.parts z) it) own left c.new-gone.result.items out) s1 c.in_ok-take_behind.ensures) in
+    let found = c.in_ok-come.ensures in
+    let come_is : c.in_ok-come.come.items ≡ found_with c.args.place.now f came c.args.before.now.keys = found.come b.is_place.is_loose ∙ ap (λ it. found_with c.args.place.now f it c.args.before.now.keys) s2 in
+    added_now rise c.no_shape_gives_no_ways.ensures c.args.place.now n (without_fact fs' f.0) old new c.args.before.now.keys own c.args.moved.now b f fs' added rising
+    c.find_with.new.place found.address found.pattern found.loose (found.candidates b.is_place.is_loose)
+    (record { gone = c.take_behind.new.gone; come = c.in_ok-come.come }) left c.add_all.new.list.keys taken come_is
+    (subst (λ it. IsWith left it c.add_all.new.list.keys) s3 c.in_ok-add_all.ensures)
+
+pub returns-clause-probes : goal.returns-clause-probes
+returns-clause-probes g c n old new b =
+    let fs' : IndexedFacts = c.args.setting.now.facts.now in
+    let f = c.args.one.now in
+    let rising : IsRising fs' = rising_base fs' c.requires.base in
+    let added : Added f (without_fact fs' f.0) fs' = taken_fact f.0 f.1 fs' rising c.requires.there in
+    let rise : WaysRise = λ p f b. chain_from_pairs (λ (v : WayValue) (w : WayValue). slice_cmp nat_cmp v.cuts w.cuts ≡ Less) (ways p f b) (c.the_ways_rise_by_their_cuts.ensures p f b) in
+    let came : List Partial = c.args.moved.now.come.items in
+    let s2 : c.as_slice-2.result.now ≡ came = search rules in
+    added_bound rise c.no_shape_gives_no_ways.ensures c.args.place.now n (without_fact fs' f.0) old new c.args.before.now.keys c.args.own.now.keys c.args.moved.now b f fs' added rising
+    c.args.meter.now c.find_with.new.meter
+    (subst (λ it. c.find_with.new.meter ≤ c.args.meter.now + (length it * length c.args.place.now.candidates.entries + added_probes c.args.place.now.pattern (Some f.1) (length c.args.before.now.keys))) s2
+    (c.in_ok-come.ensures.probes b.is_place.is_loose))
