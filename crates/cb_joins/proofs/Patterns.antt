@@ -1,11 +1,12 @@
 -- What one change does at a pattern, and behind it.
-use Rattle.std.proofs.Common.{◌≡◌, ◌≢◌, ◌≤◌, ℕ, suc, ◌+◌, ◌*◌, ◌<◌, ◌&&◌, not, Bool, true, false, List, [], ◌∷◌, ◌++◌, Option, Some, None, ◌⊎◌, filter, length, nat_eq, slice_get, inl, inr, refl, sym, ◌∙◌, ap, ap₂, subst, cond, arith, if◌then◌else◌}
+use Rattle.std.proofs.Common.{◌≡◌, ◌≢◌, ◌≤◌, ℕ, suc, ◌+◌, ◌-◌, ◌*◌, ◌<◌, ◌&&◌, not, Bool, true, false, List, [], ◌∷◌, ◌++◌, Option, Some, None, ◌⊎◌, filter, length, nat_eq, slice_get, inl, inr, refl, sym, ◌∙◌, ap, ap₂, subst, cond, arith, if◌then◌else◌}
 use Rattle.std.proofs.lemmas.Bool.{cases_order, eq-eqb, eqb-true}
 use Rattle.std.proofs.Math.Nat.{mul-suc}
 use Rattle.std.specs.BTreeMap.{is_at}
 use Rattle.std.specs.Cmp.{nat_cmp_is, unsigned_tied}
 use Rattle.std.specs.declared.cmp.Ordering.TheVariants.{Less, Equal, Greater}
 use Rattle.std.proofs.lemmas.Bool.Decides.{Decides-eqb}
+use Rattle.std.proofs.lemmas.List.{append-nil, length-append}
 use Rattle.std.specs.List.{list_any}
 use Rattle.std.specs.Option.{option_map_or}
 use Rattle.std.specs.Ordering.{nat_cmp}
@@ -24,7 +25,7 @@ use Rattle.cb_joins.proofs.Moves.{behind, fact_more, first_leaves, held_after, l
 use Rattle.cb_joins.proofs.Steps.{and_both, and_second, moved as moved_in, not_true, regrown, same_parents}
 use Rattle.cb_joins.specs.Internal.Changes.{Added, FactMoves, Holds, IsMoved, PartialMoves, index_of_fact}
 use Rattle.cb_joins.specs.Internal.Flat.{begins}
-use Rattle.cb_joins.specs.Internal.Memories.{begins_with}
+use Rattle.cb_joins.specs.Internal.Memories.{begins_with, ends_with}
 use Rattle.cb_joins.specs.Internal.Nodes.{HaveIndices, HaveParts, IsPlace, Shapeless, candidates_with, found_with}
 use Rattle.cb_joins.specs.Internal.Steps.{IsAfter, IsBefore, IsTaken, IsWith, pattern_probes}
 use Rattle.cb_joins.specs.declared.moved.Moved.{Moved}
@@ -105,6 +106,18 @@ pub with_index : (ps : List PartValue) (ix : ℕ) (z : Partial) (q : PartValue) 
 with_index ps ix z q e i =
     let at : slice_get z.parts (length ps) ≡ Some q = ap (λ it. slice_get it (length ps)) e ∙ got_last ps q in
     and_both (begins ps z) _ (to_begins ps z (q ∷ [], e)) (ap (λ o. option_map_or (λ (p : PartValue). nat_eq ix p.index) o false) at ∙ (Decides-eqb ix q.index).1 i)
+
+-- the index of the last fact
+last_at : (ix : ℕ) (z : Partial) (qs : List PartValue) (q : PartValue) → z.parts ≡ qs ++ q ∷ [] → ends_with ix z ≡ nat_eq ix q.index
+last_at ix z qs q e =
+    let long : length (qs ++ q ∷ []) - 1 ≡ length qs = (let l = length-append qs (q ∷ []) in omega (arith, l)) in
+    ap (λ o. option_map_or (λ (p : PartValue). nat_eq ix p.index) o false) (ap (λ it. slice_get it (length it - 1)) e ∙ (ap (slice_get (qs ++ q ∷ [])) long ∙ got_last qs q))
+
+last_index : (ix : ℕ) (z : Partial) (qs : List PartValue) (q : PartValue) → z.parts ≡ qs ++ q ∷ [] → ends_with ix z ≡ true → ix ≡ q.index
+last_index ix z qs q e h = (Decides-eqb ix q.index).0 (sym (last_at ix z qs q e) ∙ h)
+
+index_last : (ix : ℕ) (z : Partial) (qs : List PartValue) (q : PartValue) → z.parts ≡ qs ++ q ∷ [] → ix ≡ q.index → ends_with ix z ≡ true
+index_last ix z qs q e i = last_at ix z qs q e ∙ (Decides-eqb ix q.index).1 i
 
 -- one fact more makes a list longer by one
 one_longer : (cs : IndexedFacts) (ix : ℕ) (v : FactValue) → fact_at cs ix ≡ None → suc (length cs) ≡ length (with_fact cs ix v)
@@ -273,37 +286,37 @@ module _ {T : Type 0} (rise : WaysRise) (shapeless : Shapeless) (place : Place T
     module _ (q : Place T) (address : q.address ≡ x) (pattern : q.pattern ≡ p) (is_loose : q.loose ≡ place.loose) (candidates : q.candidates.entries ≡ candidates_with place f)
         (r : Moved) (left own' : List Partial) (taken : IsTaken behind_gone own left [] r.gone.items) (came : r.come.items ≡ found) (more : IsWith left r.come.items own')
       where
-      leaves : Leaves own left r.gone.items
-      leaves = first_leaves behind_gone own left r.gone.items taken
+        leaves : Leaves own left r.gone.items
+        leaves = first_leaves behind_gone own left r.gone.items taken
 
-      gone_to : (z : Partial) → In z r.gone.items → behind x p fs fs' [] old new m.gone.items z
-      gone_to z h = elim (taken.only z h) as (λ _. behind x p fs fs' [] old new m.gone.items z) [ inl i ↦ absurd i | inr i ↦ inl (goes_to z i.0 i.1) ]
+        gone_to : (z : Partial) → In z r.gone.items → behind x p fs fs' [] old new m.gone.items z
+        gone_to z h = elim (taken.only z h) as (λ _. behind x p fs fs' [] old new m.gone.items z) [ inl i ↦ absurd i | inr i ↦ inl (goes_to z i.0 i.1) ]
 
-      to_gone : (z : Partial) → behind x p fs fs' [] old new m.gone.items z → In z r.gone.items
-      to_gone z (inl h) = let i = goes_from z h in taken.taken z i.0 i.1
-      to_gone z (inr h) = let k = is_grown x p [] old z h in absurd k.fact_in
+        to_gone : (z : Partial) → behind x p fs fs' [] old new m.gone.items z → In z r.gone.items
+        to_gone z (inl h) = let i = goes_from z h in taken.taken z i.0 i.1
+        to_gone z (inr h) = let k = is_grown x p [] old z h in absurd k.fact_in
 
-      moves_now : PartialMoves (next x p fs old) (next x p fs' new) r.gone.items r.come.items
-      moves_now =
-          subst (λ it. PartialMoves (next x p fs old) (next x p fs' new) r.gone.items it) (sym came)
-          (place_moves x p fs fs' [] (f ∷ []) old new m.gone.items m.come.items (fact_more f fs fs' added) c r.gone.items found gone_to to_gone found_to to_found)
+        moves_now : PartialMoves (next x p fs old) (next x p fs' new) r.gone.items r.come.items
+        moves_now =
+            subst (λ it. PartialMoves (next x p fs old) (next x p fs' new) r.gone.items it) (sym came)
+            (place_moves x p fs fs' [] (f ∷ []) old new m.gone.items m.come.items (fact_more f fs fs' added) c r.gone.items found gone_to to_gone found_to to_found)
 
-      come_once : IsOnce r.come.items
-      come_once = subst IsOnce (sym came) found_once
+        come_once : IsOnce r.come.items
+        come_once = subst IsOnce (sym came) found_once
 
-      pub added_now : IsAfter fs fs' old new q own' r
-      added_now = record {
-        is_place = record {
-          is_loose = is_loose ∙ (b.is_place.is_loose ∙ ap loose (sym pattern));
-          candidates = subst (λ it. AreSame it (filter (is_candidate q.pattern) fs')) (sym candidates)
-              (subst (λ it. AreSame (candidates_with place f) (filter (is_candidate it) fs')) (sym pattern) (with_in, in_with));
-          rising = subst IsRising (sym candidates) with_rising;
-        };
-        is_own = subst (λ it. Holds own' (next it q.pattern fs' new)) (sym address) (subst (λ it. Holds own' (next x it fs' new)) (sym pattern)
-            (held_after (next x p fs old) (next x p fs' new) r.gone.items r.come.items own left own' moves_now b.is_own leaves (subst IsOnce (sym taken.left) (chain_filter IsApart (λ z. not (behind_gone z)) own b.is_own.once)) come_once more));
-        is_moved = subst (λ it. IsMoved (next it q.pattern fs old) (next it q.pattern fs' new) r) (sym address) (subst (λ it. IsMoved (next x it fs old) (next x it fs' new) r) (sym pattern)
-            (record { moves = moves_now; gone_once = taken.once b.is_own.once tt (λ z y h. absurd h); come_once = come_once }));
-      }
+        pub added_now : IsAfter fs fs' old new q own' r
+        added_now = record {
+          is_place = record {
+            is_loose = is_loose ∙ (b.is_place.is_loose ∙ ap loose (sym pattern));
+            candidates = subst (λ it. AreSame it (filter (is_candidate q.pattern) fs')) (sym candidates)
+                (subst (λ it. AreSame (candidates_with place f) (filter (is_candidate it) fs')) (sym pattern) (with_in, in_with));
+            rising = subst IsRising (sym candidates) with_rising;
+          };
+          is_own = subst (λ it. Holds own' (next it q.pattern fs' new)) (sym address) (subst (λ it. Holds own' (next x it fs' new)) (sym pattern)
+              (held_after (next x p fs old) (next x p fs' new) r.gone.items r.come.items own left own' moves_now b.is_own leaves (subst IsOnce (sym taken.left) (chain_filter IsApart (λ z. not (behind_gone z)) own b.is_own.once)) come_once more));
+          is_moved = subst (λ it. IsMoved (next it q.pattern fs old) (next it q.pattern fs' new) r) (sym address) (subst (λ it. IsMoved (next x it fs old) (next x it fs' new) r) (sym pattern)
+              (record { moves = moves_now; gone_once = taken.once b.is_own.once tt (λ z y h. absurd h); come_once = come_once }));
+        }
 
     -- the bound
     pub added_bound : (t t' : ℕ) → t' ≤ t + (length m.come.items * length cs + added_probes p (Some f.1) (length before)) → t' ≤ t + pattern_probes p (Some f.1) fs' old new
@@ -369,7 +382,7 @@ module _ {T : Type 0} (rise : WaysRise) (shapeless : Shapeless) (place : Place T
     abbrev pub took_it : Partial → Bool
     took_it z = list_any (λ l. begins_with l.parts f.0 z) before
 
-    took_to : (z : Partial) → In z own → took_it z ≡ true → In z (next x p (f ∷ []) old)
+    pub took_to : (z : Partial) → In z own → took_it z ≡ true → In z (next x p (f ∷ []) old)
     took_to z h t =
         let k = is_grown x p fs old z (b.is_own.same.0 z h) in
         let l = some_in (λ l. begins_with l.parts f.0 z) before t in
@@ -380,71 +393,100 @@ module _ {T : Type 0} (rise : WaysRise) (shapeless : Shapeless) (place : Place T
           | inr e ↦ regrown x p fs (f ∷ []) old old z k k.parent_in (inl e)
         ]
 
-    took_from : (z : Partial) → In z (next x p (f ∷ []) old) → In z own × ((behind_gone z ≡ true) ⊎ (took_it z ≡ true))
+    fact_own : (z : Partial) → In z (next x p (f ∷ []) old) → In z own
+    fact_own z h = b.is_own.same.1 z (moved_in x p (f ∷ []) fs old old (λ g i. subst (λ it. In it fs) (sym (only_one g f i)) added.there) (λ m i. i) z h)
+
+    pub took_from : (z : Partial) → In z (next x p (f ∷ []) old) → (behind_gone z ≡ true) ⊎ (took_it z ≡ true)
     took_from z h =
         let k = is_grown x p (f ∷ []) old z h in
-        let e = only_one k.fact f k.fact_in in (
-          b.is_own.same.1 z (moved_in x p (f ∷ []) fs old old (λ g i. subst (λ it. In it fs) (sym (only_one g f i)) added.there) (λ m i. i) z h),
-          elim (c.stays k.parent k.parent_in) as (λ _. (behind_gone z ≡ true) ⊎ (took_it z ≡ true)) [
-            | inr i ↦ inl (in_some (λ g. begins g.parts z) k.parent m.gone.items i (to_begins k.parent.parts z (part k.fact.0 k.way.cuts ∷ [], ap (λ it. it.parts) k.is)))
-            | inl i ↦ inr (in_some (λ l. begins_with l.parts f.0 z) k.parent before (b.is_before.same.1 k.parent i)
-                (with_index k.parent.parts f.0 z (part k.fact.0 k.way.cuts) (ap (λ it. it.parts) k.is) (ap (λ it. it.0) (sym e))))
-          ],
-        )
+        let e = only_one k.fact f k.fact_in in
+        elim (c.stays k.parent k.parent_in) as (λ _. (behind_gone z ≡ true) ⊎ (took_it z ≡ true)) [
+          | inr i ↦ inl (in_some (λ g. begins g.parts z) k.parent m.gone.items i (to_begins k.parent.parts z (part k.fact.0 k.way.cuts ∷ [], ap (λ it. it.parts) k.is)))
+          | inl i ↦ inr (in_some (λ l. begins_with l.parts f.0 z) k.parent before (b.is_before.same.1 k.parent i)
+              (with_index k.parent.parts f.0 z (part k.fact.0 k.way.cuts) (ap (λ it. it.parts) k.is) (ap (λ it. it.0) (sym e))))
+        ]
+
+    -- or those whose last fact it is
+    abbrev pub ended : List Partial → Partial → Bool
+    ended first z = list_any (λ l. begins l.parts z) (filter (ends_with f.0) first)
+
+    pub ended_to : (first : List Partial) → ((z : Partial) → In z first → In z own) → (z : Partial) → In z first → ended first z ≡ true → In z (next x p (f ∷ []) old)
+    ended_to first among z h t =
+        let k = is_grown x p fs old z (b.is_own.same.0 z (among z h)) in
+        let l = some_in (λ l. begins l.parts z) (filter (ends_with f.0) first) t in
+        let i = in_filter (ends_with f.0) l.0 first l.1 in
+        let j = is_grown x p fs old l.0 (b.is_own.same.0 l.0 (among l.0 i.0)) in
+        let long : length l.0.parts ≡ length z.parts =
+        ap (λ it. length it.parts) j.is ∙ (length-append j.parent.parts (part j.fact.0 j.way.cuts ∷ []) ∙ (ap (λ it. it + 1) (b.long j.parent j.parent_in ∙ sym (b.long k.parent k.parent_in)) ∙ (sym (length-append k.parent.parts (part k.fact.0 k.way.cuts ∷ [])) ∙ sym (ap (λ it. length it.parts) k.is)))) in
+        let same : l.0.parts ≡ z.parts = same_begin l.0.parts z.parts z.parts long (begins_to l.0.parts z l.2) ([], sym (append-nil z.parts)) in
+        let index : f.0 ≡ k.fact.0 = last_index f.0 l.0 k.parent.parts (part k.fact.0 k.way.cuts) (same ∙ ap (λ it. it.parts) k.is) i.1 in
+        elim (added.is k.fact k.fact_in) as (λ _. In z (next x p (f ∷ []) old)) [
+          | inl i ↦ absurd (added.absent k.fact i (sym index))
+          | inr e ↦ regrown x p fs (f ∷ []) old old z k k.parent_in (inl e)
+        ]
+
+    pub ended_from : (first : List Partial) (z : Partial) → In z (next x p (f ∷ []) old) → In z first → ended first z ≡ true
+    ended_from first z h i =
+        let k = is_grown x p (f ∷ []) old z h in
+        let e = only_one k.fact f k.fact_in in
+        in_some (λ l. begins l.parts z) z (filter (ends_with f.0) first)
+        (filter_in (ends_with f.0) z first i (index_last f.0 z k.parent.parts (part k.fact.0 k.way.cuts) (ap (λ it. it.parts) k.is) (ap (λ it. it.0) (sym e))))
+        (to_begins z.parts z ([], sym (append-nil z.parts)))
 
     -- afterwards
     module _ (q : Place T) (address : q.address ≡ x) (pattern : q.pattern ≡ p) (is_loose : q.loose ≡ place.loose) (candidates : q.candidates.entries ≡ without)
-        (r : Moved) (first left own' gone1 : List Partial) (taken1 : IsTaken behind_gone own first [] gone1) (taken : IsTaken took_it first left gone1 r.gone.items)
+        (r : Moved) (first left own' gone1 : List Partial) (taken1 : IsTaken behind_gone own first [] gone1) (took : Partial → Bool) (taken : IsTaken took first left gone1 r.gone.items)
+        (by_fact : (z : Partial) → In z first → took z ≡ true → In z (next x p (f ∷ []) old)) (to_fact : (z : Partial) → In z (next x p (f ∷ []) old) → In z first → (behind_gone z ≡ true) ⊎ (took z ≡ true))
         (came : r.come.items ≡ rest) (more : IsWith left r.come.items own')
       where
-      leaves1 : Leaves own first gone1
-      leaves1 = first_leaves behind_gone own first gone1 taken1
+        leaves1 : Leaves own first gone1
+        leaves1 = first_leaves behind_gone own first gone1 taken1
 
-      took_leaves : Leaves own left r.gone.items
-      took_leaves = second_leaves took_it own first left gone1 r.gone.items leaves1 taken
+        took_leaves : Leaves own left r.gone.items
+        took_leaves = second_leaves took own first left gone1 r.gone.items leaves1 taken
 
-      took_gone_to : (z : Partial) → In z r.gone.items → behind x p fs fs' (f ∷ []) old new m.gone.items z
-      took_gone_to z h = elim (taken.only z h) as (λ _. behind x p fs fs' (f ∷ []) old new m.gone.items z) [
-        | inl i ↦ elim (taken1.only z i) as (λ _. behind x p fs fs' (f ∷ []) old new m.gone.items z) [ inl j ↦ absurd j | inr j ↦ inl (goes_to z j.0 j.1) ]
-        | inr i ↦ inr (took_to z (leaves1.left_own z i.0) i.1)
-      ]
+        took_gone_to : (z : Partial) → In z r.gone.items → behind x p fs fs' (f ∷ []) old new m.gone.items z
+        took_gone_to z h = elim (taken.only z h) as (λ _. behind x p fs fs' (f ∷ []) old new m.gone.items z) [
+          | inl i ↦ elim (taken1.only z i) as (λ _. behind x p fs fs' (f ∷ []) old new m.gone.items z) [ inl j ↦ absurd j | inr j ↦ inl (goes_to z j.0 j.1) ]
+          | inr i ↦ inr (by_fact z i.0 i.1)
+        ]
 
-      took_to_gone : (z : Partial) → behind x p fs fs' (f ∷ []) old new m.gone.items z → In z r.gone.items
-      took_to_gone z (inl h) = let i = goes_from z h in taken.stay z (taken1.taken z i.0 i.1)
-      took_to_gone z (inr h) =
-          let i = took_from z h in
-          elim (leaves1.splits_own z i.0) as (λ _. In z r.gone.items) [
-            | inr j ↦ taken.stay z j
-            | inl j ↦ elim i.1 as (λ _. In z r.gone.items) [ inl t ↦ taken.stay z (taken1.taken z i.0 t) | inr t ↦ taken.taken z j t ]
-          ]
+        took_to_gone : (z : Partial) → behind x p fs fs' (f ∷ []) old new m.gone.items z → In z r.gone.items
+        took_to_gone z (inl h) = let i = goes_from z h in taken.stay z (taken1.taken z i.0 i.1)
+        took_to_gone z (inr h) =
+            let i = fact_own z h in
+            elim (leaves1.splits_own z i) as (λ _. In z r.gone.items) [
+              | inr j ↦ taken.stay z j
+              | inl j ↦ elim (to_fact z h j) as (λ _. In z r.gone.items) [ inl t ↦ taken.stay z (taken1.taken z i t) | inr t ↦ taken.taken z j t ]
+            ]
 
-      took_moves_now : PartialMoves (next x p fs old) (next x p fs' new) r.gone.items r.come.items
-      took_moves_now =
-          subst (λ it. PartialMoves (next x p fs old) (next x p fs' new) r.gone.items it) (sym came)
-          (place_moves x p fs fs' (f ∷ []) [] old new m.gone.items m.come.items (swapped index_of_fact fs' fs [] (f ∷ []) (fact_more f fs' fs added)) c r.gone.items rest took_gone_to took_to_gone rest_to to_rest)
+        took_moves_now : PartialMoves (next x p fs old) (next x p fs' new) r.gone.items r.come.items
+        took_moves_now =
+            subst (λ it. PartialMoves (next x p fs old) (next x p fs' new) r.gone.items it) (sym came)
+            (place_moves x p fs fs' (f ∷ []) [] old new m.gone.items m.come.items (swapped index_of_fact fs' fs [] (f ∷ []) (fact_more f fs' fs added)) c r.gone.items rest took_gone_to took_to_gone rest_to to_rest)
 
-      took_come_once : IsOnce r.come.items
-      took_come_once = subst IsOnce (sym came) rest_once
+        took_come_once : IsOnce r.come.items
+        took_come_once = subst IsOnce (sym came) rest_once
 
-      first_once : IsOnce first
-      first_once = subst IsOnce (sym taken1.left) (chain_filter IsApart (λ z. not (behind_gone z)) own b.is_own.once)
+        first_once : IsOnce first
+        first_once = subst IsOnce (sym taken1.left) (chain_filter IsApart (λ z. not (behind_gone z)) own b.is_own.once)
 
-      gone_once : IsOnce r.gone.items
-      gone_once = taken.once first_once (taken1.once b.is_own.once tt (λ z y h. absurd h)) (leaves_apart own first gone1 b.is_own.once leaves1)
+        gone_once : IsOnce r.gone.items
+        gone_once = taken.once first_once (taken1.once b.is_own.once tt (λ z y h. absurd h)) (leaves_apart own first gone1 b.is_own.once leaves1)
 
-      pub taken_now : IsAfter fs fs' old new q own' r
-      taken_now = record {
-        is_place = record {
-          is_loose = is_loose ∙ (b.is_place.is_loose ∙ ap loose (sym pattern));
-          candidates = subst (λ it. AreSame it (filter (is_candidate q.pattern) fs')) (sym candidates)
-              (subst (λ it. AreSame without (filter (is_candidate it) fs')) (sym pattern) (without_in, in_without));
-          rising = subst IsRising (sym candidates) without_rising;
-        };
-        is_own = subst (λ it. Holds own' (next it q.pattern fs' new)) (sym address) (subst (λ it. Holds own' (next x it fs' new)) (sym pattern)
-            (held_after (next x p fs old) (next x p fs' new) r.gone.items r.come.items own left own' took_moves_now b.is_own took_leaves (subst IsOnce (sym taken.left) (chain_filter IsApart (λ z. not (took_it z)) first first_once)) took_come_once more));
-        is_moved = subst (λ it. IsMoved (next it q.pattern fs old) (next it q.pattern fs' new) r) (sym address) (subst (λ it. IsMoved (next x it fs old) (next x it fs' new) r) (sym pattern)
-            (record { moves = took_moves_now; gone_once = gone_once; come_once = took_come_once }));
-      }
+        pub taken_now : IsAfter fs fs' old new q own' r
+        taken_now = record {
+          is_place = record {
+            is_loose = is_loose ∙ (b.is_place.is_loose ∙ ap loose (sym pattern));
+            candidates = subst (λ it. AreSame it (filter (is_candidate q.pattern) fs')) (sym candidates)
+                (subst (λ it. AreSame without (filter (is_candidate it) fs')) (sym pattern) (without_in, in_without));
+            rising = subst IsRising (sym candidates) without_rising;
+          };
+          is_own = subst (λ it. Holds own' (next it q.pattern fs' new)) (sym address) (subst (λ it. Holds own' (next x it fs' new)) (sym pattern)
+              (held_after (next x p fs old) (next x p fs' new) r.gone.items r.come.items own left own' took_moves_now b.is_own took_leaves (subst IsOnce (sym taken.left) (chain_filter IsApart (λ z. not (took z)) first first_once)) took_come_once more));
+          is_moved = subst (λ it. IsMoved (next it q.pattern fs old) (next it q.pattern fs' new) r) (sym address) (subst (λ it. IsMoved (next x it fs old) (next x it fs' new) r) (sym pattern)
+              (record { moves = took_moves_now; gone_once = gone_once; come_once = took_come_once }));
+        }
 
     -- the bound
     pub taken_bound : (t t' : ℕ) → t' ≤ t + length m.come.items * length without → t' ≤ t + pattern_probes p None fs' old new

@@ -8,16 +8,16 @@ ghost use Rattle.std.specs.List.{filter, list_any};
 ghost use Rattle.std.specs.Option.{option_copied, option_map_or};
 ghost use Rattle.std.specs.Ordering.{is_le};
 ghost use Rattle.cb_joins.specs.Internal.Flat.{begins};
-ghost use Rattle.cb_joins.specs.Internal.Memories.{IsAdded, IsFirstTaken, IsFound, begins_as, begins_with, first_part};
+ghost use Rattle.cb_joins.specs.Internal.Memories.{IsAdded, IsFirstTaken, IsFound, begins_as, begins_with, ends_with, first_part};
 ghost use Rattle.cb_matches.specs.Keys.{PartValue};
 ghost use Rattle.cb_matches.specs.Lemmas.Order.{IsOnce};
 ghost use Rattle.cb_partials.specs.Partials.{partial_cmp};
 ghost use Rattle.cb_partials.specs.Probes.{has_parts};
 
 use cb_exprs::Env;
+use cb_forms::NoMemory;
 use cb_matches::Part;
 use cb_partials::Partial;
-use cb_forms::NoMemory;
 use std::alloc::Global;
 use std::collections::BTreeSet;
 use std::ops::Bound;
@@ -180,6 +180,16 @@ fn has_fact_at(partial: &Partial, place: usize, ix: u64) -> bool
 {
     match partial.parts.get(place) {
         Some(part) => part.index == ix,
+        None => false,
+    }
+}
+
+/// Whether the last fact of a partial match has this index.
+pub(crate) fn ends_with(partial: &Partial, ix: u64) -> bool
+    ensures { result ≡ ends_with ix partial.now }
+{
+    match partial.parts.as_slice().last() {
+        Some(part) => ix == part.index,
         None => false,
     }
 }

@@ -1,11 +1,11 @@
 //! What is taken out of a list of partial matches, and what is added to it.
-ghost use Rattle.std.specs.Prelude.{◌≡◌, ◌++◌, IfOk, OnOk, not};
+ghost use Rattle.std.specs.Prelude.{◌≡◌, ◌⊎◌, IfOk, OnOk};
 ghost use Rattle.std.specs.List.{filter, list_any};
 ghost use Rattle.cb_joins.specs.Internal.Flat.{begins};
-ghost use Rattle.cb_joins.specs.Internal.Memories.{begins_with};
+ghost use Rattle.cb_joins.specs.Internal.Memories.{begins_with, ends_with};
 ghost use Rattle.cb_joins.specs.Internal.Steps.{IsTaken, IsWith};
 
-use crate::memory::{add, take_begun, take_with_fact};
+use crate::memory::{add, ends_with, take_begun, take_with_fact};
 use cb_forms::NoMemory;
 use cb_partials::Partial;
 use std::alloc::Global;
@@ -27,8 +27,42 @@ pub(crate) fn take_behind(
     Ok(())
 }
 
-/// Moves what goes on from one of these partial matches with the fact of this index out of a list.
+/// Moves what goes on with the fact of this index from the partial matches of the list before it out of a list. Where that is far
+/// shorter, what goes on from each of its partial matches is looked up; else the list is looked through for what ends with the fact.
 pub(crate) fn take_fact(
+    alloc: Global,
+    list: &mut BTreeSet<Partial>,
+    before: &BTreeSet<Partial>,
+    ix: u64,
+    gone: &mut Vec<Partial>,
+) -> Result<(), NoMemory>
+    ensures { OnOk result (IsTaken (λ z. list_any (λ m. begins_with m.parts ix z) before.now.keys)
+        list.old.keys list.new.keys gone.old.items gone.new.items
+        ⊎ IsTaken (λ z. list_any (λ m. begins m.parts z) (filter (ends_with ix) list.old.keys))
+        list.old.keys list.new.keys gone.old.items gone.new.items) }
+{
+    if before.len() < list.len() / 32 {
+        return take_from_each(alloc, list, before, ix, gone);
+    }
+    let found = ending_with(alloc, list, ix)?;
+    take_behind(alloc, list, found.as_slice(), gone)
+}
+
+/// The partial matches of a list whose last fact has this index.
+fn ending_with(alloc: Global, list: &BTreeSet<Partial>, ix: u64) -> Result<Vec<Partial>, NoMemory>
+    ensures { IfOk result (λ found. found.items ≡ filter (ends_with ix) list.now.keys) }
+{
+    let mut found = Vec::new(alloc);
+    for partial in list.iter() {
+        if ends_with(partial, ix) {
+            found.push(partial.clone()?)?;
+        }
+    }
+    Ok(found)
+}
+
+/// Moves what goes on from one of these partial matches with the fact of this index out of a list.
+fn take_from_each(
     alloc: Global,
     list: &mut BTreeSet<Partial>,
     partials: &BTreeSet<Partial>,
@@ -44,11 +78,8 @@ pub(crate) fn take_fact(
     Ok(())
 }
 
-/// Adds these partial matches to a list.
-pub(crate) fn add_all(
-    list: &mut BTreeSet<Partial>,
-    partials: &[Partial],
-) -> Result<(), NoMemory>
+/// Adds these partial matches to a list, each unless one with its parts is there.
+pub(crate) fn add_all(list: &mut BTreeSet<Partial>, partials: &[Partial]) -> Result<(), NoMemory>
     ensures { OnOk result (IsWith list.old.keys partials.now list.new.keys) }
 {
     for partial in partials {

@@ -1,3 +1,4 @@
 mod building;
 mod changing;
+mod probes;
 mod rows;

@@ -1,5 +1,5 @@
 -- Sets of partial matches in the order of their parts.
-use Rattle.std.specs.Prelude.{◌≡◌, ◌≢◌, ◌⊎◌, ◌<◌, ℕ, Bool, false, not, ◌&&◌, List, [], ◌∷◌, Option, Some, None, length, nat_eq, slice_get}
+use Rattle.std.specs.Prelude.{◌≡◌, ◌≢◌, ◌⊎◌, ◌<◌, ◌-◌, ℕ, Bool, false, not, ◌&&◌, List, [], ◌∷◌, Option, Some, None, length, nat_eq, slice_get}
 use Rattle.std.specs.List.{filter}
 use Rattle.std.specs.Option.{option_map_or}
 use Rattle.cb_joins.specs.Internal.Flat.{begins}
@@ -11,7 +11,11 @@ use Rattle.cb_matches.specs.Matches.{Partial}
 abbrev pub begins_with : List PartValue → ℕ → Partial → Bool
 begins_with ps ix z = begins ps z && option_map_or (λ (p : PartValue). nat_eq ix p.index) (slice_get z.parts (length ps)) false
 
--- the same, of any fact where no index is given
+-- the last fact of z has this index
+abbrev pub ends_with : ℕ → Partial → Bool
+ends_with ix z = option_map_or (λ (p : PartValue). nat_eq ix p.index) (slice_get z.parts (length z.parts - 1)) false
+
+-- goes on, of any fact where no index is given
 abbrev pub begins_as : List PartValue → Option ℕ → Partial → Bool
 begins_as ps None = begins ps
 begins_as ps (Some ix) = begins_with ps ix

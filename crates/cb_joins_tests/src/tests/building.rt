@@ -37,6 +37,8 @@ pub(crate) enum Element {
     Addressed(Asked),
     /// `exists`, or `not` where it is not positive.
     Group(bool, &'static [Asked]),
+    /// The same of patterns and a `not` behind them.
+    Nested(bool, &'static [Asked], &'static [Asked]),
 }
 
 pub(crate) fn letter(alloc: Global, letter: u8) -> Result<Name, NoMemory> {
@@ -106,11 +108,27 @@ fn pattern_element(
     })
 }
 
-fn group(alloc: Global, positive: bool, asked: &[Asked]) -> Result<Ce<Mark>, NoMemory> {
-    let mut inner = Vec::new(alloc);
+fn patterns(alloc: Global, asked: &[Asked]) -> Result<Vec<Ce<Mark>>, NoMemory> {
+    let mut all = Vec::new(alloc);
     for one in asked {
-        inner.push(pattern_element(alloc, None, one)?)?;
+        all.push(pattern_element(alloc, None, one)?)?;
     }
+    Ok(all)
+}
+
+fn group(alloc: Global, positive: bool, asked: &[Asked]) -> Result<Ce<Mark>, NoMemory> {
+    let inner = patterns(alloc, asked)?;
+    Ok(Ce::Group { positive, inner })
+}
+
+fn nested(
+    alloc: Global,
+    positive: bool,
+    asked: &[Asked],
+    without: &[Asked],
+) -> Result<Ce<Mark>, NoMemory> {
+    let mut inner = patterns(alloc, asked)?;
+    inner.push(group(alloc, false, without)?)?;
     Ok(Ce::Group { positive, inner })
 }
 
@@ -119,6 +137,7 @@ fn make_element(alloc: Global, element: &Element) -> Result<Ce<Mark>, NoMemory> 
         Element::Pattern(asked) => pattern_element(alloc, None, asked),
         Element::Addressed(asked) => { pattern_element(alloc, Some(letter(alloc, b'f')?), asked) }
         Element::Group(positive, asked) => group(alloc, *positive, asked),
+        Element::Nested(positive, asked, without) => nested(alloc, *positive, asked, without),
     }
 }
 

@@ -62,7 +62,7 @@ fn retract_fact<M: Matcher<Mark>>(
     matcher.retract(ix, meter)
 }
 
-fn carry_out<M: Matcher<Mark>>(
+pub(crate) fn carry_out<M: Matcher<Mark>>(
     alloc: Global,
     matcher: &mut M,
     change: &Change,
@@ -148,7 +148,7 @@ fn compared<M: Matcher<Mark>, N: Matcher<Mark>>(
 }
 
 /// The same of changes one after another.
-fn all_alike<M: Matcher<Mark>, N: Matcher<Mark>>(
+pub(crate) fn all_alike<M: Matcher<Mark>, N: Matcher<Mark>>(
     alloc: Global,
     one: &mut M,
     other: &mut N,

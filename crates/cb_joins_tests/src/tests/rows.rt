@@ -38,12 +38,27 @@ const L_REST: Asked = Asked {
     fields: &[Field::Rest, Field::Number(1), Field::Rest],
 };
 
+const C_X: Asked = Asked {
+    relation: b'c',
+    fields: &[Field::Is(b'x')],
+};
+
+const C_ANY: Asked = Asked {
+    relation: b'c',
+    fields: &[Field::Any],
+};
+
+const C_Y: Asked = Asked {
+    relation: b'c',
+    fields: &[Field::Is(b'y')],
+};
+
 const A_ANY: Asked = Asked {
     relation: b'a',
     fields: &[Field::Any],
 };
 
-const ROWS: [Row; 7] = [
+const ROWS: [Row; 11] = [
     // (a ?x) (b ?x): the second pattern first, and then a fact that nothing goes with
     Row {
         story: Story {
@@ -149,6 +164,78 @@ const ROWS: [Row; 7] = [
             ],
         },
         keys: 6,
+    },
+    // (a ?x) (not (b ?x)) (c ?x): a `not` in the middle, with partial matches behind it
+    Row {
+        story: Story {
+            first: &[Change::Assert(4, b'c', &[1])],
+            branches: &[&[
+                Element::Pattern(A_X),
+                Element::Group(false, &[B_X]),
+                Element::Pattern(C_X),
+            ]],
+            then: &[
+                Change::Assert(2, b'b', &[1]),
+                Change::Assert(3, b'a', &[1]),
+                Change::Retract(2),
+                Change::Assert(7, b'b', &[1]),
+                Change::Retract(7),
+                Change::Retract(4),
+                Change::Assert(1, b'c', &[1]),
+            ],
+        },
+        keys: 5,
+    },
+    // (a ?x) (not (c ?x)) (exists (c ?)) (c ?y): a fact that closes one group and opens the other
+    Row {
+        story: Story {
+            first: &[],
+            branches: &[&[
+                Element::Pattern(A_X),
+                Element::Group(false, &[C_X]),
+                Element::Group(true, &[C_ANY]),
+                Element::Pattern(C_Y),
+            ]],
+            then: &[
+                Change::Assert(1, b'a', &[1]),
+                Change::Assert(2, b'a', &[2]),
+                Change::Assert(3, b'c', &[1]),
+                Change::Assert(4, b'c', &[2]),
+                Change::Retract(3),
+            ],
+        },
+        keys: 3,
+    },
+    // (a ?x) (not (b ?x) (not (c ?x))): what is inside a group closes it and opens it
+    Row {
+        story: Story {
+            first: &[],
+            branches: &[&[Element::Pattern(A_X), Element::Nested(false, &[B_X], &[C_X])]],
+            then: &[
+                Change::Assert(1, b'a', &[1]),
+                Change::Assert(2, b'b', &[1]),
+                Change::Assert(3, b'c', &[1]),
+                Change::Retract(2),
+                Change::Retract(3),
+            ],
+        },
+        keys: 3,
+    },
+    // (not (a ?x) (b ?x)) (c ?x): a group before all patterns, with two ways to close it
+    Row {
+        story: Story {
+            first: &[Change::Assert(9, b'c', &[4])],
+            branches: &[&[Element::Group(false, &[A_X, B_X]), Element::Pattern(C_X)]],
+            then: &[
+                Change::Assert(1, b'a', &[1]),
+                Change::Assert(2, b'b', &[1]),
+                Change::Assert(3, b'a', &[2]),
+                Change::Assert(4, b'b', &[2]),
+                Change::Retract(1),
+                Change::Retract(4),
+            ],
+        },
+        keys: 3,
     },
 ];
 

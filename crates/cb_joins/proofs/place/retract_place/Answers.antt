@@ -1,4 +1,4 @@
-use Rattle.std.proofs.Common.{◌≡◌, ◌≤◌, ◌+◌, ◌*◌, ◌++◌, ◌∙◌, [], List, ap, length, refl, rules, subst, sym}
+use Rattle.std.proofs.Common.{◌≡◌, ◌≤◌, ◌+◌, ◌*◌, ◌++◌, ◌∙◌, [], List, ◌⊎◌, Bool, ap, filter, inl, inr, length, refl, rules, subst, sym}
 use Rattle.std.specs.Cmp.Lexicographic.{slice_cmp}
 use Rattle.std.specs.List.{list_any}
 use Rattle.std.specs.Ordering.{nat_cmp}
@@ -6,11 +6,12 @@ use Rattle.std.specs.declared.cmp.Ordering.TheVariants.{Less}
 use Rattle.cb_facts.specs.FactLists.{IndexedFacts, with_fact, without_fact}
 use Rattle.cb_fit.specs.Ways.{WayValue, ways}
 use Rattle.cb_joins.proofs.Facts.{added_fact, rising_base}
-use Rattle.cb_joins.proofs.Patterns.{taken_bound, taken_now}
+use Rattle.cb_joins.proofs.Moves.{first_leaves}
+use Rattle.cb_joins.proofs.Patterns.{ended_from, ended_to, taken_bound, taken_now, took_from, took_to}
 use Rattle.cb_joins.specs.Internal.Changes.{Added}
 use Rattle.cb_joins.specs.Internal.Flat.{begins}
-use Rattle.cb_joins.specs.Internal.Memories.{begins_with}
-use Rattle.cb_joins.specs.Internal.Steps.{IsTaken, IsWith}
+use Rattle.cb_joins.specs.Internal.Memories.{begins_with, ends_with}
+use Rattle.cb_joins.specs.Internal.Steps.{IsAfter, IsTaken, IsWith}
 use Rattle.cb_matches.specs.Lemmas.Lists.{chain_from_pairs}
 use Rattle.cb_matches.specs.Lemmas.Order.{IsRising, WaysRise}
 use Rattle.cb_matches.specs.Matches.{Partial, next}
@@ -38,18 +39,22 @@ returns-clause-after g c n old new b =
     (subst (λ it. IsTaken (λ z. list_any (λ m. begins m.parts z) it) own first c.new-gone.result.items out1) s1 c.in_ok-take_behind.ensures) in
     let left = c.take_fact.new.list.keys in
     let out = c.take_fact.new.gone.items in
-    let taken : IsTaken (λ z. list_any (λ m. begins_with m.parts f.0 z) before) first left out1 out =
-    subst (λ i. IsTaken (λ z. list_any (λ m. begins_with m.parts i z) before) first left out1 out) ix c.in_ok-take_fact.ensures in
+    let taken : IsTaken (λ z. list_any (λ m. begins_with m.parts f.0 z) before) first left out1 out ⊎ IsTaken (λ z. list_any (λ m. begins m.parts z) (filter (ends_with f.0) first)) first left out1 out =
+    subst (λ i. IsTaken (λ z. list_any (λ m. begins_with m.parts i z) before) first left out1 out ⊎ IsTaken (λ z. list_any (λ m. begins m.parts z) (filter (ends_with i) first)) first left out1 out) ix c.in_ok-take_fact.ensures in
+    let among = (first_leaves (λ z. list_any (λ m. begins m.parts z) lost) own first out1 taken1).left_own in
     let p = c.args.place.now.pattern in
     let cs : IndexedFacts = c.args.place.now.candidates.entries in
     let candidates : c.remove.new.self.entries ≡ without_fact cs f.0 = c.remove.ensures.entries ∙ ap (without_fact cs) ix in
     let come_is : c.join.new.found.items ≡ next c.args.place.now.address p (without_fact cs f.0) came =
     c.in_ok-join.ensures.found ∙ (ap (λ it. it ++ next c.args.place.now.address p c.remove.new.self.entries c.as_slice-2.result.now) c.new-come.ensures.items
     ∙ (ap (λ it. next c.args.place.now.address p it c.as_slice-2.result.now) candidates ∙ ap (λ it. next c.args.place.now.address p (without_fact cs f.0) it) s2)) in
-    taken_now rise c.no_shape_gives_no_ways.ensures c.args.place.now n (with_fact fs' f.0 f.1) old new before own c.args.moved.now b f fs' added rising
-    (record { address = c.args.place.now.address; pattern = c.args.place.now.pattern; loose = c.args.place.now.loose; candidates = c.remove.new.self }) refl refl refl candidates
-    (record { gone = c.take_fact.new.gone; come = c.join.new.found }) first left c.add_all.new.list.keys out1 taken1 taken come_is
-    (subst (λ it. IsWith left it c.add_all.new.list.keys) s3 c.in_ok-add_all.ensures)
+    let more : IsWith left c.join.new.found.items c.add_all.new.list.keys = subst (λ it. IsWith left it c.add_all.new.list.keys) s3 c.in_ok-add_all.ensures in
+    elim taken as (λ _. IsAfter {T = g.row.T.Denot} (with_fact fs' f.0 f.1) fs' old new (record { address = c.args.place.now.address; pattern = c.args.place.now.pattern; loose = c.args.place.now.loose; candidates = c.remove.new.self }) c.add_all.new.list.keys (record { gone = c.take_fact.new.gone; come = c.join.new.found })) [
+      | inl t ↦ taken_now rise c.no_shape_gives_no_ways.ensures c.args.place.now n (with_fact fs' f.0 f.1) old new before own c.args.moved.now b f fs' added rising (record { address = c.args.place.now.address; pattern = c.args.place.now.pattern; loose = c.args.place.now.loose; candidates = c.remove.new.self }) refl refl refl candidates (record { gone = c.take_fact.new.gone; come = c.join.new.found }) first left c.add_all.new.list.keys out1 taken1
+          (λ z. list_any (λ m. begins_with m.parts f.0 z) before) t (λ z h. took_to rise c.no_shape_gives_no_ways.ensures c.args.place.now n (with_fact fs' f.0 f.1) old new before own c.args.moved.now b f fs' added rising z (among z h)) (λ z h _. took_from rise c.no_shape_gives_no_ways.ensures c.args.place.now n (with_fact fs' f.0 f.1) old new before own c.args.moved.now b f fs' added rising z h) come_is more
+      | inr t ↦ taken_now rise c.no_shape_gives_no_ways.ensures c.args.place.now n (with_fact fs' f.0 f.1) old new before own c.args.moved.now b f fs' added rising (record { address = c.args.place.now.address; pattern = c.args.place.now.pattern; loose = c.args.place.now.loose; candidates = c.remove.new.self }) refl refl refl candidates (record { gone = c.take_fact.new.gone; come = c.join.new.found }) first left c.add_all.new.list.keys out1 taken1
+          (λ z. list_any (λ m. begins m.parts z) (filter (ends_with f.0) first)) t (ended_to rise c.no_shape_gives_no_ways.ensures c.args.place.now n (with_fact fs' f.0 f.1) old new before own c.args.moved.now b f fs' added rising first among) (λ z h i. inr (ended_from rise c.no_shape_gives_no_ways.ensures c.args.place.now n (with_fact fs' f.0 f.1) old new before own c.args.moved.now b f fs' added rising first z h i)) come_is more
+    ]
 
 pub returns-clause-probes : goal.returns-clause-probes
 returns-clause-probes g c n old new b =

@@ -3,7 +3,7 @@ use Rattle.cb_joins.proofs.Takings.{Taking}
 use Rattle.cb_joins.specs.Internal.Memories.{begins_with}
 use Rattle.cb_matches.specs.Lemmas.Members.{In}
 use Rattle.cb_matches.specs.Matches.{Partial}
-use Rattle.cb_joins.proofs.taking.take_fact.Given as goal
+use Rattle.cb_joins.proofs.taking.take_from_each.Given as goal
 
 abbrev pub invariant-loop-partial : goal.invariant-loop-partial
 invariant-loop-partial l = record {

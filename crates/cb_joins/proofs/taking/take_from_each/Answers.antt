@@ -5,7 +5,7 @@ use Rattle.cb_joins.proofs.Takings.{Taking, taking_first, taking_last, taking_ne
 use Rattle.cb_joins.specs.Internal.Memories.{begins_with}
 use Rattle.cb_matches.specs.Lemmas.Members.{In}
 use Rattle.cb_matches.specs.Matches.{Partial}
-use Rattle.cb_joins.proofs.taking.take_fact.Goals as goal
+use Rattle.cb_joins.proofs.taking.take_from_each.Goals as goal
 
 pub loop-partial-init : goal.loop-partial-init
 loop-partial-init c =
