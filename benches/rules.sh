@@ -70,6 +70,46 @@ END
 awk 'BEGIN { for (i = 1; i <= 2000; i++) printf "(assert (left %d l%d) (right %d r%d))\n", i, i, i, i; print "(run)" }' >"$place/commands"
 against_clips 'a join of 2,000 facts with 2,000'
 
+cat >"$place/constructs" <<'END'
+(defrule edge (edge ?x ?y) => (assert (path ?x ?y)))
+(defrule longer (edge ?x ?y) (path ?y ?z) => (assert (path ?x ?z)))
+END
+awk 'BEGIN { for (i = 1; i < 100; i++) printf "(assert (edge %d %d))\n", i, i + 1; print "(run)" }' >"$place/commands"
+against_clips 'the paths along a chain of 100, 4,950 of them'
+
+cat >"$place/constructs" <<'END'
+(defrule work (task ?x) (not (done ?x)) => (assert (done ?x)))
+END
+awk 'BEGIN { for (i = 1; i <= 2000; i++) printf "(assert (task %d))\n", i; print "(run)" }' >"$place/commands"
+against_clips 'a `not` for each of 2,000 tasks'
+
+cat >"$place/constructs" <<'END'
+(defrule start ?t <- (task ?x) (not (busy ?)) => (retract ?t) (assert (busy ?x)))
+(defrule end ?b <- (busy ?) => (retract ?b))
+END
+awk 'BEGIN { for (i = 1; i <= 1000; i++) printf "(assert (task %d))\n", i; print "(run)" }' >"$place/commands"
+against_clips 'one `not` that opens and closes for 1,000 tasks'
+
+cat >"$place/constructs" <<'END'
+(defrule done ?t <- (task ?x) => (retract ?t))
+END
+awk 'BEGIN { for (i = 1; i <= 20000; i++) printf "(assert (task %d))\n", i; print "(run)" }' >"$place/commands"
+against_clips '20,000 tasks, retracted one by one'
+
+awk 'BEGIN { for (i = 1; i <= 1000; i++) printf "(defrule r%d (event %d ?x) => (assert (seen %d)))\n", i, i, i }' >"$place/constructs"
+awk 'BEGIN { for (i = 1; i <= 1000; i++) printf "(assert (event %d %d))\n", i, i; print "(run)" }' >"$place/commands"
+against_clips 'a thousand rules for facts of one relation'
+
+cat >"$place/constructs" <<'END'
+(defrule swap ?l <- (list $?a ?x ?y&:(< ?y ?x) $?b) => (retract ?l) (assert (list ?a ?y ?x ?b)))
+END
+awk 'BEGIN { printf "(assert (list"; for (i = 60; i > 0; i--) printf " %d", i; print "))"; print "(run)" }' >"$place/commands"
+against_clips 'a sort of 60 numbers in one fact'
+
+awk 'BEGIN { for (i = 0; i < 20; i++) printf "(defrule s%d (declare (salience %d)) (item %d ?x) => (assert (did %d ?x)))\n", i, i, i, i }' >"$place/constructs"
+awk 'BEGIN { for (i = 1; i <= 10000; i++) printf "(assert (item %d %d))\n", i % 20, i; print "(run)" }' >"$place/commands"
+against_clips '10,000 activations of twenty saliences'
+
 # The time of counting to so many.
 counting() {
     cat >"$place/script" <<END

@@ -1,7 +1,7 @@
 //! Rules with groups and with branches.
 use super::rows::*;
 
-static GROUP_ROWS: [Row; 9] = [
+static GROUP_ROWS: [Row; 13] = [
     // The match comes anew when the fact is gone, and fires again.
     Row {
         name: "a fact that is not there",
@@ -113,6 +113,62 @@ static GROUP_ROWS: [Row; 9] = [
         name: "a group in a group",
         steps: &[(b"(defrule n (not (not (a))) =>)", CB14)],
         ..FAULTY
+    },
+    Row {
+        name: "a join whose second pattern's fact is older",
+        steps: &[
+            (b"(watch activations)", b""),
+            (b"(defrule w (a ?x) (b ?y&:(> ?x ?y)) =>)", b""),
+            (b"(assert (b 1))", b"<Fact-1>\n"),
+            (b"(assert (a 2))", b"==> Activation 0      w: f-2,f-1\n<Fact-2>\n"),
+        ],
+        ..CLEAN
+    },
+    Row {
+        name: "a `not` in the middle that opens",
+        steps: &[
+            (b"(watch activations)", b""),
+            (b"(defrule m (a ?x) (not (b ?x)) (c ?x) =>)", b""),
+            (b"(assert (b 1) (c 1) (c 2) (a 1))", b"<Fact-4>\n"),
+            (b"(retract 1)", b"==> Activation 0      m: f-4,*,f-2\n"),
+        ],
+        ..CLEAN
+    },
+    Row {
+        name: "a fact that closes one group and opens another",
+        steps: &[
+            (b"(watch activations)", b""),
+            (
+                b"(defrule z (a ?x) (not (c ?x)) (exists (c ?)) (c ?y) =>)",
+                b"",
+            ),
+            (b"(assert (a 1) (a 2))", b"<Fact-2>\n"),
+            (
+                b"(assert (c 1))",
+                b"==> Activation 0      z: f-2,*,*,f-3\n<Fact-3>\n",
+            ),
+            (
+                b"(assert (c 2))",
+                b"<== Activation 0      z: f-2,*,*,f-3\n<Fact-4>\n",
+            ),
+            (b"(retract 3)", b"==> Activation 0      z: f-1,*,*,f-4\n"),
+        ],
+        ..CLEAN
+    },
+    Row {
+        name: "a `not` of a fact that fits in two ways",
+        steps: &[
+            (
+                b"(defrule v (not (d $? x $?)) => (printout t none crlf))",
+                b"",
+            ),
+            (b"(assert (d x x) (d x))", b"<Fact-2>\n"),
+            (b"(retract 1)", b""),
+            (b"(run)", b""),
+            (b"(retract 2)", b""),
+            (b"(run)", b"none\n"),
+        ],
+        ..CLEAN
     },
 ];
 
