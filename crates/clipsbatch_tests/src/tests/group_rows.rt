@@ -1,7 +1,7 @@
 //! Rules with groups and with branches.
 use super::rows::*;
 
-static GROUP_ROWS: [Row; 13] = [
+static GROUP_ROWS: [Row; 9] = [
     // The match comes anew when the fact is gone, and fires again.
     Row {
         name: "a fact that is not there",
@@ -114,6 +114,9 @@ static GROUP_ROWS: [Row; 13] = [
         steps: &[(b"(defrule n (not (not (a))) =>)", CB14)],
         ..FAULTY
     },
+];
+
+static GROUP_CHANGES: [Row; 4] = [
     Row {
         name: "a join whose second pattern's fact is older",
         steps: &[
@@ -175,4 +178,9 @@ static GROUP_ROWS: [Row; 13] = [
 /// Groups of patterns and tests, and branches.
 pub(super) fn group_rows() -> &'static [Row] {
     &GROUP_ROWS
+}
+
+/// What facts that come and go do to groups.
+pub(super) fn group_changes() -> &'static [Row] {
+    &GROUP_CHANGES
 }

@@ -5,7 +5,7 @@ use super::agenda_rows::agenda_rows;
 use super::calc_rows::{calc_rows, global_rows, loop_rows};
 use super::fault_rows::{fact_fault_rows, template_fault_rows};
 use super::first_rows::{command_rows, item_rows};
-use super::group_rows::group_rows;
+use super::group_rows::{group_changes, group_rows};
 use super::one_run::{Want, goes, goes_in_blocks, want_of};
 use super::pieces::{TwoPieces, Whole, joined, steps_in, written_by};
 use super::rows::{AT_A_LIMIT, Row};
@@ -30,11 +30,12 @@ pub(super) enum Subject {
     Firings,
     Rules,
     Groups,
+    GroupChanges,
     Agenda,
 }
 
 /// All subjects.
-pub(super) const SUBJECTS: [Subject; 13] = [
+pub(super) const SUBJECTS: [Subject; 14] = [
     Subject::Items,
     Subject::Commands,
     Subject::Templates,
@@ -47,6 +48,7 @@ pub(super) const SUBJECTS: [Subject; 13] = [
     Subject::Firings,
     Subject::Rules,
     Subject::Groups,
+    Subject::GroupChanges,
     Subject::Agenda,
 ];
 
@@ -65,6 +67,7 @@ pub(super) fn rows_about(subject: Subject) -> &'static [Row] {
         Subject::Firings => firing_rows(),
         Subject::Rules => rule_rows(),
         Subject::Groups => group_rows(),
+        Subject::GroupChanges => group_changes(),
         Subject::Agenda => agenda_rows(),
     }
 }
