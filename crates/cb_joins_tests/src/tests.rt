@@ -1,4 +1,5 @@
 mod building;
 mod changing;
+mod drawn;
 mod probes;
 mod rows;

@@ -9,6 +9,7 @@ use cb_matches::{Delta, Key, Matcher};
 use std::alloc::Global;
 
 /// A change of the facts or the rules.
+#[derive(Drop)]
 pub(crate) enum Change {
     /// Adds the fact with these numbers under the index, unless a fact has the index or an equal one is there.
     Assert(u64, u8, &'static [i64]),
@@ -119,7 +120,7 @@ fn told_alike(one: &Delta, other: &Delta) -> bool {
 }
 
 /// How many keys went and came, or nothing where the two answered differently.
-fn changed_alike<M: Matcher<Mark>, N: Matcher<Mark>>(
+pub(crate) fn changed_alike<M: Matcher<Mark>, N: Matcher<Mark>>(
     alloc: Global,
     one: &mut M,
     other: &mut N,
@@ -148,7 +149,7 @@ fn compared<M: Matcher<Mark>, N: Matcher<Mark>>(
 }
 
 /// The same of changes one after another.
-pub(crate) fn all_alike<M: Matcher<Mark>, N: Matcher<Mark>>(
+fn all_alike<M: Matcher<Mark>, N: Matcher<Mark>>(
     alloc: Global,
     one: &mut M,
     other: &mut N,
@@ -165,12 +166,12 @@ pub(crate) fn all_alike<M: Matcher<Mark>, N: Matcher<Mark>>(
     Ok(all)
 }
 
-fn sum(one: Option<usize>, other: Option<usize>) -> Option<usize> {
+pub(crate) fn sum(one: Option<usize>, other: Option<usize>) -> Option<usize> {
     Some(one?.saturating_add(other?))
 }
 
 /// How many keys went and came where a rule was added, or nothing where the two answered differently.
-fn added_alike<M: Matcher<Mark>, N: Matcher<Mark>>(
+pub(crate) fn added_alike<M: Matcher<Mark>, N: Matcher<Mark>>(
     alloc: Global,
     one: &mut M,
     other: &mut N,

@@ -8,8 +8,8 @@ use cb_rematch::Rematch;
 use std::alloc::Global;
 
 /// A story, and how many keys go and come in it.
-struct Row {
-    story: Story,
+pub(crate) struct Row {
+    pub(crate) story: Story,
     keys: usize,
 }
 
@@ -58,7 +58,7 @@ const A_ANY: Asked = Asked {
     fields: &[Field::Any],
 };
 
-const ROWS: [Row; 11] = [
+pub(crate) const ROWS: [Row; 11] = [
     // (a ?x) (b ?x): the second pattern first, and then a fact that nothing goes with
     Row {
         story: Story {
