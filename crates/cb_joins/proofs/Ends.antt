@@ -1,0 +1,82 @@
+-- The last list that is kept for a branch has its matches.
+use Rattle.std.proofs.Common.{◌≡◌, ℕ, zero, suc, ◌+◌, ◌<◌, List, [], ◌∷◌, ◌++◌, length, get_or, refl, sym, ◌∙◌, ap, subst, arith}
+use Rattle.std.specs.BTreeSet.{BTreeSet}
+use Rattle.std.specs.List.Sorted.{IsStrictlySortedBy}
+use Rattle.cb_facts.specs.FactLists.{IndexedFacts}
+use Rattle.cb_joins.proofs.Facts.{indices_of}
+use Rattle.cb_joins.proofs.Flat.{branch_lists as lists_made}
+use Rattle.cb_joins.proofs.Last.{last_is}
+use Rattle.cb_joins.proofs.Named.{last_below, long_flat_all}
+use Rattle.cb_joins.proofs.Ordered.{in_one_order, sorted_matches}
+use Rattle.cb_joins.proofs.Widths.{branch_widths}
+use Rattle.cb_joins.specs.Internal.Changes.{Holds}
+use Rattle.cb_joins.specs.Internal.Flat.{FlatNode, branch_last, branch_nodes, flat_nodes, widths_of}
+use Rattle.cb_joins.specs.Internal.Nodes.{AreKept, AreWhole, HaveIndices, branch_lists}
+use Rattle.cb_joins.specs.Internal.Rules.{IsBranch, IsPlanned, branch_elements, keys_at}
+use Rattle.cb_joins.specs.declared.branch.Branch.{Branch}
+use Rattle.cb_matches.specs.Lemmas.Order.{IsRising, WaysRise}
+use Rattle.cb_matches.specs.Matches.{Partial, matches_of}
+use Rattle.cb_partials.specs.Partials.{partial_cmp}
+use Rattle.cb_rules.specs.Elements.{Elements}
+
+-- the nodes of elements are whole
+pub whole_nodes : (es : Elements) → AreWhole (branch_nodes es)
+whole_nodes es = record { widths = (widths_of (branch_nodes es), branch_widths es); lists = λ fs first. lists_made es fs first }
+
+-- a list that is kept, by its number
+pub holds_at : (lists : List (BTreeSet Partial)) (ms : List Partial) (k : ℕ) → k < length lists → ((d : BTreeSet Partial) → Holds (get_or lists k d).keys ms) → Holds (keys_at lists k) ms
+holds_at [] ms k l h = absurd (omega (arith, l))
+holds_at (x ∷ xs) ms zero l h = h x
+holds_at (x ∷ xs) ms (suc k) l h = holds_at xs ms k (omega (arith, l)) h
+
+pub keys_got : (lists : List (BTreeSet Partial)) (k : ℕ) (d : BTreeSet Partial) → k < length lists → keys_at lists k ≡ (get_or lists k d).keys
+keys_got [] k d l = absurd (omega (arith, l))
+keys_got (x ∷ xs) zero d l = refl
+keys_got (x ∷ xs) (suc k) d l = keys_got xs k d (omega (arith, l))
+
+pub keys_before : (lists : List (BTreeSet Partial)) (list : BTreeSet Partial) (k : ℕ) → k < length lists → keys_at (lists ++ list ∷ []) k ≡ keys_at lists k
+keys_before [] list k l = absurd (omega (arith, l))
+keys_before (x ∷ xs) list zero l = refl
+keys_before (x ∷ xs) list (suc k) l = keys_before xs list k (omega (arith, l))
+
+pub keys_last : (lists : List (BTreeSet Partial)) (list : BTreeSet Partial) → keys_at (lists ++ list ∷ []) (length lists) ≡ list.keys
+keys_last [] list = refl
+keys_last (x ∷ xs) list = keys_last xs list
+
+-- the last list of nodes, where these are those of elements
+pub end_is : WaysRise → (es : Elements) (fs : IndexedFacts) (ns : List FlatNode) (last : ℕ) → HaveIndices fs → ns ≡ branch_nodes es → last ≡ branch_last es → branch_lists ns fs last ≡ matches_of es fs
+end_is rise es fs ns last indices are l = ap (λ it. branch_lists it fs last) are ∙ (ap (branch_lists (branch_nodes es) fs) l ∙ last_is rise es fs indices)
+
+pub end_within : (es : Elements) (ns : List FlatNode) (last : ℕ) → ns ≡ branch_nodes es → last ≡ branch_last es → last < suc (length ns)
+end_within es ns last are l =
+    let long : length ns ≡ length (branch_nodes es) = ap length are in
+    let all = long_flat_all es 0 1 0 in
+    let most = last_below es 0 1 (omega (arith)) in
+    omega (arith, long, all, most, l)
+
+module _ {T : Type 0} where
+  pub whole_of : (b : Branch T) → IsPlanned b → AreWhole (flat_nodes b.nodes.items)
+  whole_of b planned = subst AreWhole (sym planned.nodes) (whole_nodes (branch_elements b))
+
+  pub last_within : (b : Branch T) → IsPlanned b → b.last < suc (length (flat_nodes b.nodes.items))
+  last_within b planned = end_within (branch_elements b) (flat_nodes b.nodes.items) b.last planned.nodes planned.last
+
+  pub last_there : (fs : IndexedFacts) (b : Branch T) → IsPlanned b → AreKept (flat_nodes b.nodes.items) fs b.lists.items → b.last < length b.lists.items
+  last_there fs b planned kept = let l = last_within b planned in let long = kept.long in omega (arith, l, long)
+
+  pub last_holds : WaysRise → (fs : IndexedFacts) (b : Branch T) → IsRising fs → IsBranch fs b → Holds (keys_at b.lists.items b.last) (matches_of (branch_elements b) fs)
+  last_holds rise fs b rising is =
+      let es = branch_elements b in
+      let ns = flat_nodes b.nodes.items in
+      let l = last_there fs b is.planned is.kept in
+      holds_at b.lists.items (matches_of es fs) b.last l
+      (λ d. subst (Holds (get_or b.lists.items b.last d).keys) (end_is rise es fs ns b.last (indices_of fs rising) is.planned.nodes is.planned.last) (is.kept.each b.last d l))
+
+  -- in order
+  pub last_keys : WaysRise → (fs : IndexedFacts) (b : Branch T) → IsRising fs → IsBranch fs b → (list : BTreeSet Partial) → ((d : BTreeSet Partial) → get_or b.lists.items b.last d ≡ list)
+      → IsStrictlySortedBy partial_cmp list.keys → list.keys ≡ matches_of (branch_elements b) fs
+  last_keys rise fs b rising is list at strict =
+      let es = branch_elements b in
+      let l = last_there fs b is.planned is.kept in
+      let there : keys_at b.lists.items b.last ≡ list.keys = keys_got b.lists.items b.last list l ∙ ap (λ it. it.keys) (at list) in
+      in_one_order list.keys (matches_of es fs) strict (sorted_matches rise es fs rising) (subst (λ it. Holds it (matches_of es fs)) there (last_holds rise fs b rising is)).same
