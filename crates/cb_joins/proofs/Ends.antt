@@ -54,6 +54,15 @@ end_within es ns last are l =
     let most = last_below es 0 1 (omega (arith)) in
     omega (arith, long, all, most, l)
 
+-- it is kept in order
+pub end_keys : WaysRise → (es : Elements) (fs : IndexedFacts) (ns : List FlatNode) (last : ℕ) → IsRising fs → ns ≡ branch_nodes es → last ≡ branch_last es → (lists : List (BTreeSet Partial)) → AreKept ns fs lists
+    → (list : BTreeSet Partial) → list ≡ get_or lists last list → IsStrictlySortedBy partial_cmp list.keys → list.keys ≡ matches_of es fs
+end_keys rise es fs ns last rising are l lists kept list at strict =
+    let within = end_within es ns last are l in
+    let long = kept.long in
+    let holds : Holds (get_or lists last list).keys (matches_of es fs) = subst (Holds (get_or lists last list).keys) (end_is rise es fs ns last (indices_of fs rising) are l) (kept.each last list (omega (arith, within, long))) in
+    in_one_order list.keys (matches_of es fs) strict (sorted_matches rise es fs rising) (subst (λ it. Holds it.keys (matches_of es fs)) (sym at) holds).same
+
 module _ {T : Type 0} where
   pub whole_of : (b : Branch T) → IsPlanned b → AreWhole (flat_nodes b.nodes.items)
   whole_of b planned = subst AreWhole (sym planned.nodes) (whole_nodes (branch_elements b))
@@ -71,12 +80,3 @@ module _ {T : Type 0} where
       let l = last_there fs b is.planned is.kept in
       holds_at b.lists.items (matches_of es fs) b.last l
       (λ d. subst (Holds (get_or b.lists.items b.last d).keys) (end_is rise es fs ns b.last (indices_of fs rising) is.planned.nodes is.planned.last) (is.kept.each b.last d l))
-
-  -- in order
-  pub last_keys : WaysRise → (fs : IndexedFacts) (b : Branch T) → IsRising fs → IsBranch fs b → (list : BTreeSet Partial) → ((d : BTreeSet Partial) → get_or b.lists.items b.last d ≡ list)
-      → IsStrictlySortedBy partial_cmp list.keys → list.keys ≡ matches_of (branch_elements b) fs
-  last_keys rise fs b rising is list at strict =
-      let es = branch_elements b in
-      let l = last_there fs b is.planned is.kept in
-      let there : keys_at b.lists.items b.last ≡ list.keys = keys_got b.lists.items b.last list l ∙ ap (λ it. it.keys) (at list) in
-      in_one_order list.keys (matches_of es fs) strict (sorted_matches rise es fs rising) (subst (λ it. Holds it (matches_of es fs)) there (last_holds rise fs b rising is)).same
