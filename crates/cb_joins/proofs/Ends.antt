@@ -1,22 +1,26 @@
 -- The last list that is kept for a branch has its matches.
-use Rattle.std.proofs.Common.{◌≡◌, ℕ, zero, suc, ◌+◌, ◌<◌, List, [], ◌∷◌, ◌++◌, length, get_or, refl, sym, ◌∙◌, ap, subst, arith}
+use Rattle.std.proofs.Common.{◌≡◌, ℕ, zero, suc, ◌+◌, ◌<◌, List, [], ◌∷◌, ◌++◌, Option, length, get_or, refl, sym, ◌∙◌, ap, subst, arith}
 use Rattle.std.specs.BTreeSet.{BTreeSet}
 use Rattle.std.specs.List.Sorted.{IsStrictlySortedBy}
 use Rattle.cb_facts.specs.FactLists.{IndexedFacts}
+use Rattle.cb_facts.specs.Facts.{FactValue}
 use Rattle.cb_joins.proofs.Facts.{indices_of}
 use Rattle.cb_joins.proofs.Flat.{branch_lists as lists_made}
+use Rattle.cb_joins.proofs.FlatProbes.{branch_probes_are}
 use Rattle.cb_joins.proofs.Last.{last_is}
 use Rattle.cb_joins.proofs.Named.{last_below, long_flat_all}
 use Rattle.cb_joins.proofs.Ordered.{in_one_order, sorted_matches}
 use Rattle.cb_joins.proofs.Widths.{branch_widths}
-use Rattle.cb_joins.specs.Internal.Changes.{Holds}
-use Rattle.cb_joins.specs.Internal.Flat.{FlatNode, branch_last, branch_nodes, flat_nodes, widths_of}
-use Rattle.cb_joins.specs.Internal.Nodes.{AreKept, AreWhole, HaveIndices, branch_lists}
+use Rattle.cb_joins.specs.Internal.Changes.{Holds, IsMoved}
+use Rattle.cb_joins.specs.Internal.Flat.{FlatNode, branch_last, branch_nodes, flat_nodes, flat_probes, widths_of}
+use Rattle.cb_joins.specs.Internal.Nodes.{AreKept, AreMoved, AreWhole, HaveIndices, branch_lists}
 use Rattle.cb_joins.specs.Internal.Rules.{IsBranch, IsPlanned, branch_elements, keys_at}
 use Rattle.cb_joins.specs.declared.branch.Branch.{Branch}
+use Rattle.cb_joins.specs.declared.moved.Moved.{Moved}
 use Rattle.cb_matches.specs.Lemmas.Order.{IsRising, WaysRise}
 use Rattle.cb_matches.specs.Matches.{Partial, matches_of}
 use Rattle.cb_partials.specs.Partials.{partial_cmp}
+use Rattle.cb_partials.specs.Probes.{branch_probes}
 use Rattle.cb_rules.specs.Elements.{Elements}
 
 -- the nodes of elements are whole
@@ -62,6 +66,19 @@ end_keys rise es fs ns last rising are l lists kept list at strict =
     let long = kept.long in
     let holds : Holds (get_or lists last list).keys (matches_of es fs) = subst (Holds (get_or lists last list).keys) (end_is rise es fs ns last (indices_of fs rising) are l) (kept.each last list (omega (arith, within, long))) in
     in_one_order list.keys (matches_of es fs) strict (sorted_matches rise es fs rising) (subst (λ it. Holds it.keys (matches_of es fs)) (sym at) holds).same
+
+-- what a change does to it, and how often it takes patterns to be tested
+module _ (rise : WaysRise) (es : Elements) (fs fs' : IndexedFacts) (ns : List FlatNode) (indices : HaveIndices fs) (indices' : HaveIndices fs') (are : ns ≡ branch_nodes es) where
+  pub end_moved : (last : ℕ) → last ≡ branch_last es → (moved : List Moved) → AreMoved ns fs fs' moved → (m : Moved) → m ≡ get_or moved last m → IsMoved (matches_of es fs) (matches_of es fs') m
+  end_moved last l moved all m at =
+      let within = end_within es ns last are l in
+      let long = all.long in
+      subst (IsMoved (matches_of es fs) (matches_of es fs')) (sym at)
+      (subst (λ it. IsMoved it (matches_of es fs') (get_or moved last m)) (end_is rise es fs ns last indices are l)
+      (subst (λ it. IsMoved (branch_lists ns fs last) it (get_or moved last m)) (end_is rise es fs' ns last indices' are l) (all.each last m (omega (arith, within, long)))))
+
+  pub probes_are : (added : Option FactValue) → flat_probes added fs' (branch_lists ns fs) (branch_lists ns fs') ns ≡ branch_probes added fs fs' es
+  probes_are added = ap (λ it. flat_probes added fs' (branch_lists it fs) (branch_lists it fs') it) are ∙ branch_probes_are rise added es fs fs' indices indices'
 
 module _ {T : Type 0} where
   pub whole_of : (b : Branch T) → IsPlanned b → AreWhole (flat_nodes b.nodes.items)
