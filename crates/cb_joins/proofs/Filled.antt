@@ -12,17 +12,16 @@ use Rattle.cb_facts.specs.FactLists.{IndexedFacts, with_fact}
 use Rattle.cb_facts.specs.Facts.{FactValue}
 use Rattle.cb_fit.specs.Shapes.{has_way, loose}
 use Rattle.cb_fit.specs.Ways.{WayValue, ways}
-use Rattle.cb_joins.proofs.Ends.{holds_at, keys_before, keys_got, keys_last}
+use Rattle.cb_joins.proofs.Ends.{keys_before, keys_got, keys_last}
 use Rattle.cb_joins.proofs.Facts.{put}
 use Rattle.cb_joins.proofs.Flat.{list_local}
 use Rattle.cb_joins.proofs.Named.{IsBelow, at_each}
 use Rattle.cb_joins.proofs.Ordered.{lists_are_sorted, once_of_sorted, start_is_sorted}
 use Rattle.cb_joins.proofs.Widths.{below_by_widths}
-use Rattle.cb_joins.specs.Internal.Changes.{Holds}
-use Rattle.cb_joins.specs.Internal.Flat.{FlatNode, IsLooseToo, Lists, flat_node, flat_nodes, grouping, holds_by, joining, node_list, testing}
-use Rattle.cb_joins.specs.Internal.Nodes.{AreKept, AreWhole, IsReady, Shapeless, branch_lists}
+use Rattle.cb_joins.specs.Internal.Flat.{FlatNode, flat_node, flat_nodes, grouping, joining, node_list, testing}
+use Rattle.cb_joins.specs.Internal.Nodes.{AreKept, AreWhole, Shapeless, branch_lists}
 use Rattle.cb_joins.specs.Internal.Rules.{keys_at}
-use Rattle.cb_joins.specs.Internal.Steps.{NamesListsBelow, group_with}
+use Rattle.cb_joins.specs.Internal.Steps.{NamesListsBelow}
 use Rattle.cb_joins.specs.declared.node.Node.{Node}
 use Rattle.cb_matches.specs.Lemmas.Growth.{Fact}
 use Rattle.cb_matches.specs.Lemmas.Lists.{by_test, chain_filter, in_right}
@@ -41,42 +40,42 @@ module _ {T : Type 0} (rise : WaysRise) (fs : IndexedFacts) (rising : IsRising f
     (nodes : List (Node T)) (lists : List (BTreeSet Partial)) (i : ℕ) (n : Node T) (l : i < length nodes) (is : n ≡ get_or nodes i n) (stay : flat_nodes nodes ≡ ns)
     (long : length lists ≡ suc i) (found : (k : ℕ) → k < length lists → keys_at lists k ≡ branch_lists ns fs k)
   where
-  within : i < length ns
-  within = let all : length ns ≡ length nodes = ap length (sym stay) ∙ length-map nodes flat_node in omega (arith, all, l)
+    within : i < length ns
+    within = let all : length ns ≡ length nodes = ap length (sym stay) ∙ length-map nodes flat_node in omega (arith, all, l)
 
-  node_is : get_or ns i (flat_node n) ≡ flat_node n
-  node_is = ap (λ it. get_or it i (flat_node n)) (sym stay) ∙ (get_or-map flat_node nodes i n (flat_node n) l ∙ ap flat_node (sym is))
+    node_is : get_or ns i (flat_node n) ≡ flat_node n
+    node_is = ap (λ it. get_or it i (flat_node n)) (sym stay) ∙ (get_or-map flat_node nodes i n (flat_node n) l ∙ ap flat_node (sym is))
 
-  is_below : IsBelow (suc i) (flat_node n)
-  is_below =
-      subst (λ j. IsBelow j (flat_node n)) (let e : i + 1 ≡ suc i = omega (arith) in e)
-      (subst (IsBelow (i + 1)) node_is (at_each IsBelow 1 ns (below_by_widths ns whole.widths.0 whole.widths.1) i (flat_node n) within))
+    is_below : IsBelow (suc i) (flat_node n)
+    is_below =
+        subst (λ j. IsBelow j (flat_node n)) (let e : i + 1 ≡ suc i = omega (arith) in e)
+        (subst (IsBelow (i + 1)) node_is (at_each IsBelow 1 ns (below_by_widths ns whole.widths.0 whole.widths.1) i (flat_node n) within))
 
-  pub below : NamesListsBelow (length lists) (flat_node n)
-  below = subst (λ it. NamesListsBelow it (flat_node n)) (sym long) (names_below (suc i) (flat_node n) is_below)
+    pub below : NamesListsBelow (length lists) (flat_node n)
+    below = subst (λ it. NamesListsBelow it (flat_node n)) (sym long) (names_below (suc i) (flat_node n) is_below)
 
-  -- what is found behind it is its list, which is in order
-  pub found_is : (all : List Partial) → all ≡ node_list (flat_node n) fs (keys_at lists) → all ≡ branch_lists ns fs (suc i)
-  found_is all e =
-      e ∙ (list_local fs (flat_node n) (suc i) (keys_at lists) (branch_lists ns fs) is_below (λ j h. found j (omega (arith, h, long)))
-      ∙ sym ((whole.lists fs (no_parts ∷ [])).each i (flat_node n) within ∙ ap (λ it. node_list it fs (branch_lists ns fs)) node_is))
+    -- what is found behind it is its list, which is in order
+    pub found_is : (all : List Partial) → all ≡ node_list (flat_node n) fs (keys_at lists) → all ≡ branch_lists ns fs (suc i)
+    found_is all e =
+        e ∙ (list_local fs (flat_node n) (suc i) (keys_at lists) (branch_lists ns fs) is_below (λ j h. found j (omega (arith, h, long)))
+        ∙ sym ((whole.lists fs (no_parts ∷ [])).each i (flat_node n) within ∙ ap (λ it. node_list it fs (branch_lists ns fs)) node_is))
 
-  pub found_sorted : (all : List Partial) → all ≡ node_list (flat_node n) fs (keys_at lists) → IsSorted all
-  found_sorted all e =
-      subst IsSorted (sym (found_is all e))
-      (lists_are_sorted rise ns fs (no_parts ∷ []) (branch_lists ns fs) whole.widths.0 rising whole.widths.1 (whole.lists fs (no_parts ∷ [])) start_is_sorted (suc i) (let w = within in omega (arith, w)))
+    pub found_sorted : (all : List Partial) → all ≡ node_list (flat_node n) fs (keys_at lists) → IsSorted all
+    found_sorted all e =
+        subst IsSorted (sym (found_is all e))
+        (lists_are_sorted rise ns fs (no_parts ∷ []) (branch_lists ns fs) whole.widths.0 rising whole.widths.1 (whole.lists fs (no_parts ∷ [])) start_is_sorted (suc i) (let w = within in omega (arith, w)))
 
-  module _ (list : BTreeSet Partial) (all : List Partial) (e : all ≡ node_list (flat_node n) fs (keys_at lists)) (keys : list.keys ≡ all) where
-    pub long_now : length (lists ++ list ∷ []) ≡ suc (i + 1)
-    long_now = length-append lists (list ∷ []) ∙ (let a = long in omega (arith, a))
+    module _ (list : BTreeSet Partial) (all : List Partial) (e : all ≡ node_list (flat_node n) fs (keys_at lists)) (keys : list.keys ≡ all) where
+      pub long_now : length (lists ++ list ∷ []) ≡ suc (i + 1)
+      long_now = length-append lists (list ∷ []) ∙ (let a = long in omega (arith, a))
 
-    pub found_now : (k : ℕ) → k < length (lists ++ list ∷ []) → keys_at (lists ++ list ∷ []) k ≡ branch_lists ns fs k
-    found_now k h =
-        let a = long_now in
-        elim (cases_eq k (suc i)) as (λ _. keys_at (lists ++ list ∷ []) k ≡ branch_lists ns fs k) [
-          | inl same ↦ ap (keys_at (lists ++ list ∷ [])) (same ∙ sym long) ∙ (keys_last lists list ∙ (keys ∙ (found_is all e ∙ ap (branch_lists ns fs) (sym same))))
-          | inr ne ↦ let m : k < length lists = omega (arith, h, a, ne, long) in keys_before lists list k m ∙ found k m
-        ]
+      pub found_now : (k : ℕ) → k < length (lists ++ list ∷ []) → keys_at (lists ++ list ∷ []) k ≡ branch_lists ns fs k
+      found_now k h =
+          let a = long_now in
+          elim (cases_eq k (suc i)) as (λ _. keys_at (lists ++ list ∷ []) k ≡ branch_lists ns fs k) [
+            | inl same ↦ ap (keys_at (lists ++ list ∷ [])) (same ∙ sym long) ∙ (keys_last lists list ∙ (keys ∙ (found_is all e ∙ ap (branch_lists ns fs) (sym same))))
+            | inr ne ↦ let m : k < length lists = omega (arith, h, a, ne, long) in keys_before lists list k m ∙ found k m
+          ]
 
 -- before the first node
 pub first_found : (ns : List FlatNode) (fs : IndexedFacts) → AreWhole ns → (list : BTreeSet Partial) → list.keys ≡ no_parts ∷ [] → (k : ℕ) → k < 1 → keys_at (list ∷ []) k ≡ branch_lists ns fs k

@@ -1,5 +1,5 @@
 -- The match with a key is among those of its branch alone.
-use Rattle.std.proofs.Common.{◌≡◌, ◌≢◌, ℕ, ◌+◌, ◌<◌, zero, suc, Bool, false, true, List, [], ◌∷◌, ◌++◌, Option, None, Some, map, nat_eq, inl, inr, refl, sym, ◌∙◌, ap, ap₂, subst, arith, cond, length, get_or}
+use Rattle.std.proofs.Common.{◌≡◌, ◌≢◌, ℕ, ◌+◌, ◌<◌, zero, suc, Bool, true, List, [], ◌∷◌, Option, None, Some, map, nat_eq, inl, inr, refl, sym, ◌∙◌, ap, ap₂, subst, arith, cond, length, get_or}
 use Rattle.std.proofs.lemmas.Bool.Decides.{Decides-eqb}
 use Rattle.std.specs.List.{All, flat_map, slice_get}
 use Rattle.std.specs.Map.{lookup}
@@ -14,7 +14,7 @@ use Rattle.cb_joins.specs.declared.branch.Branch.{Branch}
 use Rattle.cb_joins.specs.declared.rules.Rule.{Rule}
 use Rattle.cb_matches.specs.Keys.{KeyValue, key_eq}
 use Rattle.cb_matches.specs.Lemmas.Lists.{by_test, chain_map, in_either, in_flat, in_left, in_map, in_right, map_in}
-use Rattle.cb_matches.specs.Lemmas.Members.{AreSame, Chain, In}
+use Rattle.cb_matches.specs.Lemmas.Members.{Chain, In}
 use Rattle.cb_matches.specs.Lemmas.Order.{IsApart, IsRising, WaysRise}
 use Rattle.cb_matches.specs.Matches.{Partial, matches_of}
 use Rattle.cb_matches.specs.Networks.{all_matches, bindings_of, branch_matches, keyed, rule_matches}

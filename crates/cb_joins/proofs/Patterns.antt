@@ -1,5 +1,5 @@
 -- What one change does at a pattern, and behind it.
-use Rattle.std.proofs.Common.{◌≡◌, ◌≢◌, ◌≤◌, ℕ, suc, ◌+◌, ◌*◌, ◌<◌, ◌&&◌, not, Bool, true, false, List, [], ◌∷◌, ◌++◌, Option, Some, None, ◌⊎◌, filter, length, nat_eq, slice_get, inl, inr, refl, sym, ◌∙◌, ap, ap₂, subst, cond, arith, if◌then◌else◌}
+use Rattle.std.proofs.Common.{◌≡◌, ◌≢◌, ◌≤◌, ℕ, suc, ◌+◌, ◌*◌, ◌<◌, not, Bool, true, false, List, [], ◌∷◌, ◌++◌, Option, Some, None, ◌⊎◌, filter, length, nat_eq, slice_get, inl, inr, refl, sym, ◌∙◌, ap, ap₂, subst, cond, arith, if◌then◌else◌}
 use Rattle.std.proofs.lemmas.Bool.{cases_order, eq-eqb, eqb-true}
 use Rattle.std.proofs.Math.Nat.{mul-suc}
 use Rattle.std.specs.BTreeMap.{is_at}
@@ -16,23 +16,23 @@ use Rattle.cb_facts.specs.Facts.{FactValue}
 use Rattle.cb_fit.specs.Shapes.{has_way, loose}
 use Rattle.cb_fit.specs.Ways.{WayValue, ways}
 use Rattle.cb_joins.proofs.Beginnings.{begins_to, in_some, some_in, to_begins, true_false}
-use Rattle.cb_joins.proofs.Origins.{Begins, same_begin}
+use Rattle.cb_joins.proofs.Origins.{same_begin}
 use Rattle.cb_joins.proofs.Counts.{as_long, same_length}
 use Rattle.cb_joins.proofs.Deltas.{any_parts, parts_any}
 use Rattle.cb_joins.proofs.Facts.{added_fact, indices_of, left_in, looked, none_of_some, put, rising_with, rising_without}
 use Rattle.cb_joins.proofs.Moves.{behind, fact_more, first_leaves, held_after, leaves_apart, Leaves, place_moves, second_leaves, swapped}
 use Rattle.cb_joins.proofs.Steps.{and_both, and_second, moved as moved_in, not_true, regrown, same_parents}
-use Rattle.cb_joins.specs.Internal.Changes.{Added, FactMoves, Holds, IsMoved, PartialMoves, index_of_fact}
+use Rattle.cb_joins.specs.Internal.Changes.{Added, Holds, IsMoved, PartialMoves, index_of_fact}
 use Rattle.cb_joins.specs.Internal.Flat.{begins}
 use Rattle.cb_joins.specs.Internal.Memories.{begins_with}
-use Rattle.cb_joins.specs.Internal.Nodes.{HaveIndices, HaveParts, IsPlace, Shapeless, candidates_with, found_with}
+use Rattle.cb_joins.specs.Internal.Nodes.{Shapeless, candidates_with}
 use Rattle.cb_joins.specs.Internal.Steps.{IsAfter, IsBefore, IsTaken, IsWith, pattern_probes}
 use Rattle.cb_joins.specs.declared.moved.Moved.{Moved}
 use Rattle.cb_joins.specs.declared.node.Place.{Place}
 use Rattle.cb_matches.specs.Keys.{PartValue}
 use Rattle.cb_matches.specs.Lemmas.Growth.{Fact, is_grown, once_next}
-use Rattle.cb_matches.specs.Lemmas.Indices.{in_looked, looked_in}
-use Rattle.cb_matches.specs.Lemmas.Lists.{by_test, chain_append, chain_filter, chain_weaker, filter_in, in_either, in_filter, in_left, in_right}
+use Rattle.cb_matches.specs.Lemmas.Indices.{looked_in}
+use Rattle.cb_matches.specs.Lemmas.Lists.{by_test, chain_append, chain_filter, filter_in, in_either, in_filter, in_left, in_right}
 use Rattle.cb_matches.specs.Lemmas.Members.{AreSame, In}
 use Rattle.cb_matches.specs.Lemmas.Order.{IsApart, IsOnce, IsRising, WaysRise}
 use Rattle.cb_matches.specs.Lemmas.Parts.{part}
@@ -273,37 +273,37 @@ module _ {T : Type 0} (rise : WaysRise) (shapeless : Shapeless) (place : Place T
     module _ (q : Place T) (address : q.address ≡ x) (pattern : q.pattern ≡ p) (is_loose : q.loose ≡ place.loose) (candidates : q.candidates.entries ≡ candidates_with place f)
         (r : Moved) (left own' : List Partial) (taken : IsTaken behind_gone own left [] r.gone.items) (came : r.come.items ≡ found) (more : IsWith left r.come.items own')
       where
-      leaves : Leaves own left r.gone.items
-      leaves = first_leaves behind_gone own left r.gone.items taken
+        leaves : Leaves own left r.gone.items
+        leaves = first_leaves behind_gone own left r.gone.items taken
 
-      gone_to : (z : Partial) → In z r.gone.items → behind x p fs fs' [] old new m.gone.items z
-      gone_to z h = elim (taken.only z h) as (λ _. behind x p fs fs' [] old new m.gone.items z) [ inl i ↦ absurd i | inr i ↦ inl (goes_to z i.0 i.1) ]
+        gone_to : (z : Partial) → In z r.gone.items → behind x p fs fs' [] old new m.gone.items z
+        gone_to z h = elim (taken.only z h) as (λ _. behind x p fs fs' [] old new m.gone.items z) [ inl i ↦ absurd i | inr i ↦ inl (goes_to z i.0 i.1) ]
 
-      to_gone : (z : Partial) → behind x p fs fs' [] old new m.gone.items z → In z r.gone.items
-      to_gone z (inl h) = let i = goes_from z h in taken.taken z i.0 i.1
-      to_gone z (inr h) = let k = is_grown x p [] old z h in absurd k.fact_in
+        to_gone : (z : Partial) → behind x p fs fs' [] old new m.gone.items z → In z r.gone.items
+        to_gone z (inl h) = let i = goes_from z h in taken.taken z i.0 i.1
+        to_gone z (inr h) = let k = is_grown x p [] old z h in absurd k.fact_in
 
-      moves_now : PartialMoves (next x p fs old) (next x p fs' new) r.gone.items r.come.items
-      moves_now =
-          subst (λ it. PartialMoves (next x p fs old) (next x p fs' new) r.gone.items it) (sym came)
-          (place_moves x p fs fs' [] (f ∷ []) old new m.gone.items m.come.items (fact_more f fs fs' added) c r.gone.items found gone_to to_gone found_to to_found)
+        moves_now : PartialMoves (next x p fs old) (next x p fs' new) r.gone.items r.come.items
+        moves_now =
+            subst (λ it. PartialMoves (next x p fs old) (next x p fs' new) r.gone.items it) (sym came)
+            (place_moves x p fs fs' [] (f ∷ []) old new m.gone.items m.come.items (fact_more f fs fs' added) c r.gone.items found gone_to to_gone found_to to_found)
 
-      come_once : IsOnce r.come.items
-      come_once = subst IsOnce (sym came) found_once
+        come_once : IsOnce r.come.items
+        come_once = subst IsOnce (sym came) found_once
 
-      pub added_now : IsAfter fs fs' old new q own' r
-      added_now = record {
-        is_place = record {
-          is_loose = is_loose ∙ (b.is_place.is_loose ∙ ap loose (sym pattern));
-          candidates = subst (λ it. AreSame it (filter (is_candidate q.pattern) fs')) (sym candidates)
-              (subst (λ it. AreSame (candidates_with place f) (filter (is_candidate it) fs')) (sym pattern) (with_in, in_with));
-          rising = subst IsRising (sym candidates) with_rising;
-        };
-        is_own = subst (λ it. Holds own' (next it q.pattern fs' new)) (sym address) (subst (λ it. Holds own' (next x it fs' new)) (sym pattern)
-            (held_after (next x p fs old) (next x p fs' new) r.gone.items r.come.items own left own' moves_now b.is_own leaves (subst IsOnce (sym taken.left) (chain_filter IsApart (λ z. not (behind_gone z)) own b.is_own.once)) come_once more));
-        is_moved = subst (λ it. IsMoved (next it q.pattern fs old) (next it q.pattern fs' new) r) (sym address) (subst (λ it. IsMoved (next x it fs old) (next x it fs' new) r) (sym pattern)
-            (record { moves = moves_now; gone_once = taken.once b.is_own.once tt (λ z y h. absurd h); come_once = come_once }));
-      }
+        pub added_now : IsAfter fs fs' old new q own' r
+        added_now = record {
+          is_place = record {
+            is_loose = is_loose ∙ (b.is_place.is_loose ∙ ap loose (sym pattern));
+            candidates = subst (λ it. AreSame it (filter (is_candidate q.pattern) fs')) (sym candidates)
+                (subst (λ it. AreSame (candidates_with place f) (filter (is_candidate it) fs')) (sym pattern) (with_in, in_with));
+            rising = subst IsRising (sym candidates) with_rising;
+          };
+          is_own = subst (λ it. Holds own' (next it q.pattern fs' new)) (sym address) (subst (λ it. Holds own' (next x it fs' new)) (sym pattern)
+              (held_after (next x p fs old) (next x p fs' new) r.gone.items r.come.items own left own' moves_now b.is_own leaves (subst IsOnce (sym taken.left) (chain_filter IsApart (λ z. not (behind_gone z)) own b.is_own.once)) come_once more));
+          is_moved = subst (λ it. IsMoved (next it q.pattern fs old) (next it q.pattern fs' new) r) (sym address) (subst (λ it. IsMoved (next x it fs old) (next x it fs' new) r) (sym pattern)
+              (record { moves = moves_now; gone_once = taken.once b.is_own.once tt (λ z y h. absurd h); come_once = come_once }));
+        }
 
     -- the bound
     pub added_bound : (t t' : ℕ) → t' ≤ t + (length m.come.items * length cs + added_probes p (Some f.1) (length before)) → t' ≤ t + pattern_probes p (Some f.1) fs' old new
@@ -397,54 +397,54 @@ module _ {T : Type 0} (rise : WaysRise) (shapeless : Shapeless) (place : Place T
         (r : Moved) (first left own' gone1 : List Partial) (taken1 : IsTaken behind_gone own first [] gone1) (taken : IsTaken took_it first left gone1 r.gone.items)
         (came : r.come.items ≡ rest) (more : IsWith left r.come.items own')
       where
-      leaves1 : Leaves own first gone1
-      leaves1 = first_leaves behind_gone own first gone1 taken1
+        leaves1 : Leaves own first gone1
+        leaves1 = first_leaves behind_gone own first gone1 taken1
 
-      took_leaves : Leaves own left r.gone.items
-      took_leaves = second_leaves took_it own first left gone1 r.gone.items leaves1 taken
+        took_leaves : Leaves own left r.gone.items
+        took_leaves = second_leaves took_it own first left gone1 r.gone.items leaves1 taken
 
-      took_gone_to : (z : Partial) → In z r.gone.items → behind x p fs fs' (f ∷ []) old new m.gone.items z
-      took_gone_to z h = elim (taken.only z h) as (λ _. behind x p fs fs' (f ∷ []) old new m.gone.items z) [
-        | inl i ↦ elim (taken1.only z i) as (λ _. behind x p fs fs' (f ∷ []) old new m.gone.items z) [ inl j ↦ absurd j | inr j ↦ inl (goes_to z j.0 j.1) ]
-        | inr i ↦ inr (took_to z (leaves1.left_own z i.0) i.1)
-      ]
+        took_gone_to : (z : Partial) → In z r.gone.items → behind x p fs fs' (f ∷ []) old new m.gone.items z
+        took_gone_to z h = elim (taken.only z h) as (λ _. behind x p fs fs' (f ∷ []) old new m.gone.items z) [
+          | inl i ↦ elim (taken1.only z i) as (λ _. behind x p fs fs' (f ∷ []) old new m.gone.items z) [ inl j ↦ absurd j | inr j ↦ inl (goes_to z j.0 j.1) ]
+          | inr i ↦ inr (took_to z (leaves1.left_own z i.0) i.1)
+        ]
 
-      took_to_gone : (z : Partial) → behind x p fs fs' (f ∷ []) old new m.gone.items z → In z r.gone.items
-      took_to_gone z (inl h) = let i = goes_from z h in taken.stay z (taken1.taken z i.0 i.1)
-      took_to_gone z (inr h) =
-          let i = took_from z h in
-          elim (leaves1.splits_own z i.0) as (λ _. In z r.gone.items) [
-            | inr j ↦ taken.stay z j
-            | inl j ↦ elim i.1 as (λ _. In z r.gone.items) [ inl t ↦ taken.stay z (taken1.taken z i.0 t) | inr t ↦ taken.taken z j t ]
-          ]
+        took_to_gone : (z : Partial) → behind x p fs fs' (f ∷ []) old new m.gone.items z → In z r.gone.items
+        took_to_gone z (inl h) = let i = goes_from z h in taken.stay z (taken1.taken z i.0 i.1)
+        took_to_gone z (inr h) =
+            let i = took_from z h in
+            elim (leaves1.splits_own z i.0) as (λ _. In z r.gone.items) [
+              | inr j ↦ taken.stay z j
+              | inl j ↦ elim i.1 as (λ _. In z r.gone.items) [ inl t ↦ taken.stay z (taken1.taken z i.0 t) | inr t ↦ taken.taken z j t ]
+            ]
 
-      took_moves_now : PartialMoves (next x p fs old) (next x p fs' new) r.gone.items r.come.items
-      took_moves_now =
-          subst (λ it. PartialMoves (next x p fs old) (next x p fs' new) r.gone.items it) (sym came)
-          (place_moves x p fs fs' (f ∷ []) [] old new m.gone.items m.come.items (swapped index_of_fact fs' fs [] (f ∷ []) (fact_more f fs' fs added)) c r.gone.items rest took_gone_to took_to_gone rest_to to_rest)
+        took_moves_now : PartialMoves (next x p fs old) (next x p fs' new) r.gone.items r.come.items
+        took_moves_now =
+            subst (λ it. PartialMoves (next x p fs old) (next x p fs' new) r.gone.items it) (sym came)
+            (place_moves x p fs fs' (f ∷ []) [] old new m.gone.items m.come.items (swapped index_of_fact fs' fs [] (f ∷ []) (fact_more f fs' fs added)) c r.gone.items rest took_gone_to took_to_gone rest_to to_rest)
 
-      took_come_once : IsOnce r.come.items
-      took_come_once = subst IsOnce (sym came) rest_once
+        took_come_once : IsOnce r.come.items
+        took_come_once = subst IsOnce (sym came) rest_once
 
-      first_once : IsOnce first
-      first_once = subst IsOnce (sym taken1.left) (chain_filter IsApart (λ z. not (behind_gone z)) own b.is_own.once)
+        first_once : IsOnce first
+        first_once = subst IsOnce (sym taken1.left) (chain_filter IsApart (λ z. not (behind_gone z)) own b.is_own.once)
 
-      gone_once : IsOnce r.gone.items
-      gone_once = taken.once first_once (taken1.once b.is_own.once tt (λ z y h. absurd h)) (leaves_apart own first gone1 b.is_own.once leaves1)
+        gone_once : IsOnce r.gone.items
+        gone_once = taken.once first_once (taken1.once b.is_own.once tt (λ z y h. absurd h)) (leaves_apart own first gone1 b.is_own.once leaves1)
 
-      pub taken_now : IsAfter fs fs' old new q own' r
-      taken_now = record {
-        is_place = record {
-          is_loose = is_loose ∙ (b.is_place.is_loose ∙ ap loose (sym pattern));
-          candidates = subst (λ it. AreSame it (filter (is_candidate q.pattern) fs')) (sym candidates)
-              (subst (λ it. AreSame without (filter (is_candidate it) fs')) (sym pattern) (without_in, in_without));
-          rising = subst IsRising (sym candidates) without_rising;
-        };
-        is_own = subst (λ it. Holds own' (next it q.pattern fs' new)) (sym address) (subst (λ it. Holds own' (next x it fs' new)) (sym pattern)
-            (held_after (next x p fs old) (next x p fs' new) r.gone.items r.come.items own left own' took_moves_now b.is_own took_leaves (subst IsOnce (sym taken.left) (chain_filter IsApart (λ z. not (took_it z)) first first_once)) took_come_once more));
-        is_moved = subst (λ it. IsMoved (next it q.pattern fs old) (next it q.pattern fs' new) r) (sym address) (subst (λ it. IsMoved (next x it fs old) (next x it fs' new) r) (sym pattern)
-            (record { moves = took_moves_now; gone_once = gone_once; come_once = took_come_once }));
-      }
+        pub taken_now : IsAfter fs fs' old new q own' r
+        taken_now = record {
+          is_place = record {
+            is_loose = is_loose ∙ (b.is_place.is_loose ∙ ap loose (sym pattern));
+            candidates = subst (λ it. AreSame it (filter (is_candidate q.pattern) fs')) (sym candidates)
+                (subst (λ it. AreSame without (filter (is_candidate it) fs')) (sym pattern) (without_in, in_without));
+            rising = subst IsRising (sym candidates) without_rising;
+          };
+          is_own = subst (λ it. Holds own' (next it q.pattern fs' new)) (sym address) (subst (λ it. Holds own' (next x it fs' new)) (sym pattern)
+              (held_after (next x p fs old) (next x p fs' new) r.gone.items r.come.items own left own' took_moves_now b.is_own took_leaves (subst IsOnce (sym taken.left) (chain_filter IsApart (λ z. not (took_it z)) first first_once)) took_come_once more));
+          is_moved = subst (λ it. IsMoved (next it q.pattern fs old) (next it q.pattern fs' new) r) (sym address) (subst (λ it. IsMoved (next x it fs old) (next x it fs' new) r) (sym pattern)
+              (record { moves = took_moves_now; gone_once = gone_once; come_once = took_come_once }));
+        }
 
     -- the bound
     pub taken_bound : (t t' : ℕ) → t' ≤ t + length m.come.items * length without → t' ≤ t + pattern_probes p None fs' old new

@@ -1,8 +1,7 @@
 -- A loop that takes partial matches out of a list, by one test after another, and one that adds some.
-use Rattle.std.proofs.Common.{◌≡◌, ◌≢◌, ℕ, zero, suc, ◌||◌, ◌<◌, ◌≤◌, ◌+◌, not, Bool, true, false, List, [], ◌∷◌, ◌++◌, ◌⊎◌, drop, length, filter, inl, inr, refl, sym, ◌∙◌, ap, ap₂, subst, cond, arith, get_or}
+use Rattle.std.proofs.Common.{◌≡◌, ◌≢◌, ℕ, zero, suc, ◌||◌, ◌<◌, ◌≤◌, ◌+◌, not, Bool, true, false, List, [], ◌∷◌, ◌++◌, ◌⊎◌, drop, length, filter, inl, inr, refl, sym, ◌∙◌, ap, subst, cond, arith, get_or}
 use Rattle.std.proofs.lemmas.List.{drop_more}
-use Rattle.std.specs.List.{list_any}
-use Rattle.cb_joins.proofs.Beginnings.{in_some, some_in, true_false}
+use Rattle.cb_joins.proofs.Beginnings.{true_false}
 use Rattle.cb_joins.proofs.Origins.{one_by_parts}
 use Rattle.cb_joins.proofs.Deltas.{same_test}
 use Rattle.cb_joins.proofs.Steps.{not_true}
@@ -51,39 +50,39 @@ module _ (all rest rest' q : Partial → Bool) (list0 list list' gone0 gone gone
     (rest_is : (z : Partial) → rest z ≡ (q z || rest' z)) (among : (z : Partial) → q z ≡ true → all z ≡ true)
     (list_is : list' ≡ filter (λ z. not (q z)) list) (gone_is : gone' ≡ gone ++ filter q list)
   where
-  into : (z : Partial) → In z list → q z ≡ true → In z gone'
-  into z h e = subst (λ it. In z it) (sym gone_is) (in_right z gone (filter q list) (filter_in q z list h e))
+    into : (z : Partial) → In z list → q z ≡ true → In z gone'
+    into z h e = subst (λ it. In z it) (sym gone_is) (in_right z gone (filter q list) (filter_in q z list h e))
 
-  in_list : (z : Partial) → In z list' → In z list × (not (q z) ≡ true)
-  in_list z h = in_filter (λ z. not (q z)) z list (subst (λ it. In z it) list_is h)
+    in_list : (z : Partial) → In z list' → In z list × (not (q z) ≡ true)
+    in_list z h = in_filter (λ z. not (q z)) z list (subst (λ it. In z it) list_is h)
 
-  in_gone : (z : Partial) → In z gone' → In z gone ⊎ (In z list × (q z ≡ true))
-  in_gone z h = elim (in_either z gone (filter q list) (subst (λ it. In z it) gone_is h)) as (λ _. In z gone ⊎ (In z list × (q z ≡ true))) [
-    | inl i ↦ inl i
-    | inr i ↦ inr (in_filter q z list i)
-  ]
+    in_gone : (z : Partial) → In z gone' → In z gone ⊎ (In z list × (q z ≡ true))
+    in_gone z h = elim (in_either z gone (filter q list) (subst (λ it. In z it) gone_is h)) as (λ _. In z gone ⊎ (In z list × (q z ≡ true))) [
+      | inl i ↦ inl i
+      | inr i ↦ inr (in_filter q z list i)
+    ]
 
-  pub taking_next : Taking all rest' list0 list' gone0 gone'
-  taking_next = record {
-    list_is = ap (filter (λ z. not (rest' z))) list_is ∙ (both_tests q rest' list ∙ (same_test (λ z. not (q z || rest' z)) (λ z. not (rest z)) list (λ z _. ap not (sym (rest_is z))) ∙ t.list_is));
-    sub = λ z h. t.sub z (in_list z h).0;
-    stay = λ z h. subst (λ it. In z it) (sym gone_is) (in_left z gone (filter q list) (t.stay z h));
-    taken = λ z h e. elim (t.taken z h e) as (λ _. In z gone' ⊎ (In z list' × (rest' z ≡ true))) [
-      | inl i ↦ inl (subst (λ it. In z it) (sym gone_is) (in_left z gone (filter q list) i))
-      | inr i ↦ by_test (q z)
-          (λ d. inl (into z i.0 d))
-          (λ d. inr (subst (λ it. In z it) (sym list_is) (filter_in (λ z. not (q z)) z list i.0 (ap not d)), sym (or_false (q z) (rest' z) d) ∙ (sym (rest_is z) ∙ i.1)))
-    ];
-    only = λ z h. elim (in_gone z h) as (λ _. In z gone0 ⊎ (In z list0 × (all z ≡ true))) [ inl i ↦ t.only z i | inr i ↦ inr (t.sub z i.0, among z i.1) ];
-    once = λ a b c. let o = t.once a b c in (
-      subst IsOnce (sym gone_is) (chain_append IsApart gone (filter q list) o.0 (chain_filter IsApart q list o.1) (λ z y h i. o.2 z y h (in_filter q y list i).0)),
-      subst IsOnce (sym list_is) (chain_filter IsApart (λ z. not (q z)) list o.1),
-      λ z y h i e. elim (in_gone z h) as (λ _. ⊥) [
-        | inl j ↦ o.2 z y j (in_list y i).0 e
-        | inr j ↦ let one : z ≡ y = one_by_parts list o.1 z y j.0 (in_list y i).0 e in not_true (q y) (ap q (sym one) ∙ j.1) (in_list y i).1
-      ],
-    );
-  }
+    pub taking_next : Taking all rest' list0 list' gone0 gone'
+    taking_next = record {
+      list_is = ap (filter (λ z. not (rest' z))) list_is ∙ (both_tests q rest' list ∙ (same_test (λ z. not (q z || rest' z)) (λ z. not (rest z)) list (λ z _. ap not (sym (rest_is z))) ∙ t.list_is));
+      sub = λ z h. t.sub z (in_list z h).0;
+      stay = λ z h. subst (λ it. In z it) (sym gone_is) (in_left z gone (filter q list) (t.stay z h));
+      taken = λ z h e. elim (t.taken z h e) as (λ _. In z gone' ⊎ (In z list' × (rest' z ≡ true))) [
+        | inl i ↦ inl (subst (λ it. In z it) (sym gone_is) (in_left z gone (filter q list) i))
+        | inr i ↦ by_test (q z)
+            (λ d. inl (into z i.0 d))
+            (λ d. inr (subst (λ it. In z it) (sym list_is) (filter_in (λ z. not (q z)) z list i.0 (ap not d)), sym (or_false (q z) (rest' z) d) ∙ (sym (rest_is z) ∙ i.1)))
+      ];
+      only = λ z h. elim (in_gone z h) as (λ _. In z gone0 ⊎ (In z list0 × (all z ≡ true))) [ inl i ↦ t.only z i | inr i ↦ inr (t.sub z i.0, among z i.1) ];
+      once = λ a b c. let o = t.once a b c in (
+        subst IsOnce (sym gone_is) (chain_append IsApart gone (filter q list) o.0 (chain_filter IsApart q list o.1) (λ z y h i. o.2 z y h (in_filter q y list i).0)),
+        subst IsOnce (sym list_is) (chain_filter IsApart (λ z. not (q z)) list o.1),
+        λ z y h i e. elim (in_gone z h) as (λ _. ⊥) [
+          | inl j ↦ o.2 z y j (in_list y i).0 e
+          | inr j ↦ let one : z ≡ y = one_by_parts list o.1 z y j.0 (in_list y i).0 e in not_true (q y) (ap q (sym one) ∙ j.1) (in_list y i).1
+        ],
+      );
+    }
 
 all_pass : (xs : List Partial) (rest : Partial → Bool) → ((z : Partial) → rest z ≡ false) → filter (λ z. not (rest z)) xs ≡ xs
 all_pass [] rest none = refl

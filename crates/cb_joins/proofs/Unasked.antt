@@ -1,5 +1,5 @@
 -- A change of a fact that no pattern of a branch is for leaves its matches as they are.
-use Rattle.std.proofs.Common.{◌≡◌, ◌∙◌, ◌<◌, ◌++◌, ◌||◌, ℕ, zero, suc, Bool, true, false, List, [], ◌∷◌, Option, ap, ap₂, arith, cond, filter, flat_map, get_or, inl, inr, length, map, not, refl, subst, sym, take, if◌then◌else◌}
+use Rattle.std.proofs.Common.{◌≡◌, ◌∙◌, ◌<◌, ◌++◌, ◌||◌, ℕ, zero, suc, Bool, true, false, List, [], ◌∷◌, Option, ap, ap₂, arith, cond, filter, flat_map, get_or, inl, inr, length, map, not, refl, subst, sym, if◌then◌else◌}
 use Rattle.std.proofs.lemmas.List.{append-nil}
 use Rattle.std.specs.BTreeSet.{BTreeSet}
 use Rattle.std.specs.Prelude.{slice_index_or}

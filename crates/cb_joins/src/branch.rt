@@ -161,7 +161,13 @@ pub(crate) fn fill_branch<T>(
     the_ways_rise_by_their_cuts();
     let _facts = setting.facts.len();
     branch.lists = fill_nodes(setting, branch.nodes.as_mut_slice(), meter)?;
-    tell_list(setting.alloc, rule, number, &branch.lists[branch.last], come)
+    tell_list(
+        setting.alloc,
+        rule,
+        number,
+        &branch.lists[branch.last],
+        come,
+    )
 }
 
 /// Tells the keys of the matches of a branch, in their order, behind those that are told of before.
@@ -178,5 +184,11 @@ pub(crate) fn tell_branch<T>(
         ++ keys_in_branch rule number (branch_elements branch.now) setting.now.facts.now) }
 {
     the_ways_rise_by_their_cuts();
-    tell_list(setting.alloc, rule, number, &branch.lists[branch.last], keys)
+    tell_list(
+        setting.alloc,
+        rule,
+        number,
+        &branch.lists[branch.last],
+        keys,
+    )
 }

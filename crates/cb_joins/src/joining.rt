@@ -48,9 +48,7 @@ fn join_one<T>(
     ensures probes { meter.new ≤ meter.old + length facts.now.entries }
 {
     for (ix, fact) in facts.iter() {
-        extend(
-            setting, address, pattern, partial, *ix, fact, found, meter,
-        )?;
+        extend(setting, address, pattern, partial, *ix, fact, found, meter)?;
     }
     Ok(())
 }

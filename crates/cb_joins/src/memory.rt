@@ -15,9 +15,9 @@ ghost use Rattle.cb_partials.specs.Partials.{partial_cmp};
 ghost use Rattle.cb_partials.specs.Probes.{has_parts};
 
 use cb_exprs::Env;
+use cb_forms::NoMemory;
 use cb_matches::Part;
 use cb_partials::Partial;
-use cb_forms::NoMemory;
 use std::alloc::Global;
 use std::collections::BTreeSet;
 use std::ops::Bound;

@@ -20,9 +20,15 @@ pub(crate) struct Place<T> {
 #[derive(Drop)]
 pub(crate) enum Node<T> {
     /// A pattern, joined with the partial matches of list `from`.
-    Pattern { from: usize, place: Place<T> },
+    Pattern {
+        from: usize,
+        place: Place<T>,
+    },
     /// A test of the partial matches of list `from`.
-    Test { from: usize, test: Expr },
+    Test {
+        from: usize,
+        test: Expr,
+    },
     /// A group, whose elements stand before it, and make list `inner` of list `from`. The partial matches of that have `width` parts.
     Group {
         from: usize,

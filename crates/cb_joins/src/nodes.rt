@@ -49,7 +49,15 @@ pub(crate) fn change_nodes<T>(
     for node in nodes.iter_mut() {
         let own = all.len();
         let mut list = mem::replace(&mut lists[own], BTreeSet::new(setting.alloc));
-        let moved = change_node(setting, node, lists, all.as_slice(), &mut list, change, meter)?;
+        let moved = change_node(
+            setting,
+            node,
+            lists,
+            all.as_slice(),
+            &mut list,
+            change,
+            meter,
+        )?;
         lists[own] = list;
         all.push(moved)?;
     }

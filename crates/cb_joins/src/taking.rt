@@ -45,10 +45,7 @@ pub(crate) fn take_fact(
 }
 
 /// Adds these partial matches to a list.
-pub(crate) fn add_all(
-    list: &mut BTreeSet<Partial>,
-    partials: &[Partial],
-) -> Result<(), NoMemory>
+pub(crate) fn add_all(list: &mut BTreeSet<Partial>, partials: &[Partial]) -> Result<(), NoMemory>
     ensures { OnOk result (IsWith list.old.keys partials.now list.new.keys) }
 {
     for partial in partials {

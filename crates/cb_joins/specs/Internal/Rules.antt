@@ -1,5 +1,5 @@
 -- What is kept for branches and rules.
-use Rattle.std.specs.Prelude.{◌≡◌, ◌≢◌, ◌<◌, ℕ, List, [], ◌∷◌, Option, Some, None, All, if◌then◌else◌, map, nat_eq, slice_get}
+use Rattle.std.specs.Prelude.{◌≡◌, ◌≢◌, ℕ, List, [], ◌∷◌, Option, Some, None, All, if◌then◌else◌, map, nat_eq, slice_get}
 use Rattle.std.specs.BTreeSet.{BTreeSet}
 use Rattle.cb_exprs.specs.Bindings.{Bindings}
 use Rattle.cb_facts.specs.FactLists.{IndexedFacts}

@@ -1,4 +1,4 @@
-use Rattle.std.proofs.Common.{◌≡◌, List, None, Some, ap, ap₂, rules, sym, subst, ◌∙◌}
+use Rattle.std.proofs.Common.{◌≡◌, List, None, Some, ap, rules, subst, ◌∙◌}
 use Rattle.cb_joins.proofs.Found.{by_parts}
 use Rattle.cb_joins.specs.Internal.Memories.{IsFound}
 use Rattle.cb_joins.specs.Internal.Rules.{kept_partials}

@@ -1,8 +1,7 @@
-use Rattle.std.proofs.Common.{◌≡◌, ◌++◌, [], ◌∙◌, List, ap, filter, inl, inr, not, rules, subst, sym, true}
+use Rattle.std.proofs.Common.{◌≡◌, ◌++◌, [], List, filter, inl, inr, not, rules, subst, sym, true}
 use Rattle.std.specs.List.{list_any}
 use Rattle.cb_joins.proofs.Groups.{beginnings_in, group_holds_now, group_moves, nothing_settled, whole_beginning}
 use Rattle.cb_joins.proofs.Moves.{Leaves, first_leaves}
-use Rattle.cb_joins.specs.Internal.Changes.{IsMoved}
 use Rattle.cb_joins.specs.Internal.Flat.{begins}
 use Rattle.cb_joins.specs.Internal.Steps.{IsSettled, IsTaken, beginnings, group_with}
 use Rattle.cb_matches.specs.Keys.{PartValue}
@@ -53,7 +52,7 @@ returns c old new was is long long' m inner before complete own =
     let inner_gone = λ (w : Partial) (h : In w b2). in_left _ (([] ++ beginnings n b1) ++ beginnings n b2) (beginnings n b3) (in_right _ ([] ++ beginnings n b1) (beginnings n b2) (beginnings_in n w b2 h)) in
     let inner_come = λ (w : Partial) (h : In w b3). in_right _ (([] ++ beginnings n b1) ++ beginnings n b2) (beginnings n b3) (beginnings_in n w b3 h) in (
       group_holds_now c.args.positive n old new was is c.args.complete.now.keys c.args.moved.now c.args.inner.now long long' m.moves inner.moves complete.same settled
-      c.settle_all-3.new.own.keys c.settle_all-3.new.gone.items c.settle_all-3.new.come.items last came inner_gone inner_come,
+          c.settle_all-3.new.own.keys c.settle_all-3.new.gone.items c.settle_all-3.new.come.items last came inner_gone inner_come,
       record {
         moves = group_moves c.args.positive n old new was is c.args.complete.now.keys c.args.moved.now c.args.inner.now long long' m.moves inner.moves complete.same settled
             c.settle_all-3.new.own.keys c.settle_all-3.new.gone.items c.settle_all-3.new.come.items last came inner_gone inner_come;

@@ -1,4 +1,4 @@
-use Rattle.std.proofs.Common.{◌≡◌, [], ◌∙◌, Bool, List, ap, filter, not, rules, subst, sym, true, inl, inr}
+use Rattle.std.proofs.Common.{◌≡◌, [], ◌∙◌, List, ap, filter, not, rules, subst, sym, true, inl, inr}
 use Rattle.std.specs.List.{each_same, list_any}
 use Rattle.cb_exprs.specs.Terms.{term_of}
 use Rattle.cb_joins.proofs.Groups.{gone_out, out_gone, tested_moves}
@@ -37,7 +37,7 @@ returns c n old new long long' m own =
     subst (λ it. PartialMoves (filter q old) (filter q new) out it) (sym come_is) (tested_moves q old new lost came m.moves out to from) in
     let once : IsOnce c.in_ok-come.come.items = subst IsOnce (sym come_is) (chain_filter IsApart q came m.come_once) in (
       held_after (filter q old) (filter q new) out c.in_ok-come.come.items c.args.own.now.keys left c.add_all.new.list.keys moves own leaves
-      (subst IsOnce (sym taken.left) (chain_filter IsApart (λ z. not (test z)) c.args.own.now.keys own.once)) once
-      (subst (λ it. IsWith left it c.add_all.new.list.keys) s2 c.in_ok-add_all.ensures),
+          (subst IsOnce (sym taken.left) (chain_filter IsApart (λ z. not (test z)) c.args.own.now.keys own.once)) once
+          (subst (λ it. IsWith left it c.add_all.new.list.keys) s2 c.in_ok-add_all.ensures),
       record { moves = moves; gone_once = taken.once own.once tt (λ z y h. absurd h); come_once = once },
     )

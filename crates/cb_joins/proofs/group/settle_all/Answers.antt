@@ -1,4 +1,4 @@
-use Rattle.std.proofs.Common.{◌≡◌, ◌++◌, ◌∷◌, [], ◌∙◌, ◌+◌, ◌<◌, ℕ, List, ap, arith, drop, length, refl, rules, subst, sym, take}
+use Rattle.std.proofs.Common.{◌≡◌, ◌++◌, ◌∷◌, [], ◌∙◌, ◌+◌, ◌<◌, List, ap, arith, drop, length, refl, subst, sym, take}
 use Rattle.std.proofs.lemmas.List.{append-nil, append_assoc}
 use Rattle.cb_joins.proofs.Takings.{cut_at, none_left}
 use Rattle.cb_joins.specs.Internal.Steps.{IsSettled, beginnings, group_with}
@@ -22,8 +22,8 @@ loop-partial-preserved c old new lost settled holds long s =
       inv.0 ++ ps ∷ [],
       append_assoc inv.0 (ps ∷ []) (beginnings w (drop (i + 1) xs)) ∙ (ap (λ it. inv.0 ++ beginnings w it) (sym cut) ∙ inv.1),
       subst (λ it. IsSettled (group_with c.args.positive c.args.complete.now.keys) old new lost it c.settle_one.new.own.keys c.settle_one.new.gone.items c.settle_one.new.come.items)
-      (append_assoc settled inv.0 (ps ∷ []))
-      (c.in_ok-settle_one.ensures old new lost (settled ++ inv.0) holds long inv.2),
+          (append_assoc settled inv.0 (ps ∷ []))
+          (c.in_ok-settle_one.ensures old new lost (settled ++ inv.0) holds long inv.2),
     )
 
 pub returns : goal.returns
