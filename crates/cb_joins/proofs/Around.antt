@@ -1,5 +1,5 @@
 -- What is around a node, by its kind.
-use Rattle.std.proofs.Common.{◌≡◌, ℕ, ◌<◌, Bool, List, filter, length, get_or, subst, sym, ap}
+use Rattle.std.proofs.Common.{◌≡◌, ℕ, ◌<◌, Bool, List, filter, length, get_or, subst, sym}
 use Rattle.std.specs.BTreeSet.{BTreeSet}
 use Rattle.cb_exprs.specs.Terms.{term_of}
 use Rattle.cb_exprs.specs.declared.expr.Expr.{Expr}

@@ -1,5 +1,5 @@
 -- Partial matches that go on from parts.
-use Rattle.std.proofs.Common.{◌≡◌, ◌≢◌, ℕ, ◌||◌, Bool, true, false, List, [], ◌∷◌, ◌++◌, drop, length, take, inl, inr, refl, sym, ◌∙◌, ap, ap₂, subst, arith}
+use Rattle.std.proofs.Common.{◌≡◌, ◌||◌, Bool, true, false, List, [], ◌∷◌, ◌++◌, drop, length, take, inl, inr, refl, sym, ◌∙◌, ap, subst}
 use Rattle.std.proofs.Math.Seq.{take-append_seam}
 use Rattle.std.proofs.lemmas.List.{take-append-drop}
 use Rattle.std.specs.List.{list_any}
@@ -9,9 +9,6 @@ use Rattle.cb_joins.specs.Internal.Flat.{begins}
 use Rattle.cb_matches.specs.Keys.{PartValue}
 use Rattle.cb_matches.specs.Lemmas.Lists.{by_test}
 use Rattle.cb_matches.specs.Lemmas.Members.{In}
-use Rattle.cb_matches.specs.Lemmas.Order.{IsOnce}
-use Rattle.cb_matches.specs.Lemmas.Lists.{chain_compares}
-use Rattle.cb_matches.specs.Lemmas.Order.{IsApart}
 use Rattle.cb_matches.specs.Matches.{Partial}
 
 pub begins_to : (ps : List PartValue) (z : Partial) → begins ps z ≡ true → Begins ps z.parts

@@ -1,12 +1,9 @@
 -- A group holds by whether one of the partial matches inside it goes on from the one before it.
-use Rattle.std.proofs.Common.{◌≡◌, ℕ, ◌||◌, Bool, true, false, List, [], ◌∷◌, ◌++◌, filter, length, drop, take, inl, inr, refl, sym, ◌∙◌, ap, subst, cond}
-use Rattle.std.proofs.Math.Seq.{take-append_seam}
-use Rattle.std.proofs.lemmas.List.{take-append-drop}
+use Rattle.std.proofs.Common.{◌≡◌, ℕ, ◌||◌, Bool, true, false, List, [], ◌∷◌, filter, inl, inr, refl, sym, ◌∙◌, subst, cond}
 use Rattle.std.specs.Bool.{Decides}
 use Rattle.std.specs.List.{list_any}
 use Rattle.cb_facts.specs.FactLists.{IndexedFacts}
 use Rattle.cb_joins.specs.Internal.Flat.{begins, holds_by}
-use Rattle.cb_joins.proofs.Deltas.{parts_Decides}
 use Rattle.cb_joins.proofs.Beginnings.{begins_to, to_begins}
 use Rattle.cb_joins.proofs.Origins.{Begins, more_all, of_that_alone, only_one, origin_all}
 use Rattle.cb_joins.specs.Internal.Nodes.{HaveParts}

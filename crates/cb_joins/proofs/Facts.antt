@@ -178,6 +178,9 @@ before_taken ix f fs rising there free =
     one_after (ix, f) (without_fact fs ix) (with_fact (without_fact fs ix) ix f) fs (rising_with (without_fact fs ix) ix f free (rising_without ix f fs rising)) rising
     (added_fact (without_fact fs ix) ix f free) (taken_fact ix f fs rising there)
 
+pub rising_before : (c : FactChange) (fs : IndexedFacts) → IsRising fs → IsMade c fs → IsRising (facts_before c fs)
+rising_before (change.Assert f) fs rising made = rising_without f.0 f.1 fs rising
+rising_before (change.Retract f) fs rising made = rising_with fs f.0 f.1 made rising
+
 pub indices_before : (c : FactChange) (fs : IndexedFacts) → IsRising fs → IsMade c fs → HaveIndices (facts_before c fs)
-indices_before (change.Assert f) fs rising made = indices_of (without_fact fs f.0) (rising_without f.0 f.1 fs rising)
-indices_before (change.Retract f) fs rising made = indices_of (with_fact fs f.0 f.1) (rising_with fs f.0 f.1 made rising)
+indices_before c fs rising made = indices_of (facts_before c fs) (rising_before c fs rising made)

@@ -1,5 +1,5 @@
 -- What one change does behind a test, and behind a group.
-use Rattle.std.proofs.Common.{◌≡◌, ◌≢◌, ◌<◌, ℕ, zero, suc, not, Bool, true, false, List, [], ◌∷◌, ◌++◌, ◌⊎◌, filter, length, map, take, inl, inr, refl, sym, ◌∙◌, ap, subst, arith}
+use Rattle.std.proofs.Common.{◌≡◌, ◌≢◌, ◌<◌, ℕ, zero, suc, not, Bool, true, false, List, [], ◌∷◌, ◌++◌, ◌⊎◌, filter, length, take, inl, inr, refl, sym, ◌∙◌, ap, subst, arith}
 use Rattle.std.proofs.Math.Bool.{beq}
 use Rattle.std.proofs.Math.Seq.{take-append_seam, take-length}
 use Rattle.std.proofs.lemmas.List.{append-nil}
@@ -9,7 +9,7 @@ use Rattle.cb_joins.proofs.Origins.{Begins, one_by_parts, same_begin}
 use Rattle.cb_joins.proofs.Moves.{Leaves, leaves_apart}
 use Rattle.cb_joins.proofs.Deltas.{any_parts, parts_any}
 use Rattle.cb_joins.proofs.Steps.{not_true}
-use Rattle.cb_joins.specs.Internal.Changes.{Holds, IsMoved, PartialMoves}
+use Rattle.cb_joins.specs.Internal.Changes.{Holds, PartialMoves}
 use Rattle.cb_joins.specs.Internal.Flat.{begins, holds_by}
 use Rattle.cb_joins.specs.Internal.Memories.{IsAdded}
 use Rattle.cb_joins.specs.Internal.Nodes.{HaveParts}
@@ -17,7 +17,7 @@ use Rattle.cb_partials.specs.Probes.{has_parts}
 use Rattle.cb_joins.specs.Internal.Steps.{IsSettled, beginnings, group_with}
 use Rattle.cb_joins.specs.declared.moved.Moved.{Moved}
 use Rattle.cb_matches.specs.Keys.{PartValue}
-use Rattle.cb_matches.specs.Lemmas.Lists.{by_test, chain_append, chain_filter, filter_in, in_either, in_filter, in_left, in_map, in_right, map_in}
+use Rattle.cb_matches.specs.Lemmas.Lists.{by_test, chain_append, chain_filter, filter_in, in_either, in_filter, in_left, in_right, map_in}
 use Rattle.cb_matches.specs.Lemmas.Members.{AreSame, In}
 use Rattle.cb_matches.specs.Lemmas.Order.{IsApart, IsOnce}
 use Rattle.cb_matches.specs.Matches.{Partial}

@@ -1,17 +1,15 @@
 -- What one change does to a list, and to the list behind a pattern.
-use Rattle.std.proofs.Common.{◌≡◌, ◌≢◌, ℕ, not, Bool, true, false, List, [], ◌∷◌, ◌++◌, Option, ◌⊎◌, filter, inl, inr, refl, sym, ◌∙◌, ap, subst}
+use Rattle.std.proofs.Common.{◌≡◌, ◌≢◌, ℕ, not, Bool, true, List, [], ◌∷◌, Option, ◌⊎◌, filter, inl, inr, refl, sym, ◌∙◌, ap, subst}
 use Rattle.cb_constraints.specs.PatternValues.{PatternValue}
 use Rattle.cb_facts.specs.FactLists.{IndexedFacts}
-use Rattle.cb_joins.proofs.Beginnings.{true_false}
 use Rattle.cb_joins.proofs.Origins.{one_by_parts}
 use Rattle.cb_joins.proofs.Steps.{moved, not_true, regrown, same_parents}
-use Rattle.cb_joins.specs.Internal.Changes.{Added, FactMoves, Holds, IsMoved, Moves, PartialMoves}
+use Rattle.cb_joins.specs.Internal.Changes.{Added, FactMoves, Holds, Moves, PartialMoves}
 use Rattle.cb_joins.specs.Internal.Steps.{IsTaken, IsWith}
-use Rattle.cb_matches.specs.Keys.{PartValue}
 use Rattle.cb_matches.specs.Lemmas.Growth.{Fact, is_grown}
-use Rattle.cb_matches.specs.Lemmas.Lists.{by_test, chain_filter, filter_in, in_filter}
+use Rattle.cb_matches.specs.Lemmas.Lists.{by_test, filter_in, in_filter}
 use Rattle.cb_matches.specs.Lemmas.Members.{In}
-use Rattle.cb_matches.specs.Lemmas.Order.{IsApart, IsOnce}
+use Rattle.cb_matches.specs.Lemmas.Order.{IsOnce}
 use Rattle.cb_matches.specs.Matches.{Partial, next}
 
 -- the other way round

@@ -1,5 +1,5 @@
 -- Partial matches that go on at a pattern, with their parents and their facts among others.
-use Rattle.std.proofs.Common.{◌≡◌, ℕ, ◌&&◌, not, Bool, true, false, List, ◌∷◌, Option, sym, ◌∙◌, ap, ap₂, refl, subst}
+use Rattle.std.proofs.Common.{◌≡◌, ℕ, ◌&&◌, not, Bool, true, false, List, Option, sym, ◌∙◌, ap, ap₂, refl, subst}
 use Rattle.cb_constraints.specs.PatternValues.{PatternValue}
 use Rattle.cb_facts.specs.FactLists.{IndexedFacts}
 use Rattle.cb_matches.specs.Lemmas.Members.{In}

@@ -1,8 +1,7 @@
 -- A loop that takes partial matches out of a list, by one test after another, and one that adds some.
-use Rattle.std.proofs.Common.{◌≡◌, ◌≢◌, ℕ, zero, suc, ◌||◌, ◌<◌, ◌≤◌, ◌+◌, not, Bool, true, false, List, [], ◌∷◌, ◌++◌, ◌⊎◌, drop, length, filter, inl, inr, refl, sym, ◌∙◌, ap, ap₂, subst, cond, arith, get_or}
+use Rattle.std.proofs.Common.{◌≡◌, ◌≢◌, ℕ, zero, suc, ◌||◌, ◌<◌, ◌≤◌, ◌+◌, not, Bool, true, false, List, [], ◌∷◌, ◌++◌, ◌⊎◌, drop, length, filter, inl, inr, refl, sym, ◌∙◌, ap, subst, cond, arith, get_or}
 use Rattle.std.proofs.lemmas.List.{drop_more}
-use Rattle.std.specs.List.{list_any}
-use Rattle.cb_joins.proofs.Beginnings.{in_some, some_in, true_false}
+use Rattle.cb_joins.proofs.Beginnings.{true_false}
 use Rattle.cb_joins.proofs.Origins.{one_by_parts}
 use Rattle.cb_joins.proofs.Deltas.{same_test}
 use Rattle.cb_joins.proofs.Steps.{not_true}

@@ -11,7 +11,7 @@ use Rattle.cb_joins.proofs.Flat.{at_end, in_front}
 use Rattle.cb_joins.proofs.Widths.{lists_are_once, lists_are_wide}
 use Rattle.cb_joins.proofs.Moves.{none_moves}
 use Rattle.cb_joins.specs.Internal.Changes.{Holds, IsMoved, PartialMoves, parts_of_partial}
-use Rattle.cb_joins.specs.Internal.Flat.{AreLists, AreWidths, FlatNode, IsWell, flat_node, flat_nodes, flat_probes, flat_probes_of, grouping, joining, node_list, testing}
+use Rattle.cb_joins.specs.Internal.Flat.{AreWidths, FlatNode, IsWell, flat_node, flat_nodes, flat_probes, flat_probes_of, grouping, joining, node_list, testing}
 use Rattle.cb_joins.specs.Internal.Nodes.{AreWhole, HaveIndices, HaveParts, IsReady, branch_lists}
 use Rattle.cb_joins.specs.Internal.Steps.{AreAround, HasWidth, IsStep, NamesListsBelow}
 use Rattle.cb_joins.specs.declared.moved.Moved.{Moved}

@@ -103,7 +103,7 @@ nat_split (suc k) zero l = inr (omega (arith, l))
 nat_split (suc k) (suc most) l = elim (nat_split k most (omega (arith, l))) as (λ _. (suc k < suc (suc most)) ⊎ (suc k ≡ suc (suc most))) [ inl i ↦ inl (omega (arith, i)) | inr e ↦ inr (ap suc e) ]
 
 -- what holds at 0, and at each number where it holds at those before it
-up_to : (P : ℕ → Type 0) (long : ℕ) → P 0 → ((k : ℕ) → k < long → ((j : ℕ) → j < suc k → P j) → P (suc k)) → (most : ℕ) → most < suc long → (k : ℕ) → k < suc most → P k
+pub up_to : (P : ℕ → Type 0) (long : ℕ) → P 0 → ((k : ℕ) → k < long → ((j : ℕ) → j < suc k → P j) → P (suc k)) → (most : ℕ) → most < suc long → (k : ℕ) → k < suc most → P k
 up_to P long zeroth more zero m k l = subst P (let e : 0 ≡ k = omega (arith, l) in e) zeroth
 up_to P long zeroth more (suc most) m k l =
     let before = up_to P long zeroth more most (omega (arith, m)) in

@@ -1,9 +1,9 @@
 -- What is kept for each node of a branch.
-use Rattle.std.specs.Prelude.{◌≡◌, ◌≢◌, ◌<◌, ◌+◌, ◌*◌, ◌++◌, ℕ, suc, List, [], ◌∷◌, Some, filter, length, map, slice_index_or, if◌then◌else◌}
+use Rattle.std.specs.Prelude.{◌≡◌, ◌≢◌, ◌<◌, ◌++◌, ℕ, suc, List, [], ◌∷◌, filter, length, slice_index_or, if◌then◌else◌}
 use Rattle.std.specs.BTreeSet.{BTreeSet}
 use Rattle.cb_constraints.specs.PatternValues.{PatternValue}
 use Rattle.cb_exprs.specs.Bindings.{Bindings}
-use Rattle.cb_facts.specs.FactLists.{IndexedFacts, with_fact, without_fact}
+use Rattle.cb_facts.specs.FactLists.{IndexedFacts, with_fact}
 use Rattle.cb_facts.specs.Facts.{FactValue}
 use Rattle.cb_fit.specs.Shapes.{loose}
 use Rattle.cb_fit.specs.Ways.{ways}

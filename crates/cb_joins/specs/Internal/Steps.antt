@@ -12,7 +12,7 @@ use Rattle.cb_joins.specs.declared.moved.Moved.{Moved}
 use Rattle.cb_joins.specs.declared.node.Node.{Node}
 use Rattle.cb_joins.specs.declared.node.Place.{Place}
 use Rattle.cb_matches.specs.Keys.{PartValue}
-use Rattle.cb_matches.specs.Lemmas.Members.{AreSame, In}
+use Rattle.cb_matches.specs.Lemmas.Members.{In}
 use Rattle.cb_matches.specs.Lemmas.Order.{IsOnce}
 use Rattle.cb_matches.specs.Matches.{Partial, next}
 use Rattle.cb_partials.specs.Probes.{added_probes, is_candidate, partials_come, partials_kept}

@@ -1,8 +1,7 @@
-use Rattle.std.proofs.Common.{◌≡◌, ◌++◌, [], ◌∙◌, List, ap, filter, inl, inr, not, rules, subst, sym, true}
+use Rattle.std.proofs.Common.{◌≡◌, ◌++◌, [], List, filter, inl, inr, not, rules, subst, sym, true}
 use Rattle.std.specs.List.{list_any}
 use Rattle.cb_joins.proofs.Groups.{beginnings_in, group_holds_now, group_moves, nothing_settled, whole_beginning}
 use Rattle.cb_joins.proofs.Moves.{Leaves, first_leaves}
-use Rattle.cb_joins.specs.Internal.Changes.{IsMoved}
 use Rattle.cb_joins.specs.Internal.Flat.{begins}
 use Rattle.cb_joins.specs.Internal.Steps.{IsSettled, IsTaken, beginnings, group_with}
 use Rattle.cb_matches.specs.Keys.{PartValue}

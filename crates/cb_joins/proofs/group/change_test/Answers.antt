@@ -1,4 +1,4 @@
-use Rattle.std.proofs.Common.{◌≡◌, [], ◌∙◌, Bool, List, ap, filter, not, rules, subst, sym, true, inl, inr}
+use Rattle.std.proofs.Common.{◌≡◌, [], ◌∙◌, List, ap, filter, not, rules, subst, sym, true, inl, inr}
 use Rattle.std.specs.List.{each_same, list_any}
 use Rattle.cb_exprs.specs.Terms.{term_of}
 use Rattle.cb_joins.proofs.Groups.{gone_out, out_gone, tested_moves}

@@ -1,4 +1,4 @@
-use Rattle.std.proofs.Common.{◌≡◌, ◌++◌, ◌∷◌, [], ◌∙◌, ℕ, List, ap, None, Some, length, rules, subst, sym}
+use Rattle.std.proofs.Common.{◌≡◌, ◌++◌, ◌∷◌, [], ◌∙◌, ap, rules, subst, sym}
 use Rattle.cb_joins.proofs.Groups.{not_there, put_in, taken_out, there_already}
 use Rattle.cb_joins.proofs.Results.{on_ok}
 use Rattle.cb_joins.specs.Internal.Memories.{IsFound}

@@ -1,4 +1,4 @@
-use Rattle.std.proofs.Common.{ap, ◌∙◌}
+use Rattle.std.proofs.Common.{◌∙◌}
 use Rattle.cb_joins.proofs.Memories.{contained_is}
 use Rattle.cb_joins.proofs.memory.has.Goals as goal
 

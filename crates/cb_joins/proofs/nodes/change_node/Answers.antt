@@ -1,5 +1,4 @@
-use Rattle.std.proofs.Common.{◌≡◌, ℕ, ◌≤◌, ◌+◌, List, ap, rules, subst, sym}
-use Rattle.std.specs.Result.{IfOk, OnOk}
+use Rattle.std.proofs.Common.{◌≤◌, ◌+◌, subst, sym}
 use Rattle.cb_joins.proofs.Around.{before_group, before_place, before_test}
 use Rattle.cb_joins.proofs.Results.{if_ok, on_ok}
 use Rattle.cb_joins.specs.Internal.Changes.{fact_added}

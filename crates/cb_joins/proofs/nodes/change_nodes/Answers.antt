@@ -1,6 +1,5 @@
-use Rattle.std.proofs.Common.{◌≡◌, ◌∙◌, ◌≢◌, ◌++◌, ◌∷◌, [], ℕ, suc, ◌+◌, ◌<◌, ◌≤◌, List, ap, arith, drop, get_or, inl, inr, length, refl, rules, set, subst, sym}
+use Rattle.std.proofs.Common.{◌≡◌, ◌∙◌, ◌++◌, ◌∷◌, [], ℕ, suc, ◌+◌, ◌<◌, List, ap, arith, get_or, length, refl, set, subst, sym}
 use Rattle.std.proofs.Math.ListN.{length-set}
-use Rattle.std.proofs.lemmas.List.{length-map}
 use Rattle.std.specs.BTreeSet.{BTreeSet}
 use Rattle.std.specs.Cmp.Lexicographic.{slice_cmp}
 use Rattle.std.specs.Ordering.{nat_cmp}
@@ -10,8 +9,8 @@ use Rattle.cb_fit.specs.Ways.{WayValue, ways}
 use Rattle.cb_joins.proofs.Facts.{indices_before, indices_of, rising_base}
 use Rattle.cb_joins.proofs.Turns.{all_long_now, around, below, done_now, left_now, lists_done_now, lists_left_now, lists_long_now, moves_now, nothing_moves, stay_now, tests_now}
 use Rattle.cb_joins.specs.Internal.Changes.{Holds, IsMoved, fact_added, facts_before}
-use Rattle.cb_joins.specs.Internal.Flat.{FlatNode, flat_node, flat_nodes, flat_probes}
-use Rattle.cb_joins.specs.Internal.Nodes.{AreKept, AreMoved, HaveIndices, branch_lists}
+use Rattle.cb_joins.specs.Internal.Flat.{FlatNode, flat_node, flat_nodes}
+use Rattle.cb_joins.specs.Internal.Nodes.{HaveIndices, branch_lists}
 use Rattle.cb_joins.specs.Internal.Steps.{AreAround, IsStep, NamesListsBelow}
 use Rattle.cb_joins.specs.declared.moved.Moved.{Moved}
 use Rattle.cb_matches.specs.Lemmas.Lists.{chain_from_pairs}

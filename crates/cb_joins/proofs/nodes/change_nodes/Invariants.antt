@@ -1,4 +1,4 @@
-use Rattle.std.proofs.Common.{◌≡◌, ℕ, suc, ◌+◌, ◌<◌, ◌≤◌, [], drop, length, get_or}
+use Rattle.std.proofs.Common.{◌≡◌, ℕ, suc, ◌+◌, ◌<◌, ◌≤◌, drop, length, get_or}
 use Rattle.std.specs.BTreeSet.{BTreeSet}
 use Rattle.cb_joins.specs.Internal.Changes.{Holds, IsMoved, fact_added, facts_before}
 use Rattle.cb_joins.specs.Internal.Flat.{flat_nodes, flat_probes}

@@ -1,4 +1,4 @@
-use Rattle.std.proofs.Common.{◌≡◌, ◌+◌, ◌<◌, ◌∷◌, [], drop, length, ap, rules, subst, arith}
+use Rattle.std.proofs.Common.{◌≡◌, ◌+◌, ◌<◌, ◌∷◌, drop, length, rules, subst, arith}
 use Rattle.cb_joins.specs.Internal.Memories.{IsAdded}
 use Rattle.cb_joins.proofs.Takings.{Adding, adding_first, adding_last, adding_next, cut_at, none_left}
 use Rattle.cb_joins.proofs.taking.add_all.Goals as goal

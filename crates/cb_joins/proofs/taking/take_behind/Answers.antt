@@ -1,10 +1,9 @@
-use Rattle.std.proofs.Common.{◌≡◌, ◌+◌, ◌<◌, ◌||◌, ◌∷◌, ◌++◌, ◌∙◌, [], Bool, drop, filter, not, length, ap, inl, rules, subst, sym, arith, refl}
+use Rattle.std.proofs.Common.{◌≡◌, ◌+◌, ◌<◌, ◌∷◌, ◌++◌, ◌∙◌, drop, filter, not, length, ap, inl, rules, subst, sym, arith, refl}
 use Rattle.std.specs.List.{list_any}
 use Rattle.cb_joins.proofs.Beginnings.{in_some}
-use Rattle.cb_joins.proofs.Takings.{Taking, cut_at, in_drop, none_left, taking_first, taking_last, taking_next}
+use Rattle.cb_joins.proofs.Takings.{cut_at, in_drop, none_left, taking_first, taking_last, taking_next}
 use Rattle.cb_joins.specs.Internal.Flat.{begins}
 use Rattle.cb_matches.specs.Lemmas.Members.{In}
-use Rattle.cb_matches.specs.Matches.{Partial}
 use Rattle.cb_joins.proofs.taking.take_behind.Goals as goal
 
 pub loop-partial-init : goal.loop-partial-init

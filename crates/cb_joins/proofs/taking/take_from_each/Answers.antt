@@ -1,4 +1,4 @@
-use Rattle.std.proofs.Common.{◌≡◌, ◌+◌, ◌<◌, ◌||◌, ◌∷◌, ◌++◌, ◌∙◌, [], Bool, ap, filter, not, inl, inr, rules, subst, sym, refl}
+use Rattle.std.proofs.Common.{◌≡◌, ◌∷◌, ◌++◌, ◌∙◌, [], ap, filter, not, inl, inr, rules, subst, sym, refl}
 use Rattle.std.specs.List.{list_any}
 use Rattle.cb_joins.proofs.Beginnings.{in_some}
 use Rattle.cb_joins.proofs.Takings.{Taking, taking_first, taking_last, taking_next}

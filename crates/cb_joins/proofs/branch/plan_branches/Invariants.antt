@@ -1,0 +1,11 @@
+use Rattle.std.proofs.Common.{◌≡◌, ◌++◌}
+use Rattle.std.specs.List.{All}
+use Rattle.cb_joins.specs.Internal.Rules.{CanBeFilled, kept_branches}
+use Rattle.cb_rules.specs.Elements.{branches_of}
+use Rattle.cb_joins.proofs.branch.plan_branches.Given as goal
+
+abbrev pub invariant-loop-branch : goal.invariant-loop-branch
+invariant-loop-branch g l = record {
+  made : kept_branches l.all.items ++ branches_of l.branch-iterator.rest.items ≡ branches_of l.initial.branch-iterator.rest.items;
+  plans : All CanBeFilled l.all.items;
+}

@@ -1,0 +1,36 @@
+use Rattle.std.proofs.Common.{◌≡◌, ◌≤◌, ◌+◌, ℕ, List, Some, None, sym, ap, subst, ◌∙◌}
+use Rattle.std.specs.Result.{IfOk, OnOk}
+use Rattle.cb_facts.specs.FactLists.{IndexedFacts, IsFactBase, fact_at, with_fact, without_fact}
+use Rattle.cb_facts.specs.Facts.{FactValue}
+use Rattle.cb_joins.proofs.Answered.{in_place, over}
+use Rattle.cb_joins.proofs.Facts.{before_taken, rising_base}
+use Rattle.cb_joins.proofs.changes.retract_fact.Goals as goal
+use Rattle.cb_joins.specs.Internal.Rules.{IsKeeping, kept_rules}
+use Rattle.cb_joins.specs.declared.rules.Rule.{Rule}
+use Rattle.cb_matches.specs.Changes.{IsDelta}
+use Rattle.cb_partials.specs.Probes.{rules_probes}
+
+-- the facts before, by those after
+before : (ix j : ℕ) (f : FactValue) (fs now : IndexedFacts) → IsFactBase fs → j ≡ ix → fact_at fs ix ≡ Some f → now ≡ without_fact fs ix → fact_at now ix ≡ None → with_fact now j f ≡ fs
+before ix j f fs now base same there is none =
+    ap (λ i. with_fact now i f) same ∙ (ap (λ it. with_fact it ix f) is ∙ before_taken ix f fs (rising_base fs base) there (subst (λ it. fact_at it ix ≡ None) is none))
+
+pub change_facts-requires-clause-keeping : goal.change_facts-requires-clause-keeping
+change_facts-requires-clause-keeping g c =
+    let now = c.in_ok-one.ensures in
+    let old = before c.args.ix c.in_ok-one.one.0 c.in_ok-one.one.1 c.args.facts.now c.take_fact.new.facts c.len-count.ensures.base now.index now.fact now.facts now.gone in
+    in_place (λ (fs : IndexedFacts) (xs : List (Rule g.row.T.Denot)) (ys : List (Rule g.row.T.Denot)). IsKeeping fs xs) (sym old) (sym c.as_mut_slice.ensures.value) (sym c.as_mut_slice.ensures.value) c.requires.keeping
+
+pub returns-clause-delta : goal.returns-clause-delta
+returns-clause-delta g c =
+    let now = c.in_ok-one.ensures in
+    let old = before c.args.ix c.in_ok-one.one.0 c.in_ok-one.one.1 c.args.facts.now c.take_fact.new.facts c.len-count.ensures.base now.index now.fact now.facts now.gone in
+    in_place (λ (xs : List (Rule g.row.T.Denot)) (fs : IndexedFacts) (gs : IndexedFacts). IfOk c.change_facts.result (IsDelta (over (kept_rules xs) fs) (over (kept_rules xs) gs)))
+    c.as_mut_slice.ensures.value old now.facts c.change_facts.ensures.delta
+
+pub returns-clause-probes : goal.returns-clause-probes
+returns-clause-probes g c =
+    let now = c.in_ok-one.ensures in
+    let old = before c.args.ix c.in_ok-one.one.0 c.in_ok-one.one.1 c.args.facts.now c.take_fact.new.facts c.len-count.ensures.base now.index now.fact now.facts now.gone in
+    in_place (λ (xs : List (Rule g.row.T.Denot)) (fs : IndexedFacts) (gs : IndexedFacts). OnOk c.change_facts.result (c.change_facts.new.meter ≤ c.args.meter.now + rules_probes None fs gs (kept_rules xs)))
+    c.as_mut_slice.ensures.value old now.facts c.change_facts.ensures.probes

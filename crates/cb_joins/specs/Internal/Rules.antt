@@ -1,0 +1,84 @@
+-- What is kept for branches and rules.
+use Rattle.std.specs.Prelude.{◌≡◌, ◌≢◌, ℕ, List, [], ◌∷◌, Option, Some, None, All, if◌then◌else◌, map, nat_eq, slice_get}
+use Rattle.std.specs.BTreeSet.{BTreeSet}
+use Rattle.cb_exprs.specs.Bindings.{Bindings}
+use Rattle.cb_facts.specs.FactLists.{IndexedFacts}
+use Rattle.cb_joins.specs.Internal.Flat.{IsLooseToo, Lists, branch_last, branch_nodes, flat_nodes}
+use Rattle.cb_joins.specs.Internal.Nodes.{AreKept, AreReady}
+use Rattle.cb_joins.specs.declared.branch.Branch.{Branch}
+use Rattle.cb_joins.specs.declared.rules.Rule.{Rule}
+use Rattle.cb_matches.specs.Keys.{KeyValue}
+use Rattle.cb_matches.specs.Lemmas.Members.{Chain}
+use Rattle.cb_matches.specs.Matches.{Partial}
+use Rattle.cb_matches.specs.Networks.{Conditions, keyed}
+use Rattle.cb_rules.specs.Elements.{Elements, element_of, elements}
+
+-- no key twice
+abbrev pub HaveOwnKeys : List (KeyValue × Bindings) → Type 0
+HaveOwnKeys ms = Chain (λ (m : KeyValue × Bindings) (l : KeyValue × Bindings). m.0 ≢ l.0) ms
+
+-- no number twice
+abbrev pub HaveOwnNumbers : Conditions → Type 0
+HaveOwnNumbers rules = Chain (λ (r : ℕ × List Elements) (s : ℕ × List Elements). r.0 ≢ s.0) rules
+
+-- the partial matches of a list that is kept, none where there is none
+abbrev pub list_keys : Option (BTreeSet Partial) → List Partial
+list_keys None = []
+list_keys (Some list) = list.keys
+
+-- those of each
+abbrev pub keys_at : List (BTreeSet Partial) → Lists
+keys_at lists k = list_keys (slice_get lists k)
+
+module _ {T : Type 0} where
+  -- the elements of a branch
+  abbrev pub branch_elements : Branch T → Elements
+  branch_elements b = elements (map element_of b.elements.items)
+
+  -- the branches, and the rules, that are kept
+  abbrev pub kept_branches : List (Branch T) → List Elements
+  kept_branches bs = map branch_elements bs
+
+  abbrev pub kept_rule : Rule T → ℕ × List Elements
+  kept_rule r = (r.id, kept_branches r.branches.items)
+
+  abbrev pub kept_rules : List (Rule T) → Conditions
+  kept_rules rules = map kept_rule rules
+
+  -- the nodes are those of the elements, and the last list is theirs
+  pub record IsPlanned (b : Branch T) : Type 0 where
+    pub nodes : flat_nodes b.nodes.items ≡ branch_nodes (branch_elements b)
+    pub last : b.last ≡ branch_last (branch_elements b)
+
+  -- what is to be kept can be found: the patterns are there without variables and expressions too
+  pub record CanBeFilled (b : Branch T) : Type 0 where
+    pub planned : IsPlanned b
+    pub are_loose : All IsLooseToo b.nodes.items
+
+  -- what is kept for a branch over these facts
+  pub record IsBranch (fs : IndexedFacts) (b : Branch T) : Type 0 where
+    pub planned : IsPlanned b
+    pub ready : AreReady fs b.nodes.items
+    pub kept : AreKept (flat_nodes b.nodes.items) fs b.lists.items
+
+  -- each branch of a rule has what is kept for it
+  abbrev pub IsRule : IndexedFacts → Rule T → Type 0
+  IsRule fs r = All (IsBranch fs) r.branches.items
+
+  -- what a matcher keeps of its rules, over these facts
+  pub record IsKeeping (fs : IndexedFacts) (rules : List (Rule T)) : Type 0 where
+    pub numbers : HaveOwnNumbers (kept_rules rules)
+    pub kept : All (IsRule fs) rules
+
+  -- the partial matches at the end of the branch at this place, and of that of the rule with this number
+  abbrev pub partials_at : Option (Branch T) → List Partial
+  partials_at None = []
+  partials_at (Some b) = keys_at b.lists.items b.last
+
+  abbrev pub kept_partials : ℕ → ℕ → List (Rule T) → List Partial
+  kept_partials rule n [] = []
+  kept_partials rule n (r ∷ rs) = if nat_eq rule r.id then partials_at (slice_get r.branches.items n) else kept_partials rule n rs
+
+  -- and their matches
+  abbrev pub kept_matches : ℕ → ℕ → List (Rule T) → List (KeyValue × Bindings)
+  kept_matches rule n rules = map (keyed rule n) (kept_partials rule n rules)

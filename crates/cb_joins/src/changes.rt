@@ -1,0 +1,253 @@
+//! What each call of the matcher does to its rules and facts.
+ghost use Rattle.std.specs.Prelude.{◌≡◌, ◌≤◌, ◌+◌, ◌++◌, ◌∷◌, [], All, None, Some, IfOk, IsSome, OnOk, nat_eq, not};
+ghost use Rattle.std.specs.List.{filter};
+ghost use Rattle.cb_facts.specs.FactLists.{IsAbsent, IsFactBase, fact_at, with_fact, without_fact};
+ghost use Rattle.cb_joins.specs.Internal.Changes.{IsMade, fact_added, facts_before};
+ghost use Rattle.cb_joins.specs.Internal.Keys.{rule_keys};
+ghost use Rattle.cb_joins.specs.Internal.Rules.{CanBeFilled, HaveOwnNumbers, IsKeeping, kept_rules};
+ghost use Rattle.cb_matches.specs.Changes.{IsAbove, IsDelta};
+ghost use Rattle.cb_partials.specs.Probes.{rules_probes};
+ghost use Rattle.cb_rules.specs.Elements.{branches_of};
+
+use crate::branch::plan_branches;
+use crate::fact_change::FactChange;
+use crate::indexed::Indexed;
+use crate::rules::{Rule, change_rules, drop_numbered, fill_rule, fill_rules};
+use cb_facts::FactList;
+use cb_fit::Meter;
+use cb_forms::NoMemory;
+use cb_functions::Constants;
+use cb_matches::{Delta, Key};
+use cb_partials::{Setting, made};
+use cb_rules::Ce;
+use std::alloc::Global;
+
+/// Adds a fact.
+pub(crate) fn assert_fact<T>(
+    alloc: Global,
+    constants: &mut Option<Constants>,
+    rules: &mut Vec<Rule<T>>,
+    facts: &mut FactList,
+    one: Indexed,
+    meter: &mut Meter<T>,
+) -> Result<Delta, NoMemory>
+    requires keeping { IsKeeping facts.old rules.old.items }
+    requires free { fact_at facts.old one.0 ≡ None }
+    requires absent { IsAbsent facts.old one.1 }
+    ensures facts { OnOk result (facts.new ≡ with_fact facts.old one.0 one.1) }
+    ensures rules { OnOk result (kept_rules rules.new.items ≡ kept_rules rules.old.items) }
+    ensures keeping { OnOk result (IsKeeping (with_fact facts.old one.0 one.1) rules.new.items) }
+    ensures delta { IfOk result (IsDelta
+        (record { rules = kept_rules rules.old.items; facts = facts.old })
+        (record { rules = kept_rules rules.old.items; facts = with_fact facts.old one.0 one.1 })) }
+    ensures probes { OnOk result
+        (meter.new ≤ meter.old + rules_probes (Some one.1) facts.old
+        (with_fact facts.old one.0 one.1) (kept_rules rules.old.items)) }
+{
+    let _count = facts.len();
+    add_fact(facts, &one)?;
+    let change = FactChange::Assert(one);
+    change_facts(
+        alloc,
+        constants,
+        rules.as_mut_slice(),
+        facts,
+        &change,
+        meter,
+    )
+}
+
+/// Adds a fact to the facts.
+fn add_fact(facts: &mut FactList, one: &Indexed) -> Result<(), NoMemory>
+    requires free { fact_at facts.old one.now.0 ≡ None }
+    requires absent { IsAbsent facts.old one.now.1 }
+    ensures facts { OnOk result (facts.new ≡ with_fact facts.old one.now.0 one.now.1) }
+    ensures there { OnOk result (fact_at facts.new one.now.0 ≡ Some one.now.1) }
+    ensures base { OnOk result (IsFactBase facts.new) }
+{
+    facts.add(one.ix, one.fact.clone()?)
+}
+
+/// Takes the fact with this index out.
+pub(crate) fn retract_fact<T>(
+    alloc: Global,
+    constants: &mut Option<Constants>,
+    rules: &mut Vec<Rule<T>>,
+    facts: &mut FactList,
+    ix: u64,
+    meter: &mut Meter<T>,
+) -> Result<Delta, NoMemory>
+    requires keeping { IsKeeping facts.old rules.old.items }
+    requires there { IsSome (fact_at facts.old ix) }
+    ensures facts { OnOk result (facts.new ≡ without_fact facts.old ix) }
+    ensures rules { OnOk result (kept_rules rules.new.items ≡ kept_rules rules.old.items) }
+    ensures keeping { OnOk result (IsKeeping (without_fact facts.old ix) rules.new.items) }
+    ensures delta { IfOk result (IsDelta
+        (record { rules = kept_rules rules.old.items; facts = facts.old })
+        (record { rules = kept_rules rules.old.items; facts = without_fact facts.old ix })) }
+    ensures probes { OnOk result
+        (meter.new ≤ meter.old + rules_probes None facts.old
+        (without_fact facts.old ix) (kept_rules rules.old.items)) }
+{
+    let _count = facts.len();
+    let one = take_fact(facts, ix)?;
+    let change = FactChange::Retract(one);
+    change_facts(
+        alloc,
+        constants,
+        rules.as_mut_slice(),
+        facts,
+        &change,
+        meter,
+    )
+}
+
+/// Takes the fact with this index out of the facts.
+fn take_fact(facts: &mut FactList, ix: u64) -> Result<Indexed, NoMemory>
+    requires there { IsSome (fact_at facts.old ix) }
+    ensures index { IfOk result (λ one. one.0 ≡ ix) }
+    ensures fact { IfOk result (λ one. fact_at facts.old ix ≡ Some one.1) }
+    ensures facts { OnOk result (facts.new ≡ without_fact facts.old ix) }
+    ensures gone { OnOk result (fact_at facts.new ix ≡ None) }
+    ensures base { OnOk result (IsFactBase facts.new) }
+{
+    let Some(fact) = facts.get(ix) else {
+        unreachable!()
+    };
+    let fact = fact.clone()?;
+    facts.remove(ix);
+    Ok(Indexed { ix, fact })
+}
+
+/// Changes the facts of rules. The facts are those after the change.
+fn change_facts<T>(
+    alloc: Global,
+    constants: &mut Option<Constants>,
+    rules: &mut [Rule<T>],
+    facts: &FactList,
+    change: &FactChange,
+    meter: &mut Meter<T>,
+) -> Result<Delta, NoMemory>
+    requires base { IsFactBase facts.now }
+    requires made { IsMade change.now facts.now }
+    requires keeping { IsKeeping (facts_before change.now facts.now) rules.old }
+    ensures rules { OnOk result (kept_rules rules.new ≡ kept_rules rules.old) }
+    ensures keeping { OnOk result (IsKeeping facts.now rules.new) }
+    ensures delta { IfOk result (IsDelta
+        (record { rules = kept_rules rules.old; facts = facts_before change.now facts.now })
+        (record { rules = kept_rules rules.old; facts = facts.now })) }
+    ensures probes { OnOk result
+        (meter.new ≤ meter.old + rules_probes (fact_added change.now)
+        (facts_before change.now facts.now) facts.now (kept_rules rules.old)) }
+{
+    let setting = Setting {
+        alloc,
+        constants: made(alloc, constants)?,
+        facts,
+    };
+    let mut delta = no_delta(alloc);
+    change_rules(&setting, rules, change, &mut delta, meter)?;
+    Ok(delta)
+}
+
+/// Nothing went or came.
+fn no_delta(alloc: Global) -> Delta
+    ensures gone { result.gone.items ≡ [] }
+    ensures come { result.come.items ≡ [] }
+{
+    Delta {
+        gone: Vec::new(alloc),
+        come: Vec::new(alloc),
+    }
+}
+
+/// Adds a rule. The answer is the keys of its matches.
+pub(crate) fn add_numbered<T>(
+    alloc: Global,
+    constants: &mut Option<Constants>,
+    rules: &mut Vec<Rule<T>>,
+    facts: &FactList,
+    id: u64,
+    branches: Vec<Vec<Ce<T>>>,
+    meter: &mut Meter<T>,
+) -> Result<Delta, NoMemory>
+    requires keeping { IsKeeping facts.now rules.old.items }
+    requires above { IsAbove id (kept_rules rules.old.items) }
+    ensures rules { OnOk result (kept_rules rules.new.items
+        ≡ kept_rules rules.old.items ++ (id, branches_of branches.items) ∷ []) }
+    ensures keeping { OnOk result (IsKeeping facts.now rules.new.items) }
+    ensures delta { IfOk result (IsDelta
+        (record { rules = kept_rules rules.old.items; facts = facts.now })
+        (record {
+          rules = kept_rules rules.old.items ++
+              (id, branches_of branches.items) ∷ [];
+          facts = facts.now;
+        })) }
+{
+    let setting = Setting {
+        alloc,
+        constants: made(alloc, constants)?,
+        facts,
+    };
+    let mut delta = no_delta(alloc);
+    let branches = plan_branches(alloc, branches)?;
+    let mut rule = Rule { id, branches };
+    fill_rule(&setting, &mut rule, &mut delta.come, meter)?;
+    rules.push(rule)?;
+    Ok(delta)
+}
+
+/// Takes the rule with this number away, if there is one.
+pub(crate) fn drop_rule<T>(
+    alloc: Global,
+    constants: &mut Option<Constants>,
+    rules: &mut Vec<Rule<T>>,
+    facts: &FactList,
+    id: u64,
+) -> Result<Delta, NoMemory>
+    requires keeping { IsKeeping facts.now rules.old.items }
+    ensures rules { OnOk result (kept_rules rules.new.items
+        ≡ filter (λ r. not (nat_eq id r.0)) (kept_rules rules.old.items)) }
+    ensures keeping { OnOk result (IsKeeping facts.now rules.new.items) }
+    ensures delta { IfOk result (IsDelta
+        (record { rules = kept_rules rules.old.items; facts = facts.now })
+        (record {
+          rules = filter (λ r. not (nat_eq id r.0))
+              (kept_rules rules.old.items);
+          facts = facts.now;
+        })) }
+{
+    let _count = facts.len();
+    let setting = Setting {
+        alloc,
+        constants: made(alloc, constants)?,
+        facts,
+    };
+    let mut delta = no_delta(alloc);
+    drop_numbered(&setting, rules, id, &mut delta.gone)?;
+    Ok(delta)
+}
+
+/// Finds all matches. The answer is their keys.
+pub(crate) fn fill_anew<T>(
+    alloc: Global,
+    constants: &mut Option<Constants>,
+    rules: &mut [Rule<T>],
+    facts: &FactList,
+    meter: &mut Meter<T>,
+) -> Result<Vec<Key>, NoMemory>
+    requires numbers { HaveOwnNumbers (kept_rules rules.old) }
+    requires plans { All (λ r. All CanBeFilled r.branches.items) rules.old }
+    ensures rules { OnOk result (kept_rules rules.new ≡ kept_rules rules.old) }
+    ensures keeping { OnOk result (IsKeeping facts.now rules.new) }
+    ensures keys { IfOk result (λ keys. keys.items ≡ rule_keys (kept_rules rules.old) facts.now) }
+{
+    let setting = Setting {
+        alloc,
+        constants: made(alloc, constants)?,
+        facts,
+    };
+    let mut come = Vec::new(alloc);
+    fill_rules(&setting, rules, &mut come, meter)?;
+    Ok(come)
+}

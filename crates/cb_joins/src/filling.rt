@@ -1,0 +1,183 @@
+//! What is kept for a branch, found over all facts.
+ghost use Rattle.std.specs.Prelude.{◌≡◌, ◌∷◌, [], All, IfOk, OnOk, length};
+ghost use Rattle.std.specs.List.{filter};
+ghost use Rattle.cb_exprs.specs.Bindings.{no_bindings};
+ghost use Rattle.cb_facts.specs.FactLists.{IsFactBase};
+ghost use Rattle.cb_fit.specs.Shapes.{has_way, loose};
+ghost use Rattle.cb_fit.specs.Ways.{ways};
+ghost use Rattle.cb_joins.specs.Internal.Flat.{IsLooseToo, flat_node, flat_nodes, node_list};
+ghost use Rattle.cb_joins.specs.Internal.Nodes.{AreKept, AreReady, AreWhole, IsPlace, IsReady};
+ghost use Rattle.cb_joins.specs.Internal.Rules.{keys_at};
+ghost use Rattle.cb_joins.specs.Internal.Steps.{NamesListsBelow, group_with};
+ghost use Rattle.cb_matches.specs.Lemmas.Order.{IsSorted};
+ghost use Rattle.cb_matches.specs.Matches.{next, no_parts};
+
+use crate::joining::{fits_loosely, join};
+use crate::memory::has_begun;
+use crate::node::{Node, Place};
+use crate::taking::add_all;
+use cb_facts::Fact;
+use cb_fit::laws::{no_shape_gives_no_ways, the_ways_rise_by_their_cuts};
+use cb_fit::{Meter, Pattern};
+use cb_forms::NoMemory;
+use cb_partials::{Partial, Setting, satisfy_test};
+use std::alloc::Global;
+use std::collections::{BTreeMap, BTreeSet};
+
+/// Finds what is kept for the nodes of a branch. The answer is their lists.
+pub(crate) fn fill_nodes<T>(
+    setting: &Setting<'_>,
+    nodes: &mut [Node<T>],
+    meter: &mut Meter<T>,
+) -> Result<Vec<BTreeSet<Partial>>, NoMemory>
+    requires whole { AreWhole (flat_nodes nodes.old) }
+    requires loose { All IsLooseToo nodes.old }
+    ensures nodes { OnOk result (flat_nodes nodes.new ≡ flat_nodes nodes.old) }
+    ensures ready { OnOk result (AreReady setting.now.facts.now nodes.new) }
+    ensures kept { IfOk result
+        (λ lists. AreKept (flat_nodes nodes.old) setting.now.facts.now lists.items) }
+{
+    the_ways_rise_by_their_cuts();
+    let _facts = setting.facts.len();
+    let mut lists = Vec::new(setting.alloc);
+    lists.push(first_list(setting.alloc)?)?;
+    for node in nodes.iter_mut() {
+        let found = fill_node(setting, node, lists.as_slice(), meter)?;
+        lists.push(set_of(setting.alloc, found.as_slice())?)?;
+    }
+    Ok(lists)
+}
+
+/// The list before the first node.
+fn first_list(alloc: Global) -> Result<BTreeSet<Partial>, NoMemory>
+    ensures { IfOk result (λ list. list.keys ≡ no_parts ∷ []) }
+{
+    let mut start = Vec::new(alloc);
+    start.push(Partial::new(alloc))?;
+    set_of(alloc, start.as_slice())
+}
+
+/// These partial matches as a set.
+fn set_of(alloc: Global, partials: &[Partial]) -> Result<BTreeSet<Partial>, NoMemory>
+    ensures { IfOk result (λ list. IsSorted partials.now → list.keys ≡ partials.now) }
+{
+    let mut list = BTreeSet::new(alloc);
+    add_all(&mut list, partials)?;
+    let _count = list.len();
+    Ok(list)
+}
+
+/// Finds what is kept for a node, where these lists are before it. The answer is the partial matches behind it, in order.
+fn fill_node<T>(
+    setting: &Setting<'_>,
+    node: &mut Node<T>,
+    lists: &[BTreeSet<Partial>],
+    meter: &mut Meter<T>,
+) -> Result<Vec<Partial>, NoMemory>
+    requires base { IsFactBase setting.now.facts.now }
+    requires loose { IsLooseToo node.old }
+    requires below { NamesListsBelow (length lists.now) (flat_node node.old) }
+    ensures node { OnOk result (flat_node node.new ≡ flat_node node.old) }
+    ensures ready { OnOk result (IsReady setting.now.facts.now node.new) }
+    ensures found { IfOk result (λ all. all.items
+        ≡ node_list (flat_node node.old) setting.now.facts.now (keys_at lists.now)) }
+{
+    match node {
+        Node::Pattern { from, place } => {
+            let partials = copy_list(setting.alloc, &lists[*from])?;
+            fill_place(setting, place, partials, meter)
+        }
+        Node::Test { from, test } => {
+            let partials = copy_list(setting.alloc, &lists[*from])?;
+            satisfy_test(setting, test, partials)
+        }
+        Node::Group {
+            from,
+            inner,
+            positive,
+            ..
+        } => {
+            let partials = copy_list(setting.alloc, &lists[*from])?;
+            fill_group(setting.alloc, *positive, partials, &lists[*inner])
+        }
+    }
+}
+
+/// The partial matches of a list, in its order.
+fn copy_list(alloc: Global, list: &BTreeSet<Partial>) -> Result<Vec<Partial>, NoMemory>
+    ensures { IfOk result (λ all. all.items ≡ list.now.keys) }
+{
+    let mut all = Vec::new(alloc);
+    for partial in list.iter() {
+        all.push(partial.clone()?)?;
+    }
+    Ok(all)
+}
+
+/// Finds what is kept for a pattern, where these partial matches are before it. The answer is those behind it.
+fn fill_place<T>(
+    setting: &Setting<'_>,
+    place: &mut Place<T>,
+    partials: Vec<Partial>,
+    meter: &mut Meter<T>,
+) -> Result<Vec<Partial>, NoMemory>
+    requires base { IsFactBase setting.now.facts.now }
+    requires loose { place.old.loose ≡ loose place.old.pattern }
+    ensures address { OnOk result (place.new.address ≡ place.old.address) }
+    ensures pattern { OnOk result (place.new.pattern ≡ place.old.pattern) }
+    ensures place { OnOk result (IsPlace place.new setting.now.facts.now) }
+    ensures found { IfOk result (λ all. all.items
+        ≡ next place.old.address place.old.pattern setting.now.facts.now partials.items) }
+{
+    no_shape_gives_no_ways();
+    place.candidates = find_candidates(setting, &place.loose, meter)?;
+    let mut found = Vec::new(setting.alloc);
+    join(
+        setting,
+        &place.address,
+        &place.pattern,
+        &place.candidates,
+        partials.as_slice(),
+        &mut found,
+        meter,
+    )?;
+    Ok(found)
+}
+
+/// The facts that have the shape of the pattern that this one is without its variables and expressions.
+fn find_candidates<T>(
+    setting: &Setting<'_>,
+    pattern: &Pattern<T>,
+    meter: &mut Meter<T>,
+) -> Result<BTreeMap<u64, Fact>, NoMemory>
+    requires { IsFactBase setting.now.facts.now }
+    ensures { IfOk result (λ all. all.entries
+        ≡ filter (λ f. has_way (ways pattern.now f.1 no_bindings)) setting.now.facts.now) }
+{
+    let mut all = BTreeMap::new(setting.alloc);
+    for (ix, fact) in setting.facts.iter() {
+        if fits_loosely(setting, pattern, fact, meter)? {
+            all.insert(*ix, fact.clone()?)?;
+        }
+    }
+    Ok(all)
+}
+
+/// Those of these partial matches for which a group holds, where these are the partial matches of the last list inside it.
+fn fill_group(
+    alloc: Global,
+    positive: bool,
+    partials: Vec<Partial>,
+    complete: &BTreeSet<Partial>,
+) -> Result<Vec<Partial>, NoMemory>
+    ensures { IfOk result (λ all. all.items
+        ≡ filter (group_with positive complete.now.keys) partials.items) }
+{
+    let mut all = Vec::new(alloc);
+    for partial in partials {
+        if has_begun(alloc, complete, partial.parts.as_slice())? == positive {
+            all.push(partial)?;
+        }
+    }
+    Ok(all)
+}

@@ -1,0 +1,93 @@
+//! Keys of the partial matches at the end of a branch.
+ghost use Rattle.std.specs.Prelude.{◌≡◌, ◌++◌, List, IfOk, OnOk, map};
+ghost use Rattle.std.specs.BTreeSet.{IsOrdered};
+ghost use Rattle.std.specs.List.Sorted.{IsPermutation, IsSorted};
+ghost use Rattle.cb_joins.specs.Internal.Changes.{IsMoved};
+ghost use Rattle.cb_joins.specs.Internal.Keys.{Tells, key_of};
+ghost use Rattle.cb_matches.specs.Keys.{key_cmp};
+ghost use Rattle.cb_matches.specs.Lemmas.Order.{IsSorted as AreInOrder};
+ghost use Rattle.cb_matches.specs.Matches.{Partial};
+ghost use Rattle.cb_partials.specs.Partials.{partial_cmp};
+
+use crate::moved::Moved;
+use cb_forms::NoMemory;
+use cb_matches::{Delta, Key};
+use cb_partials::Partial;
+use std::alloc::Global;
+use std::collections::BTreeSet;
+
+/// Tells the keys of the partial matches of a list, in its order, behind those that are told of before.
+pub(crate) fn tell_list(
+    alloc: Global,
+    rule: u64,
+    number: u64,
+    list: &BTreeSet<Partial>,
+    keys: &mut Vec<Key>,
+) -> Result<(), NoMemory>
+    ensures keys { OnOk result
+        (keys.new.items ≡ keys.old.items ++ map (key_of rule number) list.now.keys) }
+    ensures ordered { IsOrdered partial_cmp list.now }
+{
+    for partial in list.iter() {
+        keys.push(key_of(alloc, rule, number, partial)?)?;
+    }
+    Ok(())
+}
+
+/// Tells the keys of what went from the end of a branch and of what came to it, each in the order of keys, behind those that are
+/// told of before.
+pub(crate) fn tell_moved(
+    alloc: Global,
+    rule: u64,
+    number: u64,
+    moved: &Moved,
+    delta: &mut Delta,
+) -> Result<(), NoMemory>
+    ensures { OnOk result ((old new : List Partial) → AreInOrder old → AreInOrder new → IsMoved old new moved.now
+        → Tells delta.old delta.new (map (key_of rule number) old) (map (key_of rule number) new)) }
+{
+    let mut gone = sorted_keys(alloc, rule, number, moved.gone.as_slice())?;
+    let mut come = sorted_keys(alloc, rule, number, moved.come.as_slice())?;
+    delta.gone.append(&mut gone)?;
+    delta.come.append(&mut come)?;
+    Ok(())
+}
+
+/// The keys of partial matches of a branch, in the order of keys.
+fn sorted_keys(
+    alloc: Global,
+    rule: u64,
+    number: u64,
+    partials: &[Partial],
+) -> Result<Vec<Key>, NoMemory>
+    ensures permutation { IfOk result
+        (λ keys. IsPermutation (map (key_of rule number) partials.now) keys.items) }
+    ensures sorted { IfOk result (λ keys. IsSorted key_cmp keys.items) }
+{
+    let mut keys = keys_of(alloc, rule, number, partials)?;
+    keys.sort()?;
+    Ok(keys)
+}
+
+/// The same in the order of the partial matches.
+fn keys_of(
+    alloc: Global,
+    rule: u64,
+    number: u64,
+    partials: &[Partial],
+) -> Result<Vec<Key>, NoMemory>
+    ensures { IfOk result (λ keys. keys.items ≡ map (key_of rule number) partials.now) }
+{
+    let mut keys = Vec::new(alloc);
+    for partial in partials {
+        keys.push(key_of(alloc, rule, number, partial)?)?;
+    }
+    Ok(keys)
+}
+
+/// The key of a partial match of a branch.
+fn key_of(alloc: Global, rule: u64, number: u64, partial: &Partial) -> Result<Key, NoMemory>
+    ensures { IfOk result (λ key. key ≡ key_of rule number partial.now) }
+{
+    Key::new(alloc, rule, number, partial.parts.clone()?)
+}
