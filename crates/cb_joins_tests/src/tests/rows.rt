@@ -210,7 +210,10 @@ pub(crate) const ROWS: [Row; 11] = [
     Row {
         story: Story {
             first: &[],
-            branches: &[&[Element::Pattern(A_X), Element::Nested(false, &[B_X], &[C_X])]],
+            branches: &[&[
+                Element::Pattern(A_X),
+                Element::Nested(false, &[B_X], &[C_X]),
+            ]],
             then: &[
                 Change::Assert(1, b'a', &[1]),
                 Change::Assert(2, b'b', &[1]),

@@ -123,7 +123,10 @@ static GROUP_CHANGES: [Row; 4] = [
             (b"(watch activations)", b""),
             (b"(defrule w (a ?x) (b ?y&:(> ?x ?y)) =>)", b""),
             (b"(assert (b 1))", b"<Fact-1>\n"),
-            (b"(assert (a 2))", b"==> Activation 0      w: f-2,f-1\n<Fact-2>\n"),
+            (
+                b"(assert (a 2))",
+                b"==> Activation 0      w: f-2,f-1\n<Fact-2>\n",
+            ),
         ],
         ..CLEAN
     },
