@@ -26,7 +26,7 @@ use Rattle.cb_fit.specs.Related.{Fits, HoldInTurn, PartsFit, SlotsFit}
 use Rattle.cb_fit.specs.Ways.{segment_value}
 
 -- each variable with a value still has it
-abbrev Keeps : Bindings → Bindings → Type 0
+abbrev pub Keeps : Bindings → Bindings → Type 0
 Keeps before after = (x : List ℕ) (v : Value) → value_at x before.variables ≡ Some v → value_at x after.variables ≡ Some v
 
 keeps-all : (env grown : Bindings) → env ≡ grown → Keeps env grown
@@ -36,12 +36,12 @@ abbrev gave : List (List ℕ × Value) → Bindings → GivenSoFar
 gave bound env = record { bound = bound; env = env }
 
 -- from the one to the other just these variables get values, and each has its value afterwards
-abbrev Gives : List (List ℕ) → Bindings → Bindings → Type 0
+abbrev pub Gives : List (List ℕ) → Bindings → Bindings → Type 0
 Gives names before grown =
     (after : Bindings) (bound : List (List ℕ × Value)) → Keeps grown after
     → (more : List (List ℕ × Value)) × (given_all names after (gave bound before) ≡ gave (bound ++ more) grown) × (with_variables more before ≡ grown)
 
-abbrev Step : List (List ℕ) → Bindings → Bindings → Type 0
+abbrev pub Step : List (List ℕ) → Bindings → Bindings → Type 0
 Step names before grown = Keeps before grown × Gives names before grown
 
 gives-none : (env grown : Bindings) → env ≡ grown → Step [] env grown
@@ -100,7 +100,7 @@ takes x v env grown e = by (value_at x env.variables) refl e
               ([], has-already x w (value_at x env.variables) (value_at x after.variables) (gave bound env) is ∙ ap (λ b. gave b env) (sym (append-nil bound)), refl)),
         )
 
-test-gives : (negated : Bool) (t : Test) (v : Value) (env grown : Bindings) → after_test negated t v env ≡ Some grown → Step (binder negated t) env grown
+pub test-gives : (negated : Bool) (t : Test) (v : Value) (env grown : Bindings) → after_test negated t v env ≡ Some grown → Step (binder negated t) env grown
 test-gives false (variable x) v env grown e = takes x v env grown e
 test-gives false (constant w) v env grown e = gives-none env grown (provided-if (opposite_if false (test_holds (constant w) v env)) env grown e).1
 test-gives false (predicate t) v env grown e = gives-none env grown (provided-if (opposite_if false (test_holds (predicate t) v env)) env grown e).1
@@ -119,7 +119,7 @@ checks-give (c ∷ cs) v env grown e =
     let w = then-some (after_checks cs v) (after_check c v env) grown e in
     both (binder c.negated c.test) (binders_of cs) env w.0 grown (test-gives c.negated c.test v env w.0 w.1) (checks-give cs v w.0 grown w.2)
 
-demand-gives : (d : Demand) (v : Value) (env grown : Bindings) → after_demand d v env ≡ Some grown → Step (binders d) env grown
+pub demand-gives : (d : Demand) (v : Value) (env grown : Bindings) → after_demand d v env ≡ Some grown → Step (binders d) env grown
 demand-gives nothing v env grown e = gives-none env grown (same-one env grown e)
 demand-gives (each cs) v env grown e = checks-give cs v env grown e
 demand-gives (either None alternatives) v env grown e = gives-none env grown (provided-if (one_holds alternatives v env) env grown e).1
@@ -127,7 +127,7 @@ demand-gives (either (Some x) alternatives) v env grown e =
     let w = then-some (λ mid. provided (one_holds alternatives v mid) mid) (after_variable x v env) grown e in
     subst (Step (x ∷ []) env) (provided-if (one_holds alternatives v w.0) w.0 grown w.2).1 (takes x v env w.0 w.1)
 
-turn-gives : (cs : List Constraint) (ss : List (List Single)) (before after : Bindings) → HoldInTurn cs ss before after → Step (binders_in cs) before after
+pub turn-gives : (cs : List Constraint) (ss : List (List Single)) (before after : Bindings) → HoldInTurn cs ss before after → Step (binders_in cs) before after
 turn-gives [] [] before after h = gives-none before after h
 turn-gives [] (s ∷ ss) before after h = absurd h
 turn-gives (c ∷ cs) [] before after h = absurd h

@@ -7,6 +7,7 @@ mod Examples
 mod Givings
 mod Groups
 mod InTurn
+mod Joined
 mod Listed
 mod Looked
 mod LooseDemands

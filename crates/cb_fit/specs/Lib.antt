@@ -1,4 +1,5 @@
 pub mod Internal
+pub mod JoinFields
 pub mod Laws
 pub mod Meters
 pub mod Related

@@ -1,20 +1,22 @@
 //! Laws of ways: each is the contract of a function that does nothing.
-ghost use Rattle.std.specs.Prelude.{◌≡◌, ◌≢◌, ◌↔◌, ◌∷◌, ℕ, List, [], AllPairs, Contains, length, true};
+ghost use Rattle.std.specs.Prelude.{◌≡◌, ◌≢◌, ◌↔◌, ◌∷◌, ℕ, List, [], AllPairs, Contains, Some, length, true};
 ghost use Rattle.std.specs.Cmp.Lexicographic.{slice_cmp};
 ghost use Rattle.std.specs.Ordering.{nat_cmp};
 ghost use Rattle.std.specs.declared.cmp.Ordering.TheVariants.{Less};
 ghost use Rattle.cb_constraints.specs.Constraints.{Demand};
 ghost use Rattle.cb_constraints.specs.Holding.{after_demand, may_hold, provided};
 ghost use Rattle.cb_constraints.specs.PatternValues.{PatternValue};
-ghost use Rattle.cb_exprs.specs.Bindings.{Bindings, with_variables};
+ghost use Rattle.cb_exprs.specs.Bindings.{Bindings, value_at, with_variables};
 ghost use Rattle.cb_facts.specs.Facts.{FactValue, ordered_fact};
 ghost use Rattle.cb_facts.specs.declared.single.Single.{Single};
 ghost use Rattle.cb_facts.specs.declared.value.Value.{Value};
 ghost use Rattle.cb_constraints.specs.Bound.{newly_bound};
+ghost use Rattle.cb_fit.specs.JoinFields.{join_fields, value_in};
 ghost use Rattle.cb_fit.specs.Laws.{any_fields, of_length, of_one, one_field};
 ghost use Rattle.cb_fit.specs.Related.{Fits};
 ghost use Rattle.cb_fit.specs.Shapes.{HasShape, has_shape, loose, loose_demand};
 ghost use Rattle.cb_fit.specs.Ways.{WayValue, taken_way, ways};
+ghost use Rattle.cb_fit.specs.declared.join_fields.JoinField.{JoinField};
 
 /// The list of the ways has each way in which the pattern fits the fact, and no other.
 pub fn the_ways_are_those_that_fit()
@@ -98,4 +100,13 @@ pub fn ways_with_the_same_cuts_are_the_same()
     ensures { (p : PatternValue) (f : FactValue) (before : Bindings) (v w : WayValue)
         → Contains (ways p f before) v → Contains (ways p f before) w
         → v.cuts ≡ w.cuts → v ≡ w }
+{}
+
+/// Where a pattern fits a fact, the fields that have to be equal to variables are: each has the value of its variable, if that has
+/// one before.
+pub fn a_fact_that_fits_has_the_values_of_variables()
+    ensures { (p : PatternValue) (f : FactValue) (before : Bindings) (w : WayValue)
+        → Contains (ways p f before) w → (j : JoinField) → Contains (join_fields p.parts) j
+        → (v : Value) → value_at j.variable before.variables ≡ Some v
+        → value_in j f.content ≡ Some v }
 {}

@@ -9,6 +9,7 @@
 mod choice; // a choice: the places where a segment may end
 mod fitting; // `fit`: from the pattern and the fact to the ways
 mod following; // what follows the beginning of a way: the rest of a row, the rows of the slots after it, the way
+mod join_fields; // the fields of a fact that have to be equal to variables
 pub mod laws; // laws of ways
 mod lengths; // whether a fact has as many fields as a pattern can take; asked before anything else
 mod loose; // what a pattern asks without its variables and expressions
@@ -23,6 +24,7 @@ mod taking; // whether the constraint that comes next holds; constraints that ta
 mod way; // a way
 
 pub use fitting::fit;
+pub use join_fields::JoinField;
 pub use meter::Meter;
 pub use pattern::Pattern;
 pub use way::Way;

@@ -1,9 +1,11 @@
 //! Patterns.
 ghost use Rattle.std.specs.Prelude.{◌≡◌, IfOk};
 ghost use Rattle.cb_constraints.specs.PartValues.{asked_parts};
+ghost use Rattle.cb_fit.specs.JoinFields.{join_fields};
 ghost use Rattle.cb_fit.specs.Meters.{one_test_more};
 ghost use Rattle.cb_fit.specs.Shapes.{loose};
 
+use crate::join_fields::{JoinField, fields_of_parts};
 use crate::loose::loose_parts;
 use crate::meter::Meter;
 use cb_constraints::{Body, Parts};
@@ -57,6 +59,15 @@ impl<T> Pattern<T> {
     {
         let parts = loose_parts(alloc, self.body.parts())?;
         Pattern::new(alloc, self.relation.clone()?, parts)
+    }
+
+    /// The fields of a fact that have to be equal to variables, whatever else the pattern asks: where one of these variables has a
+    /// value and the field is not equal to it, the pattern doesn't fit. Growth is refused as `NoMemory`, and so is a count of
+    /// sharers that is full.
+    pub fn join_fields(&self, alloc: Global) -> Result<Vec<JoinField>, NoMemory>
+        ensures { IfOk result (λ all. all.items ≡ join_fields self.now.parts) }
+    {
+        fields_of_parts(alloc, self.body.parts())
     }
 
     /// The relation of the facts that it is for.
