@@ -2,6 +2,7 @@
 pub mod Asked
 pub mod Changes
 pub mod Flat
+pub mod Indexes
 pub mod Keys
 pub mod Memories
 pub mod Nodes

@@ -22,6 +22,7 @@ mod fact_change; // a change of the facts
 mod filling; // what is kept for a branch, found over all facts
 mod finding; // the match with a key
 mod group; // a test or a group, and what a change does behind it
+mod index; // facts and partial matches by the values of variables
 mod indexed; // a fact and its index
 mod joining; // partial matches joined with facts
 mod joins; // the matcher
