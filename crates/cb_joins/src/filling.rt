@@ -5,13 +5,15 @@ ghost use Rattle.cb_exprs.specs.Bindings.{no_bindings};
 ghost use Rattle.cb_facts.specs.FactLists.{IsFactBase};
 ghost use Rattle.cb_fit.specs.Shapes.{has_way, loose};
 ghost use Rattle.cb_fit.specs.Ways.{ways};
-ghost use Rattle.cb_joins.specs.Internal.Flat.{IsLooseToo, flat_node, flat_nodes, node_list};
-ghost use Rattle.cb_joins.specs.Internal.Nodes.{AreKept, AreReady, AreWhole, IsPlace, IsReady};
+ghost use Rattle.cb_joins.specs.Internal.Flat.{flat_node, flat_nodes, node_list};
+ghost use Rattle.cb_joins.specs.Internal.Indexes.{index_fields};
+ghost use Rattle.cb_joins.specs.Internal.Nodes.{AreJoinFields, AreKept, AreReady, AreWhole, IsPlace, IsPrepared, IsReady};
 ghost use Rattle.cb_joins.specs.Internal.Rules.{keys_at};
 ghost use Rattle.cb_joins.specs.Internal.Steps.{NamesListsBelow, group_with};
-ghost use Rattle.cb_matches.specs.Lemmas.Order.{IsSorted};
+ghost use Rattle.cb_matches.specs.Lemmas.Order.{IsOnce, IsSorted};
 ghost use Rattle.cb_matches.specs.Matches.{next, no_parts};
 
+use crate::index::fill_index;
 use crate::joining::{fits_loosely, join};
 use crate::memory::has_begun;
 use crate::node::{Node, Place};
@@ -31,7 +33,7 @@ pub(crate) fn fill_nodes<T>(
     meter: &mut Meter<T>,
 ) -> Result<Vec<BTreeSet<Partial>>, NoMemory>
     requires whole { AreWhole (flat_nodes nodes.old) }
-    requires loose { All IsLooseToo nodes.old }
+    requires prepared { All IsPrepared nodes.old }
     ensures nodes { OnOk result (flat_nodes nodes.new ≡ flat_nodes nodes.old) }
     ensures ready { OnOk result (AreReady setting.now.facts.now nodes.new) }
     ensures kept { IfOk result
@@ -75,10 +77,10 @@ fn fill_node<T>(
     meter: &mut Meter<T>,
 ) -> Result<Vec<Partial>, NoMemory>
     requires base { IsFactBase setting.now.facts.now }
-    requires loose { IsLooseToo node.old }
+    requires prepared { IsPrepared node.old }
     requires below { NamesListsBelow (length lists.now) (flat_node node.old) }
     ensures node { OnOk result (flat_node node.new ≡ flat_node node.old) }
-    ensures ready { OnOk result (IsReady setting.now.facts.now node.new) }
+    ensures ready { OnOk result (IsReady setting.now.facts.now (keys_at lists.now) node.new) }
     ensures found { IfOk result (λ all. all.items
         ≡ node_list (flat_node node.old) setting.now.facts.now (keys_at lists.now)) }
 {
@@ -105,7 +107,8 @@ fn fill_node<T>(
 
 /// The partial matches of a list, in its order.
 fn copy_list(alloc: Global, list: &BTreeSet<Partial>) -> Result<Vec<Partial>, NoMemory>
-    ensures { IfOk result (λ all. all.items ≡ list.now.keys) }
+    ensures items { IfOk result (λ all. all.items ≡ list.now.keys) }
+    ensures once { IfOk result (λ all. IsOnce all.items) }
 {
     let mut all = Vec::new(alloc);
     for partial in list.iter() {
@@ -123,24 +126,24 @@ fn fill_place<T>(
 ) -> Result<Vec<Partial>, NoMemory>
     requires base { IsFactBase setting.now.facts.now }
     requires loose { place.old.loose ≡ loose place.old.pattern }
+    requires fields { AreJoinFields (index_fields place.old.index) place.old.address place.old.pattern }
+    requires once { IsOnce partials.items }
     ensures address { OnOk result (place.new.address ≡ place.old.address) }
     ensures pattern { OnOk result (place.new.pattern ≡ place.old.pattern) }
-    ensures place { OnOk result (IsPlace place.new setting.now.facts.now) }
+    ensures place { OnOk result (IsPlace place.new setting.now.facts.now partials.items) }
     ensures found { IfOk result (λ all. all.items
         ≡ next place.old.address place.old.pattern setting.now.facts.now partials.items) }
 {
     no_shape_gives_no_ways();
     place.candidates = find_candidates(setting, &place.loose, meter)?;
-    let mut found = Vec::new(setting.alloc);
-    join(
-        setting,
-        &place.address,
-        &place.pattern,
+    place.index = fill_index(
+        setting.alloc,
+        place.index.take(),
         &place.candidates,
         partials.as_slice(),
-        &mut found,
-        meter,
     )?;
+    let mut found = Vec::new(setting.alloc);
+    join(setting, place, partials.as_slice(), &mut found, meter)?;
     Ok(found)
 }
 

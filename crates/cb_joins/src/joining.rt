@@ -1,36 +1,83 @@
 //! Partial matches joined with facts.
-ghost use Rattle.std.specs.Prelude.{◌≡◌, ◌≤◌, ◌+◌, ◌*◌, ◌++◌, ◌∷◌, [], IfOk, OnOk, flat_map, length};
+ghost use Rattle.std.specs.Prelude.{◌≡◌, ◌≤◌, ◌+◌, ◌*◌, ◌++◌, ◌∷◌, [], IfOk, IfSome, List, OnOk, flat_map, length};
+ghost use Rattle.std.specs.List.Sorted.{IsStrictlySortedBy};
 ghost use Rattle.cb_exprs.specs.Bindings.{no_bindings};
 ghost use Rattle.cb_fit.specs.Shapes.{has_way};
 ghost use Rattle.cb_fit.specs.Ways.{ways};
-ghost use Rattle.cb_matches.specs.Matches.{extended, next};
+ghost use Rattle.cb_joins.specs.Internal.Nodes.{AreEnough, AreFound, IsJoined};
+ghost use Rattle.cb_matches.specs.Matches.{Partial, extended, next};
+ghost use Rattle.cb_partials.specs.Partials.{partial_cmp};
 
+use crate::index::{facts_with, partials_with, values_of_fact, values_of_partial};
 use crate::indexed::Indexed;
+use crate::node::Place;
 use cb_exprs::Env;
 use cb_facts::{Fact, Name};
+use cb_fit::laws::a_fact_that_fits_has_the_values_of_variables;
 use cb_fit::{Meter, Pattern, fit};
 use cb_forms::NoMemory;
 use cb_partials::{Partial, Setting, extend};
+use std::alloc::Global;
 use std::collections::{BTreeMap, BTreeSet};
 
-/// Adds each of these partial matches with each of these facts.
+/// Adds each of these partial matches with each of the facts of a pattern.
 pub(crate) fn join<T>(
     setting: &Setting<'_>,
-    address: &Option<Name>,
-    pattern: &Pattern<T>,
-    facts: &BTreeMap<u64, Fact>,
+    place: &Place<T>,
     partials: &[Partial],
     found: &mut Vec<Partial>,
     meter: &mut Meter<T>,
 ) -> Result<(), NoMemory>
-    ensures found { OnOk result (found.new.items
-        ≡ found.old.items ++ next address.now pattern.now facts.now.entries partials.now) }
-    ensures probes { meter.new ≤ meter.old + length partials.now * length facts.now.entries }
+    ensures found { OnOk result ((ms : List Partial) → IsJoined place.now ms
+        → found.new.items ≡ found.old.items
+        ++ next place.now.address place.now.pattern place.now.candidates.entries partials.now) }
+    ensures probes { OnOk result ((ms : List Partial) → IsJoined place.now ms
+        → meter.new ≤ meter.old + length partials.now * length place.now.candidates.entries) }
 {
     for partial in partials {
-        join_one(setting, address, pattern, facts, partial, found, meter)?;
+        let facts = facts_for(setting.alloc, place, partial)?;
+        join_one(
+            setting,
+            &place.address,
+            &place.pattern,
+            facts.as_slice(),
+            partial,
+            found,
+            meter,
+        )?;
     }
     Ok(())
+}
+
+/// The facts of a pattern that a partial match can be joined with: by the values of variables, if there is an index, else all.
+fn facts_for<T>(
+    alloc: Global,
+    place: &Place<T>,
+    partial: &Partial,
+) -> Result<Vec<Indexed>, NoMemory>
+    ensures { IfOk result (λ all. (ms : List Partial) → IsJoined place.now ms → AreFound place.now partial.now all.items) }
+{
+    a_fact_that_fits_has_the_values_of_variables();
+    if let Some(index) = &place.index {
+        if let Some(values) = values_of_partial(alloc, index.fields.as_slice(), partial)? {
+            return facts_with(alloc, index, values.as_slice());
+        }
+    }
+    all_facts(alloc, &place.candidates)
+}
+
+/// All these facts.
+fn all_facts(alloc: Global, facts: &BTreeMap<u64, Fact>) -> Result<Vec<Indexed>, NoMemory>
+    ensures { IfOk result (λ all. all.items ≡ facts.now.entries) }
+{
+    let mut all = Vec::new(alloc);
+    for (ix, fact) in facts.iter() {
+        all.push(Indexed {
+            ix: *ix,
+            fact: fact.clone()?,
+        })?;
+    }
+    Ok(all)
 }
 
 /// Adds a partial match with each of these facts.
@@ -38,23 +85,102 @@ fn join_one<T>(
     setting: &Setting<'_>,
     address: &Option<Name>,
     pattern: &Pattern<T>,
-    facts: &BTreeMap<u64, Fact>,
+    facts: &[Indexed],
     partial: &Partial,
     found: &mut Vec<Partial>,
     meter: &mut Meter<T>,
 ) -> Result<(), NoMemory>
     ensures found { OnOk result (found.new.items ≡ found.old.items
-        ++ flat_map (extended address.now pattern.now partial.now) facts.now.entries) }
-    ensures probes { meter.new ≤ meter.old + length facts.now.entries }
+        ++ flat_map (extended address.now pattern.now partial.now) facts.now) }
+    ensures probes { meter.new ≤ meter.old + length facts.now }
 {
-    for (ix, fact) in facts.iter() {
-        extend(setting, address, pattern, partial, *ix, fact, found, meter)?;
+    for one in facts {
+        extend(
+            setting, address, pattern, partial, one.ix, &one.fact, found, meter,
+        )?;
+    }
+    Ok(())
+}
+
+/// The partial matches before a pattern that a fact can be joined with, by the values of variables; `None` where there is no index,
+/// so that they can be any.
+pub(crate) fn partials_for<T>(
+    alloc: Global,
+    place: &Place<T>,
+    one: &Indexed,
+) -> Result<Option<Vec<Partial>>, NoMemory>
+    ensures { IfOk result (λ found. IfSome found (λ all. (ms : List Partial) → IsStrictlySortedBy partial_cmp ms → IsJoined place.now ms
+        → AreEnough place.now one.now ms all.items)) }
+{
+    a_fact_that_fits_has_the_values_of_variables();
+    let Some(index) = &place.index else {
+        return Ok(None);
+    };
+    match values_of_fact(alloc, index.fields.as_slice(), &one.fact)? {
+        Some(values) => Ok(Some(partials_with(alloc, index, values.as_slice())?)),
+        None => Ok(None),
+    }
+}
+
+/// Adds each partial match before a pattern with one fact.
+pub(crate) fn join_fact<T>(
+    setting: &Setting<'_>,
+    place: &Place<T>,
+    one: &Indexed,
+    before: &BTreeSet<Partial>,
+    found: &mut Vec<Partial>,
+    meter: &mut Meter<T>,
+) -> Result<(), NoMemory>
+    ensures found { OnOk result (IsJoined place.now before.now.keys → found.new.items ≡ found.old.items
+        ++ next place.now.address place.now.pattern (one.now ∷ []) before.now.keys) }
+    ensures probes { OnOk result (IsJoined place.now before.now.keys → meter.new ≤ meter.old + length before.now.keys) }
+{
+    match partials_for(setting.alloc, place, one)? {
+        Some(partials) => join_each(
+            setting,
+            &place.address,
+            &place.pattern,
+            one,
+            partials.as_slice(),
+            found,
+            meter,
+        ),
+        None => join_all(
+            setting,
+            &place.address,
+            &place.pattern,
+            one,
+            before,
+            found,
+            meter,
+        ),
+    }
+}
+
+/// Adds each of these partial matches with one fact.
+fn join_each<T>(
+    setting: &Setting<'_>,
+    address: &Option<Name>,
+    pattern: &Pattern<T>,
+    one: &Indexed,
+    partials: &[Partial],
+    found: &mut Vec<Partial>,
+    meter: &mut Meter<T>,
+) -> Result<(), NoMemory>
+    ensures found { OnOk result (found.new.items
+        ≡ found.old.items ++ next address.now pattern.now (one.now ∷ []) partials.now) }
+    ensures probes { meter.new ≤ meter.old + length partials.now }
+{
+    for partial in partials {
+        extend(
+            setting, address, pattern, partial, one.ix, &one.fact, found, meter,
+        )?;
     }
     Ok(())
 }
 
 /// Adds each partial match of a list with one fact.
-pub(crate) fn join_fact<T>(
+fn join_all<T>(
     setting: &Setting<'_>,
     address: &Option<Name>,
     pattern: &Pattern<T>,

@@ -1,4 +1,5 @@
 //! The elements of a branch as nodes, each of which goes on from lists of partial matches.
+use crate::index::Index;
 use cb_exprs::Expr;
 use cb_facts::{Fact, Name};
 use cb_fit::Pattern;
@@ -14,6 +15,9 @@ pub(crate) struct Place<T> {
     pub(crate) loose: Pattern<T>,
     /// The facts that have the pattern's shape, by their indices.
     pub(crate) candidates: BTreeMap<u64, Fact>,
+    /// These facts and the partial matches before the pattern by the values of the variables that they are joined on, if there are
+    /// such variables and each of the partial matches has values for them.
+    pub(crate) index: Option<Index>,
 }
 
 /// An element of a branch. List 0 is before the first element; the node at place k makes list k + 1 of the lists before it.

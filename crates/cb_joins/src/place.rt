@@ -3,17 +3,19 @@ ghost use Rattle.std.specs.Prelude.{◌≡◌, ◌≤◌, ◌+◌, ◌*◌, ℕ,
 ghost use Rattle.cb_facts.specs.FactLists.{IsFactBase, fact_at, with_fact, without_fact};
 ghost use Rattle.cb_fit.specs.Shapes.{loose};
 ghost use Rattle.cb_joins.specs.Internal.Changes.{IsMade, fact_added, facts_before};
-ghost use Rattle.cb_joins.specs.Internal.Nodes.{candidates_with, found_with};
+ghost use Rattle.cb_joins.specs.Internal.Indexes.{HasIndex, KeepsFields, index_fields};
+ghost use Rattle.cb_joins.specs.Internal.Nodes.{IsJoined, candidates_with, found_with};
 ghost use Rattle.cb_joins.specs.Internal.Steps.{IsAfter, IsBefore, pattern_probes};
 ghost use Rattle.cb_matches.specs.Matches.{Partial, next};
 ghost use Rattle.cb_partials.specs.Probes.{added_probes};
 
 use crate::fact_change::FactChange;
+use crate::index::{file_fact, file_moved, unfile_fact};
 use crate::indexed::Indexed;
-use crate::joining::{fits_loosely, join, join_fact};
+use crate::joining::{fits_loosely, join, join_fact, partials_for};
 use crate::moved::Moved;
 use crate::node::Place;
-use crate::taking::{add_all, take_behind, take_fact};
+use crate::taking::{add_all, take_behind, take_fact, take_with};
 use cb_fit::Meter;
 use cb_fit::laws::{no_shape_gives_no_ways, the_ways_rise_by_their_cuts};
 use cb_forms::NoMemory;
@@ -71,6 +73,7 @@ fn assert_place<T>(
 {
     no_shape_gives_no_ways();
     the_ways_rise_by_their_cuts();
+    file_moved(setting.alloc, &mut place.index, moved)?;
     let mut gone = Vec::new(setting.alloc);
     take_behind(setting.alloc, own, moved.gone.as_slice(), &mut gone)?;
     let come = find_with(setting, place, before, moved.come.as_slice(), one, meter)?;
@@ -90,36 +93,25 @@ fn find_with<T>(
     ensures address { OnOk result (place.new.address ≡ place.old.address) }
     ensures pattern { OnOk result (place.new.pattern ≡ place.old.pattern) }
     ensures loose { OnOk result (place.new.loose ≡ place.old.loose) }
+    ensures fields { OnOk result (KeepsFields (index_fields place.old.index) place.new.index) }
     ensures candidates { OnOk result (place.old.loose ≡ loose place.old.pattern
         → place.new.candidates.entries ≡ candidates_with place.old one.now) }
-    ensures come { IfOk result (λ all. place.old.loose ≡ loose place.old.pattern
+    ensures index { OnOk result (place.old.loose ≡ loose place.old.pattern → fact_at place.old.candidates.entries one.now.0 ≡ None
+        → (ms : List Partial) → HasIndex place.old.index place.old.candidates.entries ms
+        → HasIndex place.new.index place.new.candidates.entries ms) }
+    ensures come { IfOk result (λ all. place.old.loose ≡ loose place.old.pattern → IsJoined place.old before.now.keys
         → all.items ≡ found_with place.old one.now came.now before.now.keys) }
-    ensures probes { OnOk result (place.old.loose ≡ loose place.old.pattern
+    ensures probes { OnOk result (place.old.loose ≡ loose place.old.pattern → IsJoined place.old before.now.keys
         → meter.new ≤ meter.old + (length came.now * length place.old.candidates.entries
         + added_probes place.old.pattern (Some one.now.1) (length before.now.keys))) }
 {
     let mut come = Vec::new(setting.alloc);
-    join(
-        setting,
-        &place.address,
-        &place.pattern,
-        &place.candidates,
-        came,
-        &mut come,
-        meter,
-    )?;
+    join(setting, place, came, &mut come, meter)?;
     if !fits_loosely(setting, &place.loose, &one.fact, meter)? {
         return Ok(come);
     }
-    join_fact(
-        setting,
-        &place.address,
-        &place.pattern,
-        one,
-        before,
-        &mut come,
-        meter,
-    )?;
+    join_fact(setting, place, one, before, &mut come, meter)?;
+    file_fact(setting.alloc, &mut place.index, one)?;
     place.candidates.insert(one.ix, one.fact.clone()?)?;
     Ok(come)
 }
@@ -147,20 +139,17 @@ fn retract_place<T>(
 {
     no_shape_gives_no_ways();
     the_ways_rise_by_their_cuts();
+    file_moved(setting.alloc, &mut place.index, moved)?;
     let mut gone = Vec::new(setting.alloc);
     take_behind(setting.alloc, own, moved.gone.as_slice(), &mut gone)?;
-    take_fact(setting.alloc, own, before, one.ix, &mut gone)?;
+    match partials_for(setting.alloc, place, one)? {
+        Some(partials) => take_with(setting.alloc, own, partials.as_slice(), one.ix, &mut gone)?,
+        None => take_fact(setting.alloc, own, before, one.ix, &mut gone)?,
+    }
+    unfile_fact(setting.alloc, &mut place.index, one)?;
     place.candidates.remove(&one.ix);
     let mut come = Vec::new(setting.alloc);
-    join(
-        setting,
-        &place.address,
-        &place.pattern,
-        &place.candidates,
-        moved.come.as_slice(),
-        &mut come,
-        meter,
-    )?;
+    join(setting, place, moved.come.as_slice(), &mut come, meter)?;
     add_all(own, come.as_slice())?;
     Ok(Moved { gone, come })
 }

@@ -44,6 +44,38 @@ pub(crate) fn take_fact(
     if before.len() < list.len() / 32 {
         return take_from_each(alloc, list, before, ix, gone);
     }
+    take_ending(alloc, list, ix, gone)
+}
+
+/// The same, where it goes on from these partial matches alone.
+pub(crate) fn take_with(
+    alloc: Global,
+    list: &mut BTreeSet<Partial>,
+    partials: &[Partial],
+    ix: u64,
+    gone: &mut Vec<Partial>,
+) -> Result<(), NoMemory>
+    ensures { OnOk result (IsTaken (λ z. list_any (λ m. begins_with m.parts ix z) partials.now)
+        list.old.keys list.new.keys gone.old.items gone.new.items
+        ⊎ IsTaken (λ z. list_any (λ m. begins m.parts z) (filter (ends_with ix) list.old.keys))
+        list.old.keys list.new.keys gone.old.items gone.new.items) }
+{
+    if partials.len() < list.len() / 32 {
+        return take_from_those(alloc, list, partials, ix, gone);
+    }
+    take_ending(alloc, list, ix, gone)
+}
+
+/// Moves what goes on from those of a list whose last fact has this index out of it.
+fn take_ending(
+    alloc: Global,
+    list: &mut BTreeSet<Partial>,
+    ix: u64,
+    gone: &mut Vec<Partial>,
+) -> Result<(), NoMemory>
+    ensures { OnOk result (IsTaken (λ z. list_any (λ m. begins m.parts z) (filter (ends_with ix) list.old.keys))
+        list.old.keys list.new.keys gone.old.items gone.new.items) }
+{
     let found = ending_with(alloc, list, ix)?;
     take_behind(alloc, list, found.as_slice(), gone)
 }
@@ -73,6 +105,23 @@ fn take_from_each(
         list.old.keys list.new.keys gone.old.items gone.new.items) }
 {
     for partial in partials.iter() {
+        take_with_fact(alloc, list, partial.parts.as_slice(), ix, gone)?;
+    }
+    Ok(())
+}
+
+/// The same where these are in a slice.
+fn take_from_those(
+    alloc: Global,
+    list: &mut BTreeSet<Partial>,
+    partials: &[Partial],
+    ix: u64,
+    gone: &mut Vec<Partial>,
+) -> Result<(), NoMemory>
+    ensures { OnOk result (IsTaken (λ z. list_any (λ m. begins_with m.parts ix z) partials.now)
+        list.old.keys list.new.keys gone.old.items gone.new.items) }
+{
+    for partial in partials {
         take_with_fact(alloc, list, partial.parts.as_slice(), ix, gone)?;
     }
     Ok(())

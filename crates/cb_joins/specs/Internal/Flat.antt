@@ -6,7 +6,6 @@ use Rattle.cb_constraints.specs.PatternValues.{PatternValue}
 use Rattle.cb_exprs.specs.Terms.{Term, term_of}
 use Rattle.cb_facts.specs.FactLists.{IndexedFacts}
 use Rattle.cb_facts.specs.Facts.{FactValue}
-use Rattle.cb_fit.specs.Shapes.{loose}
 use Rattle.cb_joins.specs.declared.node.Node.{Node}
 use Rattle.cb_joins.specs.declared.node.Node.TheVariants as node
 use Rattle.cb_matches.specs.Keys.{PartValue, part_eq}
@@ -30,11 +29,6 @@ module _ {T : Type 0} where
   abbrev pub flat_nodes : List (Node T) → List FlatNode
   flat_nodes nodes = map flat_node nodes
 
-  -- the pattern of a node is kept without its variables and expressions too
-  abbrev pub IsLooseToo : Node T → Type 0
-  IsLooseToo (node.Pattern from place) = place.loose ≡ loose place.pattern
-  IsLooseToo (node.Test from e) = Unit {0}
-  IsLooseToo (node.Group from inner positive width) = Unit {0}
 
 -- z goes on from these parts
 abbrev pub begins : List PartValue → Partial → Bool

@@ -1,26 +1,35 @@
 -- What is kept for each node of a branch.
-use Rattle.std.specs.Prelude.{◌≡◌, ◌≢◌, ◌<◌, ◌++◌, ℕ, suc, List, [], ◌∷◌, filter, length, slice_index_or, if◌then◌else◌}
+use Rattle.std.specs.Prelude.{◌≡◌, ◌≢◌, ◌<◌, ◌≤◌, ◌++◌, ℕ, suc, Contains, List, [], ◌∷◌, Option, Some, filter, flat_map, length, slice_index_or, if◌then◌else◌}
 use Rattle.std.specs.BTreeSet.{BTreeSet}
 use Rattle.cb_constraints.specs.PatternValues.{PatternValue}
-use Rattle.cb_exprs.specs.Bindings.{Bindings}
+use Rattle.cb_exprs.specs.Bindings.{Bindings, value_at}
 use Rattle.cb_facts.specs.FactLists.{IndexedFacts, with_fact}
 use Rattle.cb_facts.specs.Facts.{FactValue}
+use Rattle.cb_facts.specs.declared.value.Value.{Value}
+use Rattle.cb_fit.specs.JoinFields.{join_fields, value_in}
 use Rattle.cb_fit.specs.Shapes.{loose}
-use Rattle.cb_fit.specs.Ways.{ways}
+use Rattle.cb_fit.specs.Ways.{WayValue, ways}
+use Rattle.cb_fit.specs.declared.join_fields.JoinField.{JoinField}
 use Rattle.cb_joins.specs.Internal.Changes.{Holds, IsMoved}
-use Rattle.cb_joins.specs.Internal.Flat.{FlatNode, AreLists, AreWidths, lists_of}
+use Rattle.cb_joins.specs.Internal.Flat.{FlatNode, AreLists, AreWidths, Lists, flat_nodes, lists_of}
+use Rattle.cb_joins.specs.Internal.Indexes.{HasIndex, index_fields}
 use Rattle.cb_joins.specs.declared.moved.Moved.{Moved}
 use Rattle.cb_joins.specs.declared.node.Node.{Node}
 use Rattle.cb_joins.specs.declared.node.Node.TheVariants as node
 use Rattle.cb_joins.specs.declared.node.Place.{Place}
 use Rattle.cb_matches.specs.Lemmas.Members.{AreSame, Chain, In}
 use Rattle.cb_matches.specs.Lemmas.Order.{IsRising}
-use Rattle.cb_matches.specs.Matches.{Partial, next, no_parts}
+use Rattle.cb_matches.specs.Matches.{Partial, extended, next, no_parts, with_address}
 use Rattle.cb_partials.specs.Probes.{is_candidate}
 
 -- a pattern whose shape a fact doesn't have fits it in no way
 abbrev pub Shapeless : Type 0
 Shapeless = (p : PatternValue) (f : FactValue) (before any : Bindings) → ways (loose p) f any ≡ [] → ways p f before ≡ []
+
+-- where a pattern fits a fact, the fields that have to be equal to variables are
+abbrev pub FieldsAgree : Type 0
+FieldsAgree = (p : PatternValue) (f : FactValue) (before : Bindings) (w : WayValue) → Contains (ways p f before) w → (j : JoinField) → Contains (join_fields p.parts) j
+    → (v : Value) → value_at j.variable before.variables ≡ Some v → value_in j f.content ≡ Some v
 
 -- no index twice
 abbrev pub HaveIndices : IndexedFacts → Type 0
@@ -30,21 +39,53 @@ HaveIndices fs = Chain (λ (f : ℕ × FactValue) (g : ℕ × FactValue). f.0 �
 abbrev pub HaveParts : ℕ → List Partial → Type 0
 HaveParts n ms = (m : Partial) → In m ms → length m.parts ≡ n
 
+-- each of these fields of a fact has to be equal to a variable, whatever the fact's address is
+abbrev pub AreJoinFields : List JoinField → Option (List ℕ) → PatternValue → Type 0
+AreJoinFields js x p = (j : JoinField) → In j js → Contains (join_fields p.parts) j × (x ≢ Some j.variable)
+
+-- the lists of partial matches of a branch
+abbrev pub branch_lists : List FlatNode → IndexedFacts → Lists
+branch_lists ns fs = lists_of ns fs (no_parts ∷ [])
+
 module _ {T : Type 0} where
-  -- the facts that have the shape of the pattern, in the order of their indices
-  pub record IsPlace (place : Place T) (fs : IndexedFacts) : Type 0 where
+  -- the index of a pattern, if there is one, is right, where these are the partial matches before the pattern
+  pub record IsJoined (place : Place T) (ms : List Partial) : Type 0 where
+    pub rising : IsRising place.candidates.entries
+    pub fields : AreJoinFields (index_fields place.index) place.address place.pattern
+    pub index : HasIndex place.index place.candidates.entries ms
+
+  -- the facts that have the shape of the pattern, in the order of their indices, and their index
+  pub record IsPlace (place : Place T) (fs : IndexedFacts) (ms : List Partial) : Type 0 where
     pub is_loose : place.loose ≡ loose place.pattern
     pub candidates : AreSame place.candidates.entries (filter (is_candidate place.pattern) fs)
-    pub rising : IsRising place.candidates.entries
+    pub joined : IsJoined place ms
 
-  -- what is kept at a node for its facts
-  abbrev pub IsReady : IndexedFacts → Node T → Type 0
-  IsReady fs (node.Pattern from place) = IsPlace place fs
-  IsReady fs (node.Test from e) = Unit {0}
-  IsReady fs (node.Group from inner positive width) = Unit {0}
+  -- what is worked out from the pattern of a node is the pattern's
+  abbrev pub IsPrepared : Node T → Type 0
+  IsPrepared (node.Pattern from place) = (place.loose ≡ loose place.pattern) × AreJoinFields (index_fields place.index) place.address place.pattern
+  IsPrepared (node.Test from e) = Unit {0}
+  IsPrepared (node.Group from inner positive width) = Unit {0}
+
+  -- these are facts of the pattern, and those with which the partial match goes on are among them
+  pub record AreFound (place : Place T) (m : Partial) (found : IndexedFacts) : Type 0 where
+    pub same : flat_map (extended place.address place.pattern m) found ≡ flat_map (extended place.address place.pattern m) place.candidates.entries
+    pub fewer : length found ≤ length place.candidates.entries
+
+  -- these are partial matches before the pattern, and those that go on with the fact are among them
+  pub record AreEnough (place : Place T) (f : ℕ × FactValue) (ms found : List Partial) : Type 0 where
+    pub same : next place.address place.pattern (f ∷ []) found ≡ next place.address place.pattern (f ∷ []) ms
+    pub fewer : length found ≤ length ms
+    pub among : (m : Partial) → In m found → In m ms
+    pub each : (m : Partial) (w : WayValue) → In m ms → In w (ways place.pattern f.1 (with_address place.address f.0 m.env)) → In m found
+
+  -- what is kept at a node for its facts, where these are the lists
+  abbrev pub IsReady : IndexedFacts → Lists → Node T → Type 0
+  IsReady fs ls (node.Pattern from place) = IsPlace place fs (ls from)
+  IsReady fs ls (node.Test from e) = Unit {0}
+  IsReady fs ls (node.Group from inner positive width) = Unit {0}
 
   abbrev pub AreReady : IndexedFacts → List (Node T) → Type 0
-  AreReady fs nodes = (k : ℕ) (d : Node T) → k < length nodes → IsReady fs (slice_index_or nodes k d)
+  AreReady fs nodes = (k : ℕ) (d : Node T) → k < length nodes → IsReady fs (branch_lists (flat_nodes nodes) fs) (slice_index_or nodes k d)
 
   -- the facts that could fit, with one more if it has the shape
   abbrev pub candidates_with : Place T → ℕ × FactValue → IndexedFacts
@@ -54,10 +95,6 @@ module _ {T : Type 0} where
   abbrev pub found_with : Place T → ℕ × FactValue → List Partial → List Partial → List Partial
   found_with place f came before =
       next place.address place.pattern place.candidates.entries came ++ (if is_candidate place.pattern f then next place.address place.pattern (f ∷ []) before else [])
-
--- the lists of partial matches of a branch
-abbrev pub branch_lists : List FlatNode → IndexedFacts → ℕ → List Partial
-branch_lists ns fs = lists_of ns fs (no_parts ∷ [])
 
 -- the lists that are kept for nodes are theirs over these facts
 pub record AreKept (ns : List FlatNode) (fs : IndexedFacts) (lists : List (BTreeSet Partial)) : Type 0 where

@@ -3,8 +3,8 @@ use Rattle.std.specs.Prelude.{◌≡◌, ◌≢◌, ℕ, List, [], ◌∷◌, Op
 use Rattle.std.specs.BTreeSet.{BTreeSet}
 use Rattle.cb_exprs.specs.Bindings.{Bindings}
 use Rattle.cb_facts.specs.FactLists.{IndexedFacts}
-use Rattle.cb_joins.specs.Internal.Flat.{IsLooseToo, Lists, branch_last, branch_nodes, flat_nodes}
-use Rattle.cb_joins.specs.Internal.Nodes.{AreKept, AreReady}
+use Rattle.cb_joins.specs.Internal.Flat.{Lists, branch_last, branch_nodes, flat_nodes}
+use Rattle.cb_joins.specs.Internal.Nodes.{AreKept, AreReady, IsPrepared}
 use Rattle.cb_joins.specs.declared.branch.Branch.{Branch}
 use Rattle.cb_joins.specs.declared.rules.Rule.{Rule}
 use Rattle.cb_matches.specs.Keys.{KeyValue}
@@ -50,10 +50,10 @@ module _ {T : Type 0} where
     pub nodes : flat_nodes b.nodes.items ≡ branch_nodes (branch_elements b)
     pub last : b.last ≡ branch_last (branch_elements b)
 
-  -- what is to be kept can be found: the patterns are there without variables and expressions too
+  -- what is to be kept can be found
   pub record CanBeFilled (b : Branch T) : Type 0 where
     pub planned : IsPlanned b
-    pub are_loose : All IsLooseToo b.nodes.items
+    pub prepared : All IsPrepared b.nodes.items
 
   -- what is kept for a branch over these facts
   pub record IsBranch (fs : IndexedFacts) (b : Branch T) : Type 0 where

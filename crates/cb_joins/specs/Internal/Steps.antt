@@ -42,14 +42,14 @@ module _ {T : Type 0} where
     pub long : HaveParts n old
     pub long_now : HaveParts n new
     pub once_now : IsOnce new
-    pub is_place : IsPlace place fs
+    pub is_place : IsPlace place fs old
     pub is_before : Holds before new
     pub is_moved : IsMoved old new moved
     pub is_own : Holds own (next place.address place.pattern fs old)
 
   -- and after it
   pub record IsAfter (fs fs' : IndexedFacts) (old new : List Partial) (place : Place T) (own : List Partial) (moved : Moved) : Type 0 where
-    pub is_place : IsPlace place fs'
+    pub is_place : IsPlace place fs' new
     pub is_own : Holds own (next place.address place.pattern fs' new)
     pub is_moved : IsMoved (next place.address place.pattern fs old) (next place.address place.pattern fs' new) moved
 
@@ -95,13 +95,13 @@ module _ {T : Type 0} where
     pub wide : (k : ℕ) → k < length moved → HaveParts (ws k) (old k) × HaveParts (ws k) (new k)
     pub once : (k : ℕ) → k < length moved → IsOnce (new k)
     pub width : HasWidth ws (flat_node n)
-    pub ready : IsReady fs n
+    pub ready : IsReady fs old n
     pub are_lists : (k : ℕ) (d : BTreeSet Partial) → k < length moved → Holds (slice_index_or lists k d).keys (new k)
     pub are_moved : (k : ℕ) (d : Moved) → k < length moved → IsMoved (old k) (new k) (slice_index_or moved k d)
     pub is_own : Holds own (node_list (flat_node n) fs old)
 
   -- and after it
   pub record IsStep (fs fs' : IndexedFacts) (old new : Lists) (n : Node T) (own : List Partial) (m : Moved) : Type 0 where
-    pub ready : IsReady fs' n
+    pub ready : IsReady fs' new n
     pub is_own : Holds own (node_list (flat_node n) fs' new)
     pub is_moved : IsMoved (node_list (flat_node n) fs old) (node_list (flat_node n) fs' new) m
