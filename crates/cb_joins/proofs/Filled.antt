@@ -18,17 +18,24 @@ use Rattle.cb_joins.proofs.Flat.{list_local}
 use Rattle.cb_joins.proofs.Named.{IsBelow, at_each}
 use Rattle.cb_joins.proofs.Ordered.{lists_are_sorted, once_of_sorted, start_is_sorted}
 use Rattle.cb_joins.proofs.Widths.{below_by_widths}
-use Rattle.cb_joins.specs.Internal.Flat.{FlatNode, flat_node, flat_nodes, grouping, joining, node_list, testing}
-use Rattle.cb_joins.specs.Internal.Nodes.{AreKept, AreWhole, Shapeless, branch_lists}
+use Rattle.cb_joins.specs.Internal.Flat.{FlatNode, Lists, flat_node, flat_nodes, grouping, joining, node_list, testing}
+use Rattle.cb_joins.specs.Internal.Nodes.{AreKept, AreWhole, IsPlace, IsReady, Shapeless, branch_lists}
 use Rattle.cb_joins.specs.Internal.Rules.{keys_at}
 use Rattle.cb_joins.specs.Internal.Steps.{NamesListsBelow}
 use Rattle.cb_joins.specs.declared.node.Node.{Node}
+use Rattle.cb_joins.specs.declared.node.Node.TheVariants as node
 use Rattle.cb_matches.specs.Lemmas.Growth.{Fact}
 use Rattle.cb_matches.specs.Lemmas.Lists.{by_test, chain_filter, in_right}
 use Rattle.cb_matches.specs.Lemmas.Members.{In}
 use Rattle.cb_matches.specs.Lemmas.Order.{IsOnce, IsRising, IsSorted, WaysRise}
 use Rattle.cb_matches.specs.Matches.{Partial, extended, grown, next, no_parts, with_address}
 use Rattle.cb_partials.specs.Probes.{is_candidate}
+
+-- what is kept at a node depends on the lists that it names alone
+pub ready_for : {T : Type 0} (fs : IndexedFacts) (ls ls' : Lists) (k : ℕ) → ((j : ℕ) → j < k → ls j ≡ ls' j) → (n : Node T) → NamesListsBelow k (flat_node n) → IsReady fs ls n → IsReady fs ls' n
+ready_for fs ls ls' k same (node.Pattern from place) below is = subst (IsPlace place fs) (same from below) is
+ready_for fs ls ls' k same (node.Test from e) below is = tt
+ready_for fs ls ls' k same (node.Group from inner positive width) below is = tt
 
 names_below : (k : ℕ) (n : FlatNode) → IsBelow k n → NamesListsBelow k n
 names_below k (joining from x p) h = h

@@ -13,6 +13,7 @@ mod FlatProbes
 mod Found
 mod Groups
 mod InOrder
+mod Joined
 mod Last
 mod Memories
 mod Moves

@@ -25,8 +25,9 @@ use Rattle.cb_joins.proofs.Moves.{behind, fact_more, first_leaves, held_after, l
 use Rattle.cb_joins.proofs.Steps.{and_both, and_second, moved as moved_in, not_true, regrown, same_parents}
 use Rattle.cb_joins.specs.Internal.Changes.{Added, FactMoves, Holds, IsMoved, PartialMoves, index_of_fact}
 use Rattle.cb_joins.specs.Internal.Flat.{begins}
+use Rattle.cb_joins.specs.Internal.Indexes.{HasIndex, index_fields}
 use Rattle.cb_joins.specs.Internal.Memories.{begins_with, ends_with}
-use Rattle.cb_joins.specs.Internal.Nodes.{HaveIndices, HaveParts, IsPlace, Shapeless, candidates_with, found_with}
+use Rattle.cb_joins.specs.Internal.Nodes.{AreJoinFields, HaveIndices, HaveParts, IsJoined, IsPlace, Shapeless, candidates_with, found_with}
 use Rattle.cb_joins.specs.Internal.Steps.{IsAfter, IsBefore, IsTaken, IsWith, pattern_probes}
 use Rattle.cb_joins.specs.declared.moved.Moved.{Moved}
 use Rattle.cb_joins.specs.declared.node.Place.{Place}
@@ -151,6 +152,14 @@ module _ {T : Type 0} (rise : WaysRise) (shapeless : Shapeless) (place : Place T
   in_candidates : (g : Fact) → In g fs → is_candidate p g ≡ true → In g cs
   in_candidates g h t = b.is_place.candidates.1 g (filter_in (is_candidate p) g fs h t)
 
+  -- the index of what the pattern is afterwards
+  joined_now : (q : Place T) → q.address ≡ x → q.pattern ≡ p → AreJoinFields (index_fields q.index) x p → IsRising q.candidates.entries → HasIndex q.index q.candidates.entries new → IsJoined q new
+  joined_now q address pattern fields rising index = record {
+    rising = rising;
+    fields = subst (λ it. AreJoinFields (index_fields q.index) it q.pattern) (sym address) (subst (AreJoinFields (index_fields q.index) x) (sym pattern) fields);
+    index = index;
+  }
+
   -- what goes on from what went before the pattern
   abbrev pub behind_gone : Partial → Bool
   behind_gone z = list_any (λ g. begins g.parts z) m.gone.items
@@ -235,7 +244,7 @@ module _ {T : Type 0} (rise : WaysRise) (shapeless : Shapeless) (place : Place T
         ]
 
     with_rising : IsRising (with (is_candidate p f))
-    with_rising = elim (is_candidate p f) as (λ s. IsRising (with s)) [ true ↦ rising_with cs f.0 f.1 free b.is_place.rising | false ↦ b.is_place.rising ]
+    with_rising = elim (is_candidate p f) as (λ s. IsRising (with s)) [ true ↦ rising_with cs f.0 f.1 free b.is_place.joined.rising | false ↦ b.is_place.joined.rising ]
 
     abbrev by_fact : Bool → List Partial
     by_fact s = if s then next x p (f ∷ []) before else []
@@ -276,7 +285,7 @@ module _ {T : Type 0} (rise : WaysRise) (shapeless : Shapeless) (place : Place T
 
     found_once : IsOnce found
     found_once =
-        chain_append IsApart (next x p cs m.come.items) (by_fact (is_candidate p f)) (once_next rise x p cs m.come.items (indices_of cs b.is_place.rising) b.is_moved.come_once) by_fact_once
+        chain_append IsApart (next x p cs m.come.items) (by_fact (is_candidate p f)) (once_next rise x p cs m.come.items (indices_of cs b.is_place.joined.rising) b.is_moved.come_once) by_fact_once
         (λ z y h i e.
         let k = is_grown x p cs m.come.items z h in
         let l = is_grown x p (f ∷ []) before y (of_fact y i) in
@@ -284,6 +293,7 @@ module _ {T : Type 0} (rise : WaysRise) (shapeless : Shapeless) (place : Place T
 
     -- afterwards
     module _ (q : Place T) (address : q.address ≡ x) (pattern : q.pattern ≡ p) (is_loose : q.loose ≡ place.loose) (candidates : q.candidates.entries ≡ candidates_with place f)
+        (fields : AreJoinFields (index_fields q.index) x p) (index : HasIndex q.index q.candidates.entries new)
         (r : Moved) (left own' : List Partial) (taken : IsTaken behind_gone own left [] r.gone.items) (came : r.come.items ≡ found) (more : IsWith left r.come.items own')
       where
         leaves : Leaves own left r.gone.items
@@ -310,7 +320,7 @@ module _ {T : Type 0} (rise : WaysRise) (shapeless : Shapeless) (place : Place T
             is_loose = is_loose ∙ (b.is_place.is_loose ∙ ap loose (sym pattern));
             candidates = subst (λ it. AreSame it (filter (is_candidate q.pattern) fs')) (sym candidates)
                 (subst (λ it. AreSame (candidates_with place f) (filter (is_candidate it) fs')) (sym pattern) (with_in, in_with));
-            rising = subst IsRising (sym candidates) with_rising;
+            joined = joined_now q address pattern fields (subst IsRising (sym candidates) with_rising) index;
           };
           is_own = subst (λ it. Holds own' (next it q.pattern fs' new)) (sym address) (subst (λ it. Holds own' (next x it fs' new)) (sym pattern)
               (held_after (next x p fs old) (next x p fs' new) r.gone.items r.come.items own left own' moves_now b.is_own leaves (subst IsOnce (sym taken.left) (chain_filter IsApart (λ z. not (behind_gone z)) own b.is_own.once)) come_once more));
@@ -348,13 +358,13 @@ module _ {T : Type 0} (rise : WaysRise) (shapeless : Shapeless) (place : Place T
     without = without_fact cs f.0
 
     without_rising : IsRising without
-    without_rising = rising_without f.0 f.1 cs b.is_place.rising
+    without_rising = rising_without f.0 f.1 cs b.is_place.joined.rising
 
     without_in : (g : Fact) → In g without → In g (filter (is_candidate p) fs')
     without_in g h =
         let i = in_filter (is_candidate p) g fs (b.is_place.candidates.0 g (left_in f.0 f.1 cs g h)) in
         filter_in (is_candidate p) g fs'
-        (elim (added.is g i.0) as (λ _. In g fs') [ inl j ↦ j | inr e ↦ absurd (without_other cs f.0 g b.is_place.rising h (ap (λ it. it.0) e)) ])
+        (elim (added.is g i.0) as (λ _. In g fs') [ inl j ↦ j | inr e ↦ absurd (without_other cs f.0 g b.is_place.joined.rising h (ap (λ it. it.0) e)) ])
         i.1
 
     in_without : (g : Fact) → In g (filter (is_candidate p) fs') → In g without
@@ -435,6 +445,7 @@ module _ {T : Type 0} (rise : WaysRise) (shapeless : Shapeless) (place : Place T
 
     -- afterwards
     module _ (q : Place T) (address : q.address ≡ x) (pattern : q.pattern ≡ p) (is_loose : q.loose ≡ place.loose) (candidates : q.candidates.entries ≡ without)
+        (fields : AreJoinFields (index_fields q.index) x p) (index : HasIndex q.index q.candidates.entries new)
         (r : Moved) (first left own' gone1 : List Partial) (taken1 : IsTaken behind_gone own first [] gone1) (took : Partial → Bool) (taken : IsTaken took first left gone1 r.gone.items)
         (by_fact : (z : Partial) → In z first → took z ≡ true → In z (next x p (f ∷ []) old)) (to_fact : (z : Partial) → In z (next x p (f ∷ []) old) → In z first → (behind_gone z ≡ true) ⊎ (took z ≡ true))
         (came : r.come.items ≡ rest) (more : IsWith left r.come.items own')
@@ -480,7 +491,7 @@ module _ {T : Type 0} (rise : WaysRise) (shapeless : Shapeless) (place : Place T
             is_loose = is_loose ∙ (b.is_place.is_loose ∙ ap loose (sym pattern));
             candidates = subst (λ it. AreSame it (filter (is_candidate q.pattern) fs')) (sym candidates)
                 (subst (λ it. AreSame without (filter (is_candidate it) fs')) (sym pattern) (without_in, in_without));
-            rising = subst IsRising (sym candidates) without_rising;
+            joined = joined_now q address pattern fields (subst IsRising (sym candidates) without_rising) index;
           };
           is_own = subst (λ it. Holds own' (next it q.pattern fs' new)) (sym address) (subst (λ it. Holds own' (next x it fs' new)) (sym pattern)
               (held_after (next x p fs old) (next x p fs' new) r.gone.items r.come.items own left own' took_moves_now b.is_own took_leaves (subst IsOnce (sym taken.left) (chain_filter IsApart (λ z. not (took z)) first first_once)) took_come_once more));

@@ -41,7 +41,7 @@ module _ {T : Type 0} (rise : WaysRise) (fs fs' : IndexedFacts) (indices : HaveI
     (nodes : List (Node T)) (lists : List (BTreeSet Partial)) (all : List Moved) (i : ℕ) (n : Node T)
     (l : i < length nodes) (is : n ≡ get_or nodes i n) (stay : flat_nodes nodes ≡ ns)
     (lists_long : length lists ≡ suc (length ns)) (all_long : length all ≡ suc i)
-    (left : (k : ℕ) (d : Node T) → i ≤ k → k < length nodes → IsReady fs (get_or nodes k d))
+    (left : (k : ℕ) (d : Node T) → i ≤ k → k < length nodes → IsReady fs (branch_lists ns fs) (get_or nodes k d))
     (lists_done : (k : ℕ) (d : BTreeSet Partial) → k < suc i → Holds (get_or lists k d).keys (branch_lists ns fs' k))
     (lists_left : (k : ℕ) (d : BTreeSet Partial) → i < k → k < suc (length ns) → Holds (get_or lists k d).keys (branch_lists ns fs k))
     (moves : (k : ℕ) (d : Moved) → k < suc i → IsMoved (branch_lists ns fs k) (branch_lists ns fs' k) (get_or all k d))
@@ -83,7 +83,7 @@ module _ {T : Type 0} (rise : WaysRise) (fs fs' : IndexedFacts) (indices : HaveI
       wide = λ k h. let j : k < suc (length ns) = (let w = within in omega (arith, h, all_long, w)) in (lists_are_wide ns fs (no_parts ∷ []) old ws wide (whole.lists fs (no_parts ∷ [])) start_wide k j, lists_are_wide ns fs' (no_parts ∷ []) new ws wide (whole.lists fs' (no_parts ∷ [])) start_wide k j);
       once = λ k h. let j : k < suc (length ns) = (let w = within in omega (arith, h, all_long, w)) in lists_are_once rise ns fs' (no_parts ∷ []) new ws indices' wide (whole.lists fs' (no_parts ∷ [])) (λ z h. absurd h, tt) k j;
       width = has_width i (flat_node n) ws well;
-      ready = subst (IsReady fs) (sym is) (left i n (omega (arith)) l);
+      ready = subst (IsReady fs old) (sym is) (left i n (omega (arith)) l);
       are_lists = λ k d h. let ne : k ≢ suc i = omega (arith, h, all_long) in
           subst (λ it. Holds it.keys (new k)) (sym (get_or-set_other lists (suc i) k none d ne)) (lists_done k d (omega (arith, h, all_long)));
       are_moved = λ k d h. moves k d (omega (arith, h, all_long));
@@ -92,22 +92,22 @@ module _ {T : Type 0} (rise : WaysRise) (fs fs' : IndexedFacts) (indices : HaveI
 
     -- after it
     module _ (q : Node T) (own' none : BTreeSet Partial) (r : Moved) (same : flat_node q ≡ flat_node n) (step : IsStep fs fs' old new q own'.keys r)
-        (done : (k : ℕ) (d : Node T) → k < i → IsReady fs' (get_or nodes k d)) where
+        (done : (k : ℕ) (d : Node T) → k < i → IsReady fs' new (get_or nodes k d)) where
       abbrev lists' : List (BTreeSet Partial)
       lists' = set (set lists (suc i) none) (suc i) own'
 
       pub stay_now : flat_nodes (set nodes i q) ≡ ns
       stay_now = map-set_same flat_node nodes i q n (same ∙ ap flat_node is) ∙ stay
 
-      pub done_now : (k : ℕ) (d : Node T) → k < i + 1 → IsReady fs' (get_or (set nodes i q) k d)
+      pub done_now : (k : ℕ) (d : Node T) → k < i + 1 → IsReady fs' new (get_or (set nodes i q) k d)
       done_now k d h =
-          elim (cases_eq k i) as (λ _. IsReady fs' (get_or (set nodes i q) k d)) [
-            | inl e ↦ subst (λ j. IsReady fs' (get_or (set nodes i q) j d)) (sym e) (subst (IsReady fs') (sym (get_or-set_same nodes i q d l)) step.ready)
-            | inr ne ↦ subst (IsReady fs') (sym (get_or-set_other nodes i k q d ne)) (done k d (omega (arith, h, ne)))
+          elim (cases_eq k i) as (λ _. IsReady fs' new (get_or (set nodes i q) k d)) [
+            | inl e ↦ subst (λ j. IsReady fs' new (get_or (set nodes i q) j d)) (sym e) (subst (IsReady fs' new) (sym (get_or-set_same nodes i q d l)) step.ready)
+            | inr ne ↦ subst (IsReady fs' new) (sym (get_or-set_other nodes i k q d ne)) (done k d (omega (arith, h, ne)))
           ]
 
-      pub left_now : (k : ℕ) (d : Node T) → i + 1 ≤ k → k < length nodes → IsReady fs (get_or (set nodes i q) k d)
-      left_now k d h j = let ne : k ≢ i = omega (arith, h) in subst (IsReady fs) (sym (get_or-set_other nodes i k q d ne)) (left k d (omega (arith, h)) j)
+      pub left_now : (k : ℕ) (d : Node T) → i + 1 ≤ k → k < length nodes → IsReady fs old (get_or (set nodes i q) k d)
+      left_now k d h j = let ne : k ≢ i = omega (arith, h) in subst (IsReady fs old) (sym (get_or-set_other nodes i k q d ne)) (left k d (omega (arith, h)) j)
 
       mid_long : length (set lists (suc i) none) ≡ suc (length ns)
       mid_long = length-set lists (suc i) none ∙ lists_long

@@ -16,7 +16,7 @@ use Rattle.cb_joins.specs.Internal.Asked.{ask_for, asks_for}
 use Rattle.cb_joins.specs.Internal.Changes.{Holds, IsMade, fact_changed, facts_before}
 use Rattle.cb_joins.specs.Internal.Flat.{FlatNode, Lists, flat_node, flat_nodes, grouping, joining, lists_from, node_list, testing}
 use Rattle.cb_joins.specs.Internal.Keys.{Tells, key_of, keys_in_branch}
-use Rattle.cb_joins.specs.Internal.Nodes.{AreKept, AreReady, HaveIndices, IsReady, branch_lists}
+use Rattle.cb_joins.specs.Internal.Nodes.{AreKept, AreReady, HaveIndices, IsJoined, IsReady, branch_lists}
 use Rattle.cb_joins.specs.Internal.Rules.{IsBranch, IsPlanned, branch_elements}
 use Rattle.cb_joins.specs.declared.branch.Branch.{Branch}
 use Rattle.cb_joins.specs.declared.fact_change.FactChange.{FactChange}
@@ -121,19 +121,20 @@ module _ {T : Type 0} where
       let l : k < length nodes = omega (arith, h) in
       node_unasked r nodes k d l (second_false (asks_for r (flat_node n)) (ask_for r (flat_nodes nodes)) other)
 
-  node_alike : (c : FactChange) (fs : IndexedFacts) → IsMade c fs → (n : Node T) → asks_for (fact_changed c).1.relation (flat_node n) ≡ false → IsReady (facts_before c fs) n → IsReady fs n
-  node_alike c fs made (node.Test from e) other was = tt
-  node_alike c fs made (node.Group from inner positive width) other was = tt
-  node_alike c fs made (node.Pattern from place) other was = record {
+  node_alike : (c : FactChange) (fs : IndexedFacts) → IsMade c fs → (n : Node T) → asks_for (fact_changed c).1.relation (flat_node n) ≡ false → (ls ls' : Lists) → ((k : ℕ) → ls k ≡ ls' k) → IsReady (facts_before c fs) ls n → IsReady fs ls' n
+  node_alike c fs made (node.Test from e) other ls ls' same was = tt
+  node_alike c fs made (node.Group from inner positive width) other ls ls' same was = tt
+  node_alike c fs made (node.Pattern from place) other ls ls' same was = record {
     is_loose = was.is_loose;
     candidates = subst (AreSame place.candidates.entries) (kept_alike c fs made (is_candidate place.pattern) (no_shape place.pattern (fact_changed c) other)) was.candidates;
-    rising = was.rising;
+    joined = subst (IsJoined place) (same from) was.joined;
   }
 
   pub ready_unasked : (nodes : List (Node T)) (c : FactChange) (fs : IndexedFacts) → IsMade c fs → ask_for (fact_changed c).1.relation (flat_nodes nodes) ≡ false
       → AreReady (facts_before c fs) nodes → AreReady fs nodes
   ready_unasked nodes c fs made other are k d h =
-      node_alike c fs made (get_or nodes k d) (node_unasked (fact_changed c).1.relation nodes k d h other) (are k d h)
+      node_alike c fs made (get_or nodes k d) (node_unasked (fact_changed c).1.relation nodes k d h other)
+      (branch_lists (flat_nodes nodes) (facts_before c fs)) (branch_lists (flat_nodes nodes) fs) (lists_unasked (flat_nodes nodes) c fs made other) (are k d h)
 
   -- so a branch of them stays as it is, and nothing is told
   module _ (c : FactChange) (fs : IndexedFacts) (made : IsMade c fs) (b : Branch T) (other : ask_for (fact_changed c).1.relation (flat_nodes b.nodes.items) ≡ false) where

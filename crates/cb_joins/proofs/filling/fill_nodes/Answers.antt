@@ -8,12 +8,12 @@ use Rattle.std.specs.declared.cmp.Ordering.TheVariants.{Less}
 use Rattle.cb_facts.specs.FactLists.{IndexedFacts}
 use Rattle.cb_fit.specs.Ways.{WayValue, ways}
 use Rattle.cb_joins.proofs.Facts.{rising_base}
-use Rattle.cb_joins.proofs.Filled.{below, found_now, found_sorted, kept_found, long_now}
+use Rattle.cb_joins.proofs.Filled.{below, found_now, found_sorted, kept_found, long_now, ready_for}
 use Rattle.cb_joins.proofs.Networks.{done_more, left_more}
 use Rattle.cb_joins.proofs.OneMore.{stay_mapped}
 use Rattle.cb_joins.proofs.filling.fill_nodes.Goals as goal
-use Rattle.cb_joins.specs.Internal.Flat.{FlatNode, IsLooseToo, flat_node, flat_nodes, node_list}
-use Rattle.cb_joins.specs.Internal.Nodes.{IsReady, branch_lists}
+use Rattle.cb_joins.specs.Internal.Flat.{FlatNode, flat_node, flat_nodes, node_list}
+use Rattle.cb_joins.specs.Internal.Nodes.{AreReady, IsPrepared, IsReady, branch_lists}
 use Rattle.cb_joins.specs.Internal.Rules.{keys_at}
 use Rattle.cb_joins.specs.Internal.Steps.{NamesListsBelow}
 use Rattle.cb_matches.specs.Lemmas.Lists.{chain_from_pairs}
@@ -56,15 +56,25 @@ loop-node-preserved g c =
     let keys : list.keys ≡ all =
     subst (λ it. IsSorted it → list.keys ≡ it) c.as_slice-in-loop-node.ensures.value c.in_ok-set_of.ensures
     (found_sorted rise fs rising ns c.requires.whole xs lists i old l is inv.stay inv.long inv.found all made) in
+    let ready_now : IsReady fs (branch_lists ns fs) new =
+    ready_for fs (keys_at lists) (branch_lists ns fs) (length lists) inv.found new
+    (subst (NamesListsBelow (length lists)) (sym now.node) (below rise fs rising ns c.requires.whole xs lists i old l is inv.stay inv.long inv.found))
+    (subst (λ it. IsReady fs (keys_at it) new) c.as_slice.ensures.value now.ready) in
     let pushed : c.push-in-loop-node.new.self.items ≡ lists ++ list ∷ [] = c.in_ok-push-2.ensures.items in
     record {
       stay = stay_mapped flat_node xs ns i old new inv.stay is now.node;
-      done = done_more (λ k d x. IsReady fs x) xs i new l inv.done (λ d. now.ready);
-      left = λ k d h j. left_more (λ k d x. IsLooseToo x) xs i new l inv.left k d h (simp length-set at j);
+      done = done_more (λ k d x. IsReady fs (branch_lists ns fs) x) xs i new l inv.done (λ d. ready_now);
+      left = λ k d h j. left_more (λ k d x. IsPrepared x) xs i new l inv.left k d h (simp length-set at j);
       long = ap length pushed ∙ long_now rise fs rising ns c.requires.whole xs lists i old l is inv.stay inv.long inv.found list all made keys;
       found = subst (λ (it : List (BTreeSet Partial)). (k : ℕ) → k < length it → keys_at it k ≡ branch_lists ns fs k) (sym pushed)
           (found_now rise fs rising ns c.requires.whole xs lists i old l is inv.stay inv.long inv.found list all made keys);
     }
+
+pub returns-clause-ready : goal.returns-clause-ready
+returns-clause-ready g c k d l =
+    let fs : IndexedFacts = c.args.setting.now.facts.now in
+    let inv = c.loop-node.invariant in
+    subst (λ it. IsReady fs (branch_lists it fs) (get_or c.loop-node.nodes k d)) (sym inv.stay) (inv.done k d (let i = c.loop-node.node-index in omega arith))
 
 pub returns-clause-kept : goal.returns-clause-kept
 returns-clause-kept g c =

@@ -15,8 +15,8 @@ invariant-loop-node g l =
     let fs = facts_before l.change fs' in
     record {
       stay : flat_nodes l.nodes ≡ ns;
-      done : (k : ℕ) (d : Node g.row.T.Denot) → k < l.node-index → IsReady fs' (get_or l.nodes k d);
-      left : (k : ℕ) (d : Node g.row.T.Denot) → l.node-index ≤ k → k < length l.nodes → IsReady fs (get_or l.nodes k d);
+      done : (k : ℕ) (d : Node g.row.T.Denot) → k < l.node-index → IsReady fs' (branch_lists ns fs') (get_or l.nodes k d);
+      left : (k : ℕ) (d : Node g.row.T.Denot) → l.node-index ≤ k → k < length l.nodes → IsReady fs (branch_lists ns fs) (get_or l.nodes k d);
       lists_long : length l.lists ≡ suc (length ns);
       all_long : length l.all.items ≡ suc l.node-index;
       lists_done : (k : ℕ) (d : BTreeSet Partial) → k < suc l.node-index → Holds (get_or l.lists k d).keys (branch_lists ns fs' k);

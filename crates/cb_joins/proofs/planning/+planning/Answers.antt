@@ -26,5 +26,5 @@ add_nodes-loop-element-preserved g t c =
           last_further old new e es end last parts c.len-last.result added number
           (subst (λ it. last_list (elements (map element_of it)) last (length old + 1) ≡ end) step c.loop-element.invariant.to_last);
       fits = still_fits old new e last parts c.in_ok-parts.parts added wider c.loop-element.invariant.fits;
-      loose = c.in_ok-parts.ensures.loose;
+      prepared = c.in_ok-parts.ensures.prepared;
     }

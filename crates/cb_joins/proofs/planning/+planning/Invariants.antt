@@ -1,6 +1,7 @@
 use Rattle.std.proofs.Common.{◌≡◌, ◌≤◌, ◌+◌, ◌++◌, length, map}
 use Rattle.std.specs.List.{All}
-use Rattle.cb_joins.specs.Internal.Flat.{IsLooseToo, flat_all, flat_nodes, last_list}
+use Rattle.cb_joins.specs.Internal.Flat.{flat_all, flat_nodes, last_list}
+use Rattle.cb_joins.specs.Internal.Nodes.{IsPrepared}
 use Rattle.cb_rules.specs.Elements.{element_of, elements}
 use Rattle.cb_joins.proofs.planning.+planning.Given as goal
 
@@ -13,5 +14,5 @@ invariant-add_nodes-loop-element g l = record {
       last_list (elements (map element_of l.element-iterator.rest.items)) l.last (length l.nodes.items + 1)
       ≡ last_list (elements (map element_of l.fn.branch.items)) l.fn.from (length l.fn.nodes.items + 1);
   fits : l.parts ≤ length l.nodes.items;
-  loose : All IsLooseToo l.nodes.items;
+  prepared : All IsPrepared l.nodes.items;
 }

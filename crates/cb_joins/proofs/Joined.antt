@@ -1,0 +1,140 @@
+-- Facts and partial matches whose values differ go on in no way.
+use Rattle.std.proofs.Common.{◌≡◌, ◌≢◌, ◌≤◌, ◌∙◌, ℕ, suc, Bool, true, false, List, [], ◌∷◌, ◌++◌, Option, Some, None, ap, ap₂, arith, cond, filter, inl, inr, length, map, option_map, refl, subst, sym}
+use Rattle.std.specs.Cmp.Lexicographic.{bytes_decides, pointwise}
+use Rattle.std.specs.List.{flat_map}
+use Rattle.std.specs.Option.{option_and_then, option_map_or}
+use Rattle.std.specs.Str.{bytes_eq}
+use Rattle.cb_constraints.specs.PatternValues.{PatternValue}
+use Rattle.cb_exprs.specs.Bindings.{Bindings, value_at}
+use Rattle.cb_exprs.specs.contracts.cited.LawsCited.TheImpl as exprs_laws
+use Rattle.cb_facts.specs.FactLists.{IndexedFacts}
+use Rattle.cb_facts.specs.Facts.{FactContent}
+use Rattle.cb_facts.specs.contracts.cited.LawsCited.TheImpl as facts_laws
+use Rattle.cb_facts.specs.declared.value.Value.{Value}
+use Rattle.cb_facts.specs.declared.value.Value.TheVariants as value
+use Rattle.cb_fit.specs.JoinFields.{value_in}
+use Rattle.cb_fit.specs.Ways.{WayValue, ways}
+use Rattle.cb_fit.specs.declared.join_fields.JoinField.{JoinField}
+use Rattle.cb_functions.specs.Comparison.{same}
+use Rattle.cb_joins.proofs.Beginnings.{true_false}
+use Rattle.cb_joins.specs.Internal.Indexes.{are_values, binds_values, field_values, has_values, variable_values, with_first}
+use Rattle.cb_joins.specs.Internal.Nodes.{AreJoinFields, FieldsAgree}
+use Rattle.cb_matches.specs.Lemmas.Growth.{Fact, ways_after}
+use Rattle.cb_matches.specs.Lemmas.Lists.{by_test, in_contains}
+use Rattle.cb_matches.specs.Lemmas.Members.{In}
+use Rattle.cb_matches.specs.Matches.{Partial, extended, grown, next, with_address}
+
+-- these values are those
+all_same : (vs : List Value) → pointwise same vs vs ≡ true
+all_same [] = refl
+all_same (v ∷ vs) = ap₂ (λ a b. if_both a b) ((facts_laws.ghosts.value_decides v v).1 refl) (all_same vs)
+  where
+    abbrev if_both : Bool → Bool → Bool
+    if_both a b = cond a b false
+
+they_are : (vs : List Value) (found : Option (List Value)) → found ≡ Some vs → are_values vs found ≡ true
+they_are vs found e = ap (are_values vs) e ∙ all_same vs
+
+-- a first value and others
+pub record IsFirst (first : Option Value) (others : Option (List Value)) (vs : List Value) : Type 0 where
+  pub v : Value
+  pub us : List Value
+  pub first_is : first ≡ Some v
+  pub others_are : others ≡ Some us
+  pub are : vs ≡ v ∷ us
+
+both_there : (first : Option Value) (others : Option (List Value)) (vs : List Value) → with_first first others ≡ Some vs → IsFirst first others vs
+both_there None others vs e = absurd (apart e)
+  where
+    apart : None ≡ Some vs → ⊥
+    apart d = cc
+both_there (Some v) None vs e = absurd (apart e)
+  where
+    apart : None ≡ Some vs → ⊥
+    apart d = cc
+both_there (Some v) (Some us) vs e = record { v = v; us = us; first_is = refl; others_are = refl; are = inside e }
+  where
+    inside : Some (v ∷ us) ≡ Some vs → vs ≡ v ∷ us
+    inside d = cc
+
+-- the address of a fact is no value of another variable
+past_address : (x : Option (List ℕ)) (ix : ℕ) (env : Bindings) (y : List ℕ) → x ≢ Some y → value_at y (with_address x ix env).variables ≡ value_at y env.variables
+past_address None ix env y apart = refl
+past_address (Some z) ix env y apart =
+    exprs_laws.ghosts.value_at_with_value env.variables y z (value.Fact ix)
+    ∙ by_test (bytes_eq y z)
+    (λ t. absurd (apart (ap Some (sym ((bytes_decides y z).0 t)))))
+    (λ t. ap (λ b. cond b (Some (value.Fact ix)) (value_at y env.variables)) t)
+
+module _ (agree : FieldsAgree) (x : Option (List ℕ)) (p : PatternValue) where
+  -- a partial match that goes on with a fact has the values of the fact
+  pub values_agree : (js : List JoinField) → AreJoinFields js x p → (m : Partial) (f : Fact) (w : WayValue) → In w (ways_after x p m f)
+      → (vs : List Value) → variable_values js m.env ≡ Some vs → field_values js f.1.content ≡ Some vs
+  values_agree [] fields m f w h vs e = e
+  values_agree (j ∷ js) fields m f w h vs e =
+      let both = both_there (value_at j.variable m.env.variables) (variable_values js m.env) vs e in
+      let field = fields j (inl refl) in
+      let first = agree p f.1 (with_address x f.0 m.env) w (in_contains w (ways_after x p m f) h) j field.0 both.v (past_address x f.0 m.env j.variable field.1 ∙ both.first_is) in
+      let others = values_agree js (λ k i. fields k (inr i)) m f w h both.us both.others_are in
+      ap₂ with_first first others ∙ ap Some (sym both.are)
+
+  -- else in no way
+  no_way : (js : List JoinField) → AreJoinFields js x p → (m : Partial) (f : Fact) (vs : List Value) → variable_values js m.env ≡ Some vs → has_values js vs f ≡ false → extended x p m f ≡ []
+  no_way js fields m f vs e fails = by_list (ways_after x p m f) refl
+    where
+      by_list : (ws : List WayValue) → ways_after x p m f ≡ ws → map (grown x f.0 m) ws ≡ []
+      by_list [] is = refl
+      by_list (w ∷ ws) is =
+          let there : In w (ways_after x p m f) = subst (In w) (sym is) (inl refl) in
+          absurd (true_false (has_values js vs f) (they_are vs (field_values js f.1.content) (values_agree js fields m f w there vs e)) fails)
+
+  -- so the facts with its values are enough for a partial match
+  pub facts_enough : (js : List JoinField) → AreJoinFields js x p → (m : Partial) (vs : List Value) → variable_values js m.env ≡ Some vs
+      → (fs : IndexedFacts) → flat_map (extended x p m) (filter (has_values js vs) fs) ≡ flat_map (extended x p m) fs
+  facts_enough js fields m vs e [] = refl
+  facts_enough js fields m vs e (f ∷ fs) =
+      let more = facts_enough js fields m vs e fs in
+      by_test (has_values js vs f)
+      (λ t. ap (λ b. flat_map (extended x p m) (cond b (f ∷ filter (has_values js vs) fs) (filter (has_values js vs) fs))) t ∙ ap (λ it. extended x p m f ++ it) more)
+      (λ t. ap (λ b. flat_map (extended x p m) (cond b (f ∷ filter (has_values js vs) fs) (filter (has_values js vs) fs))) t
+      ∙ (more ∙ ap (λ it. it ++ flat_map (extended x p m) fs) (sym (no_way js fields m f vs e t))))
+
+  -- a partial match that goes on with a fact of these values has them
+  pub bound_enough : (js : List JoinField) → AreJoinFields js x p → (f : Fact) (vs : List Value) → field_values js f.1.content ≡ Some vs
+      → (m : Partial) → (us : List Value) → variable_values js m.env ≡ Some us → (w : WayValue) → In w (ways_after x p m f) → binds_values js vs m ≡ true
+  bound_enough js fields f vs e m us d w h = they_are vs (variable_values js m.env) (d ∙ (sym (values_agree js fields m f w h us d) ∙ e))
+
+  nothing_bound : (js : List JoinField) → AreJoinFields js x p → (f : Fact) (vs : List Value) → field_values js f.1.content ≡ Some vs
+      → (m : Partial) → (us : List Value) → variable_values js m.env ≡ Some us → binds_values js vs m ≡ false → extended x p m f ≡ []
+  nothing_bound js fields f vs e m us d fails = by_list (ways_after x p m f) refl
+    where
+      by_list : (ws : List WayValue) → ways_after x p m f ≡ ws → map (grown x f.0 m) ws ≡ []
+      by_list [] is = refl
+      by_list (w ∷ ws) is =
+          let there : In w (ways_after x p m f) = subst (In w) (sym is) (inl refl) in
+          absurd (true_false (binds_values js vs m) (bound_enough js fields f vs e m us d w there) fails)
+
+  -- each of these has values for all variables
+  abbrev pub HaveAll : List JoinField → List Partial → Type 0
+  HaveAll js ms = (m : Partial) → In m ms → (us : List Value) × (variable_values js m.env ≡ Some us)
+
+  -- and those with its values for a fact
+  pub partials_enough : (js : List JoinField) → AreJoinFields js x p → (f : Fact) (vs : List Value) → field_values js f.1.content ≡ Some vs
+      → (ms : List Partial) → HaveAll js ms → next x p (f ∷ []) (filter (binds_values js vs) ms) ≡ next x p (f ∷ []) ms
+  partials_enough js fields f vs e [] have = refl
+  partials_enough js fields f vs e (m ∷ ms) have =
+      let more = partials_enough js fields f vs e ms (λ n i. have n (inr i)) in
+      let us = have m (inl refl) in
+      by_test (binds_values js vs m)
+      (λ t. ap (λ b. next x p (f ∷ []) (cond b (m ∷ filter (binds_values js vs) ms) (filter (binds_values js vs) ms))) t ∙ ap (λ it. (extended x p m f ++ []) ++ it) more)
+      (λ t. ap (λ b. next x p (f ∷ []) (cond b (m ∷ filter (binds_values js vs) ms) (filter (binds_values js vs) ms))) t
+      ∙ (more ∙ ap (λ it. (it ++ []) ++ next x p (f ∷ []) ms) (sym (nothing_bound js fields f vs e m us.0 us.1 t))))
+
+-- a part of a list is no longer
+pub no_longer : {A : Type 0} (t : A → Bool) (xs : List A) → length (filter t xs) ≤ length xs
+no_longer t [] = omega arith
+no_longer t (x ∷ xs) =
+    let more = no_longer t xs in
+    by_test (t x)
+    (λ h. let e : length (filter t (x ∷ xs)) ≡ suc (length (filter t xs)) = ap (λ b. length (cond b (x ∷ filter t xs) (filter t xs))) h in omega (arith, more, e))
+    (λ h. let e : length (filter t (x ∷ xs)) ≡ length (filter t xs) = ap (λ b. length (cond b (x ∷ filter t xs) (filter t xs))) h in omega (arith, more, e))
