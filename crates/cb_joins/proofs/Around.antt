@@ -31,7 +31,8 @@ module _ {T : Type 0} (ws : ℕ → ℕ) (fs : IndexedFacts) (old new : Lists) (
       record {
         long = (a.wide from b).0;
         long_now = (a.wide from b).1;
-        once_now = a.once from b;
+        once = (a.once from b).0;
+        once_now = (a.once from b).1;
         is_place = around.ready;
         is_before = list_at from b list list_is;
         is_moved = moved_at from b m m_is;

@@ -17,11 +17,12 @@ use Rattle.cb_fit.specs.Ways.{WayValue, ways}
 use Rattle.cb_fit.specs.declared.join_fields.JoinField.{JoinField}
 use Rattle.cb_functions.specs.Comparison.{same}
 use Rattle.cb_joins.proofs.Beginnings.{true_false}
-use Rattle.cb_joins.specs.Internal.Indexes.{are_values, binds_values, field_values, has_values, variable_values, with_first}
+use Rattle.cb_joins.specs.Internal.Indexes.{HasIndex, IsIndex, KeepsFields, are_values, binds_values, field_values, has_values, index_fields, variable_values, with_first}
 use Rattle.cb_joins.specs.Internal.Nodes.{AreJoinFields, FieldsAgree}
+use Rattle.cb_joins.specs.declared.index.Index.{Index}
 use Rattle.cb_matches.specs.Lemmas.Growth.{Fact, ways_after}
 use Rattle.cb_matches.specs.Lemmas.Lists.{by_test, in_contains}
-use Rattle.cb_matches.specs.Lemmas.Members.{In}
+use Rattle.cb_matches.specs.Lemmas.Members.{AreSame, In}
 use Rattle.cb_matches.specs.Matches.{Partial, extended, grown, next, with_address}
 
 -- these values are those
@@ -65,6 +66,10 @@ past_address (Some z) ix env y apart =
     ∙ by_test (bytes_eq y z)
     (λ t. absurd (apart (ap Some (sym ((bytes_decides y z).0 t)))))
     (λ t. ap (λ b. cond b (Some (value.Fact ix)) (value_at y env.variables)) t)
+
+-- each of these has values for all variables
+abbrev pub HaveAll : List JoinField → List Partial → Type 0
+HaveAll js ms = (m : Partial) → In m ms → (us : List Value) × (variable_values js m.env ≡ Some us)
 
 module _ (agree : FieldsAgree) (x : Option (List ℕ)) (p : PatternValue) where
   -- a partial match that goes on with a fact has the values of the fact
@@ -114,10 +119,6 @@ module _ (agree : FieldsAgree) (x : Option (List ℕ)) (p : PatternValue) where
           let there : In w (ways_after x p m f) = subst (In w) (sym is) (inl refl) in
           absurd (true_false (binds_values js vs m) (bound_enough js fields f vs e m us d w there) fails)
 
-  -- each of these has values for all variables
-  abbrev pub HaveAll : List JoinField → List Partial → Type 0
-  HaveAll js ms = (m : Partial) → In m ms → (us : List Value) × (variable_values js m.env ≡ Some us)
-
   -- and those with its values for a fact
   pub partials_enough : (js : List JoinField) → AreJoinFields js x p → (f : Fact) (vs : List Value) → field_values js f.1.content ≡ Some vs
       → (ms : List Partial) → HaveAll js ms → next x p (f ∷ []) (filter (binds_values js vs) ms) ≡ next x p (f ∷ []) ms
@@ -138,3 +139,24 @@ no_longer t (x ∷ xs) =
     by_test (t x)
     (λ h. let e : length (filter t (x ∷ xs)) ≡ suc (length (filter t xs)) = ap (λ b. length (cond b (x ∷ filter t xs) (filter t xs))) h in omega (arith, more, e))
     (λ h. let e : length (filter t (x ∷ xs)) ≡ length (filter t xs) = ap (λ b. length (cond b (x ∷ filter t xs) (filter t xs))) h in omega (arith, more, e))
+
+-- an index is right for the same partial matches in any order
+pub index_alike : (i : Option Index) (cs : IndexedFacts) (ms ns : List Partial) → AreSame ms ns → HasIndex i cs ms → HasIndex i cs ns
+index_alike None cs ms ns same is = tt
+index_alike (Some i) cs ms ns same is = record {
+  facts_in = is.facts_in;
+  in_facts = is.in_facts;
+  partials_in = λ z h. let k = is.partials_in z h in (same.0 z.partial k.0, k.1);
+  in_partials = λ m h. is.in_partials m (same.1 m h);
+}
+
+-- fields that an index keeps are join fields still
+pub still_join_fields : (x : Option (List ℕ)) (p : PatternValue) (js : List JoinField) (i : Option Index) → KeepsFields js i → AreJoinFields js x p → AreJoinFields (index_fields i) x p
+still_join_fields x p js None keeps fields = λ j h. absurd h
+still_join_fields x p js (Some i) keeps fields = subst (λ it. AreJoinFields it x p) (sym keeps) fields
+
+-- each partial match of an index has values for all variables
+pub have_all : (i : Index) (cs : IndexedFacts) (ms : List Partial) → IsIndex i cs ms → HaveAll i.fields.items ms
+have_all i cs ms is m h =
+    let z = is.in_partials m h in
+    (z.0.values.items, ap (λ (it : Partial). variable_values i.fields.items it.env) (sym z.2) ∙ (is.partials_in z.0 z.1).1)

@@ -81,7 +81,7 @@ module _ {T : Type 0} (rise : WaysRise) (fs fs' : IndexedFacts) (indices : HaveI
     pub around : (own : BTreeSet Partial) (none : BTreeSet Partial) → own ≡ get_or lists (suc i) own → AreAround ws fs old new (set lists (suc i) none) all n own.keys
     around own none own_is = record {
       wide = λ k h. let j : k < suc (length ns) = (let w = within in omega (arith, h, all_long, w)) in (lists_are_wide ns fs (no_parts ∷ []) old ws wide (whole.lists fs (no_parts ∷ [])) start_wide k j, lists_are_wide ns fs' (no_parts ∷ []) new ws wide (whole.lists fs' (no_parts ∷ [])) start_wide k j);
-      once = λ k h. let j : k < suc (length ns) = (let w = within in omega (arith, h, all_long, w)) in lists_are_once rise ns fs' (no_parts ∷ []) new ws indices' wide (whole.lists fs' (no_parts ∷ [])) (λ z h. absurd h, tt) k j;
+      once = λ k h. let j : k < suc (length ns) = (let w = within in omega (arith, h, all_long, w)) in (lists_are_once rise ns fs (no_parts ∷ []) old ws indices wide (whole.lists fs (no_parts ∷ [])) (λ z h. absurd h, tt) k j, lists_are_once rise ns fs' (no_parts ∷ []) new ws indices' wide (whole.lists fs' (no_parts ∷ [])) (λ z h. absurd h, tt) k j);
       width = has_width i (flat_node n) ws well;
       ready = subst (IsReady fs old) (sym is) (left i n (omega (arith)) l);
       are_lists = λ k d h. let ne : k ≢ suc i = omega (arith, h, all_long) in

@@ -15,7 +15,7 @@ ghost use Rattle.cb_matches.specs.Matches.{next, no_parts};
 
 use crate::index::fill_index;
 use crate::joining::{fits_loosely, join};
-use crate::memory::has_begun;
+use crate::memory::{copy_list, has_begun};
 use crate::node::{Node, Place};
 use crate::taking::add_all;
 use cb_facts::Fact;
@@ -103,18 +103,6 @@ fn fill_node<T>(
             fill_group(setting.alloc, *positive, partials, &lists[*inner])
         }
     }
-}
-
-/// The partial matches of a list, in its order.
-fn copy_list(alloc: Global, list: &BTreeSet<Partial>) -> Result<Vec<Partial>, NoMemory>
-    ensures items { IfOk result (λ all. all.items ≡ list.now.keys) }
-    ensures once { IfOk result (λ all. IsOnce all.items) }
-{
-    let mut all = Vec::new(alloc);
-    for partial in list.iter() {
-        all.push(partial.clone()?)?;
-    }
-    Ok(all)
 }
 
 /// Finds what is kept for a pattern, where these partial matches are before it. The answer is those behind it.

@@ -96,6 +96,18 @@ pub(crate) fn find(
     }
 }
 
+/// The partial matches of a list, in its order. Growth is refused as `NoMemory`, and so is a count of sharers that is full.
+pub(crate) fn copy_list(alloc: Global, list: &BTreeSet<Partial>) -> Result<Vec<Partial>, NoMemory>
+    ensures items { IfOk result (λ all. all.items ≡ list.now.keys) }
+    ensures once { IfOk result (λ all. IsOnce all.items) }
+{
+    let mut all = Vec::new(alloc);
+    for partial in list.iter() {
+        all.push(partial.clone()?)?;
+    }
+    Ok(all)
+}
+
 /// Moves those that go on from these parts to `gone`, where an index is given only those with its fact next.
 fn take_all(
     alloc: Global,

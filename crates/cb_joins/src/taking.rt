@@ -5,7 +5,7 @@ ghost use Rattle.cb_joins.specs.Internal.Flat.{begins};
 ghost use Rattle.cb_joins.specs.Internal.Memories.{begins_with, ends_with};
 ghost use Rattle.cb_joins.specs.Internal.Steps.{IsTaken, IsWith};
 
-use crate::memory::{add, ends_with, take_begun, take_with_fact};
+use crate::memory::{add, copy_list, ends_with, take_begun, take_with_fact};
 use cb_forms::NoMemory;
 use cb_partials::Partial;
 use std::alloc::Global;
@@ -42,7 +42,8 @@ pub(crate) fn take_fact(
         list.old.keys list.new.keys gone.old.items gone.new.items) }
 {
     if before.len() < list.len() / 32 {
-        return take_from_each(alloc, list, before, ix, gone);
+        let partials = copy_list(alloc, before)?;
+        return take_from_each(alloc, list, partials.as_slice(), ix, gone);
     }
     take_ending(alloc, list, ix, gone)
 }
@@ -61,7 +62,7 @@ pub(crate) fn take_with(
         list.old.keys list.new.keys gone.old.items gone.new.items) }
 {
     if partials.len() < list.len() / 32 {
-        return take_from_those(alloc, list, partials, ix, gone);
+        return take_from_each(alloc, list, partials, ix, gone);
     }
     take_ending(alloc, list, ix, gone)
 }
@@ -95,23 +96,6 @@ fn ending_with(alloc: Global, list: &BTreeSet<Partial>, ix: u64) -> Result<Vec<P
 
 /// Moves what goes on from one of these partial matches with the fact of this index out of a list.
 fn take_from_each(
-    alloc: Global,
-    list: &mut BTreeSet<Partial>,
-    partials: &BTreeSet<Partial>,
-    ix: u64,
-    gone: &mut Vec<Partial>,
-) -> Result<(), NoMemory>
-    ensures { OnOk result (IsTaken (λ z. list_any (λ m. begins_with m.parts ix z) partials.now.keys)
-        list.old.keys list.new.keys gone.old.items gone.new.items) }
-{
-    for partial in partials.iter() {
-        take_with_fact(alloc, list, partial.parts.as_slice(), ix, gone)?;
-    }
-    Ok(())
-}
-
-/// The same where these are in a slice.
-fn take_from_those(
     alloc: Global,
     list: &mut BTreeSet<Partial>,
     partials: &[Partial],

@@ -41,6 +41,7 @@ module _ {T : Type 0} where
   pub record IsBefore (n : ℕ) (fs : IndexedFacts) (old new : List Partial) (place : Place T) (before own : List Partial) (moved : Moved) : Type 0 where
     pub long : HaveParts n old
     pub long_now : HaveParts n new
+    pub once : IsOnce old
     pub once_now : IsOnce new
     pub is_place : IsPlace place fs old
     pub is_before : Holds before new
@@ -93,7 +94,7 @@ module _ {T : Type 0} where
   -- a node before a change, where the lists before it have changed already
   pub record AreAround (ws : ℕ → ℕ) (fs : IndexedFacts) (old new : Lists) (lists : List (BTreeSet Partial)) (moved : List Moved) (n : Node T) (own : List Partial) : Type 0 where
     pub wide : (k : ℕ) → k < length moved → HaveParts (ws k) (old k) × HaveParts (ws k) (new k)
-    pub once : (k : ℕ) → k < length moved → IsOnce (new k)
+    pub once : (k : ℕ) → k < length moved → IsOnce (old k) × IsOnce (new k)
     pub width : HasWidth ws (flat_node n)
     pub ready : IsReady fs old n
     pub are_lists : (k : ℕ) (d : BTreeSet Partial) → k < length moved → Holds (slice_index_or lists k d).keys (new k)
