@@ -113,7 +113,10 @@ pub(crate) fn facts_with(
         ix: 0,
     };
     let mut all = Vec::new(alloc);
-    for (key, fact) in index.facts.range((Bound::Included(&probe), Bound::Unbounded)) {
+    for (key, fact) in index
+        .facts
+        .range((Bound::Included(&probe), Bound::Unbounded))
+    {
         if key.values != probe.values {
             return Ok(all);
         }
@@ -139,7 +142,10 @@ pub(crate) fn partials_with(
         partial: Partial::new(alloc),
     };
     let mut all = Vec::new(alloc);
-    for filed in index.partials.range((Bound::Included(&probe), Bound::Unbounded)) {
+    for filed in index
+        .partials
+        .range((Bound::Included(&probe), Bound::Unbounded))
+    {
         if filed.values != probe.values {
             return Ok(all);
         }
@@ -223,8 +229,7 @@ pub(crate) fn file_moved(
 }
 
 /// Takes a partial match out.
-fn unfile_partial(alloc: Global, index: &mut Index, partial: &Partial) -> Result<(), NoMemory>
-{
+fn unfile_partial(alloc: Global, index: &mut Index, partial: &Partial) -> Result<(), NoMemory> {
     if let Some(values) = values_of_partial(alloc, index.fields.as_slice(), partial)? {
         let filed = Filed {
             values,
@@ -236,12 +241,7 @@ fn unfile_partial(alloc: Global, index: &mut Index, partial: &Partial) -> Result
 }
 
 /// Adds partial matches. The answer is whether each of them has values for all variables.
-fn file_partials(
-    alloc: Global,
-    index: &mut Index,
-    partials: &[Partial],
-) -> Result<bool, NoMemory>
-{
+fn file_partials(alloc: Global, index: &mut Index, partials: &[Partial]) -> Result<bool, NoMemory> {
     for partial in partials {
         match values_of_partial(alloc, index.fields.as_slice(), partial)? {
             Some(values) => {

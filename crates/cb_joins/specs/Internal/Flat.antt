@@ -29,7 +29,6 @@ module _ {T : Type 0} where
   abbrev pub flat_nodes : List (Node T) → List FlatNode
   flat_nodes nodes = map flat_node nodes
 
-
 -- z goes on from these parts
 abbrev pub begins : List PartValue → Partial → Bool
 begins ps z = pointwise part_eq (take (length ps) z.parts) ps
