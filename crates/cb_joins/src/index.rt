@@ -2,13 +2,13 @@
 //!
 //! Facts and partial matches with the same values stand next to each other, so that those that can meet are looked up and no others
 //! are walked over.
-ghost use Rattle.std.specs.Prelude.{◌≡◌, ◌≢◌, ℕ, [], IfOk, List, None, OnOk, filter, option_map};
+ghost use Rattle.std.specs.Prelude.{◌≡◌, ◌≢◌, ◌++◌, ◌∷◌, ℕ, [], IfOk, List, None, OnOk, filter, option_map, true};
 ghost use Rattle.std.specs.BTreeSet.{IsOrdered};
 ghost use Rattle.std.specs.List.Sorted.{IsStrictlySortedBy};
 ghost use Rattle.cb_facts.specs.FactLists.{IndexedFacts, fact_at, with_fact, without_fact};
 ghost use Rattle.cb_facts.specs.Facts.{FactValue};
 ghost use Rattle.cb_joins.specs.Internal.Changes.{IsMoved};
-ghost use Rattle.cb_joins.specs.Internal.Indexes.{HasIndex, IsIndex, KeepsFields, binds_values, field_values, has_values, index_fields, variable_values};
+ghost use Rattle.cb_joins.specs.Internal.Indexes.{HasIndex, IsIndex, KeepsFields, binds_values, field_values, has_values, index_fields, variable_values, without_partials};
 ghost use Rattle.cb_matches.specs.Lemmas.Members.{In};
 ghost use Rattle.cb_matches.specs.Lemmas.Order.{IsOnce, IsRising};
 ghost use Rattle.cb_matches.specs.Matches.{Partial};
@@ -91,7 +91,7 @@ pub(crate) fn values_of_partial(
 {
     let mut values = Vec::new(alloc);
     for field in fields {
-        match partial.env.get(field.variable.as_slice()) {
+        match partial.env.get(&field.variable) {
             Some(value) => values.push(value.clone()?)?,
             None => return Ok(None),
         }
@@ -229,7 +229,12 @@ pub(crate) fn file_moved(
 }
 
 /// Takes a partial match out.
-fn unfile_partial(alloc: Global, index: &mut Index, partial: &Partial) -> Result<(), NoMemory> {
+fn unfile_partial(alloc: Global, index: &mut Index, partial: &Partial) -> Result<(), NoMemory>
+    ensures fields { OnOk result (index.new.fields.items ≡ index.old.fields.items) }
+    ensures index { OnOk result ((cs : IndexedFacts) (ms : List Partial) → IsIndex index.old cs ms
+        → ((m : Partial) → In m ms → m.parts ≡ partial.now.parts → m ≡ partial.now)
+        → IsIndex index.new cs (without_partials (partial.now ∷ []) ms)) }
+{
     if let Some(values) = values_of_partial(alloc, index.fields.as_slice(), partial)? {
         let filed = Filed {
             values,
@@ -241,7 +246,16 @@ fn unfile_partial(alloc: Global, index: &mut Index, partial: &Partial) -> Result
 }
 
 /// Adds partial matches. The answer is whether each of them has values for all variables.
-fn file_partials(alloc: Global, index: &mut Index, partials: &[Partial]) -> Result<bool, NoMemory> {
+fn file_partials(
+    alloc: Global,
+    index: &mut Index,
+    partials: &[Partial],
+) -> Result<bool, NoMemory>
+    ensures fields { OnOk result (index.new.fields.items ≡ index.old.fields.items) }
+    ensures index { IfOk result (λ all. all ≡ true → (cs : IndexedFacts) (ms : List Partial) → IsIndex index.old cs ms → IsOnce partials.now
+        → ((m n : Partial) → In m partials.now → In n ms → m.parts ≢ n.parts)
+        → IsIndex index.new cs (ms ++ partials.now)) }
+{
     for partial in partials {
         match values_of_partial(alloc, index.fields.as_slice(), partial)? {
             Some(values) => {

@@ -1,6 +1,7 @@
 -- Facts and partial matches that can meet, found by the values of variables.
-use Rattle.std.specs.Prelude.{◌≡◌, ◌≢◌, ℕ, Bool, false, List, [], ◌∷◌, Option, Some, None, option_map}
+use Rattle.std.specs.Prelude.{◌≡◌, ◌≢◌, ℕ, Bool, false, List, [], ◌∷◌, Option, Some, None, not, option_map}
 use Rattle.std.specs.Cmp.Lexicographic.{pointwise}
+use Rattle.std.specs.List.{filter}
 use Rattle.std.specs.Option.{option_and_then, option_map_or}
 use Rattle.cb_exprs.specs.Bindings.{Bindings, value_at}
 use Rattle.cb_facts.specs.FactLists.{IndexedFacts}
@@ -14,6 +15,7 @@ use Rattle.cb_joins.specs.declared.index.Filed.{Filed}
 use Rattle.cb_joins.specs.declared.index.Index.{Index}
 use Rattle.cb_matches.specs.Lemmas.Members.{In}
 use Rattle.cb_matches.specs.Matches.{Partial}
+use Rattle.cb_partials.specs.Probes.{has_parts}
 
 -- one value more, if there are all
 abbrev pub with_first : Option Value → Option (List Value) → Option (List Value)
@@ -63,3 +65,7 @@ index_fields (Some i) = i.fields.items
 abbrev pub KeepsFields : List JoinField → Option Index → Type 0
 KeepsFields js None = Unit {0}
 KeepsFields js (Some i) = i.fields.items ≡ js
+
+-- those of which none of the others has the parts
+abbrev pub without_partials : List Partial → List Partial → List Partial
+without_partials gone ms = filter (λ m. not (has_parts gone m)) ms
