@@ -270,3 +270,31 @@ fn file_partials(
     }
     Ok(true)
 }
+
+/// The index of these facts and partial matches by the fields of an index, if there is one. Where a partial match has no value for one
+/// of the variables, there is none any more.
+pub(crate) fn fill_index(
+    alloc: Global,
+    index: Option<Index>,
+    facts: &BTreeMap<u64, Fact>,
+    partials: &[Partial],
+) -> Result<Option<Index>, NoMemory>
+    ensures fields { IfOk result (λ filled. KeepsFields (index_fields index) filled) }
+    ensures index { IfOk result
+        (λ filled. IsOnce partials.now → HasIndex filled facts.now.entries partials.now) }
+{
+    let Some(old) = index else {
+        return Ok(None);
+    };
+    let mut filled = Some(new_index(alloc, old.fields));
+    for (ix, fact) in facts.iter() {
+        let fact = fact.clone()?;
+        file_fact(alloc, &mut filled, &Indexed { ix: *ix, fact })?;
+    }
+    let moved = Moved {
+        gone: Vec::new(alloc),
+        come: partials.to_vec(alloc)?,
+    };
+    file_moved(alloc, &mut filled, &moved)?;
+    Ok(filled)
+}
