@@ -1,6 +1,6 @@
 use Rattle.std.proofs.Common.{◌≡◌, ◌≤◌, ◌+◌, ◌++◌, ◌∷◌, [], length}
 use Rattle.cb_matches.specs.Matches.{next}
-use Rattle.cb_joins.proofs.joining.join_fact.Given as goal
+use Rattle.cb_joins.proofs.joining.join_all.Given as goal
 
 abbrev pub invariant-loop-partial : goal.invariant-loop-partial
 invariant-loop-partial g l = record {
