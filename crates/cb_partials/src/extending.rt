@@ -27,7 +27,7 @@ pub fn extend<T>(
     let env = partial.env_before(address, ix)?;
     let ways = fit(setting.alloc, setting.constants, pattern, fact, &env, meter)?;
     for way in ways {
-        all.push(partial.grow(&env, ix, way)?)?;
+        all.push(partial.grow(setting.alloc, &env, ix, way)?)?;
     }
     Ok(())
 }

@@ -74,7 +74,7 @@ pub fn keyed(alloc: Global, id: u64, place: u64, partial: Partial) -> Result<Mat
     ensures { IfOk result (λ m. m ≡ keyed id place partial) }
 {
     Ok(Match {
-        key: Key::new(alloc, id, place, partial.parts)?,
+        key: Key::new(alloc, id, place, partial.parts.as_slice().to_vec(alloc)?)?,
         env: partial.env,
     })
 }
