@@ -1,0 +1,15 @@
+use Rattle.std.proofs.Common.{List}
+use Rattle.cb_fit.specs.JoinFields.{join_fields}
+use Rattle.cb_fit.specs.declared.join_fields.JoinField.{JoinField}
+use Rattle.cb_joins.specs.Internal.Nodes.{AreJoinFields}
+use Rattle.cb_matches.specs.Lemmas.Members.{In}
+use Rattle.cb_joins.proofs.planning.plan_index.Given as goal
+
+abbrev pub invariant-loop-field : goal.invariant-loop-field
+invariant-loop-field g l = record {
+  fields : AreJoinFields l.fields.items l.address l.pattern;
+  among : (j : JoinField) → In j l.field-iterator.rest.items → In j (join_fields l.pattern.parts);
+}
+
+abbrev pub invariant-loop-name : goal.invariant-loop-name
+invariant-loop-name g l = AreJoinFields l.fields.items l.address l.pattern
