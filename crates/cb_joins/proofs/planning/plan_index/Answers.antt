@@ -37,5 +37,5 @@ loop-field-preserved g c =
 
 pub returns : goal.returns
 returns g c =
-    let is : index_fields (Some c.new_index.result) ≡ c.loop-name.fields.items = search rules in
+    let is : index_fields (Some c.new_index.result) ≡ c.loop-field.fields.items = search rules in
     subst (λ it. AreJoinFields it c.args.address.now c.args.pattern.now) (sym is) c.loop-name.invariant
