@@ -138,11 +138,20 @@ fn settle_one(
         → IsSettled (group_with positive complete.now.keys) old new lost (settled ++ take width partial.now.parts ∷ [])
         own.new.keys gone.new.items come.new.items) }
 {
-    if partial.parts.len() < width {
+    let parts = partial.parts.as_slice();
+    if parts.len() < width {
         return Ok(());
     }
-    let parts = &partial.parts.as_slice()[..width];
-    settle(alloc, positive, before, complete, parts, own, gone, come)
+    settle(
+        alloc,
+        positive,
+        before,
+        complete,
+        &parts[..width],
+        own,
+        gone,
+        come,
+    )
 }
 
 /// Puts the partial match with these parts behind the group if the group holds for it, and takes it out if not.

@@ -17,7 +17,7 @@ ghost use Rattle.cb_partials.specs.Probes.{has_parts};
 use cb_exprs::Env;
 use cb_forms::NoMemory;
 use cb_matches::Part;
-use cb_partials::Partial;
+use cb_partials::{Partial, Parts};
 use std::alloc::Global;
 use std::collections::BTreeSet;
 use std::ops::Bound;
@@ -165,7 +165,7 @@ fn first_from<'a>(list: &'a BTreeSet<Partial>, probe: &Partial) -> Option<&'a Pa
 fn goes_on(partial: &Partial, parts: &[Part], ix: Option<u64>) -> bool
     ensures { result ≡ begins_as parts.now ix partial.now }
 {
-    if !partial.parts.starts_with(parts) {
+    if !partial.parts.as_slice().starts_with(parts) {
         return false;
     }
     match ix {
@@ -178,7 +178,7 @@ fn goes_on(partial: &Partial, parts: &[Part], ix: Option<u64>) -> bool
 fn has_fact_at(partial: &Partial, place: usize, ix: u64) -> bool
     ensures { result ≡ option_map_or (λ (p : PartValue). nat_eq ix p.index) (slice_get partial.now.parts place) false }
 {
-    match partial.parts.get(place) {
+    match partial.parts.as_slice().get(place) {
         Some(part) => part.index == ix,
         None => false,
     }
@@ -209,7 +209,7 @@ fn probe(alloc: Global, parts: &[Part], ix: Option<u64>) -> Result<Partial, NoMe
         })?;
     }
     Ok(Partial {
-        parts: all,
+        parts: Parts::new(alloc, all)?,
         env: Env::new(alloc),
     })
 }

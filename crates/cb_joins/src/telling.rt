@@ -89,5 +89,6 @@ fn keys_of(
 fn key_of(alloc: Global, rule: u64, number: u64, partial: &Partial) -> Result<Key, NoMemory>
     ensures { IfOk result (λ key. key ≡ key_of rule number partial.now) }
 {
-    Key::new(alloc, rule, number, partial.parts.clone()?)
+    let parts = partial.parts.as_slice().to_vec(alloc)?;
+    Key::new(alloc, rule, number, parts)
 }

@@ -4,7 +4,7 @@ use Rattle.cb_joins.proofs.memory.take_all.Given as goal
 
 abbrev pub invariant-loop-probe : goal.invariant-loop-probe
 invariant-loop-probe l = record {
-  probe : l.probe-inside.parts.items ≡ l.parts ++ first_part l.ix;
+  probe : l.probe-inside.parts ≡ l.parts ++ first_part l.ix;
   taken : l.gone.items ++ filter (begins_as l.parts l.ix) l.list.keys ≡ l.initial.gone.items ++ filter (begins_as l.parts l.ix) l.initial.list.keys;
   others : filter (λ z. not (begins_as l.parts l.ix z)) l.list.keys ≡ filter (λ z. not (begins_as l.parts l.ix z)) l.initial.list.keys;
 }
