@@ -9,8 +9,8 @@ use std::rc::Rc;
 
 /// The parts of a partial match, which never change.
 ///
-/// Clones share them: a clone takes no memory, and is refused only where the count of sharers is full. Contracts see the list of the
-/// parts.
+/// Clones share them: a clone takes no memory, and is refused only where the count of sharers is full. Contracts see the list of
+/// the parts.
 #[derive(Drop)]
 pub struct Parts {
     /// `None` where there are none.
