@@ -1,9 +1,9 @@
 -- What is found in an index, and what an index has after one fact or partial match more or less.
-use Rattle.std.proofs.Common.{◌≡◌, ◌≢◌, ◌⊎◌, ◌∙◌, ◌<◌, ◌&&◌, ℕ, Bool, true, false, not, cond, List, [], ◌∷◌, ◌++◌, Option, Some, None, Less, Equal, ap, ap₂, arith, filter, inl, inr, is_eq, is_le, map, nat_cmp, refl, subst, sym}
+use Rattle.std.proofs.Common.{◌≡◌, ◌≢◌, ◌⊎◌, ◌∙◌, ◌<◌, ◌&&◌, ℕ, Bool, true, false, not, cond, List, [], ◌∷◌, ◌++◌, Option, Some, None, Less, Equal, ap, ap₂, append-nil, arith, filter, get_or, inl, inr, is_eq, is_le, length, map, nat_cmp, refl, subst, suc, sym, take, zero}
 use Rattle.std.proofs.lemmas.Map.Lookups.{exact_unsigned}
 use Rattle.std.specs.BTreeMap.{insert_entry, is_at}
 use Rattle.std.specs.BTreeMap.Range.{entries_between, range_contains}
-use Rattle.std.specs.BTreeSet.{insert_key}
+use Rattle.std.specs.BTreeSet.{insert_key, keys_between}
 use Rattle.std.specs.Cmp.{Equal-is, nat_cmp_total, tied_itself}
 use Rattle.std.specs.Cmp.Lexicographic.{pointwise}
 use Rattle.std.specs.List.{list_any}
@@ -27,7 +27,7 @@ use Rattle.cb_joins.specs.declared.index.FactKey.{FactKey}
 use Rattle.cb_joins.specs.declared.index.Filed.{Filed}
 use Rattle.cb_joins.specs.declared.index.Index.{Index}
 use Rattle.cb_joins.specs.declared.moved.Moved.{Moved}
-use Rattle.cb_matches.specs.Lemmas.Lists.{by_test, chain_compares, chain_filter, chain_map, filter_in, in_either, in_filter, in_left, in_map, in_right, map_in, one_chain}
+use Rattle.cb_matches.specs.Lemmas.Lists.{by_test, chain_compares, chain_filter, chain_map, filter_in, in_at, in_either, in_filter, in_left, in_map, in_right, map_in, one_chain}
 use Rattle.cb_matches.specs.Lemmas.Members.{AreSame, Chain, In}
 use Rattle.cb_matches.specs.Lemmas.Order.{IsApart, IsOnce, IsRising}
 use Rattle.cb_matches.specs.Matches.{Partial}
@@ -182,6 +182,25 @@ partials_found i cs ms vs q q_is none_is sorted in_order has =
         let wanted : variable_values js m.env ≡ Some vs = are_there vs (variable_values js m.env) inside.1 in
         let its : z.values.items ≡ vs = some_is z.values.items vs (sym own ∙ (ap (λ (it : Partial). variable_values js it.env) there.2 ∙ wanted)) in
         subst (λ it. In it (map partial_of held)) there.2 (map_in partial_of held z (filter_in (filed_has vs) z keys there.1 (same_are z.values.items vs its)))
+
+-- what was found before the rest, of which nothing more has the values, is all
+pub facts_are : (i : Index) (cs : IndexedFacts) (ms : List Partial) (vs : List Value) (q : FactKey) (all : IndexedFacts) (rest : List Entry) → q.values.items ≡ vs → q.ix ≡ 0
+    → IsStrictlySortedBy key_cmp (keys_of i.facts.entries) → IsRising cs → IsIndex i cs ms → run (entry_has q.values.items) rest ≡ []
+    → all ++ map fact_of (run (entry_has q.values.items) rest)
+    ≡ map fact_of (run (entry_has q.values.items) (entries_between key_cmp (Included q) Unbounded i.facts.entries)) → all ≡ filter (has_values i.fields.items vs) cs
+facts_are i cs ms vs q all rest q_is zero_is sorted rising has left found =
+    sym (append-nil all)
+    ∙ (ap (λ (it : List Entry). all ++ map fact_of it) (sym left)
+    ∙ (found ∙ (facts_found i cs ms q.values.items q refl zero_is sorted rising has ∙ ap (λ it. filter (has_values i.fields.items it) cs) q_is)))
+
+pub partials_are : (i : Index) (cs : IndexedFacts) (ms : List Partial) (vs : List Value) (q : Filed) (all : List Partial) (rest : List Filed) → q.values.items ≡ vs → q.partial.parts ≡ []
+    → IsStrictlySortedBy filed_cmp i.partials.keys → IsStrictlySortedBy partial_cmp ms → IsIndex i cs ms → run (filed_has q.values.items) rest ≡ []
+    → all ++ map partial_of (run (filed_has q.values.items) rest)
+    ≡ map partial_of (run (filed_has q.values.items) (keys_between filed_cmp (Included q) Unbounded i.partials)) → all ≡ filter (binds_values i.fields.items vs) ms
+partials_are i cs ms vs q all rest q_is none_is sorted in_order has left found =
+    sym (append-nil all)
+    ∙ (ap (λ (it : List Filed). all ++ map partial_of it) (sym left)
+    ∙ (found ∙ (partials_found i cs ms q.values.items q refl none_is sorted in_order has ∙ ap (λ it. filter (binds_values i.fields.items it) ms) q_is)))
 
 -- ---- one fact more or less
 
@@ -471,3 +490,10 @@ without_more gone g ms = (
       (stays_without z gone ms all.0 (λ y i e. all.1 y (in_left y gone (g ∷ []) i) e))
       (λ y i e. all.1 y (in_right y gone (g ∷ []) i) e),
 )
+
+-- of a list with none twice one at a place is apart from those before it
+pub apart_before : (ms : List Partial) (k : ℕ) (d n : Partial) → IsOnce ms → k < length ms → In n (take k ms) → (get_or ms k d).parts ≡ n.parts → ⊥
+apart_before [] k d n once l i e = absurd (omega (arith, l))
+apart_before (m ∷ ms) zero d n once l i e = i
+apart_before (m ∷ ms) (suc k) d n once l (inl is) e = once.0 (get_or ms k d) (in_at ms k d (omega (arith, l))) (sym (e ∙ ap (λ (it : Partial). it.parts) is))
+apart_before (m ∷ ms) (suc k) d n once l (inr i) e = apart_before ms k d n once.1 (omega (arith, l)) i e

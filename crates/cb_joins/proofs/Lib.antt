@@ -13,6 +13,10 @@ mod FlatProbes
 mod Found
 mod Groups
 mod InOrder
+mod IndexKeys
+mod IndexLists
+mod IndexValues
+mod Indexes
 mod Last
 mod Memories
 mod Moves
