@@ -1,5 +1,5 @@
 -- Where a pattern fits a fact, the fields that have to be equal to variables are.
-use Rattle.std.proofs.Common.{◌≡◌, ◌⊎◌, ◌∙◌, ◌+◌, inl, inr, Bool, true, false, ℕ, suc, List, [], ◌∷◌, ◌++◌, Option, None, Some, ap, drop, length, refl, subst, sym}
+use Rattle.std.proofs.Common.{◌≡◌, ◌∙◌, ◌+◌, inl, inr, Bool, true, false, ℕ, List, [], ◌∷◌, ◌++◌, Option, None, Some, ap, drop, length, refl, subst, sym}
 use Rattle.std.proofs.Math.Seq.{drop-append_seam}
 use Rattle.std.proofs.lemmas.List.{append_assoc, length-append}
 use Rattle.std.specs.List.{Contains, flat_map}
@@ -25,7 +25,7 @@ use Rattle.cb_fit.proofs.Segments.{then-some}
 use Rattle.cb_fit.proofs.WithoutVariables.{provided-if}
 use Rattle.cb_fit.specs.JoinFields.{field_at, field_value, fields_for, first_field, join_fields, row_join_fields, slot_join_fields, value_in}
 use Rattle.cb_fit.specs.Related.{HoldInTurn, PartsFit, SlotsFit}
-use Rattle.cb_fit.specs.Ways.{WayValue, segment_value, slot_at, value_of_one, ways}
+use Rattle.cb_fit.specs.Ways.{WayValue, segment_value, value_of_one, ways}
 use Rattle.cb_fit.specs.declared.join_fields.JoinField.{JoinField}
 
 -- a variable that has a value has this one
@@ -82,12 +82,16 @@ one_field (f ∷ g ∷ fs) v e = absurd (apart e)
 abbrev Equals : Option ℕ → List Single → JoinField → Value → Type 0
 Equals slot fields j w = (j.slot ≡ slot) × (field_at j.field fields ≡ Some w)
 
+-- each field of a row that stands from this place on has the value of its variable
+abbrev RowHas : Option ℕ → ℕ → List Constraint → Bindings → List Single → Type 0
+RowHas slot n cs before fields = (j : JoinField) → Among j (row_join_fields slot n cs) → (w : Value) → value_at j.variable before.variables ≡ Some w → Equals slot fields j w
+
 row_has : (slot : Option ℕ) (cs : List Constraint) (ss : List (List Single)) (before after : Bindings) → HoldInTurn cs ss before after
     → (pre : List Single) (n : ℕ) → length pre ≡ n → (j : JoinField) → Among j (row_join_fields slot n cs) → (w : Value) → value_at j.variable before.variables ≡ Some w
     → Equals slot (pre ++ flat_map (λ s. s) ss) j w
 row_has slot [] ss before after h pre n long j i w is = absurd i
 row_has slot (c ∷ cs) [] before after h pre n long j i w is = absurd h
-row_has slot (c ∷ cs) (s ∷ ss) before after h pre n long j i w is = by_kind c.segment refl i
+row_has slot (c ∷ cs) (s ∷ ss) before after h pre n long j i w is = by_kind (row_has slot cs ss h.0 after h.2 (pre ++ s) (n + 1)) c.segment refl i
   where
     rest : List Single
     rest = flat_map (λ t. t) ss
@@ -98,29 +102,28 @@ row_has slot (c ∷ cs) (s ∷ ss) before after h pre n long j i w is = by_kind 
     keeps : value_at j.variable h.0.variables ≡ Some w
     keeps = (demand-gives c.demand took.0 before h.0 took.2).0 j.variable w is
 
-    here : (f : Single) → s ≡ f ∷ [] → value_of_field f ≡ took.0 → Among j (fields_for slot n (binders c.demand)) → Equals slot (pre ++ s ++ rest) j w
+    here : (f : Single) → s ≡ f ∷ [] → value_of_field f ≡ took.0 → Among j (fields_for slot n (binders c.demand)) → Equals slot (pre ++ (s ++ rest)) j w
     here f one value k =
         let x = among-map-back (λ y. record { variable = y; slot = slot; field = n }) j (binders c.demand) k in
-        let equal : took.0 ≡ w = demand_has c.demand x.0 took.0 w before h.0 took.2 x.2 (ap (λ z. value_at z before.variables) (ap (λ (z : JoinField). z.variable) x.1) ∙ is) in
-        (
+        let equal : took.0 ≡ w = demand_has c.demand x.0 took.0 w before h.0 took.2 x.2 (ap (λ z. value_at z before.variables) (ap (λ (z : JoinField). z.variable) x.1) ∙ is) in (
           sym (ap (λ (z : JoinField). z.slot) x.1),
-          ap (λ m. first_field (drop m (pre ++ s ++ rest))) (sym (ap (λ (z : JoinField). z.field) x.1) ∙ sym long)
-          ∙ (ap first_field (drop-append_seam pre (s ++ rest))
-          ∙ (ap (λ t. first_field (t ++ rest)) one ∙ ap Some (value ∙ equal))),
+          ap (λ m. first_field (drop m (pre ++ (s ++ rest)))) (sym (ap (λ (z : JoinField). z.field) x.1) ∙ sym long)
+              ∙ (ap first_field (drop-append_seam pre (s ++ rest))
+              ∙ (ap (λ t. first_field (t ++ rest)) one ∙ ap Some (value ∙ equal))),
         )
 
-    later : (f : Single) → s ≡ f ∷ [] → Among j (row_join_fields slot (n + 1) cs) → Equals slot (pre ++ s ++ rest) j w
-    later f one k =
+    later : (length (pre ++ s) ≡ n + 1 → RowHas slot (n + 1) cs h.0 ((pre ++ s) ++ rest)) → (f : Single) → s ≡ f ∷ [] → Among j (row_join_fields slot (n + 1) cs) → Equals slot (pre ++ (s ++ rest)) j w
+    later more f one k =
         subst (λ fs. Equals slot fs j w) (append_assoc pre s rest)
-        (row_has slot cs ss h.0 after h.2 (pre ++ s) (n + 1) (length-append pre s ∙ (ap (λ t. length pre + length t) one ∙ ap (λ m. m + 1) long)) j k w keeps)
+        (more (length-append pre s ∙ (ap (λ t. length pre + length t) one ∙ ap (λ m. m + 1) long)) j k w keeps)
 
-    by_kind : (b : Bool) → c.segment ≡ b → Among j (if b then [] else fields_for slot n (binders c.demand) ++ row_join_fields slot (n + 1) cs) → Equals slot (pre ++ s ++ rest) j w
-    by_kind true kind k = absurd k
-    by_kind false kind k =
+    by_kind : (length (pre ++ s) ≡ n + 1 → RowHas slot (n + 1) cs h.0 ((pre ++ s) ++ rest)) → (b : Bool) → c.segment ≡ b → Among j (if b then [] else fields_for slot n (binders c.demand) ++ row_join_fields slot (n + 1) cs) → Equals slot (pre ++ (s ++ rest)) j w
+    by_kind more true kind k = absurd k
+    by_kind more false kind k =
         let one = one_field s took.0 (sym (ap (λ b. segment_value b s) kind) ∙ took.1) in
-        elim (among-cases j (fields_for slot n (binders c.demand)) (row_join_fields slot (n + 1) cs) k) as (λ _. Equals slot (pre ++ s ++ rest) j w) [
+        elim (among-cases j (fields_for slot n (binders c.demand)) (row_join_fields slot (n + 1) cs) k) as (λ _. Equals slot (pre ++ (s ++ rest)) j w) [
           | inl l ↦ here one.0 one.1 one.2 l
-          | inr l ↦ later one.0 one.1 l
+          | inr l ↦ later more one.0 one.1 l
         ]
 
 slots_have : (rows : List SlotValue) (slots : List (List ℕ × Value)) (cuts : List ℕ) (before after : Bindings) → SlotsFit rows slots cuts before after
@@ -130,10 +133,10 @@ slots_have [] slots cuts before after h j i w is = absurd i
 slots_have (s ∷ rows) slots cuts before after (v, own, others, grown, there, joined, first, more) j i w is =
     elim (among-cases j (slot_join_fields s) (flat_map slot_join_fields rows) i) as (λ _. value_in j (fact.slots slots) ≡ Some w) [
       | inl k ↦
-        let e = row_has (Some s.place) s.row first.0 before grown first.3 [] 0 refl j k w is in
-        ap (λ o. field_value o j.field (fact.slots slots)) e.0
-        ∙ (ap (λ o. option_map_or (λ u. field_at j.field (fields_in u)) o None) there
-        ∙ (ap (field_at j.field) (sym first.1) ∙ e.1))
+          let e = row_has (Some s.place) s.row first.0 before grown first.3 [] 0 refl j k w is in
+          ap (λ o. field_value o j.field (fact.slots slots)) e.0
+          ∙ (ap (λ o. option_map_or (λ u. field_at j.field (fields_in u)) o None) there
+          ∙ (ap (field_at j.field) (sym first.1) ∙ e.1))
       | inr k ↦ slots_have rows slots others grown after more j k w ((turn-gives s.row first.0 before grown first.3).0 j.variable w is)
     ]
 

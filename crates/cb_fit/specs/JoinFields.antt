@@ -1,5 +1,5 @@
 -- The fields of a fact that have to be equal to variables, whatever else a pattern asks.
-use Rattle.std.specs.Prelude.{◌+◌, ℕ, true, false, List, [], ◌∷◌, ◌++◌, Option, Some, None, drop, flat_map, map, if◌then◌else◌}
+use Rattle.std.specs.Prelude.{◌+◌, ℕ, List, [], ◌∷◌, ◌++◌, Option, Some, None, drop, flat_map, map, if◌then◌else◌}
 use Rattle.std.specs.Option.{option_map_or}
 use Rattle.cb_constraints.specs.Binders.{binders}
 use Rattle.cb_constraints.specs.Constraints.{Constraint}

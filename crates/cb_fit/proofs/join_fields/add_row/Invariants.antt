@@ -1,4 +1,4 @@
-use Rattle.std.proofs.Common.{◌≡◌, ◌++◌, ◌≤◌, drop, length, map}
+use Rattle.std.proofs.Common.{◌≡◌, ◌++◌, drop, map}
 use Rattle.cb_constraints.specs.Constraints.{constraint_of}
 use Rattle.cb_fit.proofs.join_fields.add_row.Given as goal
 use Rattle.cb_fit.specs.JoinFields.{row_join_fields}
