@@ -1,5 +1,5 @@
 -- The order of the keys of an index: by the values, and then by the index of the fact, or by the parts.
-use Rattle.std.proofs.Common.{◌≡◌, ◌∙◌, ◌<◌, ℕ, Bool, true, false, List, [], ◌∷◌, Ordering, Less, Equal, Greater, ap, arith, is_eq, is_le, nat_cmp, refl, subst, sym}
+use Rattle.std.proofs.Common.{◌≡◌, ◌∙◌, ◌<◌, ℕ, true, false, List, [], ◌∷◌, Ordering, Less, Equal, Greater, ap, arith, is_eq, is_le, nat_cmp, refl, subst, sym}
 use Rattle.std.proofs.lemmas.Map.Lookups.{exact_unsigned}
 use Rattle.std.specs.Cmp.{Equal-is, nat_cmp_total, ranks, tied_itself}
 use Rattle.std.specs.Cmp.Lexicographic.{lists_ties, lists_total, pointwise, pointwise_decides, slice_cmp}
@@ -16,7 +16,7 @@ use Rattle.cb_joins.specs.declared.index.FactKey.{FactKey}
 use Rattle.cb_joins.specs.declared.index.Filed.{Filed}
 use Rattle.cb_matches.specs.Keys.{PartValue, part_cmp}
 use Rattle.cb_matches.specs.Matches.{Partial}
-use Rattle.cb_partials.specs.Internal.PartialLaws.{partial_tied, partial_total}
+use Rattle.cb_partials.specs.Internal.PartialLaws.{partial_tied}
 use Rattle.cb_partials.specs.Partials.{partial_cmp}
 
 -- ---- answers of comparisons

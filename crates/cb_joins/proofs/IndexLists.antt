@@ -1,5 +1,5 @@
 -- Lists in an order: all that passes a test, where that stands in one piece, and one member more or less.
-use Rattle.std.proofs.Common.{◌≡◌, ◌⊎◌, ◌∙◌, ◌||◌, Bool, true, false, not, cond, List, [], ◌∷◌, Option, Some, None, Ordering, Less, Equal, Greater, ap, filter, inl, inr, is_eq, refl, subst, sym}
+use Rattle.std.proofs.Common.{◌≡◌, ◌∙◌, ◌||◌, Bool, true, false, not, cond, List, [], ◌∷◌, Some, None, Ordering, Less, Equal, Greater, ap, filter, inl, inr, refl, subst, sym}
 use Rattle.std.proofs.lemmas.Map.Keys.{sorted_head, sorted_tail}
 use Rattle.std.specs.BTreeMap.{insert_entry}
 use Rattle.std.specs.BTreeSet.{insert_key}
@@ -105,20 +105,6 @@ module _ {K : Type 0} (C : K → K → Ordering) where
       where
         put : Ordering → List (K × V)
         put o = match_ordering o ((k, v) ∷ x ∷ xs) ((x.0, v) ∷ xs) (x ∷ insert_entry C xs k v)
-
-    -- an entry is taken out of those of which at most one passes
-    pub entry_out : (test : K → Bool) (es : List (K × V)) → Chain (λ (a : K × V) (b : K × V). test a.0 ≡ true → test b.0 ≡ true → ⊥) es
-        → remove_entry test es ≡ filter (λ e. not (test e.0)) es
-    entry_out test [] c = refl
-    entry_out test (x ∷ xs) c =
-        by_test (test x.0)
-        (λ t. ap left t ∙ (sym (all_pass (λ z. not (test z.0)) xs (λ z i. by_test (test z.0) (λ u. absurd (c.0 z i t u)) (λ u. ap not u))) ∙ sym (ap kept t)))
-        (λ t. ap left t ∙ (ap (λ zs. x ∷ zs) (entry_out test xs c.1) ∙ sym (ap kept t)))
-      where
-        left : Bool → List (K × V)
-        left b = cond b xs (x ∷ remove_entry test xs)
-        kept : Bool → List (K × V)
-        kept b = cond (not b) (x ∷ filter (λ z. not (test z.0)) xs) (filter (λ z. not (test z.0)) xs)
 
 -- what is left where the first that passes was taken out
 pub key_left : {K : Type 0} (test : K → Bool) (ks : List K) (z : K) → In z (remove_key test ks) → In z ks

@@ -1,5 +1,5 @@
 -- What is found in an index, and what an index has after one fact or partial match more or less.
-use Rattle.std.proofs.Common.{◌≡◌, ◌≢◌, ◌⊎◌, ◌∙◌, ◌<◌, ◌&&◌, ℕ, Bool, true, false, not, cond, List, [], ◌∷◌, ◌++◌, Option, Some, None, Less, Equal, ap, ap₂, append-nil, arith, filter, get_or, inl, inr, is_eq, is_le, length, map, nat_cmp, refl, subst, suc, sym, take, zero}
+use Rattle.std.proofs.Common.{◌≡◌, ◌∙◌, ◌<◌, ◌&&◌, ℕ, Bool, true, false, not, cond, List, [], ◌∷◌, ◌++◌, Option, Some, None, Less, Equal, ap, ap₂, append-nil, arith, filter, get_or, inl, inr, is_eq, is_le, length, map, nat_cmp, refl, subst, suc, sym, take, zero}
 use Rattle.std.proofs.lemmas.Map.Lookups.{exact_unsigned}
 use Rattle.std.specs.BTreeMap.{insert_entry, is_at}
 use Rattle.std.specs.BTreeMap.Range.{entries_between, range_contains}
@@ -11,18 +11,17 @@ use Rattle.std.specs.List.Sorted.{IsStrictlySortedBy}
 use Rattle.std.specs.Map.{keys_of, lookup, remove_entry}
 use Rattle.std.specs.Set.{remove_key}
 use Rattle.std.specs.declared.ops.Bound.TheVariants.{Included, Unbounded}
-use Rattle.cb_exprs.specs.Bindings.{Bindings}
 use Rattle.cb_facts.specs.FactLists.{IndexedFacts, fact_at, with_fact, without_fact}
-use Rattle.cb_facts.specs.Facts.{FactContent, FactValue}
+use Rattle.cb_facts.specs.Facts.{FactValue}
 use Rattle.cb_facts.specs.declared.value.Value.{Value}
 use Rattle.cb_fit.specs.declared.join_fields.JoinField.{JoinField}
 use Rattle.cb_functions.specs.Comparison.{same}
 use Rattle.cb_joins.proofs.Deltas.{any_parts, parts_any}
-use Rattle.cb_joins.proofs.IndexKeys.{are_same, below_less, filed_begins, filed_between, filed_cmp, filed_level, filed_rises, key_begins, key_between, key_cmp, key_level, key_rises, level_filed, level_key, not_equal, same_are}
+use Rattle.cb_joins.proofs.IndexKeys.{are_same, filed_begins, filed_between, filed_cmp, filed_level, filed_rises, key_begins, key_between, key_cmp, key_level, key_rises, level_filed, level_key, not_equal, same_are}
 use Rattle.cb_joins.proofs.IndexLists.{chain_among, chain_of_entries, chain_of_keys, entry_left, entry_more, entry_stays, key_left, key_more, key_stays, none_any, none_found, run, run_is}
 use Rattle.cb_joins.proofs.Pieces.{false_true}
 use Rattle.cb_joins.specs.Internal.Changes.{IsMoved}
-use Rattle.cb_joins.specs.Internal.Indexes.{HasIndex, IsIndex, are_values, binds_values, field_values, has_values, variable_values, without_partials}
+use Rattle.cb_joins.specs.Internal.Indexes.{IsIndex, are_values, binds_values, field_values, has_values, variable_values, without_partials}
 use Rattle.cb_joins.specs.declared.index.FactKey.{FactKey}
 use Rattle.cb_joins.specs.declared.index.Filed.{Filed}
 use Rattle.cb_joins.specs.declared.index.Index.{Index}
@@ -86,31 +85,43 @@ facts_found i cs ms vs q q_is zero_is sorted rising has =
   where
     js : List JoinField
     js = i.fields.items
+
     entries : List Entry
     entries = i.facts.entries
+
     from : Entry → Bool
     from e = range_contains key_cmp (Included q) Unbounded e.0
+
     ahead : Entry → Entry → Type 0
     ahead e f = key_cmp e.0 f.0 ≡ Less
+
     lower : Fact → Fact → Type 0
     lower f g = f.0 < g.0
+
     held_lower : Entry → Entry → Type 0
     held_lower e f = e.0.ix < f.0.ix
+
     held : List Entry
     held = filter (entry_has vs) entries
+
     chain : Chain ahead entries
     chain = chain_of_entries key_cmp entries sorted
+
     has_is : (e : Entry) → entry_has vs e ≡ true → e.0.values.items ≡ vs
     has_is e t = are_same e.0.values.items vs t
+
     begins : (e : Entry) → entry_has vs e ≡ true → from e ≡ true
     begins e t = and_true (is_le (key_cmp q e.0)) ∙ key_begins q e.0 zero_is (has_is e t ∙ sym q_is)
+
     between : (e f : Entry) → from e ≡ true → ahead e f → entry_has vs f ≡ true → entry_has vs e ≡ true
     between e f h k t =
         same_are e.0.values.items vs (key_between q e.0 f.0 (sym (and_true (is_le (key_cmp q e.0))) ∙ h) k (has_is f t ∙ sym q_is) ∙ q_is)
+
     rises : Chain held_lower held
     rises =
         chain_among ahead held_lower held (chain_filter ahead (entry_has vs) entries chain)
         (λ e f h k l. key_rises e.0 f.0 (has_is e (in_filter (entry_has vs) e entries h).1 ∙ sym (has_is f (in_filter (entry_has vs) f entries k).1)) l)
+
     to : (z : Fact) → In z (map fact_of held) → In z (filter (has_values js vs) cs)
     to z h =
         let from_entry = in_map fact_of z held h in
@@ -119,6 +130,7 @@ facts_found i cs ms vs q q_is zero_is sorted rising has =
         let there = has.facts_in e inside.0 in
         subst (λ it. In it (filter (has_values js vs) cs)) (sym from_entry.2)
         (filter_in (has_values js vs) (fact_of e) cs there.0 (there_are vs (field_values js e.1.content) (there.1 ∙ ap Some (has_is e inside.1))))
+
     back : (z : Fact) → In z (filter (has_values js vs) cs) → In z (map fact_of held)
     back z h =
         let inside = in_filter (has_values js vs) z cs h in
@@ -138,33 +150,46 @@ partials_found i cs ms vs q q_is none_is sorted in_order has =
   where
     js : List JoinField
     js = i.fields.items
+
     keys : List Filed
     keys = i.partials.keys
+
     from : Filed → Bool
     from = range_contains filed_cmp (Included q) Unbounded
+
     ahead : Filed → Filed → Type 0
     ahead y z = filed_cmp y z ≡ Less
+
     lower : Partial → Partial → Type 0
     lower m n = partial_cmp m n ≡ Less
+
     held_lower : Filed → Filed → Type 0
     held_lower y z = partial_cmp y.partial z.partial ≡ Less
+
     held : List Filed
     held = filter (filed_has vs) keys
+
     chain : Chain ahead keys
     chain = chain_of_keys filed_cmp keys sorted
+
     irreflexive : (m : Partial) → lower m m → ⊥
     irreflexive m h = let level = tied_itself partial_total m in let e : Less ≡ Equal = sym h ∙ level in cc
+
     has_is : (z : Filed) → filed_has vs z ≡ true → z.values.items ≡ vs
     has_is z t = are_same z.values.items vs t
+
     begins : (z : Filed) → filed_has vs z ≡ true → from z ≡ true
     begins z t = and_true (is_le (filed_cmp q z)) ∙ filed_begins q z none_is (has_is z t ∙ sym q_is)
+
     between : (y z : Filed) → from y ≡ true → ahead y z → filed_has vs z ≡ true → filed_has vs y ≡ true
     between y z h k t =
         same_are y.values.items vs (filed_between q y z (sym (and_true (is_le (filed_cmp q y))) ∙ h) k (has_is z t ∙ sym q_is) ∙ q_is)
+
     rises : Chain held_lower held
     rises =
         chain_among ahead held_lower held (chain_filter ahead (filed_has vs) keys chain)
         (λ y z h k l. filed_rises y z (has_is y (in_filter (filed_has vs) y keys h).1 ∙ sym (has_is z (in_filter (filed_has vs) z keys k).1)) l)
+
     to : (m : Partial) → In m (map partial_of held) → In m (filter (binds_values js vs) ms)
     to m h =
         let from_key = in_map partial_of m held h in
@@ -173,6 +198,7 @@ partials_found i cs ms vs q q_is none_is sorted in_order has =
         let there = has.partials_in z inside.0 in
         subst (λ it. In it (filter (binds_values js vs) ms)) (sym from_key.2)
         (filter_in (binds_values js vs) z.partial ms there.0 (there_are vs (variable_values js z.partial.env) (there.1 ∙ ap Some (has_is z inside.1))))
+
     back : (m : Partial) → In m (filter (binds_values js vs) ms) → In m (map partial_of held)
     back m h =
         let inside = in_filter (binds_values js vs) m ms h in
@@ -234,20 +260,20 @@ fact_filed i j cs ms f key has free values_are index_is fields_are entries_are k
     same_index j ((f.0, f.1) ∷ cs) (with_fact cs f.0 f.1) ms ms (swapped (with_fact cs f.0 f.1) ((f.0, f.1) ∷ cs) (one_more cs f.0 f.1 free)) (all_same ms) (record {
       facts_in = λ e h. elim (more.0 e (subst (λ it. In e it) entries_are h)) as (λ _. In (e.0.ix, e.1) ((f.0, f.1) ∷ cs) × (field_values j.fields.items e.1.content ≡ Some e.0.values.items)) [
         | inl is ↦ (
-            inl (ap₂ (λ (n : ℕ) (v : FactValue). (n, v)) (ap (λ (it : Entry). it.0.ix) is ∙ index_is) (ap (λ (it : Entry). it.1) is)),
-            subst (λ (it : Entry). field_values j.fields.items it.1.content ≡ Some it.0.values.items) (sym is)
-            (subst (λ it. field_values it f.1.content ≡ Some key.values.items) (sym fields_are) values_are),
-          )
+          inl (ap₂ (λ (n : ℕ) (v : FactValue). (n, v)) (ap (λ (it : Entry). it.0.ix) is ∙ index_is) (ap (λ (it : Entry). it.1) is)),
+          subst (λ (it : Entry). field_values j.fields.items it.1.content ≡ Some it.0.values.items) (sym is)
+              (subst (λ it. field_values it f.1.content ≡ Some key.values.items) (sym fields_are) values_are),
+        )
         | inr old ↦ let there = has.facts_in e old in (inr there.0, subst (λ it. field_values it e.1.content ≡ Some e.0.values.items) (sym fields_are) there.1)
       ];
       in_facts = λ g vs h k. elim h as (λ _. (e : Entry) × In e j.facts.entries × (e.0.values.items ≡ vs) × (e.0.ix ≡ g.0) × (e.1 ≡ g.1)) [
         | inl is ↦ (
-            (key, f.1),
-            subst (λ it. In (key, f.1) it) (sym entries_are) (more.1 (key, f.1) (inl refl)),
-            some_is key.values.items vs (sym values_are ∙ (sym (ap (λ (it : Fact). field_values i.fields.items it.1.content) is) ∙ old_values g vs k)),
-            index_is ∙ sym (ap (λ (it : Fact). it.0) is),
-            sym (ap (λ (it : Fact). it.1) is),
-          )
+          (key, f.1),
+          subst (λ it. In (key, f.1) it) (sym entries_are) (more.1 (key, f.1) (inl refl)),
+          some_is key.values.items vs (sym values_are ∙ (sym (ap (λ (it : Fact). field_values i.fields.items it.1.content) is) ∙ old_values g vs k)),
+          index_is ∙ sym (ap (λ (it : Fact). it.0) is),
+          sym (ap (λ (it : Fact). it.1) is),
+        )
         | inr old ↦
             let there = has.in_facts g vs old (old_values g vs k) in
             (there.0, subst (λ it. In there.0 it) (sym entries_are) (more.1 there.0 (inr there.1)), there.2, there.3, there.4)
@@ -262,6 +288,7 @@ fact_filed i j cs ms f key has free values_are index_is fields_are entries_are k
     more =
         entry_more key_cmp key f.1 i.facts.entries
         (λ e h k. no_index cs f.0 free (e.0.ix, e.1) (has.facts_in e h).0 (sym (key_level key e.0 k).1 ∙ index_is))
+
     old_values : (g : Fact) (vs : List Value) → field_values j.fields.items g.1.content ≡ Some vs → field_values i.fields.items g.1.content ≡ Some vs
     old_values g vs k = subst (λ it. field_values it g.1.content ≡ Some vs) fields_are k
 
@@ -305,22 +332,20 @@ pub fact_unfiled : (i j : Index) (cs : IndexedFacts) (ms : List Partial) (f : Fa
 fact_unfiled i j cs ms f key has rising only values_are index_is fields_are entries_are gone keys_are = record {
   facts_in = λ e h.
       let old : In e i.facts.entries = entry_left (is_at (key_cmp key)) i.facts.entries e (subst (λ it. In e it) entries_are h) in
-      let there = has.facts_in e old in
-      (
+      let there = has.facts_in e old in (
         stays_there cs f.0 (e.0.ix, e.1) there.0
-        (λ same_ix. let is = only (e.0.ix, e.1) there.0 same_ix in
-        let own : field_values i.fields.items e.1.content ≡ Some key.values.items = ap (λ (it : Fact). field_values i.fields.items it.1.content) is ∙ values_are in
-        let its : key.values.items ≡ e.0.values.items = some_is key.values.items e.0.values.items (sym own ∙ there.1) in
-        none_found (is_at (key_cmp key)) j.facts.entries e gone h (ap is_eq (level_key key e.0 its (index_is ∙ sym same_ix)))),
+            (λ same_ix. let is = only (e.0.ix, e.1) there.0 same_ix in
+            let own : field_values i.fields.items e.1.content ≡ Some key.values.items = ap (λ (it : Fact). field_values i.fields.items it.1.content) is ∙ values_are in
+            let its : key.values.items ≡ e.0.values.items = some_is key.values.items e.0.values.items (sym own ∙ there.1) in
+            none_found (is_at (key_cmp key)) j.facts.entries e gone h (ap is_eq (level_key key e.0 its (index_is ∙ sym same_ix)))),
         subst (λ it. field_values it e.1.content ≡ Some e.0.values.items) (sym fields_are) there.1,
       );
   in_facts = λ g vs h k.
       let there = has.in_facts g vs (entry_left (is_at (nat_cmp f.0)) cs g h) (subst (λ it. field_values it g.1.content ≡ Some vs) fields_are k) in
-      let e = there.0 in
-      (
+      let e = there.0 in (
         e,
         subst (λ it. In e it) (sym entries_are) (entry_stays (is_at (key_cmp key)) i.facts.entries e there.1
-        (not_equal (key_cmp key e.0) (λ level. left_over cs f.0 rising g h (sym there.3 ∙ (sym (key_level key e.0 level).1 ∙ index_is))))),
+            (not_equal (key_cmp key e.0) (λ level. left_over cs f.0 rising g h (sym there.3 ∙ (sym (key_level key e.0 level).1 ∙ index_is))))),
         there.2,
         there.3,
         there.4,
@@ -336,11 +361,10 @@ pub fact_not_unfiled : (i : Index) (cs : IndexedFacts) (ms : List Partial) (f : 
     → field_values i.fields.items f.1.content ≡ None → IsIndex i (without_fact cs f.0) ms
 fact_not_unfiled i cs ms f has only lacks = record {
   facts_in = λ e h.
-      let there = has.facts_in e h in
-      (
+      let there = has.facts_in e h in (
         stays_there cs f.0 (e.0.ix, e.1) there.0
-        (λ same_ix. let is = only (e.0.ix, e.1) there.0 same_ix in
-        none_some (field_values i.fields.items e.1.content) e.0.values.items (ap (λ (it : Fact). field_values i.fields.items it.1.content) is ∙ lacks) there.1),
+            (λ same_ix. let is = only (e.0.ix, e.1) there.0 same_ix in
+            none_some (field_values i.fields.items e.1.content) e.0.values.items (ap (λ (it : Fact). field_values i.fields.items it.1.content) is ∙ lacks) there.1),
         there.1,
       );
   in_facts = λ g vs h k. has.in_facts g vs (entry_left (is_at (nat_cmp f.0)) cs g h) k;
@@ -376,8 +400,7 @@ partial_unfiled i j cs ms m filed has only values_are partial_is fields_are keys
       let there = has.in_facts f vs h (subst (λ it. field_values it f.1.content ≡ Some vs) fields_are k) in (there.0, subst (λ it. In there.0 it) (sym entries_are) there.1, there.2, there.3, there.4);
   partials_in = λ z h.
       let old : In z i.partials.keys = key_left (is_at (filed_cmp filed)) i.partials.keys z (subst (λ it. In z it) keys_are h) in
-      let there = has.partials_in z old in
-      (
+      let there = has.partials_in z old in (
         stays_without z.partial (m ∷ []) ms there.0 (λ g k e. elim k as (λ _. ⊥) [
           | inl g_is ↦
               let parts_are : z.partial.parts ≡ m.parts = e ∙ ap (λ (it : Partial). it.parts) g_is in
@@ -393,12 +416,11 @@ partial_unfiled i j cs ms m filed has only values_are partial_is fields_are keys
   in_partials = λ n h.
       let inside = left_without n (m ∷ []) ms h in
       let there = has.in_partials n inside.0 in
-      let z = there.0 in
-      (
+      let z = there.0 in (
         z,
         subst (λ it. In z it) (sym keys_are) (key_stays (is_at (filed_cmp filed)) i.partials.keys z there.1
-        (not_equal (filed_cmp filed z) (λ level. inside.1 m (inl refl)
-        (sym (ap (λ (it : Partial). it.parts) there.2) ∙ (sym (filed_level filed z level).1 ∙ ap (λ (it : Partial). it.parts) partial_is))))),
+            (not_equal (filed_cmp filed z) (λ level. inside.1 m (inl refl)
+            (sym (ap (λ (it : Partial). it.parts) there.2) ∙ (sym (filed_level filed z level).1 ∙ ap (λ (it : Partial). it.parts) partial_is))))),
         there.2,
       );
 }
@@ -410,8 +432,7 @@ partial_not_unfiled i cs ms m has only lacks = record {
   facts_in = has.facts_in;
   in_facts = has.in_facts;
   partials_in = λ z h.
-      let there = has.partials_in z h in
-      (
+      let there = has.partials_in z h in (
         stays_without z.partial (m ∷ []) ms there.0 (λ g k e. elim k as (λ _. ⊥) [
           | inl g_is ↦
               let is : z.partial ≡ m = only z.partial there.0 (e ∙ ap (λ (it : Partial). it.parts) g_is) in
@@ -434,11 +455,11 @@ partial_filed i j cs ms m filed has apart values_are partial_is fields_are keys_
       let there = has.in_facts f vs h (subst (λ it. field_values it f.1.content ≡ Some vs) fields_are k) in (there.0, subst (λ it. In there.0 it) (sym entries_are) there.1, there.2, there.3, there.4);
   partials_in = λ z h. elim (more.0 z (subst (λ it. In z it) keys_are h)) as (λ _. In z.partial (ms ++ m ∷ []) × (variable_values j.fields.items z.partial.env ≡ Some z.values.items)) [
     | inl is ↦ (
-        in_right z.partial ms (m ∷ []) (inl (ap partial_of is ∙ partial_is)),
-        subst (λ it. variable_values it z.partial.env ≡ Some z.values.items) (sym fields_are)
-        (subst (λ (it : Filed). variable_values i.fields.items it.partial.env ≡ Some it.values.items) (sym is)
-        (subst (λ (it : Partial). variable_values i.fields.items it.env ≡ Some filed.values.items) (sym partial_is) values_are)),
-      )
+      in_right z.partial ms (m ∷ []) (inl (ap partial_of is ∙ partial_is)),
+      subst (λ it. variable_values it z.partial.env ≡ Some z.values.items) (sym fields_are)
+          (subst (λ (it : Filed). variable_values i.fields.items it.partial.env ≡ Some it.values.items) (sym is)
+          (subst (λ (it : Partial). variable_values i.fields.items it.env ≡ Some filed.values.items) (sym partial_is) values_are)),
+    )
     | inr old ↦
         let there = has.partials_in z old in
         (in_left z.partial ms (m ∷ []) there.0, subst (λ it. variable_values it z.partial.env ≡ Some z.values.items) (sym fields_are) there.1)

@@ -113,7 +113,10 @@ pub(crate) fn facts_with(
         ix: 0,
     };
     let mut all = Vec::new(alloc);
-    for (key, fact) in index.facts.range((Bound::Included(&probe), Bound::Unbounded)) {
+    for (key, fact) in index
+        .facts
+        .range((Bound::Included(&probe), Bound::Unbounded))
+    {
         if key.values != probe.values {
             return Ok(all);
         }
@@ -139,7 +142,10 @@ pub(crate) fn partials_with(
         partial: Partial::new(alloc),
     };
     let mut all = Vec::new(alloc);
-    for filed in index.partials.range((Bound::Included(&probe), Bound::Unbounded)) {
+    for filed in index
+        .partials
+        .range((Bound::Included(&probe), Bound::Unbounded))
+    {
         if filed.values != probe.values {
             return Ok(all);
         }
@@ -240,11 +246,7 @@ fn unfile_partial(alloc: Global, index: &mut Index, partial: &Partial) -> Result
 }
 
 /// Adds partial matches. The answer is whether each of them has values for all variables.
-fn file_partials(
-    alloc: Global,
-    index: &mut Index,
-    partials: &[Partial],
-) -> Result<bool, NoMemory>
+fn file_partials(alloc: Global, index: &mut Index, partials: &[Partial]) -> Result<bool, NoMemory>
     ensures fields { OnOk result (index.new.fields.items ≡ index.old.fields.items) }
     ensures index { IfOk result (λ all. all ≡ true → (cs : IndexedFacts) (ms : List Partial) → IsIndex index.old cs ms → IsOnce partials.now
         → ((m n : Partial) → In m partials.now → In n ms → m.parts ≢ n.parts)

@@ -1,5 +1,5 @@
 -- Facts and partial matches that can meet, found by the values of variables.
-use Rattle.std.specs.Prelude.{◌≡◌, ◌≢◌, ℕ, Bool, false, List, [], ◌∷◌, Option, Some, None, not, option_map}
+use Rattle.std.specs.Prelude.{◌≡◌, ℕ, Bool, false, List, [], ◌∷◌, Option, Some, None, not, option_map}
 use Rattle.std.specs.Cmp.Lexicographic.{pointwise}
 use Rattle.std.specs.List.{filter}
 use Rattle.std.specs.Option.{option_and_then, option_map_or}

@@ -1,4 +1,4 @@
-use Rattle.std.proofs.Common.{◌≡◌, ◌≢◌, ◌∙◌, ◌+◌, ◌<◌, ℕ, List, [], ◌∷◌, ◌++◌, ap, arith, get_or, length, not, refl, rules, subst, sym, take, true}
+use Rattle.std.proofs.Common.{◌≡◌, ◌∙◌, ◌+◌, ◌<◌, ℕ, List, [], ◌∷◌, ◌++◌, ap, arith, get_or, length, not, refl, rules, subst, sym, take, true}
 use Rattle.std.proofs.lemmas.List.{take_all, take_more}
 use Rattle.cb_joins.proofs.IndexLists.{all_pass}
 use Rattle.cb_joins.proofs.Indexes.{all_same, left_without, moved_is, one_of, same_index, without_more}
@@ -39,22 +39,22 @@ loop-partial-preserved c = record {
 pub returns-else-not-branch-clause-index : goal.returns-else-not-branch-clause-index
 returns-else-not-branch-clause-index c =
     λ cs old new has once is.
-        let m : Moved = c.args.moved.now in
-        let gone : List Partial = m.gone.items in
-        let come : List Partial = m.come.items in
-        let new_index : Index = c.file_partials.new.index in
-        let gone_is : c.as_slice-partial-items.result.now ≡ gone = c.as_slice-partial-items.ensures.value in
-        let come_is : c.as_slice.result.now ≡ come = c.as_slice.ensures.value in
-        let whole : take c.loop-partial.partial-index c.as_slice-partial-items.result.now ≡ gone =
-        take_all c.loop-partial.partial-index c.as_slice-partial-items.result.now (omega arith) ∙ gone_is in
-        let before : IsIndex c.in-Some.inside cs old = subst (λ it. HasIndex it cs old) c.in-Some.is has in
-        let left : IsIndex c.loop-partial.inside cs (without_partials gone old) =
-        subst (λ it. IsIndex c.loop-partial.inside cs (without_partials it old)) whole
-        (c.loop-partial.invariant.unfiled cs old before once (λ z i. is.moves.gone_old z (subst (λ it. In z it) gone_is i))) in
-        let all : c.in_ok-file_partials.field-0 ≡ true = search rules in
-        let apart = λ (y : Partial) (n : Partial) (i : In y c.as_slice.result.now) (j : In n (without_partials gone old)) (e : y.parts ≡ n.parts).
-        is.moves.come_apart y n (subst (λ it. In y it) come_is i) (left_without n gone old j).0 e in
-        let filed : IsIndex new_index cs (without_partials gone old ++ c.as_slice.result.now) =
-        c.in_ok-file_partials.ensures.index all cs (without_partials gone old) left (subst IsOnce (sym come_is) is.come_once) apart in
-        same_index new_index cs cs (without_partials gone old ++ come) new (all_same cs) (moved_is old new m is)
-        (subst (λ it. IsIndex new_index cs (without_partials gone old ++ it)) come_is filed)
+    let m : Moved = c.args.moved.now in
+    let gone : List Partial = m.gone.items in
+    let come : List Partial = m.come.items in
+    let new_index : Index = c.file_partials.new.index in
+    let gone_is : c.as_slice-partial-items.result.now ≡ gone = c.as_slice-partial-items.ensures.value in
+    let come_is : c.as_slice.result.now ≡ come = c.as_slice.ensures.value in
+    let whole : take c.loop-partial.partial-index c.as_slice-partial-items.result.now ≡ gone =
+    take_all c.loop-partial.partial-index c.as_slice-partial-items.result.now (omega arith) ∙ gone_is in
+    let before : IsIndex c.in-Some.inside cs old = subst (λ it. HasIndex it cs old) c.in-Some.is has in
+    let left : IsIndex c.loop-partial.inside cs (without_partials gone old) =
+    subst (λ it. IsIndex c.loop-partial.inside cs (without_partials it old)) whole
+    (c.loop-partial.invariant.unfiled cs old before once (λ z i. is.moves.gone_old z (subst (λ it. In z it) gone_is i))) in
+    let all : c.in_ok-file_partials.field-0 ≡ true = search rules in
+    let apart = λ (y : Partial) (n : Partial) (i : In y c.as_slice.result.now) (j : In n (without_partials gone old)) (e : y.parts ≡ n.parts).
+    is.moves.come_apart y n (subst (λ it. In y it) come_is i) (left_without n gone old j).0 e in
+    let filed : IsIndex new_index cs (without_partials gone old ++ c.as_slice.result.now) =
+    c.in_ok-file_partials.ensures.index all cs (without_partials gone old) left (subst IsOnce (sym come_is) is.come_once) apart in
+    same_index new_index cs cs (without_partials gone old ++ come) new (all_same cs) (moved_is old new m is)
+    (subst (λ it. IsIndex new_index cs (without_partials gone old ++ it)) come_is filed)

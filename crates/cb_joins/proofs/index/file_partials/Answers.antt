@@ -30,7 +30,7 @@ loop-partial-preserved c = record {
         | inr here ↦ apart_before xs k m n once within here (sym (ap (λ (it : Partial). it.parts) m_is) ∙ e)
       ] in
       let more = partial_filed old new cs (ms ++ take k xs) m filed (c.loop-partial.invariant.filed cs ms has once apart) differ values_are
-          c.in_ok-clone-in-Some.ensures.cases refl keys_are refl in
+      c.in_ok-clone-in-Some.ensures.cases refl keys_are refl in
       let one_more : take (k + 1) xs ≡ take k xs ++ m ∷ [] = take_more xs k m within ∙ ap (λ (it : Partial). take k xs ++ it ∷ []) (sym m_is) in
       subst (λ it. IsIndex new cs it) (append_assoc ms (take k xs) (m ∷ []) ∙ ap (λ it. ms ++ it) (sym one_more)) more;
 }
