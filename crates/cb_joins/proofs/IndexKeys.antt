@@ -71,7 +71,8 @@ values_level : (vs ws : List Value) → vs ≡ ws → values_cmp vs ws ≡ Equal
 values_level vs ws e = subst (λ it. values_cmp vs it ≡ Equal) e (tied_itself (lists_total value_laws.total-law) vs)
 
 -- what lies between values and the same values has them too
-values_between : (q y z : List Value) (r s : Ordering) → is_le (ordering_then (values_cmp q y) r) ≡ true → ordering_then (values_cmp y z) s ≡ Less → z ≡ q → y ≡ q
+values_between : (q y z : List Value) (r s : Ordering) → is_le (ordering_then (values_cmp q y) r) ≡ true
+    → ordering_then (values_cmp y z) s ≡ Less → z ≡ q → y ≡ q
 values_between q y z r s low high e =
     let total = lists_total value_laws.total-law in
     let up : is_le (values_cmp y q) ≡ true = subst (λ it. is_le (values_cmp y it) ≡ true) e (then_le (values_cmp y z) s (ap is_le high)) in
@@ -114,7 +115,8 @@ level_key a b e f =
 pub key_begins : (q z : FactKey) → q.ix ≡ 0 → z.values.items ≡ q.values.items → is_le (key_cmp q z) ≡ true
 key_begins q z zero_is e = values_begin q.values.items z.values.items (nat_cmp q.ix z.ix) e (subst (λ it. is_le (nat_cmp it z.ix) ≡ true) (sym zero_is) (least_index z.ix))
 
-pub key_between : (q y z : FactKey) → is_le (key_cmp q y) ≡ true → key_cmp y z ≡ Less → z.values.items ≡ q.values.items → y.values.items ≡ q.values.items
+pub key_between : (q y z : FactKey) → is_le (key_cmp q y) ≡ true → key_cmp y z ≡ Less → z.values.items ≡ q.values.items
+    → y.values.items ≡ q.values.items
 key_between q y z low high e = values_between q.values.items y.values.items z.values.items (nat_cmp q.ix y.ix) (nat_cmp y.ix z.ix) low high e
 
 -- of two keys with the same values the first has the lower index
@@ -138,7 +140,8 @@ level_filed a b e f =
 pub filed_begins : (q z : Filed) → q.partial.parts ≡ [] → z.values.items ≡ q.values.items → is_le (filed_cmp q z) ≡ true
 filed_begins q z none_is e = values_begin q.values.items z.values.items (partial_cmp q.partial z.partial) e (least_partial q.partial z.partial none_is)
 
-pub filed_between : (q y z : Filed) → is_le (filed_cmp q y) ≡ true → filed_cmp y z ≡ Less → z.values.items ≡ q.values.items → y.values.items ≡ q.values.items
+pub filed_between : (q y z : Filed) → is_le (filed_cmp q y) ≡ true → filed_cmp y z ≡ Less → z.values.items ≡ q.values.items
+    → y.values.items ≡ q.values.items
 filed_between q y z low high e =
     values_between q.values.items y.values.items z.values.items (partial_cmp q.partial y.partial) (partial_cmp y.partial z.partial) low high e
 

@@ -7,6 +7,7 @@ use Rattle.cb_joins.specs.Internal.Indexes.{with_first}
 abbrev pub with_found : List Value → Option (List Value) → Option (List Value)
 with_found vs others = option_map (λ ws. vs ++ ws) others
 
-pub found_more : (vs : List Value) (v : Value) (others : Option (List Value)) → with_found (vs ++ v ∷ []) others ≡ with_found vs (with_first (Some v) others)
+pub found_more : (vs : List Value) (v : Value) (others : Option (List Value))
+    → with_found (vs ++ v ∷ []) others ≡ with_found vs (with_first (Some v) others)
 found_more vs v None = refl
 found_more vs v (Some ws) = ap Some (append_assoc vs (v ∷ []) ws)

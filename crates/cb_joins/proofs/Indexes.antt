@@ -75,7 +75,8 @@ there_are vs found h = ap (are_values vs) h ∙ same_are vs vs refl
 -- ---- what is found
 
 -- from a probe on: the facts with its values
-pub facts_found : (i : Index) (cs : IndexedFacts) (ms : List Partial) (vs : List Value) (q : FactKey) → q.values.items ≡ vs → q.ix ≡ 0
+pub facts_found : (i : Index) (cs : IndexedFacts) (ms : List Partial) (vs : List Value) (q : FactKey) → q.values.items ≡ vs
+    → q.ix ≡ 0
     → IsStrictlySortedBy key_cmp (keys_of i.facts.entries) → IsRising cs → IsIndex i cs ms
     → map fact_of (run (entry_has vs) (entries_between key_cmp (Included q) Unbounded i.facts.entries)) ≡ filter (has_values i.fields.items vs) cs
 facts_found i cs ms vs q q_is zero_is sorted rising has =
@@ -140,7 +141,8 @@ facts_found i cs ms vs q q_is zero_is sorted rising has =
         (map_in fact_of held e (filter_in (entry_has vs) e entries there.1 (same_are e.0.values.items vs there.2)))
 
 -- the same of partial matches
-pub partials_found : (i : Index) (cs : IndexedFacts) (ms : List Partial) (vs : List Value) (q : Filed) → q.values.items ≡ vs → q.partial.parts ≡ []
+pub partials_found : (i : Index) (cs : IndexedFacts) (ms : List Partial) (vs : List Value) (q : Filed) → q.values.items ≡ vs
+    → q.partial.parts ≡ []
     → IsStrictlySortedBy filed_cmp i.partials.keys → IsStrictlySortedBy partial_cmp ms → IsIndex i cs ms
     → map partial_of (run (filed_has vs) (filter (range_contains filed_cmp (Included q) Unbounded) i.partials.keys)) ≡ filter (binds_values i.fields.items vs) ms
 partials_found i cs ms vs q q_is none_is sorted in_order has =
@@ -211,7 +213,8 @@ partials_found i cs ms vs q q_is none_is sorted in_order has =
 
 -- what was found before the rest, of which nothing more has the values, is all
 pub facts_are : (i : Index) (cs : IndexedFacts) (ms : List Partial) (vs : List Value) (q : FactKey) (all : IndexedFacts) (rest : List Entry) → q.values.items ≡ vs → q.ix ≡ 0
-    → IsStrictlySortedBy key_cmp (keys_of i.facts.entries) → IsRising cs → IsIndex i cs ms → run (entry_has q.values.items) rest ≡ []
+    → IsStrictlySortedBy key_cmp (keys_of i.facts.entries) → IsRising cs → IsIndex i cs ms
+    → run (entry_has q.values.items) rest ≡ []
     → all ++ map fact_of (run (entry_has q.values.items) rest)
     ≡ map fact_of (run (entry_has q.values.items) (entries_between key_cmp (Included q) Unbounded i.facts.entries)) → all ≡ filter (has_values i.fields.items vs) cs
 facts_are i cs ms vs q all rest q_is zero_is sorted rising has left found =
@@ -220,7 +223,8 @@ facts_are i cs ms vs q all rest q_is zero_is sorted rising has left found =
     ∙ (found ∙ (facts_found i cs ms q.values.items q refl zero_is sorted rising has ∙ ap (λ it. filter (has_values i.fields.items it) cs) q_is)))
 
 pub partials_are : (i : Index) (cs : IndexedFacts) (ms : List Partial) (vs : List Value) (q : Filed) (all : List Partial) (rest : List Filed) → q.values.items ≡ vs → q.partial.parts ≡ []
-    → IsStrictlySortedBy filed_cmp i.partials.keys → IsStrictlySortedBy partial_cmp ms → IsIndex i cs ms → run (filed_has q.values.items) rest ≡ []
+    → IsStrictlySortedBy filed_cmp i.partials.keys → IsStrictlySortedBy partial_cmp ms → IsIndex i cs ms
+    → run (filed_has q.values.items) rest ≡ []
     → all ++ map partial_of (run (filed_has q.values.items) rest)
     ≡ map partial_of (run (filed_has q.values.items) (keys_between filed_cmp (Included q) Unbounded i.partials)) → all ≡ filter (binds_values i.fields.items vs) ms
 partials_are i cs ms vs q all rest q_is none_is sorted in_order has left found =
@@ -231,7 +235,8 @@ partials_are i cs ms vs q all rest q_is none_is sorted in_order has left found =
 -- ---- one fact more or less
 
 -- the same facts in another order
-pub same_index : (i : Index) (cs ds : IndexedFacts) (ms ns : List Partial) → AreSame cs ds → AreSame ms ns → IsIndex i cs ms → IsIndex i ds ns
+pub same_index : (i : Index) (cs ds : IndexedFacts) (ms ns : List Partial) → AreSame cs ds → AreSame ms ns → IsIndex i cs ms
+    → IsIndex i ds ns
 same_index i cs ds ms ns facts partials has = record {
   facts_in = λ e h. let there = has.facts_in e h in (facts.0 (e.0.ix, e.1) there.0, there.1);
   in_facts = λ f vs h k. has.in_facts f vs (facts.1 f h) k;
@@ -241,6 +246,35 @@ same_index i cs ds ms ns facts partials has = record {
 
 pub all_same : {A : Type 0} (xs : List A) → AreSame xs xs
 all_same xs = (λ z h. h, λ z h. h)
+
+-- the partial matches of an index with the same fields and keys
+partials_stay : (i j : Index) (cs : IndexedFacts) (ms : List Partial) → IsIndex i cs ms → j.fields.items ≡ i.fields.items
+    → j.partials.keys ≡ i.partials.keys → (z : Filed) → In z j.partials.keys
+    → In z.partial ms × (variable_values j.fields.items z.partial.env ≡ Some z.values.items)
+partials_stay i j cs ms has fields_are keys_are z h =
+    let there = has.partials_in z (subst (λ it. In z it) keys_are h) in
+    (there.0, subst (λ it. variable_values it z.partial.env ≡ Some z.values.items) (sym fields_are) there.1)
+
+partials_still : (i j : Index) (cs : IndexedFacts) (ms : List Partial) → IsIndex i cs ms → j.partials.keys ≡ i.partials.keys
+    → (m : Partial) → In m ms → (z : Filed) × In z j.partials.keys × (z.partial ≡ m)
+partials_still i j cs ms has keys_are m h =
+    let there = has.in_partials m h in
+    (there.0, subst (λ it. In there.0 it) (sym keys_are) there.1, there.2)
+
+-- the facts of an index with the same fields and entries
+facts_stay : (i j : Index) (cs : IndexedFacts) (ms : List Partial) → IsIndex i cs ms → j.fields.items ≡ i.fields.items
+    → j.facts.entries ≡ i.facts.entries → (e : Entry) → In e j.facts.entries
+    → In (e.0.ix, e.1) cs × (field_values j.fields.items e.1.content ≡ Some e.0.values.items)
+facts_stay i j cs ms has fields_are entries_are e h =
+    let there = has.facts_in e (subst (λ it. In e it) entries_are h) in
+    (there.0, subst (λ it. field_values it e.1.content ≡ Some e.0.values.items) (sym fields_are) there.1)
+
+facts_still : (i j : Index) (cs : IndexedFacts) (ms : List Partial) → IsIndex i cs ms → j.fields.items ≡ i.fields.items
+    → j.facts.entries ≡ i.facts.entries → (f : Fact) (vs : List Value) → In f cs → field_values j.fields.items f.1.content ≡ Some vs
+    → (e : Entry) × In e j.facts.entries × (e.0.values.items ≡ vs) × (e.0.ix ≡ f.0) × (e.1 ≡ f.1)
+facts_still i j cs ms has fields_are entries_are f vs h k =
+    let there = has.in_facts f vs h (subst (λ it. field_values it f.1.content ≡ Some vs) fields_are k) in
+    (there.0, subst (λ it. In there.0 it) (sym entries_are) there.1, there.2, there.3, there.4)
 
 -- no fact has this index
 no_index : (cs : IndexedFacts) (ix : ℕ) → fact_at cs ix ≡ None → (f : Fact) → In f cs → f.0 ≡ ix → ⊥
@@ -253,9 +287,11 @@ swapped : {A : Type 0} (xs ys : List A) → AreSame xs ys → AreSame ys xs
 swapped xs ys h = (h.1, h.0)
 
 -- a fact with all fields is filed
-pub fact_filed : (i j : Index) (cs : IndexedFacts) (ms : List Partial) (f : Fact) (key : FactKey) → IsIndex i cs ms → fact_at cs f.0 ≡ None
+pub fact_filed : (i j : Index) (cs : IndexedFacts) (ms : List Partial) (f : Fact) (key : FactKey) → IsIndex i cs ms
+    → fact_at cs f.0 ≡ None
     → field_values i.fields.items f.1.content ≡ Some key.values.items → key.ix ≡ f.0 → j.fields.items ≡ i.fields.items
-    → j.facts.entries ≡ insert_entry key_cmp i.facts.entries key f.1 → j.partials.keys ≡ i.partials.keys → IsIndex j (with_fact cs f.0 f.1) ms
+    → j.facts.entries ≡ insert_entry key_cmp i.facts.entries key f.1 → j.partials.keys ≡ i.partials.keys
+    → IsIndex j (with_fact cs f.0 f.1) ms
 fact_filed i j cs ms f key has free values_are index_is fields_are entries_are keys_are =
     same_index j ((f.0, f.1) ∷ cs) (with_fact cs f.0 f.1) ms ms (swapped (with_fact cs f.0 f.1) ((f.0, f.1) ∷ cs) (one_more cs f.0 f.1 free)) (all_same ms) (record {
       facts_in = λ e h. elim (more.0 e (subst (λ it. In e it) entries_are h)) as (λ _. In (e.0.ix, e.1) ((f.0, f.1) ∷ cs) × (field_values j.fields.items e.1.content ≡ Some e.0.values.items)) [
@@ -278,10 +314,8 @@ fact_filed i j cs ms f key has free values_are index_is fields_are entries_are k
             let there = has.in_facts g vs old (old_values g vs k) in
             (there.0, subst (λ it. In there.0 it) (sym entries_are) (more.1 there.0 (inr there.1)), there.2, there.3, there.4)
       ];
-      partials_in = λ z h.
-          let there = has.partials_in z (subst (λ it. In z it) keys_are h) in
-          (there.0, subst (λ it. variable_values it z.partial.env ≡ Some z.values.items) (sym fields_are) there.1);
-      in_partials = λ m h. let there = has.in_partials m h in (there.0, subst (λ it. In there.0 it) (sym keys_are) there.1, there.2);
+      partials_in = partials_stay i j cs ms has fields_are keys_are;
+      in_partials = partials_still i j cs ms has keys_are;
     })
   where
     more : AreSame (insert_entry key_cmp i.facts.entries key f.1) ((key, f.1) ∷ i.facts.entries)
@@ -289,7 +323,8 @@ fact_filed i j cs ms f key has free values_are index_is fields_are entries_are k
         entry_more key_cmp key f.1 i.facts.entries
         (λ e h k. no_index cs f.0 free (e.0.ix, e.1) (has.facts_in e h).0 (sym (key_level key e.0 k).1 ∙ index_is))
 
-    old_values : (g : Fact) (vs : List Value) → field_values j.fields.items g.1.content ≡ Some vs → field_values i.fields.items g.1.content ≡ Some vs
+    old_values : (g : Fact) (vs : List Value) → field_values j.fields.items g.1.content ≡ Some vs
+        → field_values i.fields.items g.1.content ≡ Some vs
     old_values g vs k = subst (λ it. field_values it g.1.content ≡ Some vs) fields_are k
 
 -- a fact that lacks one isn't
@@ -325,8 +360,10 @@ stays_there : (cs : IndexedFacts) (ix : ℕ) (z : Fact) → In z cs → (z.0 ≡
 stays_there cs ix z h apart = entry_stays (is_at (nat_cmp ix)) cs z h (not_equal (nat_cmp ix z.0) (λ k. apart (sym (exact_unsigned ix z.0 k))))
 
 -- a fact with all fields is taken out
-pub fact_unfiled : (i j : Index) (cs : IndexedFacts) (ms : List Partial) (f : Fact) (key : FactKey) → IsIndex i cs ms → IsRising cs
-    → ((g : Fact) → In g cs → g.0 ≡ f.0 → g ≡ f) → field_values i.fields.items f.1.content ≡ Some key.values.items → key.ix ≡ f.0 → j.fields.items ≡ i.fields.items
+pub fact_unfiled : (i j : Index) (cs : IndexedFacts) (ms : List Partial) (f : Fact) (key : FactKey) → IsIndex i cs ms
+    → IsRising cs
+    → ((g : Fact) → In g cs → g.0 ≡ f.0 → g ≡ f) → field_values i.fields.items f.1.content ≡ Some key.values.items
+    → key.ix ≡ f.0 → j.fields.items ≡ i.fields.items
     → j.facts.entries ≡ remove_entry (is_at (key_cmp key)) i.facts.entries → lookup (is_at (key_cmp key)) j.facts.entries ≡ None
     → j.partials.keys ≡ i.partials.keys → IsIndex j (without_fact cs f.0) ms
 fact_unfiled i j cs ms f key has rising only values_are index_is fields_are entries_are gone keys_are = record {
@@ -350,14 +387,13 @@ fact_unfiled i j cs ms f key has rising only values_are index_is fields_are entr
         there.3,
         there.4,
       );
-  partials_in = λ z h.
-      let there = has.partials_in z (subst (λ it. In z it) keys_are h) in
-      (there.0, subst (λ it. variable_values it z.partial.env ≡ Some z.values.items) (sym fields_are) there.1);
-  in_partials = λ m h. let there = has.in_partials m h in (there.0, subst (λ it. In there.0 it) (sym keys_are) there.1, there.2);
+  partials_in = partials_stay i j cs ms has fields_are keys_are;
+  in_partials = partials_still i j cs ms has keys_are;
 }
 
 -- a fact that lacks one was not in
-pub fact_not_unfiled : (i : Index) (cs : IndexedFacts) (ms : List Partial) (f : Fact) → IsIndex i cs ms → ((g : Fact) → In g cs → g.0 ≡ f.0 → g ≡ f)
+pub fact_not_unfiled : (i : Index) (cs : IndexedFacts) (ms : List Partial) (f : Fact) → IsIndex i cs ms
+    → ((g : Fact) → In g cs → g.0 ≡ f.0 → g ≡ f)
     → field_values i.fields.items f.1.content ≡ None → IsIndex i (without_fact cs f.0) ms
 fact_not_unfiled i cs ms f has only lacks = record {
   facts_in = λ e h.
@@ -377,27 +413,29 @@ fact_not_unfiled i cs ms f has only lacks = record {
 no_parts_of : (m : Partial) (gone : List Partial) → ((g : Partial) → In g gone → m.parts ≡ g.parts → ⊥) → has_parts gone m ≡ false
 no_parts_of m gone h = by_test (has_parts gone m) (λ t. let there = any_parts m gone t in absurd (h there.0 there.1 there.2)) (λ t. t)
 
-pub stays_without : (m : Partial) (gone ms : List Partial) → In m ms → ((g : Partial) → In g gone → m.parts ≡ g.parts → ⊥) → In m (without_partials gone ms)
+pub stays_without : (m : Partial) (gone ms : List Partial) → In m ms → ((g : Partial) → In g gone → m.parts ≡ g.parts → ⊥)
+    → In m (without_partials gone ms)
 stays_without m gone ms i apart = filter_in (λ n. not (has_parts gone n)) m ms i (ap not (no_parts_of m gone apart))
 
 not_both : (b : Bool) → b ≡ true → not b ≡ true → ⊥
 not_both b h k = cc
 
-pub left_without : (m : Partial) (gone ms : List Partial) → In m (without_partials gone ms) → In m ms × ((g : Partial) → In g gone → m.parts ≡ g.parts → ⊥)
+pub left_without : (m : Partial) (gone ms : List Partial) → In m (without_partials gone ms)
+    → In m ms × ((g : Partial) → In g gone → m.parts ≡ g.parts → ⊥)
 left_without m gone ms i =
     let inside = in_filter (λ n. not (has_parts gone n)) m ms i in
     (inside.0, λ g h e. not_both (has_parts gone m) (parts_any m g gone h e) inside.1)
 
 -- a partial match is taken out
 pub partial_unfiled : (i j : Index) (cs : IndexedFacts) (ms : List Partial) (m : Partial) (filed : Filed) → IsIndex i cs ms
-    → ((n : Partial) → In n ms → n.parts ≡ m.parts → n ≡ m) → variable_values i.fields.items m.env ≡ Some filed.values.items → filed.partial ≡ m
-    → j.fields.items ≡ i.fields.items → j.partials.keys ≡ remove_key (is_at (filed_cmp filed)) i.partials.keys → list_any (is_at (filed_cmp filed)) j.partials.keys ≡ false
+    → ((n : Partial) → In n ms → n.parts ≡ m.parts → n ≡ m) → variable_values i.fields.items m.env ≡ Some filed.values.items
+    → filed.partial ≡ m
+    → j.fields.items ≡ i.fields.items → j.partials.keys ≡ remove_key (is_at (filed_cmp filed)) i.partials.keys
+    → list_any (is_at (filed_cmp filed)) j.partials.keys ≡ false
     → j.facts.entries ≡ i.facts.entries → IsIndex j cs (without_partials (m ∷ []) ms)
 partial_unfiled i j cs ms m filed has only values_are partial_is fields_are keys_are gone entries_are = record {
-  facts_in = λ e h.
-      let there = has.facts_in e (subst (λ it. In e it) entries_are h) in (there.0, subst (λ it. field_values it e.1.content ≡ Some e.0.values.items) (sym fields_are) there.1);
-  in_facts = λ f vs h k.
-      let there = has.in_facts f vs h (subst (λ it. field_values it f.1.content ≡ Some vs) fields_are k) in (there.0, subst (λ it. In there.0 it) (sym entries_are) there.1, there.2, there.3, there.4);
+  facts_in = facts_stay i j cs ms has fields_are entries_are;
+  in_facts = facts_still i j cs ms has fields_are entries_are;
   partials_in = λ z h.
       let old : In z i.partials.keys = key_left (is_at (filed_cmp filed)) i.partials.keys z (subst (λ it. In z it) keys_are h) in
       let there = has.partials_in z old in (
@@ -426,7 +464,8 @@ partial_unfiled i j cs ms m filed has only values_are partial_is fields_are keys
 }
 
 -- one of which a variable has no value was not in
-pub partial_not_unfiled : (i : Index) (cs : IndexedFacts) (ms : List Partial) (m : Partial) → IsIndex i cs ms → ((n : Partial) → In n ms → n.parts ≡ m.parts → n ≡ m)
+pub partial_not_unfiled : (i : Index) (cs : IndexedFacts) (ms : List Partial) (m : Partial) → IsIndex i cs ms
+    → ((n : Partial) → In n ms → n.parts ≡ m.parts → n ≡ m)
     → variable_values i.fields.items m.env ≡ None → IsIndex i cs (without_partials (m ∷ []) ms)
 partial_not_unfiled i cs ms m has only lacks = record {
   facts_in = has.facts_in;
@@ -446,13 +485,13 @@ partial_not_unfiled i cs ms m has only lacks = record {
 
 -- a partial match is filed, behind the others
 pub partial_filed : (i j : Index) (cs : IndexedFacts) (ms : List Partial) (m : Partial) (filed : Filed) → IsIndex i cs ms
-    → ((n : Partial) → In n ms → m.parts ≡ n.parts → ⊥) → variable_values i.fields.items m.env ≡ Some filed.values.items → filed.partial ≡ m
-    → j.fields.items ≡ i.fields.items → j.partials.keys ≡ insert_key filed_cmp i.partials.keys filed → j.facts.entries ≡ i.facts.entries → IsIndex j cs (ms ++ m ∷ [])
+    → ((n : Partial) → In n ms → m.parts ≡ n.parts → ⊥) → variable_values i.fields.items m.env ≡ Some filed.values.items
+    → filed.partial ≡ m
+    → j.fields.items ≡ i.fields.items → j.partials.keys ≡ insert_key filed_cmp i.partials.keys filed
+    → j.facts.entries ≡ i.facts.entries → IsIndex j cs (ms ++ m ∷ [])
 partial_filed i j cs ms m filed has apart values_are partial_is fields_are keys_are entries_are = record {
-  facts_in = λ e h.
-      let there = has.facts_in e (subst (λ it. In e it) entries_are h) in (there.0, subst (λ it. field_values it e.1.content ≡ Some e.0.values.items) (sym fields_are) there.1);
-  in_facts = λ f vs h k.
-      let there = has.in_facts f vs h (subst (λ it. field_values it f.1.content ≡ Some vs) fields_are k) in (there.0, subst (λ it. In there.0 it) (sym entries_are) there.1, there.2, there.3, there.4);
+  facts_in = facts_stay i j cs ms has fields_are entries_are;
+  in_facts = facts_still i j cs ms has fields_are entries_are;
   partials_in = λ z h. elim (more.0 z (subst (λ it. In z it) keys_are h)) as (λ _. In z.partial (ms ++ m ∷ []) × (variable_values j.fields.items z.partial.env ≡ Some z.values.items)) [
     | inl is ↦ (
       in_right z.partial ms (m ∷ []) (inl (ap partial_of is ∙ partial_is)),
@@ -486,7 +525,8 @@ one_of ms once m n h k e = elim (chain_compares IsApart ms once m n h k) as (λ 
 ]
 
 -- what is left without what went, and then what came, is what there is
-pub moved_is : (old new : List Partial) (m : Moved) → IsMoved old new m → AreSame (without_partials m.gone.items old ++ m.come.items) new
+pub moved_is : (old new : List Partial) (m : Moved) → IsMoved old new m
+    → AreSame (without_partials m.gone.items old ++ m.come.items) new
 moved_is old new m is = (
   λ z h. elim (in_either z (without_partials m.gone.items old) m.come.items h) as (λ _. In z new) [
     | inl left ↦
@@ -501,7 +541,8 @@ moved_is old new m is = (
 )
 
 -- taken out one after another
-pub without_more : (gone : List Partial) (g : Partial) (ms : List Partial) → AreSame (without_partials (g ∷ []) (without_partials gone ms)) (without_partials (gone ++ g ∷ []) ms)
+pub without_more : (gone : List Partial) (g : Partial) (ms : List Partial)
+    → AreSame (without_partials (g ∷ []) (without_partials gone ms)) (without_partials (gone ++ g ∷ []) ms)
 without_more gone g ms = (
   λ z h. let last = left_without z (g ∷ []) (without_partials gone ms) h in
       let others = left_without z gone ms last.0 in
@@ -513,7 +554,8 @@ without_more gone g ms = (
 )
 
 -- of a list with none twice one at a place is apart from those before it
-pub apart_before : (ms : List Partial) (k : ℕ) (d n : Partial) → IsOnce ms → k < length ms → In n (take k ms) → (get_or ms k d).parts ≡ n.parts → ⊥
+pub apart_before : (ms : List Partial) (k : ℕ) (d n : Partial) → IsOnce ms → k < length ms → In n (take k ms)
+    → (get_or ms k d).parts ≡ n.parts → ⊥
 apart_before [] k d n once l i e = absurd (omega (arith, l))
 apart_before (m ∷ ms) zero d n once l i e = i
 apart_before (m ∷ ms) (suc k) d n once l (inl is) e = once.0 (get_or ms k d) (in_at ms k d (omega (arith, l))) (sym (e ∙ ap (λ (it : Partial). it.parts) is))

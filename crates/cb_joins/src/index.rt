@@ -248,7 +248,8 @@ fn unfile_partial(alloc: Global, index: &mut Index, partial: &Partial) -> Result
 /// Adds partial matches. The answer is whether each of them has values for all variables.
 fn file_partials(alloc: Global, index: &mut Index, partials: &[Partial]) -> Result<bool, NoMemory>
     ensures fields { OnOk result (index.new.fields.items ≡ index.old.fields.items) }
-    ensures index { IfOk result (λ all. all ≡ true → (cs : IndexedFacts) (ms : List Partial) → IsIndex index.old cs ms → IsOnce partials.now
+    ensures index { IfOk result (λ all. (cs : IndexedFacts) (ms : List Partial) → all ≡ true
+        → IsIndex index.old cs ms → IsOnce partials.now
         → ((m n : Partial) → In m partials.now → In n ms → m.parts ≢ n.parts)
         → IsIndex index.new cs (ms ++ partials.now)) }
 {

@@ -55,6 +55,6 @@ returns-else-not-branch-clause-index c =
     let apart = λ (y : Partial) (n : Partial) (i : In y c.as_slice.result.now) (j : In n (without_partials gone old)) (e : y.parts ≡ n.parts).
     is.moves.come_apart y n (subst (λ it. In y it) come_is i) (left_without n gone old j).0 e in
     let filed : IsIndex new_index cs (without_partials gone old ++ c.as_slice.result.now) =
-    c.in_ok-file_partials.ensures.index all cs (without_partials gone old) left (subst IsOnce (sym come_is) is.come_once) apart in
+    c.in_ok-file_partials.ensures.index cs (without_partials gone old) all left (subst IsOnce (sym come_is) is.come_once) apart in
     same_index new_index cs cs (without_partials gone old ++ come) new (all_same cs) (moved_is old new m is)
     (subst (λ it. IsIndex new_index cs (without_partials gone old ++ it)) come_is filed)

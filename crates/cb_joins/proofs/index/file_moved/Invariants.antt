@@ -9,6 +9,7 @@ use Rattle.cb_joins.proofs.index.file_moved.Given as goal
 abbrev pub invariant-loop-partial : goal.invariant-loop-partial
 invariant-loop-partial l = record {
   fields : l.inside.fields.items ≡ l.initial.inside.fields.items;
-  unfiled : (cs : IndexedFacts) (old : List Partial) → IsIndex l.initial.inside cs old → IsOnce old → ((m : Partial) → In m l.partial-items → In m old)
+  unfiled : (cs : IndexedFacts) (old : List Partial) → IsIndex l.initial.inside cs old → IsOnce old
+      → ((m : Partial) → In m l.partial-items → In m old)
       → IsIndex l.inside cs (without_partials (take l.partial-index l.partial-items) old);
 }

@@ -10,5 +10,6 @@ abbrev pub invariant-loop-partial : goal.invariant-loop-partial
 invariant-loop-partial l = record {
   fields : l.index.fields.items ≡ l.initial.index.fields.items;
   filed : (cs : IndexedFacts) (ms : List Partial) → IsIndex l.initial.index cs ms → IsOnce l.partials
-      → ((m n : Partial) → In m l.partials → In n ms → m.parts ≢ n.parts) → IsIndex l.index cs (ms ++ take l.partial-index l.partials);
+      → ((m n : Partial) → In m l.partials → In n ms → m.parts ≢ n.parts)
+      → IsIndex l.index cs (ms ++ take l.partial-index l.partials);
 }
