@@ -327,6 +327,38 @@ fact_filed i j cs ms f key has free values_are index_is fields_are entries_are k
         → field_values i.fields.items g.1.content ≡ Some vs
     old_values g vs k = subst (λ it. field_values it g.1.content ≡ Some vs) fields_are k
 
+-- the facts before one in the order of their indices have other indices
+none_below : (cs : IndexedFacts) (ix : ℕ) → ((f : Fact) → In f cs → nat_cmp f.0 ix ≡ Less) → fact_at cs ix ≡ None
+none_below [] ix below = refl
+none_below (f ∷ fs) ix below =
+    let apart : is_at (nat_cmp ix) f.0 ≡ false = not_equal (nat_cmp ix f.0) (λ level.
+    let here : ix ≡ f.0 = exact_unsigned ix f.0 level in
+    let same : nat_cmp f.0 ix ≡ Equal = subst (λ it. nat_cmp it ix ≡ Equal) here (tied_itself nat_cmp_total ix) in
+    let e : Less ≡ Equal = sym (below f (inl refl)) ∙ same in cc) in
+    ap (λ b. cond b (Some f.1) (fact_at fs ix)) apart ∙ none_below fs ix (λ g i. below g (inr i))
+
+before_next : (done rest : IndexedFacts) (f : Fact) → Chain (λ (g : Fact) (h : Fact). nat_cmp g.0 h.0 ≡ Less) (done ++ f ∷ rest)
+    → (g : Fact) → In g done → nat_cmp g.0 f.0 ≡ Less
+before_next [] rest f c g i = absurd i
+before_next (d ∷ ds) rest f c g (inl is) = subst (λ (it : Fact). nat_cmp it.0 f.0 ≡ Less) (sym is) (c.0 f (in_right f ds (f ∷ rest) (inl refl)))
+before_next (d ∷ ds) rest f c g (inr i) = before_next ds rest f c.1 g i
+
+-- of facts in the order of their indices the next has another index than those before it
+pub next_is_free : (done rest all : IndexedFacts) (f : Fact) → done ++ f ∷ rest ≡ all → IsStrictlySortedBy nat_cmp (keys_of all) → fact_at done f.0 ≡ None
+next_is_free done rest all f is sorted =
+    none_below done f.0 (before_next done rest f (subst (Chain (λ (g : Fact) (h : Fact). nat_cmp g.0 h.0 ≡ Less)) (sym is) (chain_of_entries nat_cmp all sorted)))
+
+-- and behind them it makes the same facts
+pub next_is_more : (done : IndexedFacts) (f : Fact) → fact_at done f.0 ≡ None → AreSame (with_fact done f.0 f.1) (done ++ f ∷ [])
+next_is_more done f free =
+    let more = one_more done f.0 f.1 free in (
+      λ z h. elim (more.0 z h) as (λ _. In z (done ++ f ∷ [])) [ inl is ↦ in_right z done (f ∷ []) (inl is) | inr i ↦ in_left z done (f ∷ []) i ],
+      λ z h. elim (in_either z done (f ∷ []) h) as (λ _. In z (with_fact done f.0 f.1)) [
+        | inl i ↦ more.1 z (inr i)
+        | inr i ↦ elim i as (λ _. In z (with_fact done f.0 f.1)) [ inl is ↦ more.1 z (inl is) | inr none ↦ absurd none ]
+      ],
+    )
+
 -- a fact that lacks one isn't
 pub fact_not_filed : (i : Index) (cs : IndexedFacts) (ms : List Partial) (f : Fact) → IsIndex i cs ms → fact_at cs f.0 ≡ None
     → field_values i.fields.items f.1.content ≡ None → IsIndex i (with_fact cs f.0 f.1) ms

@@ -175,9 +175,19 @@ pub(crate) fn file_fact(
     ensures index { OnOk result ((cs : IndexedFacts) (ms : List Partial) → HasIndex index.old cs ms → fact_at cs one.now.0 ≡ None
         → HasIndex index.new (with_fact cs one.now.0 one.now.1) ms) }
 {
-    let Some(index) = index else {
-        return Ok(());
-    };
+    match index {
+        Some(index) => file_in(alloc, index, one),
+        None => Ok(()),
+    }
+}
+
+/// Adds a fact, if it has the fields.
+fn file_in(alloc: Global, index: &mut Index, one: &Indexed) -> Result<(), NoMemory>
+    ensures fields { OnOk result (index.new.fields.items ≡ index.old.fields.items) }
+    ensures index { OnOk result ((cs : IndexedFacts) (ms : List Partial)
+        → IsIndex index.old cs ms → fact_at cs one.now.0 ≡ None
+        → IsIndex index.new (with_fact cs one.now.0 one.now.1) ms) }
+{
     if let Some(values) = values_of_fact(alloc, index.fields.as_slice(), &one.fact)? {
         let key = FactKey { values, ix: one.ix };
         index.facts.insert(key, one.fact.clone()?)?;
@@ -266,4 +276,30 @@ fn file_partials(alloc: Global, index: &mut Index, partials: &[Partial]) -> Resu
         }
     }
     Ok(true)
+}
+
+/// The index of these facts and partial matches by the fields of an index, if there is one. Where a partial match has no value
+/// for one of the variables, there is none any more.
+pub(crate) fn fill_index(
+    alloc: Global,
+    index: Option<Index>,
+    facts: &BTreeMap<u64, Fact>,
+    partials: &[Partial],
+) -> Result<Option<Index>, NoMemory>
+    ensures fields { IfOk result (λ filled. KeepsFields (index_fields index) filled) }
+    ensures index { IfOk result
+        (λ filled. IsOnce partials.now → HasIndex filled facts.now.entries partials.now) }
+{
+    let Some(old) = index else {
+        return Ok(None);
+    };
+    let mut filled = new_index(alloc, old.fields);
+    for (ix, fact) in facts.iter() {
+        let fact = fact.clone()?;
+        file_in(alloc, &mut filled, &Indexed { ix: *ix, fact })?;
+    }
+    if !file_partials(alloc, &mut filled, partials)? {
+        return Ok(None);
+    }
+    Ok(Some(filled))
 }
