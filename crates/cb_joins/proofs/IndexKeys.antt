@@ -1,5 +1,5 @@
 -- The order of the keys of an index: by the values, and then by the index of the fact, or by the parts.
-use Rattle.std.proofs.Common.{◌≡◌, ◌∙◌, ◌<◌, ℕ, Bool, true, false, List, [], ◌∷◌, Ordering, Less, Equal, Greater, ap, arith, is_eq, is_le, nat_cmp, refl, subst, sym}
+use Rattle.std.proofs.Common.{◌≡◌, ◌∙◌, ◌<◌, ℕ, true, false, List, [], ◌∷◌, Ordering, Less, Equal, Greater, ap, arith, is_eq, is_le, nat_cmp, refl, subst, sym}
 use Rattle.std.proofs.lemmas.Map.Lookups.{exact_unsigned}
 use Rattle.std.specs.Cmp.{Equal-is, nat_cmp_total, ranks, tied_itself}
 use Rattle.std.specs.Cmp.Lexicographic.{lists_ties, lists_total, pointwise, pointwise_decides, slice_cmp}
@@ -16,7 +16,7 @@ use Rattle.cb_joins.specs.declared.index.FactKey.{FactKey}
 use Rattle.cb_joins.specs.declared.index.Filed.{Filed}
 use Rattle.cb_matches.specs.Keys.{PartValue, part_cmp}
 use Rattle.cb_matches.specs.Matches.{Partial}
-use Rattle.cb_partials.specs.Internal.PartialLaws.{partial_tied, partial_total}
+use Rattle.cb_partials.specs.Internal.PartialLaws.{partial_tied}
 use Rattle.cb_partials.specs.Partials.{partial_cmp}
 
 -- ---- answers of comparisons
@@ -71,7 +71,8 @@ values_level : (vs ws : List Value) → vs ≡ ws → values_cmp vs ws ≡ Equal
 values_level vs ws e = subst (λ it. values_cmp vs it ≡ Equal) e (tied_itself (lists_total value_laws.total-law) vs)
 
 -- what lies between values and the same values has them too
-values_between : (q y z : List Value) (r s : Ordering) → is_le (ordering_then (values_cmp q y) r) ≡ true → ordering_then (values_cmp y z) s ≡ Less → z ≡ q → y ≡ q
+values_between : (q y z : List Value) (r s : Ordering) → is_le (ordering_then (values_cmp q y) r) ≡ true
+    → ordering_then (values_cmp y z) s ≡ Less → z ≡ q → y ≡ q
 values_between q y z r s low high e =
     let total = lists_total value_laws.total-law in
     let up : is_le (values_cmp y q) ≡ true = subst (λ it. is_le (values_cmp y it) ≡ true) e (then_le (values_cmp y z) s (ap is_le high)) in
@@ -114,7 +115,8 @@ level_key a b e f =
 pub key_begins : (q z : FactKey) → q.ix ≡ 0 → z.values.items ≡ q.values.items → is_le (key_cmp q z) ≡ true
 key_begins q z zero_is e = values_begin q.values.items z.values.items (nat_cmp q.ix z.ix) e (subst (λ it. is_le (nat_cmp it z.ix) ≡ true) (sym zero_is) (least_index z.ix))
 
-pub key_between : (q y z : FactKey) → is_le (key_cmp q y) ≡ true → key_cmp y z ≡ Less → z.values.items ≡ q.values.items → y.values.items ≡ q.values.items
+pub key_between : (q y z : FactKey) → is_le (key_cmp q y) ≡ true → key_cmp y z ≡ Less → z.values.items ≡ q.values.items
+    → y.values.items ≡ q.values.items
 key_between q y z low high e = values_between q.values.items y.values.items z.values.items (nat_cmp q.ix y.ix) (nat_cmp y.ix z.ix) low high e
 
 -- of two keys with the same values the first has the lower index
@@ -138,7 +140,8 @@ level_filed a b e f =
 pub filed_begins : (q z : Filed) → q.partial.parts ≡ [] → z.values.items ≡ q.values.items → is_le (filed_cmp q z) ≡ true
 filed_begins q z none_is e = values_begin q.values.items z.values.items (partial_cmp q.partial z.partial) e (least_partial q.partial z.partial none_is)
 
-pub filed_between : (q y z : Filed) → is_le (filed_cmp q y) ≡ true → filed_cmp y z ≡ Less → z.values.items ≡ q.values.items → y.values.items ≡ q.values.items
+pub filed_between : (q y z : Filed) → is_le (filed_cmp q y) ≡ true → filed_cmp y z ≡ Less → z.values.items ≡ q.values.items
+    → y.values.items ≡ q.values.items
 filed_between q y z low high e =
     values_between q.values.items y.values.items z.values.items (partial_cmp q.partial y.partial) (partial_cmp y.partial z.partial) low high e
 

@@ -1,5 +1,5 @@
 -- Lists in an order: all that passes a test, where that stands in one piece, and one member more or less.
-use Rattle.std.proofs.Common.{◌≡◌, ◌⊎◌, ◌∙◌, ◌||◌, Bool, true, false, not, cond, List, [], ◌∷◌, Option, Some, None, Ordering, Less, Equal, Greater, ap, filter, inl, inr, is_eq, refl, subst, sym}
+use Rattle.std.proofs.Common.{◌≡◌, ◌∙◌, ◌||◌, Bool, true, false, cond, List, [], ◌∷◌, Some, None, Ordering, Less, Equal, Greater, ap, filter, inl, inr, refl, subst, sym}
 use Rattle.std.proofs.lemmas.Map.Keys.{sorted_head, sorted_tail}
 use Rattle.std.specs.BTreeMap.{insert_entry}
 use Rattle.std.specs.BTreeSet.{insert_key}
@@ -35,7 +35,8 @@ module _ {E : Type 0} where
 
   module _ (from test : E → Bool) (R : E → E → Type 0) (begins : (z : E) → test z ≡ true → from z ≡ true)
       (between : (y z : E) → from y ≡ true → R y z → test z ≡ true → test y ≡ true) where
-    run_by : (x : E) (xs : List E) → ((z : E) → In z xs → R x z) → run test (filter from xs) ≡ filter test xs → (a b : Bool) → from x ≡ a → test x ≡ b
+    run_by : (x : E) (xs : List E) → ((z : E) → In z xs → R x z) → run test (filter from xs) ≡ filter test xs → (a b : Bool)
+        → from x ≡ a → test x ≡ b
         → run test (cond a (x ∷ filter from xs) (filter from xs)) ≡ cond b (x ∷ filter test xs) (filter test xs)
     run_by x xs ahead more true true f t = run_goes test x (filter from xs) t ∙ ap (λ ys. x ∷ ys) more
     run_by x xs ahead more true false f t =
@@ -77,7 +78,8 @@ module _ {K : Type 0} (C : K → K → Ordering) where
       put o = match_ordering o (k ∷ x ∷ xs) (x ∷ xs) (x ∷ insert_key C xs k)
 
   module _ {V : Type 0} where
-    pub chain_of_entries : (es : List (K × V)) → IsStrictlySortedBy C (keys_of es) → Chain (λ (a : K × V) (b : K × V). C a.0 b.0 ≡ Less) es
+    pub chain_of_entries : (es : List (K × V)) → IsStrictlySortedBy C (keys_of es)
+        → Chain (λ (a : K × V) (b : K × V). C a.0 b.0 ≡ Less) es
     chain_of_entries [] s = tt
     chain_of_entries (e ∷ es) s = (
       λ z i. less_in C e.0 (keys_of es) (sorted_head C e.0 (keys_of es) s) z.0 (map_in (λ (it : K × V). it.0) es z i),
@@ -85,7 +87,8 @@ module _ {K : Type 0} (C : K → K → Ordering) where
     )
 
     -- one entry more, whose key compares equal to none
-    pub entry_more : (k : K) (v : V) (es : List (K × V)) → ((z : K × V) → In z es → C k z.0 ≡ Equal → ⊥) → AreSame (insert_entry C es k v) ((k, v) ∷ es)
+    pub entry_more : (k : K) (v : V) (es : List (K × V)) → ((z : K × V) → In z es → C k z.0 ≡ Equal → ⊥)
+        → AreSame (insert_entry C es k v) ((k, v) ∷ es)
     entry_more k v [] absent = (λ z i. i, λ z i. i)
     entry_more k v (x ∷ xs) absent =
         by_order (C k x.0)
@@ -105,20 +108,6 @@ module _ {K : Type 0} (C : K → K → Ordering) where
       where
         put : Ordering → List (K × V)
         put o = match_ordering o ((k, v) ∷ x ∷ xs) ((x.0, v) ∷ xs) (x ∷ insert_entry C xs k v)
-
-    -- an entry is taken out of those of which at most one passes
-    pub entry_out : (test : K → Bool) (es : List (K × V)) → Chain (λ (a : K × V) (b : K × V). test a.0 ≡ true → test b.0 ≡ true → ⊥) es
-        → remove_entry test es ≡ filter (λ e. not (test e.0)) es
-    entry_out test [] c = refl
-    entry_out test (x ∷ xs) c =
-        by_test (test x.0)
-        (λ t. ap left t ∙ (sym (all_pass (λ z. not (test z.0)) xs (λ z i. by_test (test z.0) (λ u. absurd (c.0 z i t u)) (λ u. ap not u))) ∙ sym (ap kept t)))
-        (λ t. ap left t ∙ (ap (λ zs. x ∷ zs) (entry_out test xs c.1) ∙ sym (ap kept t)))
-      where
-        left : Bool → List (K × V)
-        left b = cond b xs (x ∷ remove_entry test xs)
-        kept : Bool → List (K × V)
-        kept b = cond (not b) (x ∷ filter (λ z. not (test z.0)) xs) (filter (λ z. not (test z.0)) xs)
 
 -- what is left where the first that passes was taken out
 pub key_left : {K : Type 0} (test : K → Bool) (ks : List K) (z : K) → In z (remove_key test ks) → In z ks
@@ -145,7 +134,8 @@ entry_left test (x ∷ xs) z i =
     (λ t. let j : In z (x ∷ remove_entry test xs) = subst (λ b. In z (cond b xs (x ∷ remove_entry test xs))) t i in
     elim j as (λ _. In z (x ∷ xs)) [ inl e ↦ inl e | inr l ↦ inr (entry_left test xs z l) ])
 
-pub entry_stays : {K V : Type 0} (test : K → Bool) (es : List (K × V)) (z : K × V) → In z es → test z.0 ≡ false → In z (remove_entry test es)
+pub entry_stays : {K V : Type 0} (test : K → Bool) (es : List (K × V)) (z : K × V) → In z es → test z.0 ≡ false
+    → In z (remove_entry test es)
 entry_stays test [] z i f = i
 entry_stays {K} {V} test (x ∷ xs) z (inl e) f =
     subst (λ b. In z (cond b xs (x ∷ remove_entry test xs))) (sym (sym (ap (λ (it : K × V). test it.0) e) ∙ f)) (inl e)
@@ -155,7 +145,8 @@ entry_stays test (x ∷ xs) z (inr i) f =
     (λ t. subst (λ b. In z (cond b xs (x ∷ remove_entry test xs))) (sym t) (inr (entry_stays test xs z i f)))
 
 -- where a look-up finds nothing, none passes
-pub none_found : {K V : Type 0} (test : K → Bool) (es : List (K × V)) (z : K × V) → lookup test es ≡ None → In z es → test z.0 ≡ true → ⊥
+pub none_found : {K V : Type 0} (test : K → Bool) (es : List (K × V)) (z : K × V) → lookup test es ≡ None → In z es
+    → test z.0 ≡ true → ⊥
 none_found test [] z h i t = i
 none_found {K} {V} test (x ∷ xs) z h (inl e) t =
     let found : Some x.1 ≡ None = subst (λ b. cond b (Some x.1) (lookup test xs) ≡ None) (sym (ap (λ (it : K × V). test it.0) e) ∙ t) h in cc
@@ -173,6 +164,7 @@ none_any test (k ∷ ks) z h (inr i) t =
     (λ u. none_any test ks z (subst (λ b. (b || list_any test ks) ≡ false) u h) i t)
 
 -- a chain of what stands so among the members
-pub chain_among : {A : Type 0} (R S : A → A → Type 0) (xs : List A) → Chain R xs → ((x y : A) → In x xs → In y xs → R x y → S x y) → Chain S xs
+pub chain_among : {A : Type 0} (R S : A → A → Type 0) (xs : List A) → Chain R xs
+    → ((x y : A) → In x xs → In y xs → R x y → S x y) → Chain S xs
 chain_among R S [] c h = tt
 chain_among R S (x ∷ xs) c h = (λ z i. h x z (inl refl) (inr i) (c.0 z i), chain_among R S xs c.1 (λ a b i j. h a b (inr i) (inr j)))

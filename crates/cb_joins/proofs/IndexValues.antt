@@ -1,5 +1,5 @@
 -- The values of fields and of variables, found one after another.
-use Rattle.std.proofs.Common.{◌≡◌, ◌∙◌, List, [], ◌∷◌, ◌++◌, Option, Some, None, ap, append_assoc, append-nil, option_map, refl, sym}
+use Rattle.std.proofs.Common.{◌≡◌, List, [], ◌∷◌, ◌++◌, Option, Some, None, ap, append_assoc, option_map, refl}
 use Rattle.cb_facts.specs.declared.value.Value.{Value}
 use Rattle.cb_joins.specs.Internal.Indexes.{with_first}
 
@@ -7,10 +7,7 @@ use Rattle.cb_joins.specs.Internal.Indexes.{with_first}
 abbrev pub with_found : List Value → Option (List Value) → Option (List Value)
 with_found vs others = option_map (λ ws. vs ++ ws) others
 
-pub found_first : (o : Option (List Value)) → with_found [] o ≡ o
-found_first None = refl
-found_first (Some vs) = refl
-
-pub found_more : (vs : List Value) (v : Value) (others : Option (List Value)) → with_found (vs ++ v ∷ []) others ≡ with_found vs (with_first (Some v) others)
+pub found_more : (vs : List Value) (v : Value) (others : Option (List Value))
+    → with_found (vs ++ v ∷ []) others ≡ with_found vs (with_first (Some v) others)
 found_more vs v None = refl
 found_more vs v (Some ws) = ap Some (append_assoc vs (v ∷ []) ws)

@@ -17,7 +17,6 @@ mod IndexKeys
 mod IndexLists
 mod IndexValues
 mod Indexes
-mod Joined
 mod Last
 mod Memories
 mod Moves

@@ -175,9 +175,19 @@ pub(crate) fn file_fact(
     ensures index { OnOk result ((cs : IndexedFacts) (ms : List Partial) → HasIndex index.old cs ms → fact_at cs one.now.0 ≡ None
         → HasIndex index.new (with_fact cs one.now.0 one.now.1) ms) }
 {
-    let Some(index) = index else {
-        return Ok(());
-    };
+    match index {
+        Some(index) => file_in(alloc, index, one),
+        None => Ok(()),
+    }
+}
+
+/// Adds a fact, if it has the fields.
+fn file_in(alloc: Global, index: &mut Index, one: &Indexed) -> Result<(), NoMemory>
+    ensures fields { OnOk result (index.new.fields.items ≡ index.old.fields.items) }
+    ensures index { OnOk result ((cs : IndexedFacts) (ms : List Partial)
+        → IsIndex index.old cs ms → fact_at cs one.now.0 ≡ None
+        → IsIndex index.new (with_fact cs one.now.0 one.now.1) ms) }
+{
     if let Some(values) = values_of_fact(alloc, index.fields.as_slice(), &one.fact)? {
         let key = FactKey { values, ix: one.ix };
         index.facts.insert(key, one.fact.clone()?)?;
@@ -246,13 +256,10 @@ fn unfile_partial(alloc: Global, index: &mut Index, partial: &Partial) -> Result
 }
 
 /// Adds partial matches. The answer is whether each of them has values for all variables.
-fn file_partials(
-    alloc: Global,
-    index: &mut Index,
-    partials: &[Partial],
-) -> Result<bool, NoMemory>
+fn file_partials(alloc: Global, index: &mut Index, partials: &[Partial]) -> Result<bool, NoMemory>
     ensures fields { OnOk result (index.new.fields.items ≡ index.old.fields.items) }
-    ensures index { IfOk result (λ all. all ≡ true → (cs : IndexedFacts) (ms : List Partial) → IsIndex index.old cs ms → IsOnce partials.now
+    ensures index { IfOk result (λ all. (cs : IndexedFacts) (ms : List Partial) → all ≡ true
+        → IsIndex index.old cs ms → IsOnce partials.now
         → ((m n : Partial) → In m partials.now → In n ms → m.parts ≢ n.parts)
         → IsIndex index.new cs (ms ++ partials.now)) }
 {
@@ -271,8 +278,8 @@ fn file_partials(
     Ok(true)
 }
 
-/// The index of these facts and partial matches by the fields of an index, if there is one. Where a partial match has no value for one
-/// of the variables, there is none any more.
+/// The index of these facts and partial matches by the fields of an index, if there is one. Where a partial match has no value
+/// for one of the variables, there is none any more.
 pub(crate) fn fill_index(
     alloc: Global,
     index: Option<Index>,
@@ -286,15 +293,13 @@ pub(crate) fn fill_index(
     let Some(old) = index else {
         return Ok(None);
     };
-    let mut filled = Some(new_index(alloc, old.fields));
+    let mut filled = new_index(alloc, old.fields);
     for (ix, fact) in facts.iter() {
         let fact = fact.clone()?;
-        file_fact(alloc, &mut filled, &Indexed { ix: *ix, fact })?;
+        file_in(alloc, &mut filled, &Indexed { ix: *ix, fact })?;
     }
-    let moved = Moved {
-        gone: Vec::new(alloc),
-        come: partials.to_vec(alloc)?,
-    };
-    file_moved(alloc, &mut filled, &moved)?;
-    Ok(filled)
+    if !file_partials(alloc, &mut filled, partials)? {
+        return Ok(None);
+    }
+    Ok(Some(filled))
 }
