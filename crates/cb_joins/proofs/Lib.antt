@@ -17,6 +17,7 @@ mod IndexKeys
 mod IndexLists
 mod IndexValues
 mod Indexes
+mod Joined
 mod Last
 mod Memories
 mod Moves
