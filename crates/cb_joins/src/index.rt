@@ -1,7 +1,7 @@
 //! The facts that could fit a pattern and the partial matches before it, found by the values of the variables that join them.
 //!
-//! Facts and partial matches with the same values stand next to each other, so that those that can meet are looked up and no others
-//! are walked over.
+//! Facts and partial matches with the same values stand next to each other, so that those that can meet are looked up and no
+//! others are walked over.
 ghost use Rattle.std.specs.Prelude.{◌≡◌, ◌≢◌, ◌++◌, ◌∷◌, ℕ, [], IfOk, List, None, OnOk, filter, option_map, true};
 ghost use Rattle.std.specs.BTreeSet.{IsOrdered};
 ghost use Rattle.std.specs.List.Sorted.{IsStrictlySortedBy};
@@ -134,7 +134,8 @@ pub(crate) fn partials_with(
     index: &Index,
     values: &[Value],
 ) -> Result<Vec<Partial>, NoMemory>
-    ensures { IfOk result (λ all. (cs : IndexedFacts) (ms : List Partial) → IsStrictlySortedBy partial_cmp ms → IsIndex index.now cs ms
+    ensures { IfOk result (λ all. (cs : IndexedFacts) (ms : List Partial)
+        → IsStrictlySortedBy partial_cmp ms → IsIndex index.now cs ms
         → all.items ≡ filter (binds_values index.now.fields.items values.now) ms) }
 {
     let probe = Filed {
@@ -172,7 +173,8 @@ pub(crate) fn file_fact(
     one: &Indexed,
 ) -> Result<(), NoMemory>
     ensures fields { OnOk result (KeepsFields (index_fields index.old) index.new) }
-    ensures index { OnOk result ((cs : IndexedFacts) (ms : List Partial) → HasIndex index.old cs ms → fact_at cs one.now.0 ≡ None
+    ensures index { OnOk result ((cs : IndexedFacts) (ms : List Partial)
+        → HasIndex index.old cs ms → fact_at cs one.now.0 ≡ None
         → HasIndex index.new (with_fact cs one.now.0 one.now.1) ms) }
 {
     match index {
@@ -223,7 +225,8 @@ pub(crate) fn file_moved(
     moved: &Moved,
 ) -> Result<(), NoMemory>
     ensures fields { OnOk result (KeepsFields (index_fields index.old) index.new) }
-    ensures index { OnOk result ((cs : IndexedFacts) (old new : List Partial) → HasIndex index.old cs old → IsOnce old → IsMoved old new moved.now
+    ensures index { OnOk result ((cs : IndexedFacts) (old new : List Partial)
+        → HasIndex index.old cs old → IsOnce old → IsMoved old new moved.now
         → HasIndex index.new cs new) }
 {
     let Some(inside) = index else {
