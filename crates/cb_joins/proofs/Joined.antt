@@ -1,7 +1,8 @@
 -- Facts and partial matches whose values differ go on in no way.
-use Rattle.std.proofs.Common.{◌≡◌, ◌≢◌, ◌≤◌, ◌∙◌, ℕ, suc, Bool, true, false, List, [], ◌∷◌, ◌++◌, Option, Some, None, ap, ap₂, arith, cond, filter, inl, inr, length, map, option_map, refl, subst, sym}
+use Rattle.std.proofs.Common.{◌≡◌, ◌≢◌, ◌≤◌, ◌∙◌, ◌&&◌, ℕ, suc, Bool, true, false, List, [], ◌∷◌, ◌++◌, Option, Some, None, ap, ap₂, arith, cond, filter, inl, inr, length, map, option_map, refl, subst, sym}
 use Rattle.std.specs.Cmp.Lexicographic.{bytes_decides, pointwise}
 use Rattle.std.specs.List.{flat_map}
+use Rattle.std.specs.List.Sorted.{IsStrictlySortedBy}
 use Rattle.std.specs.Option.{option_and_then, option_map_or}
 use Rattle.std.specs.Str.{bytes_eq}
 use Rattle.cb_constraints.specs.PatternValues.{PatternValue}
@@ -18,20 +19,20 @@ use Rattle.cb_fit.specs.declared.join_fields.JoinField.{JoinField}
 use Rattle.cb_functions.specs.Comparison.{same}
 use Rattle.cb_joins.proofs.Beginnings.{true_false}
 use Rattle.cb_joins.specs.Internal.Indexes.{HasIndex, IsIndex, KeepsFields, are_values, binds_values, field_values, has_values, index_fields, variable_values, with_first}
-use Rattle.cb_joins.specs.Internal.Nodes.{AreJoinFields, FieldsAgree}
+use Rattle.cb_joins.specs.Internal.Nodes.{AreEnough, AreFound, AreJoinFields, FieldsAgree, IsJoined}
 use Rattle.cb_joins.specs.declared.index.Index.{Index}
+use Rattle.cb_joins.specs.declared.node.Place.{Place}
 use Rattle.cb_matches.specs.Lemmas.Growth.{Fact, ways_after}
-use Rattle.cb_matches.specs.Lemmas.Lists.{by_test, in_contains}
+use Rattle.cb_matches.specs.Lemmas.Lists.{by_test, filter_in, in_contains, in_filter}
 use Rattle.cb_matches.specs.Lemmas.Members.{AreSame, In}
+use Rattle.cb_matches.specs.Lemmas.Order.{IsRising}
 use Rattle.cb_matches.specs.Matches.{Partial, extended, grown, next, with_address}
+use Rattle.cb_partials.specs.Partials.{partial_cmp}
 
 -- these values are those
 all_same : (vs : List Value) → pointwise same vs vs ≡ true
 all_same [] = refl
-all_same (v ∷ vs) = ap₂ (λ a b. if_both a b) ((facts_laws.ghosts.value_decides v v).1 refl) (all_same vs)
-  where
-    abbrev if_both : Bool → Bool → Bool
-    if_both a b = cond a b false
+all_same (v ∷ vs) = ap₂ (λ (a : Bool) (b : Bool). a && b) ((facts_laws.ghosts.value_decides v v).1 refl) (all_same vs)
 
 they_are : (vs : List Value) (found : Option (List Value)) → found ≡ Some vs → are_values vs found ≡ true
 they_are vs found e = ap (are_values vs) e ∙ all_same vs
@@ -160,3 +161,37 @@ pub have_all : (i : Index) (cs : IndexedFacts) (ms : List Partial) → IsIndex i
 have_all i cs ms is m h =
     let z = is.in_partials m h in
     (z.0.values.items, ap (λ (it : Partial). variable_values i.fields.items it.env) (sym z.2) ∙ (is.partials_in z.0 z.1).1)
+
+-- what the index finds at a pattern
+module _ {T : Type 0} (agree : FieldsAgree) (place : Place T) (ms : List Partial) (joined : IsJoined place ms) (i : Index) (is : place.index ≡ Some i) where
+  fields : AreJoinFields i.fields.items place.address place.pattern
+  fields = subst (λ it. AreJoinFields (index_fields it) place.address place.pattern) is joined.fields
+
+  index : IsIndex i place.candidates.entries ms
+  index = subst (λ it. HasIndex it place.candidates.entries ms) is joined.index
+
+  -- the facts for a partial match
+  pub found_for : (m : Partial) (vs : List Value) → variable_values i.fields.items m.env ≡ Some vs → (found : IndexedFacts)
+      → ((cs : IndexedFacts) (ns : List Partial) → IsRising cs → IsIndex i cs ns → found ≡ filter (has_values i.fields.items vs) cs) → AreFound place m found
+  found_for m vs e found h =
+      let cs = place.candidates.entries in
+      let found_is : found ≡ filter (has_values i.fields.items vs) cs = h cs ms joined.rising index in
+      record {
+        same = ap (flat_map (extended place.address place.pattern m)) found_is ∙ facts_enough agree place.address place.pattern i.fields.items fields m vs e cs;
+        fewer = subst (λ it. length it ≤ length cs) (sym found_is) (no_longer (has_values i.fields.items vs) cs);
+      }
+
+  -- the partial matches for a fact
+  pub enough_for : (f : Fact) (vs : List Value) → field_values i.fields.items f.1.content ≡ Some vs → IsStrictlySortedBy partial_cmp ms → (found : List Partial)
+      → ((cs : IndexedFacts) (ns : List Partial) → IsStrictlySortedBy partial_cmp ns → IsIndex i cs ns → found ≡ filter (binds_values i.fields.items vs) ns) → AreEnough place f ms found
+  enough_for f vs e sorted found h =
+      let have = have_all i place.candidates.entries ms index in
+      let found_is : found ≡ filter (binds_values i.fields.items vs) ms = h place.candidates.entries ms sorted index in
+      record {
+        same = ap (next place.address place.pattern (f ∷ [])) found_is ∙ partials_enough agree place.address place.pattern i.fields.items fields f vs e ms have;
+        fewer = subst (λ it. length it ≤ length ms) (sym found_is) (no_longer (binds_values i.fields.items vs) ms);
+        among = λ m k. (in_filter (binds_values i.fields.items vs) m ms (subst (In m) found_is k)).0;
+        each = λ m w k l.
+            let us = have m k in
+            subst (In m) (sym found_is) (filter_in (binds_values i.fields.items vs) m ms k (bound_enough agree place.address place.pattern i.fields.items fields f vs e m us.0 us.1 w l));
+      }

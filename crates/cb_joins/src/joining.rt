@@ -1,12 +1,10 @@
 //! Partial matches joined with facts.
 ghost use Rattle.std.specs.Prelude.{◌≡◌, ◌≤◌, ◌+◌, ◌*◌, ◌++◌, ◌∷◌, [], IfOk, IfSome, List, OnOk, flat_map, length};
-ghost use Rattle.std.specs.List.Sorted.{IsStrictlySortedBy};
 ghost use Rattle.cb_exprs.specs.Bindings.{no_bindings};
 ghost use Rattle.cb_fit.specs.Shapes.{has_way};
 ghost use Rattle.cb_fit.specs.Ways.{ways};
 ghost use Rattle.cb_joins.specs.Internal.Nodes.{AreEnough, AreFound, IsJoined};
 ghost use Rattle.cb_matches.specs.Matches.{Partial, extended, next};
-ghost use Rattle.cb_partials.specs.Partials.{partial_cmp};
 
 use crate::index::{facts_with, partials_with, values_of_fact, values_of_partial};
 use crate::indexed::Indexed;
@@ -107,12 +105,14 @@ fn join_one<T>(
 pub(crate) fn partials_for<T>(
     alloc: Global,
     place: &Place<T>,
+    before: &BTreeSet<Partial>,
     one: &Indexed,
 ) -> Result<Option<Vec<Partial>>, NoMemory>
-    ensures { IfOk result (λ found. IfSome found (λ all. (ms : List Partial) → IsStrictlySortedBy partial_cmp ms → IsJoined place.now ms
-        → AreEnough place.now one.now ms all.items)) }
+    ensures { IfOk result (λ found. IfSome found (λ all. IsJoined place.now before.now.keys
+        → AreEnough place.now one.now before.now.keys all.items)) }
 {
     a_fact_that_fits_has_the_values_of_variables();
+    let _count = before.len();
     let Some(index) = &place.index else {
         return Ok(None);
     };
@@ -135,7 +135,7 @@ pub(crate) fn join_fact<T>(
         ++ next place.now.address place.now.pattern (one.now ∷ []) before.now.keys) }
     ensures probes { OnOk result (IsJoined place.now before.now.keys → meter.new ≤ meter.old + length before.now.keys) }
 {
-    match partials_for(setting.alloc, place, one)? {
+    match partials_for(setting.alloc, place, before, one)? {
         Some(partials) => join_each(
             setting,
             &place.address,

@@ -142,7 +142,7 @@ fn retract_place<T>(
     file_moved(setting.alloc, &mut place.index, moved)?;
     let mut gone = Vec::new(setting.alloc);
     take_behind(setting.alloc, own, moved.gone.as_slice(), &mut gone)?;
-    match partials_for(setting.alloc, place, one)? {
+    match partials_for(setting.alloc, place, before, one)? {
         Some(partials) => take_with(setting.alloc, own, partials.as_slice(), one.ix, &mut gone)?,
         None => take_fact(setting.alloc, own, before, one.ix, &mut gone)?,
     }
