@@ -183,7 +183,7 @@ module _ {T : Type 0} (agree : FieldsAgree) (place : Place T) (ms : List Partial
 
   -- the partial matches for a fact
   pub enough_for : (f : Fact) (vs : List Value) → field_values i.fields.items f.1.content ≡ Some vs → IsStrictlySortedBy partial_cmp ms → (found : List Partial)
-      → ((cs : IndexedFacts) (ns : List Partial) → IsStrictlySortedBy partial_cmp ns → IsIndex i cs ns → found ≡ filter (binds_values i.fields.items vs) ns) → AreEnough place f ms found
+      → ((cs : IndexedFacts) (ns : List Partial) → IsStrictlySortedBy partial_cmp ns → IsIndex i cs ns → found ≡ filter (binds_values i.fields.items vs) ns) → AreEnough place.address place.pattern f ms found
   enough_for f vs e sorted found h =
       let have = have_all i place.candidates.entries ms index in
       let found_is : found ≡ filter (binds_values i.fields.items vs) ms = h place.candidates.entries ms sorted index in
@@ -195,3 +195,7 @@ module _ {T : Type 0} (agree : FieldsAgree) (place : Place T) (ms : List Partial
             let us = have m k in
             subst (In m) (sym found_is) (filter_in (binds_values i.fields.items vs) m ms k (bound_enough agree place.address place.pattern i.fields.items fields f vs e m us.0 us.1 w l));
       }
+
+-- all are enough
+pub all_enough : (x : Option (List ℕ)) (p : PatternValue) (f : Fact) (ms : List Partial) → AreEnough x p f ms ms
+all_enough x p f ms = record { same = refl; fewer = omega arith; among = λ m h. h; each = λ m w h _. h }

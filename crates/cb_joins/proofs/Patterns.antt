@@ -27,12 +27,12 @@ use Rattle.cb_joins.specs.Internal.Changes.{Added, FactMoves, Holds, IsMoved, Pa
 use Rattle.cb_joins.specs.Internal.Flat.{begins}
 use Rattle.cb_joins.specs.Internal.Indexes.{HasIndex, index_fields}
 use Rattle.cb_joins.specs.Internal.Memories.{begins_with, ends_with}
-use Rattle.cb_joins.specs.Internal.Nodes.{AreJoinFields, HaveIndices, HaveParts, IsJoined, IsPlace, Shapeless, candidates_with, found_with}
+use Rattle.cb_joins.specs.Internal.Nodes.{AreEnough, AreJoinFields, HaveIndices, HaveParts, IsJoined, IsPlace, Shapeless, candidates_with, found_with}
 use Rattle.cb_joins.specs.Internal.Steps.{IsAfter, IsBefore, IsTaken, IsWith, pattern_probes}
 use Rattle.cb_joins.specs.declared.moved.Moved.{Moved}
 use Rattle.cb_joins.specs.declared.node.Place.{Place}
 use Rattle.cb_matches.specs.Keys.{PartValue}
-use Rattle.cb_matches.specs.Lemmas.Growth.{Fact, is_grown, once_next}
+use Rattle.cb_matches.specs.Lemmas.Growth.{Fact, is_grown, once_next, ways_after}
 use Rattle.cb_matches.specs.Lemmas.Indices.{in_looked, looked_in}
 use Rattle.cb_matches.specs.Lemmas.Lists.{by_test, chain_append, chain_filter, chain_weaker, filter_in, in_either, in_filter, in_left, in_right}
 use Rattle.cb_matches.specs.Lemmas.Members.{AreSame, In}
@@ -217,7 +217,7 @@ module _ {T : Type 0} (rise : WaysRise) (shapeless : Shapeless) (place : Place T
     abbrev with : Bool → IndexedFacts
     with s = if s then with_fact cs f.0 f.1 else cs
 
-    free : fact_at cs f.0 ≡ None
+    pub free : fact_at cs f.0 ≡ None
     free = free_among f fs cs candidate_in added.absent
 
     one_more : Added f cs (with_fact cs f.0 f.1)
@@ -357,7 +357,11 @@ module _ {T : Type 0} (rise : WaysRise) (shapeless : Shapeless) (place : Place T
     abbrev without : IndexedFacts
     without = without_fact cs f.0
 
-    without_rising : IsRising without
+    -- a candidate with its index is the fact
+    pub only_fact : (g : Fact) → In g cs → g.0 ≡ f.0 → g ≡ f
+    only_fact g h e = elim (added.is g (candidate_in g h)) as (λ _. g ≡ f) [ inl i ↦ absurd (added.absent g i e) | inr d ↦ d ]
+
+    pub without_rising : IsRising without
     without_rising = rising_without f.0 f.1 cs b.is_place.joined.rising
 
     without_in : (g : Fact) → In g without → In g (filter (is_candidate p) fs')
@@ -388,15 +392,15 @@ module _ {T : Type 0} (rise : WaysRise) (shapeless : Shapeless) (place : Place T
     rest_once : IsOnce rest
     rest_once = once_next rise x p without m.come.items (indices_of without without_rising) b.is_moved.come_once
 
-    -- what goes on with the fact from what is before the pattern
-    abbrev pub took_it : Partial → Bool
-    took_it z = list_any (λ l. begins_with l.parts f.0 z) before
+    -- what goes on with the fact from enough of what is before the pattern
+    abbrev pub took_it : List Partial → Partial → Bool
+    took_it ms z = list_any (λ l. begins_with l.parts f.0 z) ms
 
-    pub took_to : (z : Partial) → In z own → took_it z ≡ true → In z (next x p (f ∷ []) old)
-    took_to z h t =
+    pub took_to : (ms : List Partial) → AreEnough x p f before ms → (z : Partial) → In z own → took_it ms z ≡ true → In z (next x p (f ∷ []) old)
+    took_to ms enough z h t =
         let k = is_grown x p fs old z (b.is_own.same.0 z h) in
-        let l = some_in (λ l. begins_with l.parts f.0 z) before t in
-        let long : length k.parent.parts ≡ length l.0.parts = b.long k.parent k.parent_in ∙ sym (b.long_now l.0 (b.is_before.same.0 l.0 l.1)) in
+        let l = some_in (λ l. begins_with l.parts f.0 z) ms t in
+        let long : length k.parent.parts ≡ length l.0.parts = b.long k.parent k.parent_in ∙ sym (b.long_now l.0 (b.is_before.same.0 l.0 (enough.among l.0 l.1))) in
         let index : f.0 ≡ k.fact.0 = next_index l.0.parts f.0 z k.parent.parts (part k.fact.0 k.way.cuts) (ap (λ it. it.parts) k.is) long l.2 in
         elim (added.is k.fact k.fact_in) as (λ _. In z (next x p (f ∷ []) old)) [
           | inl i ↦ absurd (added.absent k.fact i (sym index))
@@ -406,13 +410,13 @@ module _ {T : Type 0} (rise : WaysRise) (shapeless : Shapeless) (place : Place T
     fact_own : (z : Partial) → In z (next x p (f ∷ []) old) → In z own
     fact_own z h = b.is_own.same.1 z (moved_in x p (f ∷ []) fs old old (λ g i. subst (λ it. In it fs) (sym (only_one g f i)) added.there) (λ m i. i) z h)
 
-    pub took_from : (z : Partial) → In z (next x p (f ∷ []) old) → (behind_gone z ≡ true) ⊎ (took_it z ≡ true)
-    took_from z h =
+    pub took_from : (ms : List Partial) → AreEnough x p f before ms → (z : Partial) → In z (next x p (f ∷ []) old) → (behind_gone z ≡ true) ⊎ (took_it ms z ≡ true)
+    took_from ms enough z h =
         let k = is_grown x p (f ∷ []) old z h in
         let e = only_one k.fact f k.fact_in in
-        elim (c.stays k.parent k.parent_in) as (λ _. (behind_gone z ≡ true) ⊎ (took_it z ≡ true)) [
+        elim (c.stays k.parent k.parent_in) as (λ _. (behind_gone z ≡ true) ⊎ (took_it ms z ≡ true)) [
           | inr i ↦ inl (in_some (λ g. begins g.parts z) k.parent m.gone.items i (to_begins k.parent.parts z (part k.fact.0 k.way.cuts ∷ [], ap (λ it. it.parts) k.is)))
-          | inl i ↦ inr (in_some (λ l. begins_with l.parts f.0 z) k.parent before (b.is_before.same.1 k.parent i)
+          | inl i ↦ inr (in_some (λ l. begins_with l.parts f.0 z) k.parent ms (enough.each k.parent k.way (b.is_before.same.1 k.parent i) (subst (λ it. In k.way (ways_after x p k.parent it)) e k.way_in))
               (with_index k.parent.parts f.0 z (part k.fact.0 k.way.cuts) (ap (λ it. it.parts) k.is) (ap (λ it. it.0) (sym e))))
         ]
 

@@ -109,7 +109,7 @@ pub(crate) fn partials_for<T>(
     one: &Indexed,
 ) -> Result<Option<Vec<Partial>>, NoMemory>
     ensures { IfOk result (λ found. IfSome found (λ all. IsJoined place.now before.now.keys
-        → AreEnough place.now one.now before.now.keys all.items)) }
+        → AreEnough place.now.address place.now.pattern one.now before.now.keys all.items)) }
 {
     a_fact_that_fits_has_the_values_of_variables();
     let _count = before.len();

@@ -5,7 +5,7 @@ ghost use Rattle.cb_fit.specs.Shapes.{loose};
 ghost use Rattle.cb_joins.specs.Internal.Changes.{IsMade, fact_added, facts_before};
 ghost use Rattle.cb_joins.specs.Internal.Indexes.{HasIndex, KeepsFields, index_fields};
 ghost use Rattle.cb_joins.specs.Internal.Nodes.{IsJoined, candidates_with, found_with};
-ghost use Rattle.cb_joins.specs.Internal.Steps.{IsAfter, IsBefore, pattern_probes};
+ghost use Rattle.cb_joins.specs.Internal.Steps.{IsAfter, IsBefore, IsTakenWith, pattern_probes};
 ghost use Rattle.cb_matches.specs.Matches.{Partial, next};
 ghost use Rattle.cb_partials.specs.Probes.{added_probes};
 
@@ -142,14 +142,30 @@ fn retract_place<T>(
     file_moved(setting.alloc, &mut place.index, moved)?;
     let mut gone = Vec::new(setting.alloc);
     take_behind(setting.alloc, own, moved.gone.as_slice(), &mut gone)?;
-    match partials_for(setting.alloc, place, before, one)? {
-        Some(partials) => take_with(setting.alloc, own, partials.as_slice(), one.ix, &mut gone)?,
-        None => take_fact(setting.alloc, own, before, one.ix, &mut gone)?,
-    }
+    take_joined(setting.alloc, place, before, one, own, &mut gone)?;
     unfile_fact(setting.alloc, &mut place.index, one)?;
     place.candidates.remove(&one.ix);
     let mut come = Vec::new(setting.alloc);
     join(setting, place, moved.come.as_slice(), &mut come, meter)?;
     add_all(own, come.as_slice())?;
     Ok(Moved { gone, come })
+}
+
+/// Takes what goes on with a fact out of the list behind a pattern.
+fn take_joined<T>(
+    alloc: Global,
+    place: &Place<T>,
+    before: &BTreeSet<Partial>,
+    one: &Indexed,
+    own: &mut BTreeSet<Partial>,
+    gone: &mut Vec<Partial>,
+) -> Result<(), NoMemory>
+    ensures { OnOk result (IsJoined place.now before.now.keys
+        → IsTakenWith place.now.address place.now.pattern one.now before.now.keys
+        own.old.keys own.new.keys gone.old.items gone.new.items) }
+{
+    match partials_for(alloc, place, before, one)? {
+        Some(partials) => take_with(alloc, own, partials.as_slice(), one.ix, gone),
+        None => take_fact(alloc, own, before, one.ix, gone),
+    }
 }

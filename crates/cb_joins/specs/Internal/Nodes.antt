@@ -43,6 +43,13 @@ HaveParts n ms = (m : Partial) → In m ms → length m.parts ≡ n
 abbrev pub AreJoinFields : List JoinField → Option (List ℕ) → PatternValue → Type 0
 AreJoinFields js x p = (j : JoinField) → In j js → Contains (join_fields p.parts) j × (x ≢ Some j.variable)
 
+-- these are among the partial matches before a pattern, and those that go on with the fact are among them
+pub record AreEnough (x : Option (List ℕ)) (p : PatternValue) (f : ℕ × FactValue) (ms found : List Partial) : Type 0 where
+  pub same : next x p (f ∷ []) found ≡ next x p (f ∷ []) ms
+  pub fewer : length found ≤ length ms
+  pub among : (m : Partial) → In m found → In m ms
+  pub each : (m : Partial) (w : WayValue) → In m ms → In w (ways p f.1 (with_address x f.0 m.env)) → In m found
+
 -- the lists of partial matches of a branch
 abbrev pub branch_lists : List FlatNode → IndexedFacts → Lists
 branch_lists ns fs = lists_of ns fs (no_parts ∷ [])
@@ -70,13 +77,6 @@ module _ {T : Type 0} where
   pub record AreFound (place : Place T) (m : Partial) (found : IndexedFacts) : Type 0 where
     pub same : flat_map (extended place.address place.pattern m) found ≡ flat_map (extended place.address place.pattern m) place.candidates.entries
     pub fewer : length found ≤ length place.candidates.entries
-
-  -- these are partial matches before the pattern, and those that go on with the fact are among them
-  pub record AreEnough (place : Place T) (f : ℕ × FactValue) (ms found : List Partial) : Type 0 where
-    pub same : next place.address place.pattern (f ∷ []) found ≡ next place.address place.pattern (f ∷ []) ms
-    pub fewer : length found ≤ length ms
-    pub among : (m : Partial) → In m found → In m ms
-    pub each : (m : Partial) (w : WayValue) → In m ms → In w (ways place.pattern f.1 (with_address place.address f.0 m.env)) → In m found
 
   -- what is kept at a node for its facts, where these are the lists
   abbrev pub IsReady : IndexedFacts → Lists → Node T → Type 0

@@ -7,7 +7,8 @@ use Rattle.cb_facts.specs.FactLists.{IndexedFacts}
 use Rattle.cb_facts.specs.Facts.{FactValue}
 use Rattle.cb_joins.specs.Internal.Changes.{Holds, IsMoved}
 use Rattle.cb_joins.specs.Internal.Flat.{FlatNode, joining, testing, grouping, Lists, begins, flat_node, holds_by, node_list}
-use Rattle.cb_joins.specs.Internal.Nodes.{HaveParts, IsPlace, IsReady}
+use Rattle.cb_joins.specs.Internal.Memories.{begins_with, ends_with}
+use Rattle.cb_joins.specs.Internal.Nodes.{AreEnough, HaveParts, IsPlace, IsReady}
 use Rattle.cb_joins.specs.declared.moved.Moved.{Moved}
 use Rattle.cb_joins.specs.declared.node.Node.{Node}
 use Rattle.cb_joins.specs.declared.node.Place.{Place}
@@ -24,6 +25,12 @@ pub record IsTaken (test : Partial → Bool) (list list' gone gone' : List Parti
   pub taken : (z : Partial) → In z list → test z ≡ true → In z gone'
   pub only : (z : Partial) → In z gone' → In z gone ⊎ (In z list × (test z ≡ true))
   pub once : IsOnce list → IsOnce gone → ((z y : Partial) → In z gone → In y list → z.parts ≢ y.parts) → IsOnce gone'
+
+-- what goes on with a fact from the partial matches before a pattern is taken out of the list behind it, or all that ends with it
+abbrev pub IsTakenWith : Option (List ℕ) → PatternValue → ℕ × FactValue → List Partial → List Partial → List Partial → List Partial → List Partial → Type 0
+IsTakenWith x p f before list list' gone gone' =
+    ((ms : List Partial) × AreEnough x p f before ms × IsTaken (λ z. list_any (λ m. begins_with m.parts f.0 z) ms) list list' gone gone')
+    ⊎ IsTaken (λ z. list_any (λ m. begins m.parts z) (filter (ends_with f.0) list)) list list' gone gone'
 
 -- these are added to a list, each unless one with its parts is there
 pub record IsWith (list more list' : List Partial) : Type 0 where
