@@ -20,6 +20,7 @@ use cb_fit::Meter;
 use cb_fit::laws::{no_shape_gives_no_ways, the_ways_rise_by_their_cuts};
 use cb_forms::NoMemory;
 use cb_partials::{Partial, Setting};
+use std::alloc::Global;
 use std::collections::BTreeSet;
 
 /// Changes the facts of a pattern. `before` is the list that it goes on from, as it is after the change, and `moved` what went from
