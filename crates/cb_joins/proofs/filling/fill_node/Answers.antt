@@ -16,7 +16,7 @@ returns-in_ok-partials-in-Group-clause-found g c =
     let below : (from < length lists) × (inner < length lists) =
     (let h = subst (λ n. NamesListsBelow (length lists) (flat_node n)) c.in-Group.is c.requires.below in (h.0, h.1)) in
     let from_is : c.in_ok-partials-in-Group.partials.items ≡ keys_at lists from =
-    c.in_ok-partials-in-Group.ensures ∙ sym (keys_got lists from c.index-lists-from-in-Group.result below.0 ∙ ap (λ it. it.keys) (sym c.index-lists-from-in-Group.is)) in
+    c.in_ok-partials-in-Group.ensures.items ∙ sym (keys_got lists from c.index-lists-from-in-Group.result below.0 ∙ ap (λ it. it.keys) (sym c.index-lists-from-in-Group.is)) in
     let inner_is : c.index-lists-inner.result.keys ≡ keys_at lists inner =
     sym (keys_got lists inner c.index-lists-inner.result below.1 ∙ ap (λ it. it.keys) (sym c.index-lists-inner.is)) in
     subst (λ it. IfOk c.fill_group.result (λ all. all.items ≡ it))

@@ -74,7 +74,7 @@ pub returns-clause-ready : goal.returns-clause-ready
 returns-clause-ready g c k d l =
     let fs : IndexedFacts = c.args.setting.now.facts.now in
     let inv = c.loop-node.invariant in
-    subst (λ it. IsReady fs (branch_lists it fs) (get_or c.loop-node.nodes k d)) (sym inv.stay) (inv.done k d (let i = c.loop-node.node-index in omega arith))
+    subst (λ it. IsReady fs (branch_lists it fs) (get_or c.loop-node.nodes k d)) (sym inv.stay) (inv.done k d (omega (arith, l)))
 
 pub returns-clause-kept : goal.returns-clause-kept
 returns-clause-kept g c =
