@@ -10,7 +10,7 @@ use std::alloc::Global;
 
 const RELATIONS: [u8; 3] = [b'a', b'b', b'c'];
 
-const NUMBERS: [&[i64]; 3] = [&[1], &[2], &[3]];
+const NUMBERS: [&[i64]; 6] = [&[1], &[2], &[3], &[1, 1], &[1, 2], &[2, 1]];
 
 /// How many changes there are for each rule.
 const CHANGES: u64 = 200;
@@ -25,12 +25,12 @@ fn next(state: u64) -> u64 {
 /// The change that a state of the generator stands for. Of three changes two add a fact, under one of twelve indices.
 fn change_of(state: u64) -> Change {
     let drawn = state >> 33;
-    let ix = drawn / 27 % 12 + 1;
+    let ix = drawn / 54 % 12 + 1;
     if drawn % 3 == 0 {
         return Change::Retract(ix);
     }
     let relation = RELATIONS[(drawn / 3 % 3) as usize];
-    let numbers = NUMBERS[(drawn / 9 % 3) as usize];
+    let numbers = NUMBERS[(drawn / 9 % 6) as usize];
     Change::Assert(ix, relation, numbers)
 }
 

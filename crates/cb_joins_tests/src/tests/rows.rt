@@ -58,7 +58,27 @@ const A_ANY: Asked = Asked {
     fields: &[Field::Any],
 };
 
-pub(crate) const ROWS: [Row; 11] = [
+const C_Y_X: Asked = Asked {
+    relation: b'c',
+    fields: &[Field::Is(b'y'), Field::Is(b'x')],
+};
+
+const C_X_Y: Asked = Asked {
+    relation: b'c',
+    fields: &[Field::Is(b'x'), Field::Is(b'y')],
+};
+
+const B_X_REST: Asked = Asked {
+    relation: b'b',
+    fields: &[Field::Is(b'x'), Field::Rest],
+};
+
+const B_REST_Y: Asked = Asked {
+    relation: b'b',
+    fields: &[Field::Rest, Field::Is(b'y')],
+};
+
+pub(crate) const ROWS: [Row; 14] = [
     // (a ?x) (b ?x): the second pattern first, and then a fact that nothing goes with
     Row {
         story: Story {
@@ -239,6 +259,56 @@ pub(crate) const ROWS: [Row; 11] = [
             ],
         },
         keys: 3,
+    },
+    // (b ?x ?y) (c ?y ?x): two variables, in another order
+    Row {
+        story: Story {
+            first: &[],
+            branches: &[&[Element::Pattern(B_X_Y), Element::Pattern(C_Y_X)]],
+            then: &[
+                Change::Assert(1, b'b', &[1, 2]),
+                Change::Assert(2, b'c', &[2, 1]),
+                Change::Assert(3, b'c', &[1, 2]),
+                Change::Assert(4, b'b', &[2, 1]),
+                Change::Retract(2),
+            ],
+        },
+        keys: 3,
+    },
+    // (b ?x $?) (c ?x) (b $? ?y) (c ?y): a variable before a segment, and one after it
+    Row {
+        story: Story {
+            first: &[],
+            branches: &[&[
+                Element::Pattern(B_X_REST),
+                Element::Pattern(C_X),
+                Element::Pattern(B_REST_Y),
+                Element::Pattern(C_Y),
+            ]],
+            then: &[
+                Change::Assert(1, b'b', &[1, 2]),
+                Change::Assert(2, b'c', &[1]),
+                Change::Assert(3, b'c', &[2]),
+                Change::Assert(4, b'b', &[2]),
+                Change::Retract(2),
+            ],
+        },
+        keys: 6,
+    },
+    // (b ?x ?y) (not (c ?x ?y)): two variables in a group
+    Row {
+        story: Story {
+            first: &[],
+            branches: &[&[Element::Pattern(B_X_Y), Element::Group(false, &[C_X_Y])]],
+            then: &[
+                Change::Assert(1, b'b', &[1, 2]),
+                Change::Assert(2, b'c', &[1, 2]),
+                Change::Assert(3, b'c', &[1, 1]),
+                Change::Assert(4, b'b', &[2, 2]),
+                Change::Retract(2),
+            ],
+        },
+        keys: 4,
     },
 ];
 
