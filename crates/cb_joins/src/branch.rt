@@ -105,33 +105,6 @@ pub(crate) fn change_branch<T>(
     if !nodes_ask_for(branch.nodes.as_slice(), change.relation()) {
         return Ok(());
     }
-    change_lists(setting, rule, number, branch, change, delta, meter)
-}
-
-/// The same where a pattern is for the fact.
-fn change_lists<T>(
-    setting: &Setting<'_>,
-    rule: u64,
-    number: u64,
-    branch: &mut Branch<T>,
-    change: &FactChange,
-    delta: &mut Delta,
-    meter: &mut Meter<T>,
-) -> Result<(), NoMemory>
-    requires base { IsFactBase setting.now.facts.now }
-    requires made { IsMade change.now setting.now.facts.now }
-    requires branch { IsBranch (facts_before change.now setting.now.facts.now) branch.old }
-    ensures elements { OnOk result (branch_elements branch.new ≡ branch_elements branch.old) }
-    ensures branch { OnOk result (IsBranch setting.now.facts.now branch.new) }
-    ensures delta { OnOk result (Tells delta.old delta.new
-        (keys_in_branch rule number (branch_elements branch.old)
-        (facts_before change.now setting.now.facts.now))
-        (keys_in_branch rule number (branch_elements branch.old) setting.now.facts.now)) }
-    ensures probes { OnOk result (meter.new ≤ meter.old + branch_probes (fact_added change.now)
-        (facts_before change.now setting.now.facts.now) setting.now.facts.now
-        (branch_elements branch.old)) }
-{
-    the_ways_rise_by_their_cuts();
     let moved = change_nodes(
         setting,
         branch.nodes.as_mut_slice(),

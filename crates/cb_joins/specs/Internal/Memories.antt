@@ -32,14 +32,14 @@ pub record IsAdded (old : List Partial) (m : Partial) (new : List Partial) : Typ
   pub added : ((z : Partial) → In z old → z.parts ≢ m.parts) → In m new
 
 -- the first that passes the test was taken out, if one did
-pub record IsTaken (test : Partial → Bool) (old : List Partial) (m : Partial) (new : List Partial) : Type 0 where
+pub record IsFirstOf (test : Partial → Bool) (old : List Partial) (m : Partial) (new : List Partial) : Type 0 where
   pub taken : filter test old ≡ m ∷ filter test new
   pub others : filter (λ z. not (test z)) new ≡ filter (λ z. not (test z)) old
   pub fewer : length new < length old
 
 abbrev pub IsFirstTaken : (Partial → Bool) → List Partial → Option Partial → List Partial → Type 0
 IsFirstTaken test old None new = (filter test old ≡ []) × (new ≡ old)
-IsFirstTaken test old (Some m) new = IsTaken test old m new
+IsFirstTaken test old (Some m) new = IsFirstOf test old m new
 
 -- the one of these with these parts
 abbrev pub IsFound : List PartValue → List Partial → Option Partial → Type 0
