@@ -1,31 +1,30 @@
 -- Facts and partial matches whose values differ go on in no way.
-use Rattle.std.proofs.Common.{◌≡◌, ◌≢◌, ◌≤◌, ◌∙◌, ◌&&◌, ℕ, suc, Bool, true, false, List, [], ◌∷◌, ◌++◌, Option, Some, None, ap, ap₂, arith, cond, filter, inl, inr, length, map, option_map, refl, subst, sym}
+use Rattle.std.proofs.Common.{◌≡◌, ◌≢◌, ◌≤◌, ◌∙◌, ◌&&◌, ℕ, suc, Bool, true, false, List, [], ◌∷◌, ◌++◌, Option, Some, None, ap, ap₂, arith, cond, filter, inl, inr, length, map, refl, subst, sym}
 use Rattle.std.specs.Cmp.Lexicographic.{bytes_decides, pointwise}
 use Rattle.std.specs.List.{flat_map}
 use Rattle.std.specs.List.Sorted.{IsStrictlySortedBy}
-use Rattle.std.specs.Option.{option_and_then, option_map_or}
 use Rattle.std.specs.Str.{bytes_eq}
 use Rattle.cb_constraints.specs.PatternValues.{PatternValue}
 use Rattle.cb_exprs.specs.Bindings.{Bindings, value_at}
 use Rattle.cb_exprs.specs.contracts.cited.LawsCited.TheImpl as exprs_laws
 use Rattle.cb_facts.specs.FactLists.{IndexedFacts}
-use Rattle.cb_facts.specs.Facts.{FactContent}
 use Rattle.cb_facts.specs.contracts.cited.LawsCited.TheImpl as facts_laws
 use Rattle.cb_facts.specs.declared.value.Value.{Value}
 use Rattle.cb_facts.specs.declared.value.Value.TheVariants as value
-use Rattle.cb_fit.specs.JoinFields.{value_in}
-use Rattle.cb_fit.specs.Ways.{WayValue, ways}
+use Rattle.cb_fit.specs.Ways.{WayValue}
 use Rattle.cb_fit.specs.declared.join_fields.JoinField.{JoinField}
 use Rattle.cb_functions.specs.Comparison.{same}
 use Rattle.cb_joins.proofs.Beginnings.{true_false}
+use Rattle.cb_joins.specs.Internal.Changes.{IsMoved}
 use Rattle.cb_joins.specs.Internal.Indexes.{HasIndex, IsIndex, KeepsFields, are_values, binds_values, field_values, has_values, index_fields, variable_values, with_first}
 use Rattle.cb_joins.specs.Internal.Nodes.{AreEnough, AreFound, AreJoinFields, FieldsAgree, IsJoined}
 use Rattle.cb_joins.specs.declared.index.Index.{Index}
+use Rattle.cb_joins.specs.declared.moved.Moved.{Moved}
 use Rattle.cb_joins.specs.declared.node.Place.{Place}
 use Rattle.cb_matches.specs.Lemmas.Growth.{Fact, ways_after}
 use Rattle.cb_matches.specs.Lemmas.Lists.{by_test, filter_in, in_contains, in_filter}
 use Rattle.cb_matches.specs.Lemmas.Members.{AreSame, In}
-use Rattle.cb_matches.specs.Lemmas.Order.{IsRising}
+use Rattle.cb_matches.specs.Lemmas.Order.{IsOnce, IsRising}
 use Rattle.cb_matches.specs.Matches.{Partial, extended, grown, next, with_address}
 use Rattle.cb_partials.specs.Partials.{partial_cmp}
 
@@ -195,6 +194,20 @@ module _ {T : Type 0} (agree : FieldsAgree) (place : Place T) (ms : List Partial
             let us = have m k in
             subst (In m) (sym found_is) (filter_in (binds_values i.fields.items vs) m ms k (bound_enough agree place.address place.pattern i.fields.items fields f vs e m us.0 us.1 w l));
       }
+
+module _ {T : Type 0} (place : Place T) where
+  -- after what moved before the pattern
+  pub joined_moved : (i : Option Index) (old new : List Partial) (m : Moved) → IsJoined place old → IsOnce old → IsMoved old new m → KeepsFields (index_fields place.index) i
+      → ((cs : IndexedFacts) (was are : List Partial) → HasIndex place.index cs was → IsOnce was → IsMoved was are m → HasIndex i cs are) → IsJoined (record place { index = i }) new
+  joined_moved i old new m is once moved keeps filed = record {
+    rising = is.rising;
+    fields = still_join_fields place.address place.pattern (index_fields place.index) i keeps is.fields;
+    index = filed place.candidates.entries old new is.index once moved;
+  }
+
+  -- and for the same partial matches in any order
+  pub joined_alike : (ms ns : List Partial) → AreSame ms ns → IsJoined place ms → IsJoined place ns
+  joined_alike ms ns same is = record { rising = is.rising; fields = is.fields; index = index_alike place.index place.candidates.entries ms ns same is.index }
 
 -- all are enough
 pub all_enough : (x : Option (List ℕ)) (p : PatternValue) (f : Fact) (ms : List Partial) → AreEnough x p f ms ms

@@ -1,5 +1,5 @@
 -- What one change does at a pattern, and behind it.
-use Rattle.std.proofs.Common.{◌≡◌, ◌≢◌, ◌≤◌, ℕ, suc, ◌+◌, ◌-◌, ◌*◌, ◌<◌, ◌&&◌, not, Bool, true, false, List, [], ◌∷◌, ◌++◌, Option, Some, None, ◌⊎◌, filter, length, nat_eq, slice_get, inl, inr, refl, sym, ◌∙◌, ap, ap₂, subst, cond, arith, if◌then◌else◌}
+use Rattle.std.proofs.Common.{◌≡◌, ◌≢◌, ◌≤◌, ℕ, suc, ◌+◌, ◌-◌, ◌*◌, ◌<◌, not, Bool, true, false, List, [], ◌∷◌, ◌++◌, Option, Some, None, ◌⊎◌, filter, length, nat_eq, slice_get, inl, inr, refl, sym, ◌∙◌, ap, ap₂, subst, cond, arith, if◌then◌else◌}
 use Rattle.std.proofs.lemmas.Bool.{cases_order, eq-eqb, eqb-true}
 use Rattle.std.proofs.Math.Nat.{mul-suc}
 use Rattle.std.specs.BTreeMap.{is_at}
@@ -17,24 +17,24 @@ use Rattle.cb_facts.specs.Facts.{FactValue}
 use Rattle.cb_fit.specs.Shapes.{has_way, loose}
 use Rattle.cb_fit.specs.Ways.{WayValue, ways}
 use Rattle.cb_joins.proofs.Beginnings.{begins_to, in_some, some_in, to_begins, true_false}
-use Rattle.cb_joins.proofs.Origins.{Begins, same_begin}
+use Rattle.cb_joins.proofs.Origins.{same_begin}
 use Rattle.cb_joins.proofs.Counts.{as_long, same_length}
 use Rattle.cb_joins.proofs.Deltas.{any_parts, parts_any}
 use Rattle.cb_joins.proofs.Facts.{added_fact, indices_of, left_in, looked, none_of_some, put, rising_with, rising_without}
 use Rattle.cb_joins.proofs.Moves.{behind, fact_more, first_leaves, held_after, leaves_apart, Leaves, place_moves, second_leaves, swapped}
 use Rattle.cb_joins.proofs.Steps.{and_both, and_second, moved as moved_in, not_true, regrown, same_parents}
-use Rattle.cb_joins.specs.Internal.Changes.{Added, FactMoves, Holds, IsMoved, PartialMoves, index_of_fact}
+use Rattle.cb_joins.specs.Internal.Changes.{Added, Holds, IsMoved, PartialMoves, index_of_fact}
 use Rattle.cb_joins.specs.Internal.Flat.{begins}
 use Rattle.cb_joins.specs.Internal.Indexes.{HasIndex, index_fields}
 use Rattle.cb_joins.specs.Internal.Memories.{begins_with, ends_with}
-use Rattle.cb_joins.specs.Internal.Nodes.{AreEnough, AreJoinFields, HaveIndices, HaveParts, IsJoined, IsPlace, Shapeless, candidates_with, found_with}
+use Rattle.cb_joins.specs.Internal.Nodes.{AreEnough, AreJoinFields, IsJoined, Shapeless, candidates_with}
 use Rattle.cb_joins.specs.Internal.Steps.{IsAfter, IsBefore, IsTaken, IsWith, pattern_probes}
 use Rattle.cb_joins.specs.declared.moved.Moved.{Moved}
 use Rattle.cb_joins.specs.declared.node.Place.{Place}
 use Rattle.cb_matches.specs.Keys.{PartValue}
 use Rattle.cb_matches.specs.Lemmas.Growth.{Fact, is_grown, once_next, ways_after}
-use Rattle.cb_matches.specs.Lemmas.Indices.{in_looked, looked_in}
-use Rattle.cb_matches.specs.Lemmas.Lists.{by_test, chain_append, chain_filter, chain_weaker, filter_in, in_either, in_filter, in_left, in_right}
+use Rattle.cb_matches.specs.Lemmas.Indices.{looked_in}
+use Rattle.cb_matches.specs.Lemmas.Lists.{by_test, chain_append, chain_filter, filter_in, in_either, in_filter, in_left, in_right}
 use Rattle.cb_matches.specs.Lemmas.Members.{AreSame, In}
 use Rattle.cb_matches.specs.Lemmas.Order.{IsApart, IsOnce, IsRising, WaysRise}
 use Rattle.cb_matches.specs.Lemmas.Parts.{part}

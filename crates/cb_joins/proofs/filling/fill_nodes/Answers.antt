@@ -13,7 +13,7 @@ use Rattle.cb_joins.proofs.Networks.{done_more, left_more}
 use Rattle.cb_joins.proofs.OneMore.{stay_mapped}
 use Rattle.cb_joins.proofs.filling.fill_nodes.Goals as goal
 use Rattle.cb_joins.specs.Internal.Flat.{FlatNode, flat_node, flat_nodes, node_list}
-use Rattle.cb_joins.specs.Internal.Nodes.{AreReady, IsPrepared, IsReady, branch_lists}
+use Rattle.cb_joins.specs.Internal.Nodes.{IsPrepared, IsReady, branch_lists}
 use Rattle.cb_joins.specs.Internal.Rules.{keys_at}
 use Rattle.cb_joins.specs.Internal.Steps.{NamesListsBelow}
 use Rattle.cb_matches.specs.Lemmas.Lists.{chain_from_pairs}

@@ -1,4 +1,4 @@
-use Rattle.std.proofs.Common.{◌≡◌, ◌∙◌, Some, ap, filter, rules, subst, sym}
+use Rattle.std.proofs.Common.{◌≡◌, ◌∙◌, Some, ap, filter, rules}
 use Rattle.cb_joins.proofs.Joined.{found_for}
 use Rattle.cb_joins.proofs.Results.{if_ok}
 use Rattle.cb_joins.specs.Internal.Indexes.{has_values, variable_values}

@@ -1,4 +1,4 @@
-use Rattle.std.proofs.Common.{◌≡◌, ◌≤◌, ◌∙◌, ◌∷◌, ◌++◌, ◌+◌, [], IfSome, ap, arith, length, rules, subst, sym}
+use Rattle.std.proofs.Common.{◌≡◌, ◌≤◌, ◌∙◌, ◌∷◌, ◌++◌, ◌+◌, [], IfSome, ap, arith, length, rules, subst}
 use Rattle.cb_joins.proofs.Results.{on_ok}
 use Rattle.cb_joins.specs.Internal.Nodes.{AreEnough, IsJoined}
 use Rattle.cb_matches.specs.Matches.{next}

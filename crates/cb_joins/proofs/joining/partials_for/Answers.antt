@@ -1,4 +1,4 @@
-use Rattle.std.proofs.Common.{◌≡◌, ◌∙◌, Some, ap, filter, rules, subst, sym}
+use Rattle.std.proofs.Common.{◌≡◌, ◌∙◌, Some, ap, filter, rules, subst}
 use Rattle.cb_joins.proofs.Joined.{enough_for}
 use Rattle.cb_joins.specs.Internal.Indexes.{binds_values, field_values}
 use Rattle.cb_joins.proofs.joining.partials_for.Goals as goal

@@ -6,12 +6,12 @@ use Rattle.std.specs.declared.cmp.Ordering.TheVariants.{Less}
 use Rattle.cb_facts.specs.FactLists.{IndexedFacts, fact_at, without_fact}
 use Rattle.cb_fit.specs.Ways.{WayValue, ways}
 use Rattle.cb_joins.proofs.Facts.{rising_base, taken_fact}
-use Rattle.cb_joins.proofs.Joined.{index_alike, still_join_fields}
+use Rattle.cb_joins.proofs.Joined.{joined_alike, joined_moved, still_join_fields}
 use Rattle.cb_joins.proofs.Patterns.{added_bound, added_now, free}
 use Rattle.cb_joins.specs.Internal.Changes.{Added}
 use Rattle.cb_joins.specs.Internal.Flat.{begins}
-use Rattle.cb_joins.specs.Internal.Indexes.{HasIndex, index_fields}
-use Rattle.cb_joins.specs.Internal.Nodes.{AreJoinFields, IsJoined, found_with}
+use Rattle.cb_joins.specs.Internal.Indexes.{index_fields}
+use Rattle.cb_joins.specs.Internal.Nodes.{IsJoined, found_with}
 use Rattle.cb_joins.specs.declared.node.Place.{Place}
 use Rattle.cb_joins.specs.Internal.Steps.{IsTaken, IsWith}
 use Rattle.cb_matches.specs.Lemmas.Lists.{chain_from_pairs}
@@ -39,23 +39,17 @@ returns-clause-after g c n old new b =
     subst (λ it. IsTaken (λ z. list_any (λ m. begins m.parts z) lost) own left it out) c.new-gone.ensures.items
     (subst (λ it. IsTaken (λ z. list_any (λ m. begins m.parts z) it) own left c.new-gone.result.items out) s1 c.in_ok-take_behind.ensures) in
     let found = c.in_ok-come.ensures in
-    let place : Place g.row.T.Denot = record { address = c.args.place.now.address; pattern = c.args.place.now.pattern; loose = c.args.place.now.loose; candidates = c.args.place.now.candidates; index = c.file_moved.new.index } in
+    let place : Place g.row.T.Denot = record c.args.place.now { index = c.file_moved.new.index } in
     let moved = c.in_ok-file_moved.ensures in
-    let index : HasIndex place.index place.candidates.entries new = moved.index place.candidates.entries old new b.is_place.joined.index b.once b.is_moved in
-    let fields : AreJoinFields (index_fields place.index) place.address place.pattern =
-    still_join_fields place.address place.pattern (index_fields c.args.place.now.index) place.index moved.fields b.is_place.joined.fields in
-    let joined : IsJoined place c.args.before.now.keys = record {
-      rising = b.is_place.joined.rising;
-      fields = fields;
-      index = index_alike place.index place.candidates.entries new c.args.before.now.keys (b.is_before.same.1, b.is_before.same.0) index;
-    } in
+    let now : IsJoined place new = joined_moved c.args.place.now place.index old new c.args.moved.now b.is_place.joined b.once b.is_moved moved.fields moved.index in
+    let joined : IsJoined place c.args.before.now.keys = joined_alike place new c.args.before.now.keys (b.is_before.same.1, b.is_before.same.0) now in
     let absent : fact_at place.candidates.entries f.0 ≡ None = free rise c.no_shape_gives_no_ways.ensures c.args.place.now n (without_fact fs' f.0) old new c.args.before.now.keys own c.args.moved.now b f fs' added rising in
     let come_is : c.in_ok-come.come.items ≡ found_with c.args.place.now f came c.args.before.now.keys =
     found.come b.is_place.is_loose joined ∙ ap (λ it. found_with place f it c.args.before.now.keys) s2 in
     added_now rise c.no_shape_gives_no_ways.ensures c.args.place.now n (without_fact fs' f.0) old new c.args.before.now.keys own c.args.moved.now b f fs' added rising
     c.find_with.new.place found.address found.pattern found.loose (found.candidates b.is_place.is_loose)
-    (still_join_fields place.address place.pattern (index_fields place.index) c.find_with.new.place.index found.fields fields)
-    (found.index b.is_place.is_loose absent new index)
+    (still_join_fields place.address place.pattern (index_fields place.index) c.find_with.new.place.index found.fields now.fields)
+    (found.index b.is_place.is_loose absent new now.index)
     (record { gone = c.take_behind.new.gone; come = c.in_ok-come.come }) left c.add_all.new.list.keys taken come_is
     (subst (λ it. IsWith left it c.add_all.new.list.keys) s3 c.in_ok-add_all.ensures)
 
@@ -68,14 +62,10 @@ returns-clause-probes g c n old new b =
     let rise : WaysRise = λ p f b. chain_from_pairs (λ (v : WayValue) (w : WayValue). slice_cmp nat_cmp v.cuts w.cuts ≡ Less) (ways p f b) (c.the_ways_rise_by_their_cuts.ensures p f b) in
     let came : List Partial = c.args.moved.now.come.items in
     let s2 : c.as_slice-2.result.now ≡ came = search rules in
-    let place : Place g.row.T.Denot = record { address = c.args.place.now.address; pattern = c.args.place.now.pattern; loose = c.args.place.now.loose; candidates = c.args.place.now.candidates; index = c.file_moved.new.index } in
+    let place : Place g.row.T.Denot = record c.args.place.now { index = c.file_moved.new.index } in
     let moved = c.in_ok-file_moved.ensures in
-    let joined : IsJoined place c.args.before.now.keys = record {
-      rising = b.is_place.joined.rising;
-      fields = still_join_fields place.address place.pattern (index_fields c.args.place.now.index) place.index moved.fields b.is_place.joined.fields;
-      index = index_alike place.index place.candidates.entries new c.args.before.now.keys (b.is_before.same.1, b.is_before.same.0)
-          (moved.index place.candidates.entries old new b.is_place.joined.index b.once b.is_moved);
-    } in
+    let joined : IsJoined place c.args.before.now.keys = joined_alike place new c.args.before.now.keys (b.is_before.same.1, b.is_before.same.0)
+    (joined_moved c.args.place.now place.index old new c.args.moved.now b.is_place.joined b.once b.is_moved moved.fields moved.index) in
     added_bound rise c.no_shape_gives_no_ways.ensures c.args.place.now n (without_fact fs' f.0) old new c.args.before.now.keys c.args.own.now.keys c.args.moved.now b f fs' added rising
     c.args.meter.now c.find_with.new.meter
     (subst (λ it. c.find_with.new.meter ≤ c.args.meter.now + (length it * length c.args.place.now.candidates.entries + added_probes c.args.place.now.pattern (Some f.1) (length c.args.before.now.keys))) s2

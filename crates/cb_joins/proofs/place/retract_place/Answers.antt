@@ -1,4 +1,4 @@
-use Rattle.std.proofs.Common.{◌≡◌, ◌≤◌, ◌+◌, ◌*◌, ◌++◌, ◌∙◌, [], List, ◌⊎◌, Bool, ap, filter, inl, inr, length, refl, rules, subst, sym}
+use Rattle.std.proofs.Common.{◌≡◌, ◌≤◌, ◌+◌, ◌*◌, ◌++◌, ◌∙◌, [], List, ap, filter, inl, inr, length, refl, rules, subst, sym}
 use Rattle.std.specs.Cmp.Lexicographic.{slice_cmp}
 use Rattle.std.specs.List.{list_any}
 use Rattle.std.specs.Ordering.{nat_cmp}
@@ -6,7 +6,7 @@ use Rattle.std.specs.declared.cmp.Ordering.TheVariants.{Less}
 use Rattle.cb_facts.specs.FactLists.{IndexedFacts, with_fact, without_fact}
 use Rattle.cb_fit.specs.Ways.{WayValue, ways}
 use Rattle.cb_joins.proofs.Facts.{added_fact, rising_base}
-use Rattle.cb_joins.proofs.Joined.{index_alike, still_join_fields}
+use Rattle.cb_joins.proofs.Joined.{joined_alike, joined_moved, still_join_fields}
 use Rattle.cb_joins.proofs.Moves.{first_leaves}
 use Rattle.cb_joins.proofs.Patterns.{ended_from, ended_to, only_fact, taken_bound, taken_now, took_from, took_to, without_rising}
 use Rattle.cb_joins.specs.Internal.Changes.{Added}
@@ -40,12 +40,12 @@ returns-clause-after g c n old new b =
     let i2 = c.unfile_fact.new.index in
     let moved = c.in_ok-file_moved.ensures in
     let unfiled = c.in_ok-unfile_fact.ensures in
-    let index1 : HasIndex i1 cs new = moved.index cs old new b.is_place.joined.index b.once b.is_moved in
-    let fields1 : AreJoinFields (index_fields i1) x p = still_join_fields x p (index_fields c.args.place.now.index) i1 moved.fields b.is_place.joined.fields in
-    let fields2 : AreJoinFields (index_fields i2) x p = still_join_fields x p (index_fields i1) i2 unfiled.fields fields1 in
+    let place1 : Place g.row.T.Denot = record c.args.place.now { index = i1 } in
+    let joined1 : IsJoined place1 new = joined_moved c.args.place.now i1 old new c.args.moved.now b.is_place.joined b.once b.is_moved moved.fields moved.index in
+    let fields2 : AreJoinFields (index_fields i2) x p = still_join_fields x p (index_fields i1) i2 unfiled.fields joined1.fields in
     let alone = only_fact rise c.no_shape_gives_no_ways.ensures c.args.place.now n (with_fact fs' f.0 f.1) old new before c.args.own.now.keys c.args.moved.now b f fs' added rising in
-    let index2 : HasIndex i2 c.remove.new.self.entries new = subst (λ it. HasIndex i2 it new) (sym candidates) (unfiled.index cs new index1 b.is_place.joined.rising alone) in
-    let place2 : Place g.row.T.Denot = record { address = x; pattern = p; loose = c.args.place.now.loose; candidates = c.remove.new.self; index = i2 } in
+    let index2 : HasIndex i2 c.remove.new.self.entries new = subst (λ it. HasIndex i2 it new) (sym candidates) (unfiled.index cs new joined1.index joined1.rising alone) in
+    let place2 : Place g.row.T.Denot = record c.args.place.now { candidates = c.remove.new.self; index = i2 } in
     let still_rising : IsRising c.remove.new.self.entries = subst IsRising (sym candidates) (without_rising rise c.no_shape_gives_no_ways.ensures c.args.place.now n (with_fact fs' f.0 f.1) old new before c.args.own.now.keys c.args.moved.now b f fs' added rising) in
     let joined2 : IsJoined place2 new = record { rising = still_rising; fields = fields2; index = index2 } in
     let lost : List Partial = c.args.moved.now.gone.items in
@@ -59,9 +59,7 @@ returns-clause-after g c n old new b =
     (subst (λ it. IsTaken (λ z. list_any (λ m. begins m.parts z) it) own first c.new-gone.result.items out1) s1 c.in_ok-take_behind.ensures) in
     let left = c.take_joined.new.own.keys in
     let out = c.take_joined.new.gone.items in
-    let place1 : Place g.row.T.Denot = record { address = x; pattern = p; loose = c.args.place.now.loose; candidates = c.args.place.now.candidates; index = i1 } in
-    let joined1 : IsJoined place1 before = record { rising = b.is_place.joined.rising; fields = fields1; index = index_alike i1 cs new before (b.is_before.same.1, b.is_before.same.0) index1 } in
-    let taken : IsTakenWith x p f before first left out1 out = c.in_ok-take_joined.ensures joined1 in
+    let taken : IsTakenWith x p f before first left out1 out = c.in_ok-take_joined.ensures (joined_alike place1 new before (b.is_before.same.1, b.is_before.same.0) joined1) in
     let among = (first_leaves (λ z. list_any (λ m. begins m.parts z) lost) own first out1 taken1).left_own in
     let come_is : c.join.new.found.items ≡ next x p (without_fact cs f.0) came =
     c.in_ok-join.ensures.found new joined2 ∙ (ap (λ it. it ++ next x p c.remove.new.self.entries c.as_slice-2.result.now) c.new-come.ensures.items
@@ -93,12 +91,12 @@ returns-clause-probes g c n old new b =
     let i2 = c.unfile_fact.new.index in
     let moved = c.in_ok-file_moved.ensures in
     let unfiled = c.in_ok-unfile_fact.ensures in
-    let index1 : HasIndex i1 cs new = moved.index cs old new b.is_place.joined.index b.once b.is_moved in
-    let fields1 : AreJoinFields (index_fields i1) x p = still_join_fields x p (index_fields c.args.place.now.index) i1 moved.fields b.is_place.joined.fields in
-    let fields2 : AreJoinFields (index_fields i2) x p = still_join_fields x p (index_fields i1) i2 unfiled.fields fields1 in
+    let place1 : Place g.row.T.Denot = record c.args.place.now { index = i1 } in
+    let joined1 : IsJoined place1 new = joined_moved c.args.place.now i1 old new c.args.moved.now b.is_place.joined b.once b.is_moved moved.fields moved.index in
+    let fields2 : AreJoinFields (index_fields i2) x p = still_join_fields x p (index_fields i1) i2 unfiled.fields joined1.fields in
     let alone = only_fact rise c.no_shape_gives_no_ways.ensures c.args.place.now n (with_fact fs' f.0 f.1) old new before c.args.own.now.keys c.args.moved.now b f fs' added rising in
-    let index2 : HasIndex i2 c.remove.new.self.entries new = subst (λ it. HasIndex i2 it new) (sym candidates) (unfiled.index cs new index1 b.is_place.joined.rising alone) in
-    let place2 : Place g.row.T.Denot = record { address = x; pattern = p; loose = c.args.place.now.loose; candidates = c.remove.new.self; index = i2 } in
+    let index2 : HasIndex i2 c.remove.new.self.entries new = subst (λ it. HasIndex i2 it new) (sym candidates) (unfiled.index cs new joined1.index joined1.rising alone) in
+    let place2 : Place g.row.T.Denot = record c.args.place.now { candidates = c.remove.new.self; index = i2 } in
     let still_rising : IsRising c.remove.new.self.entries = subst IsRising (sym candidates) (without_rising rise c.no_shape_gives_no_ways.ensures c.args.place.now n (with_fact fs' f.0 f.1) old new before c.args.own.now.keys c.args.moved.now b f fs' added rising) in
     let joined2 : IsJoined place2 new = record { rising = still_rising; fields = fields2; index = index2 } in
     taken_bound rise c.no_shape_gives_no_ways.ensures c.args.place.now n (with_fact fs' f.0 f.1) old new before c.args.own.now.keys c.args.moved.now b f fs' added rising

@@ -1,4 +1,4 @@
-use Rattle.std.proofs.Common.{◌≡◌, ◌⊎◌, IfSome, ap, filter, inl, inr, length, refl, rules, subst, sym}
+use Rattle.std.proofs.Common.{◌≡◌, IfSome, ap, filter, inl, inr, rules, subst}
 use Rattle.std.specs.List.{list_any}
 use Rattle.cb_joins.proofs.Joined.{all_enough}
 use Rattle.cb_joins.proofs.Results.{on_ok}
@@ -23,8 +23,12 @@ returns-in-Some g c =
     let now : c.as_slice.result.now ≡ c.in-Some.partials.items = search rules in
     on_ok c.take_with.result c.take_with.ensures c.take_with.ensures
     (λ taken _ joined. elim taken as (λ _. IsTakenWith place.address place.pattern f before own own' out out') [
-      | inl t ↦ inl (c.in-Some.partials.items, enough joined, subst (λ i. IsTaken (λ z. list_any (λ m. begins_with m.parts i z) c.in-Some.partials.items) own own' out out') ix
-          (subst (λ it. IsTaken (λ z. list_any (λ m. begins_with m.parts c.one.inside.ix z) it) own own' out out') now t))
+      | inl t ↦ inl (
+        c.in-Some.partials.items,
+        enough joined,
+        subst (λ i. IsTaken (λ z. list_any (λ m. begins_with m.parts i z) c.in-Some.partials.items) own own' out out') ix
+            (subst (λ it. IsTaken (λ z. list_any (λ m. begins_with m.parts c.one.inside.ix z) it) own own' out out') now t),
+      )
       | inr t ↦ inr (subst (λ i. IsTaken (λ z. list_any (λ m. begins m.parts z) (filter (ends_with i) own)) own own' out out') ix t)
     ])
 

@@ -1,7 +1,6 @@
-use Rattle.std.proofs.Common.{◌≡◌, ◌≢◌, ◌∷◌, ◌++◌, [], List, Some, inl, inr, refl, rules, subst, sym}
+use Rattle.std.proofs.Common.{◌≡◌, ◌≢◌, ◌∷◌, ◌++◌, [], Some, inl, inr, refl, rules, subst, sym}
 use Rattle.std.specs.List.{Contains}
 use Rattle.cb_fit.specs.JoinFields.{join_fields}
-use Rattle.cb_fit.specs.declared.join_fields.JoinField.{JoinField}
 use Rattle.cb_joins.specs.Internal.Indexes.{index_fields}
 use Rattle.cb_joins.specs.Internal.Nodes.{AreJoinFields}
 use Rattle.cb_matches.specs.Lemmas.Lists.{in_contains, in_either}
