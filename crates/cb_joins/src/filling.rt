@@ -166,7 +166,7 @@ fn fill_group(
 {
     let mut all = Vec::new(alloc);
     for partial in partials {
-        if has_begun(alloc, complete, partial.parts.as_slice())? == positive {
+        if has_begun(complete, &partial) == positive {
             all.push(partial)?;
         }
     }

@@ -7,7 +7,7 @@ ghost use Rattle.cb_joins.specs.Internal.Rules.{HaveOwnKeys, kept_matches, kept_
 ghost use Rattle.cb_matches.specs.Keys.{key_eq};
 
 use crate::branch::Branch;
-use crate::memory::find;
+use crate::memory::{find, probe};
 use crate::rules::Rule;
 use cb_exprs::Env;
 use cb_forms::NoMemory;
@@ -26,7 +26,8 @@ pub(crate) fn find_env<T>(alloc: Global, rules: &[Rule<T>], key: &Key) -> Result
     let Some(list) = list_under(rules, key.rule(), key.branch()) else {
         return Ok(Env::new(alloc));
     };
-    match find(alloc, list, key.parts())? {
+    let like = probe(alloc, key.parts(), None)?;
+    match find(list, &like)? {
         Some(partial) => Ok(partial.env),
         None => Ok(Env::new(alloc)),
     }

@@ -8,12 +8,11 @@ ghost use Rattle.cb_joins.specs.Internal.Steps.{IsSettled, beginnings, group_wit
 ghost use Rattle.cb_matches.specs.Keys.{PartValue};
 ghost use Rattle.cb_matches.specs.Matches.{Partial, test_holds};
 
-use crate::memory::{add, find, has, has_begun, take_begun};
+use crate::memory::{add, find, has, has_begun, probe, take_begun};
 use crate::moved::Moved;
 use crate::taking::{add_all, take_behind};
 use cb_exprs::Expr;
 use cb_forms::NoMemory;
-use cb_matches::Part;
 use cb_partials::{Partial, Setting, satisfy_test};
 use std::alloc::Global;
 use std::collections::BTreeSet;
@@ -31,7 +30,7 @@ pub(crate) fn change_test(
         × IsMoved (filter (λ m. test_holds (term_of test.now) m.env) old) (filter (λ m. test_holds (term_of test.now) m.env) new) r) }
 {
     let mut gone = Vec::new(setting.alloc);
-    take_behind(setting.alloc, own, moved.gone.as_slice(), &mut gone)?;
+    take_behind(own, moved.gone.as_slice(), &mut gone)?;
     let come = satisfy_test(setting, test, moved.come.clone()?)?;
     add_all(own, come.as_slice())?;
     Ok(Moved { gone, come })
@@ -56,7 +55,7 @@ pub(crate) fn change_group(
         × IsMoved (filter (group_with positive was) old) (filter (group_with positive is) new) r) }
 {
     let mut gone = Vec::new(alloc);
-    take_behind(alloc, own, moved.gone.as_slice(), &mut gone)?;
+    take_behind(own, moved.gone.as_slice(), &mut gone)?;
     let mut come = Vec::new(alloc);
     settle_all(
         alloc,
@@ -142,39 +141,30 @@ fn settle_one(
     if parts.len() < width {
         return Ok(());
     }
-    settle(
-        alloc,
-        positive,
-        before,
-        complete,
-        &parts[..width],
-        own,
-        gone,
-        come,
-    )
+    let outer = probe(alloc, &parts[..width], None)?;
+    settle(positive, before, complete, &outer, own, gone, come)
 }
 
-/// Puts the partial match with these parts behind the group if the group holds for it, and takes it out if not.
+/// Puts the partial match with the parts of this one behind the group if the group holds for it, and takes it out if not.
 fn settle(
-    alloc: Global,
     positive: bool,
     before: &BTreeSet<Partial>,
     complete: &BTreeSet<Partial>,
-    parts: &[Part],
+    outer: &Partial,
     own: &mut BTreeSet<Partial>,
     gone: &mut Vec<Partial>,
     come: &mut Vec<Partial>,
 ) -> Result<(), NoMemory>
     ensures { OnOk result ((old new lost : List Partial) (settled : List (List PartValue)) → Holds before.now.keys new
-        → HaveParts (length parts.now) new
+        → HaveParts (length outer.now.parts) new
         → IsSettled (group_with positive complete.now.keys) old new lost settled own.old.keys gone.old.items come.old.items
-        → IsSettled (group_with positive complete.now.keys) old new lost (settled ++ parts.now ∷ [])
+        → IsSettled (group_with positive complete.now.keys) old new lost (settled ++ outer.now.parts ∷ [])
         own.new.keys gone.new.items come.new.items) }
 {
-    if has_begun(alloc, complete, parts)? != positive {
-        return take_begun(alloc, own, parts, gone);
+    if has_begun(complete, outer) != positive {
+        return take_begun(own, outer, gone);
     }
-    let Some(partial) = find(alloc, before, parts)? else {
+    let Some(partial) = find(before, outer)? else {
         return Ok(());
     };
     if has(own, &partial) {

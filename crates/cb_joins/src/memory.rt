@@ -38,59 +38,50 @@ pub(crate) fn has(list: &BTreeSet<Partial>, partial: &Partial) -> bool
     list.contains(partial)
 }
 
-/// Moves those that go on from these parts to `gone`. Growth is refused as `NoMemory`, and so is a count of sharers that is full.
+/// Moves those that go on from a partial match to `gone`. Growth is refused as `NoMemory`, and so is a count of sharers that is full.
 pub(crate) fn take_begun(
-    alloc: Global,
     list: &mut BTreeSet<Partial>,
-    parts: &[Part],
+    from: &Partial,
     gone: &mut Vec<Partial>,
 ) -> Result<(), NoMemory>
-    ensures list { OnOk result (list.new.keys ≡ filter (λ z. not (begins parts.now z)) list.old.keys) }
+    ensures list { OnOk result (list.new.keys
+        ≡ filter (λ z. not (begins from.now.parts z)) list.old.keys) }
     ensures gone { OnOk result (gone.new.items
-        ≡ gone.old.items ++ filter (begins parts.now) list.old.keys) }
+        ≡ gone.old.items ++ filter (begins from.now.parts) list.old.keys) }
 {
-    take_all(alloc, list, parts, None, gone)
+    take_all(list, from, from.parts.as_slice(), None, gone)
 }
 
-/// Moves those that go on from these parts with the fact of this index to `gone`. Growth is refused as `NoMemory`, and so is a
+/// Moves those that go on from a partial match with the fact of this index to `gone`. Growth is refused as `NoMemory`, and so is a
 /// count of sharers that is full.
 pub(crate) fn take_with_fact(
     alloc: Global,
     list: &mut BTreeSet<Partial>,
-    parts: &[Part],
+    from: &Partial,
     ix: u64,
     gone: &mut Vec<Partial>,
 ) -> Result<(), NoMemory>
     ensures list { OnOk result (list.new.keys
-        ≡ filter (λ z. not (begins_with parts.now ix z)) list.old.keys) }
+        ≡ filter (λ z. not (begins_with from.now.parts ix z)) list.old.keys) }
     ensures gone { OnOk result (gone.new.items
-        ≡ gone.old.items ++ filter (begins_with parts.now ix) list.old.keys) }
+        ≡ gone.old.items ++ filter (begins_with from.now.parts ix) list.old.keys) }
 {
-    take_all(alloc, list, parts, Some(ix), gone)
+    let probe = probe(alloc, from.parts.as_slice(), Some(ix))?;
+    take_all(list, &probe, from.parts.as_slice(), Some(ix), gone)
 }
 
-/// Whether one goes on from these parts. Growth is refused as `NoMemory`.
-pub(crate) fn has_begun(
-    alloc: Global,
-    list: &BTreeSet<Partial>,
-    parts: &[Part],
-) -> Result<bool, NoMemory>
-    ensures { IfOk result (λ has. has ≡ list_any (begins parts.now) list.now.keys) }
+/// Whether one goes on from a partial match.
+pub(crate) fn has_begun(list: &BTreeSet<Partial>, from: &Partial) -> bool
+    ensures { result ≡ list_any (begins from.now.parts) list.now.keys }
 {
-    let probe = probe(alloc, parts, None)?;
-    Ok(first_begun(list, &probe, parts, None).is_some())
+    first_begun(list, from, from.parts.as_slice(), None).is_some()
 }
 
-/// The partial match with these parts. Growth is refused as `NoMemory`, and so is a count of sharers that is full.
-pub(crate) fn find(
-    alloc: Global,
-    list: &BTreeSet<Partial>,
-    parts: &[Part],
-) -> Result<Option<Partial>, NoMemory>
-    ensures { IfOk result (IsFound parts.now list.now.keys) }
+/// The partial match with the parts of this one. It is refused as `NoMemory` only where a count of sharers is full.
+pub(crate) fn find(list: &BTreeSet<Partial>, like: &Partial) -> Result<Option<Partial>, NoMemory>
+    ensures { IfOk result (IsFound like.now.parts list.now.keys) }
 {
-    let probe = probe(alloc, parts, None)?;
-    match list.get(&probe) {
+    match list.get(like) {
         Some(found) => Ok(Some(found.clone()?)),
         None => Ok(None),
     }
@@ -108,21 +99,22 @@ pub(crate) fn copy_list(alloc: Global, list: &BTreeSet<Partial>) -> Result<Vec<P
     Ok(all)
 }
 
-/// Moves those that go on from these parts to `gone`, where an index is given only those with its fact next.
+/// Moves those that go on from these parts to `gone`, where an index is given only those with its fact next. The probe stands where
+/// they begin.
 fn take_all(
-    alloc: Global,
     list: &mut BTreeSet<Partial>,
+    probe: &Partial,
     parts: &[Part],
     ix: Option<u64>,
     gone: &mut Vec<Partial>,
 ) -> Result<(), NoMemory>
+    requires { probe.now.parts ≡ parts.now ++ first_part ix }
     ensures list { OnOk result (list.new.keys
         ≡ filter (λ z. not (begins_as parts.now ix z)) list.old.keys) }
     ensures gone { OnOk result (gone.new.items
         ≡ gone.old.items ++ filter (begins_as parts.now ix) list.old.keys) }
 {
-    let probe = probe(alloc, parts, ix)?;
-    while let Some(partial) = take_first(list, &probe, parts, ix)? {
+    while let Some(partial) = take_first(list, probe, parts, ix)? {
         gone.push(partial)?;
     }
     Ok(())
@@ -206,8 +198,9 @@ pub(crate) fn ends_with(partial: &Partial, ix: u64) -> bool
     }
 }
 
-/// What stands in the order where those that go on so begin.
-fn probe(alloc: Global, parts: &[Part], ix: Option<u64>) -> Result<Partial, NoMemory>
+/// A partial match that stands in the order where those that go on from these parts begin, where an index is given those with its
+/// fact next. Growth is refused as `NoMemory`, and so is a count of sharers that is full.
+pub(crate) fn probe(alloc: Global, parts: &[Part], ix: Option<u64>) -> Result<Partial, NoMemory>
     ensures { IfOk result (λ m. m.parts ≡ parts.now ++ first_part ix) }
 {
     let mut all = Vec::new(alloc);

@@ -76,7 +76,7 @@ fn assert_place<T>(
     the_ways_rise_by_their_cuts();
     file_moved(setting.alloc, &mut place.index, moved)?;
     let mut gone = Vec::new(setting.alloc);
-    take_behind(setting.alloc, own, moved.gone.as_slice(), &mut gone)?;
+    take_behind(own, moved.gone.as_slice(), &mut gone)?;
     let come = find_with(setting, place, before, moved.come.as_slice(), one, meter)?;
     add_all(own, come.as_slice())?;
     Ok(Moved { gone, come })
@@ -142,7 +142,7 @@ fn retract_place<T>(
     the_ways_rise_by_their_cuts();
     file_moved(setting.alloc, &mut place.index, moved)?;
     let mut gone = Vec::new(setting.alloc);
-    take_behind(setting.alloc, own, moved.gone.as_slice(), &mut gone)?;
+    take_behind(own, moved.gone.as_slice(), &mut gone)?;
     take_joined(setting.alloc, place, before, one, own, &mut gone)?;
     unfile_fact(setting.alloc, &mut place.index, one)?;
     place.candidates.remove(&one.ix);

@@ -13,7 +13,6 @@ use std::collections::BTreeSet;
 
 /// Moves what goes on from one of these partial matches out of a list, behind what is gone before.
 pub(crate) fn take_behind(
-    alloc: Global,
     list: &mut BTreeSet<Partial>,
     partials: &[Partial],
     gone: &mut Vec<Partial>,
@@ -22,7 +21,7 @@ pub(crate) fn take_behind(
         list.old.keys list.new.keys gone.old.items gone.new.items) }
 {
     for partial in partials {
-        take_begun(alloc, list, partial.parts.as_slice(), gone)?;
+        take_begun(list, partial, gone)?;
     }
     Ok(())
 }
@@ -78,7 +77,7 @@ fn take_ending(
         list.old.keys list.new.keys gone.old.items gone.new.items) }
 {
     let found = ending_with(alloc, list, ix)?;
-    take_behind(alloc, list, found.as_slice(), gone)
+    take_behind(list, found.as_slice(), gone)
 }
 
 /// The partial matches of a list whose last fact has this index.
@@ -106,7 +105,7 @@ fn take_from_each(
         list.old.keys list.new.keys gone.old.items gone.new.items) }
 {
     for partial in partials {
-        take_with_fact(alloc, list, partial.parts.as_slice(), ix, gone)?;
+        take_with_fact(alloc, list, partial, ix, gone)?;
     }
     Ok(())
 }

@@ -1,4 +1,4 @@
-use Rattle.std.proofs.Common.{◌≡◌, ◌++◌, ◌∷◌, [], ◌≤◌, ◌<◌, length, rules, subst, sym, take}
+use Rattle.std.proofs.Common.{◌≡◌, ◌∙◌, ◌++◌, ◌∷◌, [], ◌≤◌, ◌<◌, ap, append-nil, length, rules, subst, sym, take}
 use Rattle.std.proofs.lemmas.List.{length-take-le}
 use Rattle.cb_joins.proofs.Groups.{alike, too_short}
 use Rattle.cb_joins.proofs.Results.{on_ok}
@@ -17,7 +17,9 @@ pub returns : goal.returns
 returns c =
     let same : c.as_slice-parts.result.now ≡ c.args.partial.now.parts = search rules in
     let l : c.args.width ≤ length c.as_slice-parts.result.now = search rules in
+    let outer : c.in_ok-outer.outer.parts ≡ take c.args.width c.as_slice-parts.result.now = c.in_ok-outer.ensures ∙ append-nil (take c.args.width c.as_slice-parts.result.now) in
     on_ok c.settle.result c.settle.ensures c.settle.ensures
     (λ settled_now _ old new lost settled holds long s.
-    subst (λ it. IsSettled (group_with c.args.positive c.args.complete.now.keys) old new lost (settled ++ take c.args.width it ∷ []) c.settle.new.own.keys c.settle.new.gone.items c.settle.new.come.items) same
-    (settled_now old new lost settled holds (subst (λ n. HaveParts n new) (sym (length-take-le c.args.width c.as_slice-parts.result.now l)) long) s))
+    subst (λ it. IsSettled (group_with c.args.positive c.args.complete.now.keys) old new lost (settled ++ it ∷ []) c.settle.new.own.keys c.settle.new.gone.items c.settle.new.come.items)
+    (outer ∙ ap (take c.args.width) same)
+    (settled_now old new lost settled holds (subst (λ n. HaveParts n new) (sym (ap length outer ∙ length-take-le c.args.width c.as_slice-parts.result.now l)) long) s))

@@ -14,7 +14,6 @@ loop-partial-preserved c =
     let xs = c.args.partials.now in
     let i = c.loop-partial.partial-index in
     let m = c.partial-item.result in
-    let parts : c.as_slice.result.now ≡ m.parts = search rules in
     let l : i < length xs = omega arith in
     let cut : drop i xs ≡ m ∷ drop (i + 1) xs = cut_at xs i m l c.partial-item.is in
     let there : In m xs = in_drop m xs i (subst (In m) (sym cut) (inl refl)) in
@@ -23,8 +22,8 @@ loop-partial-preserved c =
     c.loop-partial.invariant
     (λ z. ap (list_any (λ m. begins m.parts z)) cut)
     (λ z t. in_some (λ m. begins m.parts z) m xs there t)
-    (c.in_ok-take_begun.ensures.list ∙ ap (λ ps. filter (λ z. not (begins ps z)) c.loop-partial.list.keys) parts)
-    (c.in_ok-take_begun.ensures.gone ∙ ap (λ ps. c.loop-partial.gone.items ++ filter (begins ps) c.loop-partial.list.keys) parts)
+    c.in_ok-take_begun.ensures.list
+    c.in_ok-take_begun.ensures.gone
 
 pub returns : goal.returns
 returns c =
