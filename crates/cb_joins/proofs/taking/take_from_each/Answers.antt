@@ -1,4 +1,4 @@
-use Rattle.std.proofs.Common.{◌≡◌, ◌+◌, ◌<◌, ◌∷◌, ◌++◌, ◌∙◌, drop, filter, not, length, ap, inl, rules, subst, sym, arith, refl}
+use Rattle.std.proofs.Common.{◌≡◌, ◌+◌, ◌<◌, ◌∷◌, drop, length, ap, inl, subst, sym, arith, refl}
 use Rattle.std.specs.List.{list_any}
 use Rattle.cb_joins.proofs.Beginnings.{in_some}
 use Rattle.cb_joins.proofs.Takings.{cut_at, in_drop, none_left, taking_first, taking_last, taking_next}
