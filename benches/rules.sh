@@ -67,21 +67,34 @@ against_clips 'greatest common divisors, 5,000 of them, by three rules'
 cat >"$place/constructs" <<'END'
 (defrule pair (left ?x ?y) (right ?x ?z) => (assert (pair ?y ?z)))
 END
-awk 'BEGIN { for (i = 1; i <= 2000; i++) printf "(assert (left %d l%d) (right %d r%d))\n", i, i, i, i; print "(run)" }' >"$place/commands"
-against_clips 'a join of 2,000 facts with 2,000'
+awk 'BEGIN { for (i = 1; i <= 20000; i++) printf "(assert (left %d l%d) (right %d r%d))\n", i, i, i, i; print "(run)" }' >"$place/commands"
+against_clips 'a join of 20,000 facts with 20,000'
+
+cat >"$place/constructs" <<'END'
+(defrule pair (left ?x) (right ?x) =>)
+(defrule out (declare (salience -1)) ?l <- (left ?x) => (retract ?l))
+END
+awk 'BEGIN { for (i = 1; i <= 20000; i++) printf "(assert (left %d) (right %d))\n", i, i; print "(run)" }' >"$place/commands"
+against_clips 'the same, and each of 20,000 facts retracted by a rule'
+
+cat >"$place/constructs" <<'END'
+(defrule pair (left ?x) (right ?y) (test (= ?x (+ ?y 1))) =>)
+END
+awk 'BEGIN { for (i = 1; i <= 1000; i++) printf "(assert (left %d) (right %d))\n", i, i; print "(run)" }' >"$place/commands"
+against_clips 'a `test` behind two patterns of 1,000 facts each'
 
 cat >"$place/constructs" <<'END'
 (defrule edge (edge ?x ?y) => (assert (path ?x ?y)))
 (defrule longer (edge ?x ?y) (path ?y ?z) => (assert (path ?x ?z)))
 END
-awk 'BEGIN { for (i = 1; i < 100; i++) printf "(assert (edge %d %d))\n", i, i + 1; print "(run)" }' >"$place/commands"
-against_clips 'the paths along a chain of 100, 4,950 of them'
+awk 'BEGIN { for (i = 1; i < 300; i++) printf "(assert (edge %d %d))\n", i, i + 1; print "(run)" }' >"$place/commands"
+against_clips 'the paths along a chain of 300, 44,850 of them'
 
 cat >"$place/constructs" <<'END'
 (defrule work (task ?x) (not (done ?x)) => (assert (done ?x)))
 END
-awk 'BEGIN { for (i = 1; i <= 2000; i++) printf "(assert (task %d))\n", i; print "(run)" }' >"$place/commands"
-against_clips 'a `not` for each of 2,000 tasks'
+awk 'BEGIN { for (i = 1; i <= 20000; i++) printf "(assert (task %d))\n", i; print "(run)" }' >"$place/commands"
+against_clips 'a `not` for each of 20,000 tasks'
 
 cat >"$place/constructs" <<'END'
 (defrule start ?t <- (task ?x) (not (busy ?)) => (retract ?t) (assert (busy ?x)))
@@ -122,4 +135,16 @@ END
 
 echo "$(counting 20000) $(counting 200000)" | awk '{
     printf "ten times the firings: %.1f times the time (%s s to %s s)\n", $2 / $1, $2, $1
+}'
+
+# The time of joining so many facts with as many.
+joining() {
+    { echo '(defrule pair (left ?x ?y) (right ?x ?z) => (assert (pair ?y ?z)))'
+      awk -v most="$1" 'BEGIN { for (i = 1; i <= most; i++) printf "(assert (left %d l%d) (right %d r%d))\n", i, i, i, i; print "(run)" }'
+    } >"$place/script"
+    least_of_five "$program" --max-firings 1000000000 | cut -d ' ' -f 1
+}
+
+echo "$(joining 10000) $(joining 100000)" | awk '{
+    printf "ten times the facts to join: %.1f times the time (%s s to %s s)\n", $2 / $1, $2, $1
 }'
