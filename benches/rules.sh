@@ -123,6 +123,71 @@ awk 'BEGIN { for (i = 0; i < 20; i++) printf "(defrule s%d (declare (salience %d
 awk 'BEGIN { for (i = 1; i <= 10000; i++) printf "(assert (item %d %d))\n", i % 20, i; print "(run)" }' >"$place/commands"
 against_clips '10,000 activations of twenty saliences'
 
+# Miss Manners: guests are seated so that neighbours differ in sex and share a hobby.
+cat >"$place/constructs" <<'END'
+(deftemplate guest (slot name) (slot sex) (slot hobby))
+(deftemplate seating (slot seat) (slot left) (slot right) (slot id) (slot before) (slot is-done))
+(deftemplate path (slot id) (slot name) (slot seat))
+(deftemplate chosen (slot id) (slot name) (slot hobby))
+(defrule begin
+   ?c <- (context begin)
+   (guest (name ?n))
+   ?k <- (count ?x)
+   =>
+   (retract ?c ?k)
+   (assert (seating (seat 1) (left ?n) (right ?n) (id ?x) (before 0) (is-done yes)))
+   (assert (path (id ?x) (name ?n) (seat 1)))
+   (assert (count (+ ?x 1)) (context find)))
+(defrule find
+   ?c <- (context find)
+   (seating (seat ?s) (right ?g) (id ?id) (is-done yes))
+   (guest (name ?g) (sex ?sex) (hobby ?h))
+   (guest (name ?n) (sex ~?sex) (hobby ?h))
+   ?k <- (count ?x)
+   (not (path (id ?id) (name ?n)))
+   (not (chosen (id ?id) (name ?n) (hobby ?h)))
+   =>
+   (retract ?c ?k)
+   (assert (seating (seat (+ ?s 1)) (left ?g) (right ?n) (id ?x) (before ?id) (is-done no)))
+   (assert (path (id ?x) (name ?n) (seat (+ ?s 1))))
+   (assert (chosen (id ?id) (name ?n) (hobby ?h)))
+   (assert (count (+ ?x 1)) (context make)))
+(defrule make
+   (declare (salience 1))
+   (context make)
+   (seating (id ?id) (before ?before) (is-done no))
+   (path (id ?before) (name ?n) (seat ?s))
+   (not (path (id ?id) (name ?n)))
+   =>
+   (assert (path (id ?id) (name ?n) (seat ?s))))
+(defrule made
+   ?c <- (context make)
+   ?f <- (seating (seat ?s) (left ?l) (right ?r) (id ?id) (before ?before) (is-done no))
+   =>
+   (retract ?c ?f)
+   (assert (seating (seat ?s) (left ?l) (right ?r) (id ?id) (before ?before) (is-done yes)))
+   (assert (context check)))
+(defrule done
+   (declare (salience 1))
+   (context check)
+   (last ?s)
+   (seating (seat ?s))
+   =>
+   (halt))
+(defrule go-on
+   ?c <- (context check)
+   =>
+   (retract ?c)
+   (assert (context find)))
+END
+awk 'BEGIN {
+    for (i = 1; i <= 64; i++)
+        for (k = 0; k < 3; k++)
+            printf "(assert (guest (name n%d) (sex %s) (hobby %d)))\n", i, i % 2 ? "f" : "m", (i + k * k) % 5
+    print "(assert (last 64) (count 1))\n(assert (context begin))\n(run)"
+}' >"$place/commands"
+against_clips 'Miss Manners with 64 guests'
+
 # The time of counting to so many.
 counting() {
     cat >"$place/script" <<END
