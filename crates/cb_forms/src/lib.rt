@@ -29,7 +29,10 @@ mod token; // the atoms
 mod word; // the class of a word
 
 pub use byte_string::ByteString;
-pub use cb_io::{History, MemSink, MemSource, NoMemory, Out, ReadFault, Sink, Source, WriteFault};
+pub use cb_io::{
+    History, MemSink, MemSource, NoMemory, Out, PlannedSink, PlannedSource, ReadFault, ReadStep,
+    Sink, Source, WriteFault, WriteStep,
+};
 pub use cut::Cut;
 pub use cutter::Cutter;
 pub use fault::Fault;

@@ -6,3 +6,5 @@ pub mod MemSink
 pub mod MemSource
 pub mod Moved
 pub mod Output
+pub mod PlannedSink
+pub mod PlannedSource

@@ -13,6 +13,8 @@ mod mem_sink; // a sink over memory
 mod mem_source; // a source over memory
 mod no_memory; // what is returned where a growth was refused
 mod output; // `Out`, the one way for output
+mod planned_sink; // a sink over memory that takes bytes by a plan
+mod planned_source; // a source over memory that gives bytes by a plan
 mod sink; // the trait of what takes bytes, with its history as a ghost member
 mod source; // the trait of what gives bytes, with its history as a ghost member
 
@@ -22,5 +24,7 @@ pub use mem_sink::MemSink;
 pub use mem_source::MemSource;
 pub use no_memory::NoMemory;
 pub use output::Out;
+pub use planned_sink::{PlannedSink, WriteStep};
+pub use planned_source::{PlannedSource, ReadStep};
 pub use sink::{Sink, WriteFault};
 pub use source::{ReadFault, Source};
