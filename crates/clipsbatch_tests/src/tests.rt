@@ -9,6 +9,7 @@ mod first_rows;
 mod first_scripts;
 mod functions;
 mod group_rows;
+mod last_values;
 mod one_run;
 mod orders;
 mod page_runs;

@@ -4,7 +4,7 @@ ghost use Rattle.cb_io.specs.Output.{IsReady};
 
 use super::pieces::Whole;
 use super::rows::Row;
-use cb_forms::{MemSink, MemSource, NoMemory, Out, Source};
+use cb_forms::{MemSink, MemSource, NoMemory, Out, PlannedSink, Sink, Source, WriteStep};
 use cb_run::{Outcome, run};
 use cb_session::Limits;
 use std::alloc::Global;
@@ -61,10 +61,10 @@ pub(super) fn want_of<'a>(row: &Row, whole: &'a Whole) -> Want<'a> {
 }
 
 /// How a run over these ends.
-pub(super) fn outcome_of<S: Source>(
+pub(super) fn outcome_of<S: Source, K: Sink>(
     alloc: Global,
     source: &mut S,
-    out: &mut Out<MemSink>,
+    out: &mut Out<K>,
     want: Want<'_>,
 ) -> Outcome
     requires { IsReady out.old }
@@ -87,6 +87,18 @@ pub(super) fn goes<S: Source>(
     let mut out = Out::new(sink);
     let outcome = outcome_of(alloc, source, &mut out, want);
     is_as_wanted(outcome, out.sink().bytes(), want)
+}
+
+/// Whether a run over this source goes so where the sink's writes go by this plan.
+pub(super) fn goes_by<S: Source>(
+    alloc: Global,
+    source: &mut S,
+    writes: &[WriteStep],
+    want: Want<'_>,
+) -> Result<bool, NoMemory> {
+    let mut out = Out::new(PlannedSink::new(alloc, 1000, writes)?);
+    let outcome = outcome_of(alloc, source, &mut out, want);
+    Ok(is_as_wanted(outcome, out.sink().bytes(), want))
 }
 
 /// Whether it goes so with so many bytes a read, and with all that is written taken at once.

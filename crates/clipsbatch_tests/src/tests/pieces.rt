@@ -1,9 +1,6 @@
 //! Scripts that come in pieces.
-ghost use Rattle.std.specs.Prelude.{None};
-
 use super::rows::Row;
-use cb_forms::{NoMemory, ReadFault, Source};
-use cb_io::ReadHistory;
+use cb_forms::NoMemory;
 use std::alloc::Global;
 
 /// A script, and what it writes.
@@ -48,43 +45,4 @@ pub(super) fn written_by(alloc: Global, row: &Row, steps: usize) -> Result<Vec<u
         written.extend_from_slice(writes)?;
     }
     Ok(written)
-}
-
-/// Gives a script in two pieces.
-#[derive(Drop)]
-pub(super) struct TwoPieces<'a> {
-    now: &'a [u8],
-    pub(super) later: &'a [u8],
-    history: ReadHistory,
-}
-
-impl<'a> TwoPieces<'a> {
-    /// One piece, and then the other.
-    pub(super) fn new(now: &'a [u8], later: &'a [u8]) -> TwoPieces<'a> {
-        let history = ReadHistory::new();
-        TwoPieces {
-            now,
-            later,
-            history,
-        }
-    }
-}
-
-impl Source for TwoPieces<'_> {
-    ghost left = { λ _. None };
-
-    ghost reads = { λ s. s.history };
-
-    fn read(&mut self, buf: &mut [u8]) -> Result<usize, ReadFault> {
-        if self.now.is_empty() {
-            self.now = self.later;
-            self.later = &[];
-        }
-        let n = buf.len().min(self.now.len());
-        let (given, rest) = self.now.split_at(n);
-        buf[..n].copy_from_slice(given);
-        self.now = rest;
-        self.history.read(buf.len(), given);
-        Ok(n)
-    }
 }

@@ -6,12 +6,12 @@ use super::calc_rows::{calc_rows, global_rows, loop_rows};
 use super::fault_rows::{fact_fault_rows, template_fault_rows};
 use super::first_rows::{command_rows, item_rows};
 use super::group_rows::{group_changes, group_rows};
-use super::one_run::{Want, goes, goes_in_blocks, want_of};
-use super::pieces::{TwoPieces, Whole, joined, steps_in, written_by};
+use super::one_run::{Want, goes, goes_by, goes_in_blocks, want_of};
+use super::pieces::{Whole, joined, steps_in, written_by};
 use super::rows::{AT_A_LIMIT, Row};
 use super::rule_rows::{firing_rows, rule_rows};
 use super::template_rows::{fact_rows, template_rows};
-use cb_forms::{MemSink, MemSource, NoMemory};
+use cb_forms::{MemSink, MemSource, NoMemory, PlannedSource, ReadStep, WriteStep};
 use cb_run::{Cause, Outcome};
 use std::alloc::Global;
 
@@ -101,8 +101,8 @@ fn goes_in_two(
     want: Want<'_>,
 ) -> Result<bool, NoMemory> {
     let sink = MemSink::new(alloc, 1000, 7, None)?;
-    let (now, later) = script.split_at(place.min(script.len()));
-    Ok(goes(alloc, &mut TwoPieces::new(now, later), sink, want))
+    let plan = [ReadStep::Take(place)];
+    Ok(goes(alloc, &mut PlannedSource::new(script, &plan), sink, want))
 }
 
 /// Whether the script goes so however it comes: in blocks of every length, or cut in two at each byte.
@@ -120,20 +120,43 @@ fn comes_in_pieces(alloc: Global, row: &Row, whole: &Whole) -> Result<bool, NoMe
     Ok(true)
 }
 
-/// Whether a run stops so where the sink takes a byte a write, has this room, and fails at this write.
-fn stops_at_write(
+/// So many writes of one byte, and then this one.
+fn byte_writes(alloc: Global, taken: usize, last: WriteStep) -> Result<Vec<WriteStep>, NoMemory> {
+    let mut plan = Vec::new(alloc);
+    for _ in 0..taken {
+        plan.push(WriteStep::Take(1))?;
+    }
+    plan.push(last)?;
+    Ok(plan)
+}
+
+/// Whether a run goes so where the sink takes a byte in each of so many writes, and the write after these goes so.
+fn goes_to_write(
+    alloc: Global,
+    script: &[u8],
+    taken: usize,
+    last: WriteStep,
+    want: Want<'_>,
+) -> Result<bool, NoMemory> {
+    let plan = byte_writes(alloc, taken, last)?;
+    let mut source = MemSource::new(script, 5, None);
+    goes_by(alloc, &mut source, plan.as_slice(), want)
+}
+
+/// Whether a run stops so where the sink takes a byte a write and has this room.
+fn stops_at_room(
     alloc: Global,
     script: &[u8],
     room: usize,
-    fail_at: Option<u64>,
     want: Want<'_>,
 ) -> Result<bool, NoMemory> {
-    let sink = MemSink::new(alloc, room, 1, fail_at)?;
+    let sink = MemSink::new(alloc, room, 1, None)?;
     let mut source = MemSource::new(script, 5, None);
     Ok(goes(alloc, &mut source, sink, want))
 }
 
-/// Whether each write of one byte that fails in turn stops the run: by a `WriteFault`, and by want of room.
+/// Whether each write of one byte stops the run where it fails, where it takes nothing, and where there is no more room. A write
+/// that would fail after the last doesn't come.
 fn stops_at_each_write(alloc: Global, row: &Row, whole: &Whole) -> Result<bool, NoMemory> {
     let script = whole.script.as_slice();
     for taken in 0..whole.written.len() {
@@ -144,14 +167,15 @@ fn stops_at_each_write(alloc: Global, row: &Row, whole: &Whole) -> Result<bool, 
             written: &whole.written[..taken],
             outcome: WRITE_FAULT,
         };
-        let fails = Some((taken as u64).saturating_add(1));
-        if !stops_at_write(alloc, script, 1000, fails, want)?
-            || !stops_at_write(alloc, script, taken, None, want)?
+        if !goes_to_write(alloc, script, taken, WriteStep::Fail, want)?
+            || !goes_to_write(alloc, script, taken, WriteStep::Zero, want)?
+            || !stops_at_room(alloc, script, taken, want)?
         {
             return Ok(false);
         }
     }
-    Ok(true)
+    let want = want_of(row, whole);
+    goes_to_write(alloc, script, whole.written.len(), WriteStep::Fail, want)
 }
 
 /// Whether a run that ends so reads no further.
@@ -168,6 +192,30 @@ fn stopped_after(alloc: Global, row: &Row, came: usize) -> Result<(Vec<u8>, Outc
     Ok((written, if has_ended { row.outcome } else { READ_FAULT }))
 }
 
+/// So many reads of a block, and then one that fails.
+fn block_reads(alloc: Global, blocks: usize, block: usize) -> Result<Vec<ReadStep>, NoMemory> {
+    let mut plan = Vec::new(alloc);
+    for _ in 0..blocks {
+        plan.push(ReadStep::Take(block))?;
+    }
+    plan.push(ReadStep::Fail)?;
+    Ok(plan)
+}
+
+/// Whether a run goes so where the source gives so many blocks, and the read after these fails.
+fn goes_to_read(
+    alloc: Global,
+    script: &[u8],
+    blocks: usize,
+    block: usize,
+    want: Want<'_>,
+) -> Result<bool, NoMemory> {
+    let sink = MemSink::new(alloc, 1000, 1000, None)?;
+    let plan = block_reads(alloc, blocks, block)?;
+    let mut source = PlannedSource::new(script, plan.as_slice());
+    Ok(goes(alloc, &mut source, sink, want))
+}
+
 /// Whether the read after so many blocks stops the run where it fails: exactly what the bytes before it write is written, and
 /// the item that is open then is not carried out.
 fn stops_after_blocks(
@@ -176,9 +224,7 @@ fn stops_after_blocks(
     script: &[u8],
     block: usize,
     blocks: usize,
-) -> Result<bool, NoMemory>
-    requires { 0 < block }
-{
+) -> Result<bool, NoMemory> {
     let (written, outcome) = stopped_after(alloc, row, blocks.saturating_mul(block))?;
     let want = Want {
         max_form: row.max_form,
@@ -187,10 +233,7 @@ fn stops_after_blocks(
         written: written.as_slice(),
         outcome,
     };
-    let sink = MemSink::new(alloc, 1000, 1000, None)?;
-    let fail_at = Some((blocks as u64).saturating_add(1));
-    let mut source = MemSource::new(script, block, fail_at);
-    Ok(goes(alloc, &mut source, sink, want))
+    goes_to_read(alloc, script, blocks, block, want)
 }
 
 /// Whether each read of so many bytes stops the run where it fails, that of the script's end among them.
@@ -220,11 +263,8 @@ fn ends_before_a_read(
     requires { 0 < block }
 {
     let script = whole.script.as_slice();
-    let want = want_of(row, whole);
-    let sink = MemSink::new(alloc, 1000, 1000, None)?;
-    let reads = (script.len().div_ceil(block) as u64).saturating_add(1);
-    let mut source = MemSource::new(script, block, Some(reads.saturating_add(1)));
-    Ok(goes(alloc, &mut source, sink, want))
+    let reads = script.len().div_ceil(block).saturating_add(1);
+    goes_to_read(alloc, script, reads, block, want_of(row, whole))
 }
 
 /// Whether each read stops the run where it fails, for reads of one byte, of a few, and of some more.
@@ -293,9 +333,8 @@ fn stops_at_a_failed_read(rt: HostRuntime) -> Result<(), NoMemory> {
     Ok(())
 }
 
-/// Whether a word that is too long with its fourth byte ends the run before it reads on.
-fn hands_on_before_it_reads_on(alloc: Global) -> Result<bool, NoMemory> {
-    let mut source = TwoPieces::new(b"abcd", b" (assert (a))");
+/// Whether a word that is too long with its fourth byte ends the run before the next read, which would fail.
+fn ends_at_a_limit_without_reading_on(alloc: Global) -> Result<bool, NoMemory> {
     let want = Want {
         max_form: 3,
         max_firings: 0,
@@ -303,12 +342,31 @@ fn hands_on_before_it_reads_on(alloc: Global) -> Result<bool, NoMemory> {
         written: b"[CB91] form too long\n",
         outcome: AT_A_LIMIT,
     };
-    let sink = MemSink::new(alloc, 1000, 1000, None)?;
-    Ok(goes(alloc, &mut source, sink, want) && !source.later.is_empty())
+    goes_to_read(alloc, b"abcd (assert (a))", 1, 4, want)
 }
 
+const EXIT_7: Outcome = Outcome {
+    status: 7,
+    cause: Cause::Exit,
+};
+
+/// Whether a script with an `exit` at its fifteenth byte ends so where each read gives a byte, and the one after so many fails.
+fn exits_so(alloc: Global, reads: usize, outcome: Outcome) -> Result<bool, NoMemory> {
+    let want = Want {
+        max_form: 1000,
+        max_firings: 0,
+        max_turns: 0,
+        written: b"[CB06] unknown function\n",
+        outcome,
+    };
+    goes_to_read(alloc, b"(bogus)(exit 7)(assert (a))", reads, 1, want)
+}
+
+// A read that fails shows which reads are made.
 #[test]
-fn hands_each_read_on_before_the_next(rt: HostRuntime) -> Result<(), NoMemory> {
-    assert!(rt; hands_on_before_it_reads_on(rt.alloc())?);
+fn reads_no_further_than_it_has_to(rt: HostRuntime) -> Result<(), NoMemory> {
+    assert!(rt; ends_at_a_limit_without_reading_on(rt.alloc())?);
+    assert!(rt; exits_so(rt.alloc(), 14, READ_FAULT)?);
+    assert!(rt; exits_so(rt.alloc(), 15, EXIT_7)?);
     Ok(())
 }
