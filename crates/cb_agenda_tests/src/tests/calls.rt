@@ -17,7 +17,7 @@ fn keys(alloc: Global, rules: &[u64]) -> Result<Vec<Key>, NoMemory> {
     Ok(keys)
 }
 
-fn delta(alloc: Global, gone: &[u64], come: &[u64]) -> Result<Delta, NoMemory> {
+pub(super) fn delta(alloc: Global, gone: &[u64], come: &[u64]) -> Result<Delta, NoMemory> {
     let gone = keys(alloc, gone)?;
     let come = keys(alloc, come)?;
     Ok(Delta { gone, come })
