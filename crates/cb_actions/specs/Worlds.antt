@@ -28,6 +28,10 @@ pub record World : Type 0 where
 abbrev pub first_world : ℕ → ℕ → World
 first_world turns firings = record { memory = empty_memory; agenda = empty_agenda; rules = []; watched = unwatched; templates = []; env = no_bindings; turns = turns; firings = firings; is_halted = false }
 
+-- the same, where these were given last: the index of a fact, the number of a rule, and a stamp
+abbrev pub with_numbers : ℕ → ℕ → ℕ → World → World
+with_numbers index rule stamp s = record s { memory = record s.memory { last = index; last_rule = rule }; agenda = record s.agenda { last = stamp } }
+
 -- no variable has a value
 abbrev pub without_variables : World → World
 without_variables s = record s { env = record { variables = []; globals = s.env.globals } }

@@ -12,6 +12,7 @@ mod deffacts; // the facts of each `deffacts`, asserted
 mod define; // rules defined and dropped
 mod globals; // globals defined, all or none of them, and evaluated anew
 pub mod laws; // laws of carrying out expressions
+mod numbers; // the numbers that were given last
 mod output; // bytes and texts put into the output
 mod print; // what printed values put
 mod restart; // all facts dropped, or everything
@@ -23,6 +24,7 @@ mod watched; // what is watched
 mod world; // what actions see and change, and what each kind of action does with its values
 
 pub use act::{Break, Ended, Limit};
+pub use numbers::Numbers;
 pub use output::{put, put_text};
 pub use print::{put_printed, put_values};
 pub use stop::Stop;

@@ -8,12 +8,13 @@ ghost use Rattle.cb_actions.specs.Definitions.{template_defined};
 ghost use Rattle.cb_actions.specs.Effects.{asserted, bound, called, each_given, ends, global_bound, global_looked_up, looked_up, parts_of, printed_line, turn};
 ghost use Rattle.cb_actions.specs.Printing.{printed};
 ghost use Rattle.cb_actions.specs.Went.{Quietly, Went};
-ghost use Rattle.cb_actions.specs.Worlds.{World as State, first_world, without_variables};
+ghost use Rattle.cb_actions.specs.Worlds.{World as State, first_world, with_numbers, without_variables};
 ghost use Rattle.cb_functions.specs.Constants.{false_symbol};
 ghost use Rattle.cb_matches.specs.Networks.{empty_network};
 ghost use Rattle.cb_templates.specs.Building.{built, part_values};
 
 use crate::act::{Break, Ended, Limit};
+use crate::numbers::Numbers;
 use crate::output::put;
 use crate::print::{put_printed, put_values};
 use crate::watched::Watched;
@@ -69,11 +70,31 @@ impl<M: Matcher<Mark>> World<M> {
         requires { M.network matcher ≡ empty_network }
         ensures { result ≡ first_world turns firings }
     {
+        let numbers = Numbers {
+            index: 0,
+            rule: 0,
+            stamp: 0,
+        };
+        World::starting_at(alloc, matcher, numbers, turns, firings)
+    }
+
+    /// The same, but as if these numbers had been given already.
+    pub fn starting_at(
+        alloc: Global,
+        matcher: M,
+        numbers: Numbers,
+        turns: u64,
+        firings: u64,
+    ) -> World<M>
+        requires { M.network matcher ≡ empty_network }
+        ensures { result
+            ≡ with_numbers numbers.index numbers.rule numbers.stamp (first_world turns firings) }
+    {
         World {
             alloc,
             constants: None,
-            memory: WorkingMemory::new(alloc, matcher),
-            agenda: Agenda::new(alloc),
+            memory: WorkingMemory::starting_at(alloc, matcher, numbers.index, numbers.rule),
+            agenda: Agenda::starting_at(alloc, numbers.stamp),
             rules: Vec::new(alloc),
             watched: Watched {
                 facts: false,

@@ -38,11 +38,11 @@ unfolding IsStrictlySortedBy
 no_indices = tt
 
 -- no facts, whatever the rules are
-pub none_kept : (rules : Conditions) (last_rule : ℕ) (templates : Templates) → AreTemplates templates
-    → AreWellKept (record { network = record { rules = rules; facts = [] }; last = 0; last_rule = last_rule }) templates
-none_kept rules last_rule templates made = record {
+pub none_kept : (rules : Conditions) (last last_rule : ℕ) (templates : Templates) → last ≤ greatest_index → AreTemplates templates
+    → AreWellKept (record { network = record { rules = rules; facts = [] }; last = last; last_rule = last_rule }) templates
+none_kept rules last last_rule templates below made = record {
   sound = record { rising = no_indices; distinct = λ fact i j p q. absurd (cc); none_after = λ ix above. refl };
-  in_range = omega arith;
+  in_range = below;
   templates_are = made;
   slots = λ ix fact at. absurd (cc);
 }

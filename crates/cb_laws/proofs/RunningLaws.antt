@@ -6,8 +6,8 @@ use Rattle.cb_forms.specs.Trees.{Reading}
 use Rattle.cb_forms.specs.contracts.cited.LawsCited.TheImpl as forms_laws
 use Rattle.cb_laws.proofs.OpenLaws.{complete_by, so_far_by}
 use Rattle.cb_laws.specs.Running.{IsCarriedOut}
+use Rattle.cb_session.specs.Setups.{Setup}
 use Rattle.cb_session.specs.Transcripts.{Run, after, after_all, after_status, begun, complete, so_far}
-use Rattle.cb_session.specs.declared.limits.Limits.{Limits}
 
 one_more : (run : Run) (rs : List Reading) (r : Reading) → after_all run (rs ++ r ∷ []) ≡ after (after_all run rs) r
 one_more run [] r = refl
@@ -19,38 +19,38 @@ carried run next r none is =
     record { state = ap (λ it. it.state) same; written = ap (λ it. it.written) same; status = ap (λ it. it.status) same }
 
 -- no item of the beginning is too long
-fits_before : (limits : Limits) (p q : List ℕ) → over limits.max_form (p ++ q) ≡ false → over limits.max_form p ≡ false
-fits_before limits p q fine = by (over limits.max_form p) refl
+fits_before : (setup : Setup) (p q : List ℕ) → over setup.max_form (p ++ q) ≡ false → over setup.max_form p ≡ false
+fits_before setup p q fine = by (over setup.max_form p) refl
   where
-    by : (b : Bool) → over limits.max_form p ≡ b → b ≡ false
+    by : (b : Bool) → over setup.max_form p ≡ b → b ≡ false
     by false e = refl
-    by true e = absurd (true≢false (sym (forms_laws.ghosts.over_kept_all limits.max_form p q e) ∙ fine))
+    by true e = absurd (true≢false (sym (forms_laws.ghosts.over_kept_all setup.max_form p q e) ∙ fine))
 
-pub next_carried : (limits : Limits) (p q : List ℕ) (r : Reading) → over limits.max_form (p ++ q) ≡ false → whole (p ++ q) ≡ whole p ++ r ∷ [] → (so_far limits p).status ≡ None
-    → IsCarriedOut (so_far limits p) r (so_far limits (p ++ q))
-next_carried limits p q r fine one none =
-    let before : so_far limits p ≡ after_all (begun limits) (whole p) = so_far_by limits p false (fits_before limits p q fine) in
-    carried (so_far limits p) (so_far limits (p ++ q)) r none (
-    so_far_by limits (p ++ q) false fine
-    ∙ (ap (after_all (begun limits)) one
-    ∙ (one_more (begun limits) (whole p) r
+pub next_carried : (setup : Setup) (p q : List ℕ) (r : Reading) → over setup.max_form (p ++ q) ≡ false → whole (p ++ q) ≡ whole p ++ r ∷ [] → (so_far setup p).status ≡ None
+    → IsCarriedOut (so_far setup p) r (so_far setup (p ++ q))
+next_carried setup p q r fine one none =
+    let before : so_far setup p ≡ after_all (begun setup) (whole p) = so_far_by setup p false (fits_before setup p q fine) in
+    carried (so_far setup p) (so_far setup (p ++ q)) r none (
+    so_far_by setup (p ++ q) false fine
+    ∙ (ap (after_all (begun setup)) one
+    ∙ (one_more (begun setup) (whole p) r
     ∙ ap (λ run. after run r) (sym before)))
     )
 
 -- at the end of a script
-ended : (limits : Limits) (s : List ℕ) → over limits.max_form s ≡ false → complete limits s ≡ after_all (begun limits) (items s)
-ended limits s fine = complete_by limits s false fine ∙ ap (after_all (begun limits)) (forms_laws.ghosts.fitting_items limits.max_form s fine)
+ended : (setup : Setup) (s : List ℕ) → over setup.max_form s ≡ false → complete setup s ≡ after_all (begun setup) (items s)
+ended setup s fine = complete_by setup s false fine ∙ ap (after_all (begun setup)) (forms_laws.ghosts.fitting_items setup.max_form s fine)
 
-pub last_carried : (limits : Limits) (s : List ℕ) (r : Reading) → over limits.max_form s ≡ false → items s ≡ whole s ++ r ∷ [] → (so_far limits s).status ≡ None
-    → IsCarriedOut (so_far limits s) r (complete limits s)
-last_carried limits s r fine one none =
-    let before : so_far limits s ≡ after_all (begun limits) (whole s) = so_far_by limits s false fine in
-    carried (so_far limits s) (complete limits s) r none (
-    ended limits s fine
-    ∙ (ap (after_all (begun limits)) one
-    ∙ (one_more (begun limits) (whole s) r
+pub last_carried : (setup : Setup) (s : List ℕ) (r : Reading) → over setup.max_form s ≡ false → items s ≡ whole s ++ r ∷ [] → (so_far setup s).status ≡ None
+    → IsCarriedOut (so_far setup s) r (complete setup s)
+last_carried setup s r fine one none =
+    let before : so_far setup s ≡ after_all (begun setup) (whole s) = so_far_by setup s false fine in
+    carried (so_far setup s) (complete setup s) r none (
+    ended setup s fine
+    ∙ (ap (after_all (begun setup)) one
+    ∙ (one_more (begun setup) (whole s) r
     ∙ ap (λ run. after run r) (sym before)))
     )
 
-pub none_carried : (limits : Limits) (s : List ℕ) → over limits.max_form s ≡ false → items s ≡ whole s → complete limits s ≡ so_far limits s
-none_carried limits s fine same = ended limits s fine ∙ (ap (after_all (begun limits)) same ∙ sym (so_far_by limits s false fine))
+pub none_carried : (setup : Setup) (s : List ℕ) → over setup.max_form s ≡ false → items s ≡ whole s → complete setup s ≡ so_far setup s
+none_carried setup s fine same = ended setup s fine ∙ (ap (after_all (begun setup)) same ∙ sym (so_far_by setup s false fine))

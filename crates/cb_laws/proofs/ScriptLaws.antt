@@ -36,9 +36,10 @@ use Rattle.cb_requests.specs.Requests as asked
 use Rattle.cb_requests.specs.Requests.{Request, act_request, called_request, command_request, construct_request, deffacts_request, headed_request}
 use Rattle.cb_requests.specs.Uses.{is_in_use, is_named_in_rules}
 use Rattle.cb_session.specs.Actions.{acted, definitions_dropped, initials_kept, on_world, performed, performed_and_shown, requested, reset_to, shown, variables_dropped}
+use Rattle.cb_session.specs.Setups.{Setup}
 use Rattle.cb_session.specs.States.{State, first_state}
 use Rattle.cb_session.specs.Transcripts.{Run, after, after_all, after_status, begun, complete, concluded, executed, so_far, too_long, too_long_status}
-use Rattle.cb_session.specs.declared.limits.Limits.{Limits}
+use Rattle.cb_working_memory.specs.WorkingMemory.{greatest_index}
 use Rattle.cb_session.specs.declared.status.Status.{Status}
 use Rattle.cb_templates.specs.FaultLists.{unless, unless_faulty}
 use Rattle.cb_templates.specs.Reserved.{is_reserved}
@@ -218,21 +219,21 @@ module _ (P Q : World → Type 0) (kept : IsKeptByAll P Q)
   long_keeps None run e h = kept.acts.weaken run.state.world (subst (λ o. Lasts o run.state) e h)
   long_keeps (Some status) run e h = h
 
-  module _ (limits : Limits) (first : P (first_state limits).world) where
+  module _ (setup : Setup) (first : P (first_state setup).world) where
     abbrev run_by : Bool → List Reading → List Reading → Run
-    run_by b some all = if b then too_long (after_all (begun limits) some) else after_all (begun limits) all
+    run_by b some all = if b then too_long (after_all (begun setup) some) else after_all (begun setup) all
 
     run_keeps : (b : Bool) (some all : List Reading) → Lasts (run_by b some all).status (run_by b some all).state
-    run_keeps true some all = long_keeps (after_all (begun limits) some).status (after_all (begun limits) some) refl (items_keep (begun limits) some first)
-    run_keeps false some all = items_keep (begun limits) all first
+    run_keeps true some all = long_keeps (after_all (begun setup) some).status (after_all (begun setup) some) refl (items_keep (begun setup) some first)
+    run_keeps false some all = items_keep (begun setup) all first
 
-    pub so_far_kept : (p : List ℕ) → Lasts (so_far limits p).status (so_far limits p).state
+    pub so_far_kept : (p : List ℕ) → Lasts (so_far setup p).status (so_far setup p).state
     unfolding so_far
-    so_far_kept p = run_keeps (over limits.max_form p) (fitting limits.max_form p) (whole p)
+    so_far_kept p = run_keeps (over setup.max_form p) (fitting setup.max_form p) (whole p)
 
-    pub script_kept : (s : List ℕ) → Lasts (complete limits s).status (complete limits s).state
+    pub script_kept : (s : List ℕ) → Lasts (complete setup s).status (complete setup s).state
     unfolding complete
-    script_kept s = run_keeps (over limits.max_form s) (fitting limits.max_form s) (fitting limits.max_form s)
+    script_kept s = run_keeps (over setup.max_form s) (fitting setup.max_form s) (fitting setup.max_form s)
 
 -- where it makes no difference whether the script has ended
 module _ (P : World → Type 0) (kept : IsKeptByAll P P)
@@ -244,11 +245,11 @@ module _ (P : World → Type 0) (kept : IsKeptByAll P P)
   pub item_always : (s : State) (r : Reading) → P s.world → P (executed s r).state.world
   item_always s r h = whatever (executed s r).status (executed s r).state (item_keeps P P kept templates s r h)
 
-  pub so_far_always : (limits : Limits) → P (first_state limits).world → (p : List ℕ) → P (so_far limits p).state.world
-  so_far_always limits first p = whatever (so_far limits p).status (so_far limits p).state (so_far_kept P P kept templates limits first p)
+  pub so_far_always : (setup : Setup) → P (first_state setup).world → (p : List ℕ) → P (so_far setup p).state.world
+  so_far_always setup first p = whatever (so_far setup p).status (so_far setup p).state (so_far_kept P P kept templates setup first p)
 
-  pub script_always : (limits : Limits) → P (first_state limits).world → (s : List ℕ) → P (complete limits s).state.world
-  script_always limits first s = whatever (complete limits s).status (complete limits s).state (script_kept P P kept templates limits first s)
+  pub script_always : (setup : Setup) → P (first_state setup).world → (s : List ℕ) → P (complete setup s).state.world
+  script_always setup first s = whatever (complete setup s).status (complete setup s).state (script_kept P P kept templates setup first s)
 
 -- facts and templates
 template_read : (s : State) (r : Reading) (template : List ℕ × List SlotShape) → requested s r ≡ Ok (asked.define_template template) → Kept s → Kept (performed (asked.define_template template) s).state
@@ -257,27 +258,27 @@ template_read s r template e h = template_keeps s template (subst (IfSound s) e 
 pub item_well : (s : State) (r : Reading) → Kept s → Kept (executed s r).state
 item_well s r h = item_always WellKept well_kept template_read s r h
 
-pub so_far_well : (limits : Limits) (p : List ℕ) → Kept (so_far limits p).state
-so_far_well limits p = so_far_always WellKept well_kept template_read limits (none_kept [] 0 [] no_templates) p
+pub so_far_well : (setup : Setup) (p : List ℕ) → setup.index ≤ greatest_index → Kept (so_far setup p).state
+so_far_well setup p below = so_far_always WellKept well_kept template_read setup (none_kept [] setup.index setup.rule [] below no_templates) p
 
-pub script_well : (limits : Limits) (s : List ℕ) → Kept (complete limits s).state
-script_well limits s = script_always WellKept well_kept template_read limits (none_kept [] 0 [] no_templates) s
+pub script_well : (setup : Setup) (s : List ℕ) → setup.index ≤ greatest_index → Kept (complete setup s).state
+script_well setup s below = script_always WellKept well_kept template_read setup (none_kept [] setup.index setup.rule [] below no_templates) s
 
 -- firings
-pub so_far_within : (limits : Limits) (p : List ℕ) → (so_far limits p).state.world.firings ≤ limits.max_firings
-so_far_within limits p = so_far_always (HasAtMost limits.max_firings) (firings_kept limits.max_firings) (λ s r template e h. h) limits (omega arith) p
+pub so_far_within : (setup : Setup) (p : List ℕ) → (so_far setup p).state.world.firings ≤ setup.max_firings
+so_far_within setup p = so_far_always (HasAtMost setup.max_firings) (firings_kept setup.max_firings) (λ s r template e h. h) setup (omega arith) p
 
-pub script_within : (limits : Limits) (s : List ℕ) → (complete limits s).state.world.firings ≤ limits.max_firings
-script_within limits s = script_always (HasAtMost limits.max_firings) (firings_kept limits.max_firings) (λ s r template e h. h) limits (omega arith) s
+pub script_within : (setup : Setup) (s : List ℕ) → (complete setup s).state.world.firings ≤ setup.max_firings
+script_within setup s = script_always (HasAtMost setup.max_firings) (firings_kept setup.max_firings) (λ s r template e h. h) setup (omega arith) s
 
 -- the agenda
-pub so_far_proper : (limits : Limits) (p : List ℕ) → IsProper (so_far limits p).state.world.agenda
-so_far_proper limits p = so_far_always HasProperAgenda agenda_kept (λ s r template e h. h) limits (none_due 0 Depth) p
+pub so_far_proper : (setup : Setup) (p : List ℕ) → IsProper (so_far setup p).state.world.agenda
+so_far_proper setup p = so_far_always HasProperAgenda agenda_kept (λ s r template e h. h) setup (none_due setup.stamp Depth) p
 
-pub script_proper : (limits : Limits) (s : List ℕ) → IsProper (complete limits s).state.world.agenda
-script_proper limits s = script_always HasProperAgenda agenda_kept (λ s r template e h. h) limits (none_due 0 Depth) s
+pub script_proper : (setup : Setup) (s : List ℕ) → IsProper (complete setup s).state.world.agenda
+script_proper setup s = script_always HasProperAgenda agenda_kept (λ s r template e h. h) setup (none_due setup.stamp Depth) s
 
 -- what is due
-pub so_far_matches : (limits : Limits) (p : List ℕ) → (so_far limits p).status ≡ None → AreMatches (so_far limits p).state.world
-so_far_matches limits p e =
-    subst (λ o. Lasts AreMatches (λ _. Unit {0}) due_kept (λ s r template e h. h) o (so_far limits p).state) e (so_far_kept AreMatches (λ _. Unit {0}) due_kept (λ s r template e h. h) limits (λ k due. absurd (cc)) p)
+pub so_far_matches : (setup : Setup) (p : List ℕ) → (so_far setup p).status ≡ None → AreMatches (so_far setup p).state.world
+so_far_matches setup p e =
+    subst (λ o. Lasts AreMatches (λ _. Unit {0}) due_kept (λ s r template e h. h) o (so_far setup p).state) e (so_far_kept AreMatches (λ _. Unit {0}) due_kept (λ s r template e h. h) setup (λ k due. absurd (cc)) p)

@@ -203,8 +203,8 @@ well_kept = record {
   acts = acts_well;
   ruled = λ s rules h. h;
   moves = λ s rules last_rule h. well_moved s (with_rules rules last_rule s.memory) (rules_kept s.memory s.templates rules last_rule h);
-  restarts = λ s h. agenda_only WellKept WellKept [] (all_keys (restarted s.memory).network) (λ t ss k. k) (λ t k. k) (without_facts s) (none_kept s.memory.network.rules s.memory.last_rule s.templates h.templates_are);
-  clears = λ s h. none_kept [] s.memory.last_rule [] no_templates;
+  restarts = λ s h. agenda_only WellKept WellKept [] (all_keys (restarted s.memory).network) (λ t ss k. k) (λ t k. k) (without_facts s) (none_kept s.memory.network.rules 0 s.memory.last_rule s.templates (omega arith) h.templates_are);
+  clears = λ s h. none_kept [] 0 s.memory.last_rule [] (omega arith) no_templates;
   runs = runs_keep WellKept WellKept acts_well (λ s n h. h) (λ s h. h);
   watches = λ s w h. h;
   orders = λ s strategy h. h;
@@ -248,7 +248,7 @@ firings_kept n = record {
 abbrev pub HasProperAgenda : World → Type 0
 HasProperAgenda s = IsProper s.agenda
 
-pub none_due : (last : ℕ) (strategy : Strategy) → IsProper (record { entries = []; last = last; strategy = strategy })
+pub none_due : (last : ℕ) (strategy : Strategy) → IsProper (record { entries = []; last = last; strategy = strategy; failed = false })
 unfolding IsStrictlySortedBy
 none_due last strategy = record { rising = tt; once = tt }
 

@@ -11,8 +11,8 @@ ghost use Rattle.cb_agenda.specs.Agendas.{AgendaValue, changed, is_due, popped};
 ghost use Rattle.cb_exprs.specs.Terms.{Term};
 ghost use Rattle.cb_laws.specs.Firing.{AreMatches, HasCome, IsProper, IsThere};
 ghost use Rattle.cb_matches.specs.Keys.{KeyValue};
+ghost use Rattle.cb_session.specs.Setups.{Setup};
 ghost use Rattle.cb_session.specs.Transcripts.{complete, so_far};
-ghost use Rattle.cb_session.specs.declared.limits.Limits.{Limits};
 ghost use Rattle.cb_working_memory.specs.WorkingMemory.{Memory};
 
 /// A run never leaves more firings than there were, and each match that fires takes one of them: no action gives one back. Of
@@ -28,10 +28,10 @@ pub fn a_run_stays_within_its_firings()
     ensures none_left { (s : World) (k : KeyValue) → s.firings ≡ 0
         → (popped s.agenda).1 ≡ Some k
         → (run None s).answer ≡ Err (ended.Limit Firings) }
-    ensures so_far { (limits : Limits) (p : List ℕ)
-        → (so_far limits p).state.world.firings ≤ limits.max_firings }
-    ensures whole { (limits : Limits) (script : List ℕ)
-        → (complete limits script).state.world.firings ≤ limits.max_firings }
+    ensures so_far { (setup : Setup) (p : List ℕ)
+        → (so_far setup p).state.world.firings ≤ setup.max_firings }
+    ensures whole { (setup : Setup) (script : List ℕ)
+        → (complete setup script).state.world.firings ≤ setup.max_firings }
 {}
 
 /// A rule fires once for one match, unless the match went and came again. What fires is taken out of the agenda and is not due
@@ -50,10 +50,10 @@ pub fn a_rule_fires_once_for_one_match()
         (saliences : List ℤ) (k : KeyValue)
         → is_due (changed a gone come saliences) k ≡ true
         → ((is_due a k ≡ true) × (Contains gone k → ⊥)) ⊎ Contains come k }
-    ensures so_far { (limits : Limits) (p : List ℕ)
-        → IsProper (so_far limits p).state.world.agenda }
-    ensures whole { (limits : Limits) (script : List ℕ)
-        → IsProper (complete limits script).state.world.agenda }
+    ensures so_far { (setup : Setup) (p : List ℕ)
+        → IsProper (so_far setup p).state.world.agenda }
+    ensures whole { (setup : Setup) (script : List ℕ)
+        → IsProper (complete setup script).state.world.agenda }
     ensures proper_taken { (a : AgendaValue) → IsProper a → IsProper (popped a).0 }
     ensures proper_changed { (a : AgendaValue) (gone come : List KeyValue) (saliences : List ℤ)
         → IsProper a → IsProper (changed a gone come saliences) }
@@ -73,6 +73,6 @@ pub fn what_is_due_is_a_match()
     ensures expression { (t : Term) (s : World) → AreMatches s
         → (carried t s).answer ≢ Err (ended.Limit Numbers)
         → AreMatches (carried t s).state }
-    ensures so_far { (limits : Limits) (p : List ℕ) → (so_far limits p).status ≡ None
-        → AreMatches (so_far limits p).state.world }
+    ensures so_far { (setup : Setup) (p : List ℕ) → (so_far setup p).status ≡ None
+        → AreMatches (so_far setup p).state.world }
 {}

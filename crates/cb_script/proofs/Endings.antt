@@ -6,9 +6,9 @@ use Rattle.cb_forms.specs.Laws.{BeginsWith}
 use Rattle.cb_io.specs.Histories.{PastReads, PastWrites}
 use Rattle.cb_io.specs.Moved.{Gave, IsAtEnd}
 use Rattle.cb_session.specs.Sessions.{SessionState, flow_of}
+use Rattle.cb_session.specs.Setups.{Setup}
 use Rattle.cb_session.specs.Transcripts.{so_far, complete, transcript, status_of, status_at_end, added, added_at_end}
 use Rattle.cb_session.specs.contracts.cited.LawsCited.TheImpl as session_laws
-use Rattle.cb_session.specs.declared.limits.Limits.{Limits}
 use Rattle.cb_session.specs.declared.status.Ending.{Ending}
 use Rattle.cb_session.specs.declared.status.Ending.TheVariants as ending
 use Rattle.cb_session.specs.declared.status.Flow.{Flow}
@@ -17,7 +17,7 @@ use Rattle.cb_session.specs.declared.status.Status.{Status}
 use Rattle.cb_actions.specs.declared.stop.Stop.{Stop}
 use Rattle.cb_actions.specs.declared.stop.Stop.TheVariants as stop
 use Rattle.cb_script.specs.Outcomes.{cause_of, ended_as, stopped_as, failed_as, HasEnded, HasStopped, HasFailed}
-use Rattle.cb_script.specs.Ran.{IsTranscript, Ran}
+use Rattle.cb_script.specs.Ran.{IsTranscript, RanFrom}
 use Rattle.cb_script.specs.declared.outcome.Cause.TheVariants.{Done, ReadFault, WriteFault}
 use Rattle.cb_script.specs.declared.outcome.Outcome.{Outcome}
 use Rattle.cb_script.proofs.Moves.{gave_then, read_all, WroteAll, WroteBegun}
@@ -74,7 +74,7 @@ stopped_not_done stop.NoMemory h = cc
 stopped_not_done stop.WriteFault h = cc
 
 -- a script that has ended so far
-ended_transcript : (l : Limits) (p r : List ℕ) (status : Status) → (so_far l p).status ≡ Some status → IsTranscript l (ended_as status) (p ++ r) (so_far l p).written
+ended_transcript : (l : Setup) (p r : List ℕ) (status : Status) → (so_far l p).status ≡ Some status → IsTranscript l (ended_as status) (p ++ r) (so_far l p).written
 ended_transcript l p r status ended =
     let same : complete l (p ++ r) ≡ so_far l p = (session_laws.ghosts.so_far_ended l p r status ended).1 in
     let over : (complete l (p ++ r)).status ≡ Some status = ap (λ it. it.status) same ∙ ended in (
@@ -82,46 +82,46 @@ ended_transcript l p r status ended =
       ap ended_as (sym (ap (λ o. status_at_end o (complete l (p ++ r)).state.is_faulted) over)),
     )
 
-ended_alone : (l : Limits) (p : List ℕ) (status : Status) → (so_far l p).status ≡ Some status → IsTranscript l (ended_as status) p (so_far l p).written
+ended_alone : (l : Setup) (p : List ℕ) (status : Status) → (so_far l p).status ≡ Some status → IsTranscript l (ended_as status) p (so_far l p).written
 ended_alone l p status ended = subst (λ it. IsTranscript l (ended_as status) it (so_far l p).written) (append-nil p) (ended_transcript l p [] status ended)
 
 -- where the source tells its bytes
-of_all : (l : Limits) (result : Outcome) (left left' : Option (List ℕ)) (p wrote : List ℕ) → Gave left left' p → ((r : List ℕ) → IsTranscript l result (p ++ r) wrote) → IfSome left (λ s. IsTranscript l result s wrote)
+of_all : (l : Setup) (result : Outcome) (left left' : Option (List ℕ)) (p wrote : List ℕ) → Gave left left' p → ((r : List ℕ) → IsTranscript l result (p ++ r) wrote) → IfSome left (λ s. IsTranscript l result s wrote)
 of_all l result None left' p wrote gave h = tt
 of_all l result (Some s) left' p wrote gave h = subst (λ it. IsTranscript l result it wrote) (sym gave.1) (h gave.0)
 
-of_all_read : (l : Limits) (result : Outcome) (left left' : Option (List ℕ)) (p wrote : List ℕ) → Gave left left' p → IsAtEnd left' → IsTranscript l result p wrote → IfSome left (λ s. IsTranscript l result s wrote)
+of_all_read : (l : Setup) (result : Outcome) (left left' : Option (List ℕ)) (p wrote : List ℕ) → Gave left left' p → IsAtEnd left' → IsTranscript l result p wrote → IfSome left (λ s. IsTranscript l result s wrote)
 of_all_read l result None left' p wrote gave end h = tt
 of_all_read l result (Some s) left' p wrote gave end h = subst (λ it. IsTranscript l result it wrote) (sym (read_all s p left' gave end)) h
 
-begins_of_all : (l : Limits) (left left' : Option (List ℕ)) (p wrote : List ℕ) → Gave left left' p → ((r : List ℕ) → BeginsWith wrote (transcript l (p ++ r))) → IfSome left (λ s. BeginsWith wrote (transcript l s))
+begins_of_all : (l : Setup) (left left' : Option (List ℕ)) (p wrote : List ℕ) → Gave left left' p → ((r : List ℕ) → BeginsWith wrote (transcript l (p ++ r))) → IfSome left (λ s. BeginsWith wrote (transcript l s))
 begins_of_all l None left' p wrote gave h = tt
 begins_of_all l (Some s) left' p wrote gave h = subst (λ it. BeginsWith wrote (transcript l it)) (sym gave.1) (h gave.0)
 
-begins_of_all_read : (l : Limits) (left left' : Option (List ℕ)) (p wrote : List ℕ) → Gave left left' p → IsAtEnd left' → BeginsWith wrote (transcript l p) → IfSome left (λ s. BeginsWith wrote (transcript l s))
+begins_of_all_read : (l : Setup) (left left' : Option (List ℕ)) (p wrote : List ℕ) → Gave left left' p → IsAtEnd left' → BeginsWith wrote (transcript l p) → IfSome left (λ s. BeginsWith wrote (transcript l s))
 begins_of_all_read l None left' p wrote gave end h = tt
 begins_of_all_read l (Some s) left' p wrote gave end h = subst (λ it. BeginsWith wrote (transcript l it)) (sym (read_all s p left' gave end)) h
 
 -- a beginning of what is written however the script goes on, where some bytes are unread
-with_more : (l : Limits) (left' : Option (List ℕ)) (p wrote : List ℕ) → ((r : List ℕ) → BeginsWith wrote (transcript l (p ++ r)))
+with_more : (l : Setup) (left' : Option (List ℕ)) (p wrote : List ℕ) → ((r : List ℕ) → BeginsWith wrote (transcript l (p ++ r)))
     → IfSome left' (λ unread. unread ≢ [] → (rest : List ℕ) → BeginsWith wrote (transcript l (p ++ rest)))
 with_more l None p wrote h = tt
 with_more l (Some unread) p wrote h = λ _. h
 
-with_none : (l : Limits) (left' : Option (List ℕ)) (p wrote : List ℕ) → IsAtEnd left' → IfSome left' (λ unread. unread ≢ [] → (rest : List ℕ) → BeginsWith wrote (transcript l (p ++ rest)))
+with_none : (l : Setup) (left' : Option (List ℕ)) (p wrote : List ℕ) → IsAtEnd left' → IfSome left' (λ unread. unread ≢ [] → (rest : List ℕ) → BeginsWith wrote (transcript l (p ++ rest)))
 with_none l None p wrote end = tt
 with_none l (Some unread) p wrote end = λ some. absurd (some end)
 
 begins_then : (a b c : List ℕ) → BeginsWith a b → BeginsWith b c → BeginsWith a c
 begins_then a b c (m, e) (n, f) = (m ++ n, f ∙ (ap (λ it. it ++ n) e ∙ append_assoc a m n))
 
-module _ (l : Limits) (s : SessionState) (left a a' : Option (List ℕ)) (reads r r' : PastReads) (writes w w' : PastWrites) (piece : List ℕ) (before : Following l s left a reads r writes w) where
+module _ (l : Setup) (s : SessionState) (left a a' : Option (List ℕ)) (reads r r' : PastReads) (writes w w' : PastWrites) (piece : List ℕ) (before : Following l s left a reads r writes w) where
   -- the script has ended with this piece
-  pub ran_ended : (status : Status) (flow : Flow) → length piece ≤ 4096 → Gave a a' piece → GaveMore piece r r' → WroteAll (added s.limits s.fed piece) w w' → flow ≡ Ended status → flow ≡ flow_of (so_far s.limits (s.fed ++ piece)).status
-      → Ran l (ended_as status) left a' reads r' writes w'
+  pub ran_ended : (status : Status) (flow : Flow) → length piece ≤ 4096 → Gave a a' piece → GaveMore piece r r' → WroteAll (added s.setup s.fed piece) w w' → flow ≡ Ended status → flow ≡ flow_of (so_far s.setup (s.fed ++ piece)).status
+      → RanFrom l (ended_as status) left a' reads r' writes w'
   ran_ended status flow short gave read more ends tells =
       let p = s.fed ++ piece in
-      let ended : (so_far l p).status ≡ Some status = flow_some _ status (sym ends ∙ (rw before.same_limits at tells)) in
+      let ended : (so_far l p).status ≡ Some status = flow_some _ status (sym ends ∙ (rw before.same_setup at tells)) in
       let all = gave_then left a a' s.fed piece before.gave gave in
       record {
         read = p;
@@ -147,10 +147,10 @@ module _ (l : Limits) (s : SessionState) (left a a' : Option (List ℕ)) (reads 
       }
 
   -- a piece that could not be carried out whole
-  pub ran_stopped : (e : Stop) → length piece ≤ 4096 → Gave a a' piece → GaveMore piece r r' → WroteBegun (added s.limits s.fed piece) w w' e → Ran l (stopped_as e) left a' reads r' writes w'
+  pub ran_stopped : (e : Stop) → length piece ≤ 4096 → Gave a a' piece → GaveMore piece r r' → WroteBegun (added s.setup s.fed piece) w w' e → RanFrom l (stopped_as e) left a' reads r' writes w'
   ran_stopped e short gave read more =
       let p = s.fed ++ piece in
-      let some : WroteBegun (added l s.fed piece) w w' e = rw before.same_limits at more in
+      let some : WroteBegun (added l s.fed piece) w w' e = rw before.same_setup at more in
       let here = (so_far l s.fed).written in
       let all = gave_then left a a' s.fed piece before.gave gave in
       let begins : BeginsWith (here ++ some.written) (so_far l p).written =
@@ -180,7 +180,7 @@ module _ (l : Limits) (s : SessionState) (left a a' : Option (List ℕ)) (reads 
         read_failed = λ h. absurd (stopped_not_read_fault e h);
       }
 
-module _ (l : Limits) (s : SessionState) (left a a' : Option (List ℕ)) (reads r r' : PastReads) (writes w w' : PastWrites) (before : Following l s left a reads r writes w) (gave : Gave a a' []) (end : IsAtEnd a')
+module _ (l : Setup) (s : SessionState) (left a a' : Option (List ℕ)) (reads r r' : PastReads) (writes w w' : PastWrites) (before : Following l s left a reads r writes w) (gave : Gave a a' []) (end : IsAtEnd a')
     (bytes : r'.bytes ≡ r.bytes ++ []) (ends : r'.ends ≡ r.ends + 1) (failures : r'.failures ≡ r.failures) where
   gave_all : Gave left a' s.fed
   gave_all = subst (λ it. Gave left a' it) (append-nil s.fed) (gave_then left a a' s.fed [] before.gave gave)
@@ -192,10 +192,10 @@ module _ (l : Limits) (s : SessionState) (left a a' : Option (List ℕ)) (reads 
   another_end h = let one : r'.ends ≡ r.ends + 1 = ends in let same : r.ends ≡ reads.ends = before.ends in omega arith
 
   -- the end of the script
-  pub ran_finished : (status : Status) → WroteAll (added_at_end s.limits s.fed) w w' → status ≡ status_of s.limits s.fed → Ran l (ended_as status) left a' reads r' writes w'
+  pub ran_finished : (status : Status) → WroteAll (added_at_end s.setup s.fed) w w' → status ≡ status_of s.setup s.fed → RanFrom l (ended_as status) left a' reads r' writes w'
   ran_finished status more is =
-      let adds : WroteAll (added_at_end l s.fed) w w' = rw before.same_limits at more in
-      let is' : status ≡ status_of l s.fed = rw before.same_limits at is in
+      let adds : WroteAll (added_at_end l s.fed) w w' = rw before.same_setup at more in
+      let is' : status ≡ status_of l s.fed = rw before.same_setup at is in
       let all : IsTranscript l (ended_as status) s.fed (transcript l s.fed) = (refl, ap ended_as is') in
       record {
         read = s.fed;
@@ -221,9 +221,9 @@ module _ (l : Limits) (s : SessionState) (left a a' : Option (List ℕ)) (reads 
       }
 
   -- the end of the script, not carried out whole
-  pub ran_unfinished : (e : Stop) → WroteBegun (added_at_end s.limits s.fed) w w' e → Ran l (stopped_as e) left a' reads r' writes w'
+  pub ran_unfinished : (e : Stop) → WroteBegun (added_at_end s.setup s.fed) w w' e → RanFrom l (stopped_as e) left a' reads r' writes w'
   ran_unfinished e more =
-      let some : WroteBegun (added_at_end l s.fed) w w' e = rw before.same_limits at more in
+      let some : WroteBegun (added_at_end l s.fed) w w' e = rw before.same_setup at more in
       let here = (so_far l s.fed).written in
       let begins : BeginsWith (here ++ some.written) (transcript l s.fed) =
       (some.unwritten, session_laws.ghosts.end_grown l s.fed ∙ (ap (λ it. here ++ it) some.is ∙ sym (append_assoc here some.written some.unwritten))) in
@@ -250,8 +250,8 @@ module _ (l : Limits) (s : SessionState) (left a a' : Option (List ℕ)) (reads 
         read_failed = λ h. absurd (stopped_not_read_fault e h);
       }
 
-module _ (l : Limits) (s : SessionState) (left a : Option (List ℕ)) (reads r r' : PastReads) (writes w : PastWrites) (before : Following l s left a reads r writes w) where
-  ran_read_fault : r'.bytes ≡ r.bytes → (length s.fed < 2 ^ 64 - 1 → reads.failures < r'.failures) → Ran l (failed_as ReadFault) left a reads r' writes w
+module _ (l : Setup) (s : SessionState) (left a : Option (List ℕ)) (reads r r' : PastReads) (writes w : PastWrites) (before : Following l s left a reads r writes w) where
+  ran_read_fault : r'.bytes ≡ r.bytes → (length s.fed < 2 ^ 64 - 1 → reads.failures < r'.failures) → RanFrom l (failed_as ReadFault) left a reads r' writes w
   ran_read_fault bytes failed = record {
     read = s.fed;
     wrote = (so_far l s.fed).written;
@@ -276,12 +276,12 @@ module _ (l : Limits) (s : SessionState) (left a : Option (List ℕ)) (reads r r
   }
 
   -- a read that failed
-  pub ran_unread : r'.bytes ≡ r.bytes → r'.failures ≡ r.failures + 1 → Ran l (failed_as ReadFault) left a reads r' writes w
+  pub ran_unread : r'.bytes ≡ r.bytes → r'.failures ≡ r.failures + 1 → RanFrom l (failed_as ReadFault) left a reads r' writes w
   ran_unread bytes more =
       let same : r.failures ≡ reads.failures = before.read_failures in
       ran_read_fault bytes (λ _. omega arith)
 
 -- one read too many
-pub ran_endless : (l : Limits) (s : SessionState) (left a : Option (List ℕ)) (reads r : PastReads) (writes w : PastWrites) → Following l s left a reads r writes w → 18446744073709551615 ≤ length s.fed
-    → Ran l (failed_as ReadFault) left a reads r writes w
+pub ran_endless : (l : Setup) (s : SessionState) (left a : Option (List ℕ)) (reads r : PastReads) (writes w : PastWrites) → Following l s left a reads r writes w → 18446744073709551615 ≤ length s.fed
+    → RanFrom l (failed_as ReadFault) left a reads r writes w
 ran_endless l s left a reads r writes w here many = ran_read_fault l s left a reads r r writes w here refl (λ few. absurd (omega arith))

@@ -4,25 +4,25 @@ use Rattle.std.proofs.lemmas.List.{append-nil, length-append, length-take}
 use Rattle.cb_io.specs.Histories.{PastReads, PastWrites, after_read}
 use Rattle.cb_io.specs.Moved.{Gave}
 use Rattle.cb_session.specs.Sessions.{SessionState, fresh_session, session_after, flow_of}
+use Rattle.cb_session.specs.Setups.{Setup}
 use Rattle.cb_session.specs.Transcripts.{so_far, added}
 use Rattle.cb_session.specs.contracts.cited.LawsCited.TheImpl as session_laws
-use Rattle.cb_session.specs.declared.limits.Limits.{Limits}
 use Rattle.cb_session.specs.declared.status.Flow.{Flow}
 use Rattle.cb_session.specs.declared.status.Flow.TheVariants.{GoOn, Ended}
 use Rattle.cb_session.specs.declared.status.Status.{Status}
 use Rattle.cb_script.proofs.Moves.{gave_then, gave_none, WroteAll}
 
 -- The session has been fed all that was read, its script goes on, and all that is written so far was written.
-pub record Following (limits : Limits) (s : SessionState) (left left' : Option (List ℕ)) (reads reads' : PastReads) (writes writes' : PastWrites) : Type 0 where
-  pub same_limits : s.limits ≡ limits
+pub record Following (setup : Setup) (s : SessionState) (left left' : Option (List ℕ)) (reads reads' : PastReads) (writes writes' : PastWrites) : Type 0 where
+  pub same_setup : s.setup ≡ setup
   pub no_status : s.status ≡ None
   pub no_stop : s.stop ≡ None
-  pub goes_on : (so_far limits s.fed).status ≡ None
+  pub goes_on : (so_far setup s.fed).status ≡ None
   pub gave : Gave left left' s.fed
   pub read : reads'.bytes ≡ reads.bytes ++ s.fed
   pub ends : reads'.ends ≡ reads.ends
   pub read_failures : reads'.failures ≡ reads.failures
-  pub wrote : writes'.bytes ≡ writes.bytes ++ (so_far limits s.fed).written
+  pub wrote : writes'.bytes ≡ writes.bytes ++ (so_far setup s.fed).written
   pub write_failures : writes'.failures ≡ writes.failures
 
 -- a read gave these bytes, and no end
@@ -41,11 +41,11 @@ flow_some None status h = cc
 flow_some (Some other) status h = cc
 
 -- nothing was read
-pub following_none : (l : Limits) (s : SessionState) (left : Option (List ℕ)) (reads : PastReads) (writes : PastWrites) → s ≡ fresh_session l → Following l s left left reads reads writes writes
+pub following_none : (l : Setup) (s : SessionState) (left : Option (List ℕ)) (reads : PastReads) (writes : PastWrites) → s ≡ fresh_session l → Following l s left left reads reads writes writes
 following_none l s left reads writes fresh =
     let none = session_laws.ghosts.so_far_none l in
     subst (λ (it : SessionState). Following l it left left reads reads writes writes) (sym fresh) (record {
-      same_limits = refl;
+      same_setup = refl;
       no_status = refl;
       no_stop = refl;
       goes_on = ap (λ it. it.status) none;
@@ -57,25 +57,25 @@ following_none l s left reads writes fresh =
       write_failures = refl;
     })
 
-module _ (l : Limits) (s : SessionState) (left a a' : Option (List ℕ)) (reads r r' : PastReads) (writes w w' : PastWrites) (piece : List ℕ) (before : Following l s left a reads r writes w) where
+module _ (l : Setup) (s : SessionState) (left a a' : Option (List ℕ)) (reads r r' : PastReads) (writes w w' : PastWrites) (piece : List ℕ) (before : Following l s left a reads r writes w) where
   -- what was written, with what a piece adds
-  pub wrote_more : WroteAll (added s.limits s.fed piece) w w' → w'.bytes ≡ writes.bytes ++ (so_far l (s.fed ++ piece)).written
+  pub wrote_more : WroteAll (added s.setup s.fed piece) w w' → w'.bytes ≡ writes.bytes ++ (so_far l (s.fed ++ piece)).written
   wrote_more more =
-      let adds : WroteAll (added l s.fed piece) w w' = rw before.same_limits at more in
+      let adds : WroteAll (added l s.fed piece) w w' = rw before.same_setup at more in
       adds.bytes_are ∙ (ap (λ it. it ++ added l s.fed piece) before.wrote ∙ (append_assoc writes.bytes (so_far l s.fed).written (added l s.fed piece) ∙ ap (λ it. writes.bytes ++ it) (sym (session_laws.ghosts.added_grown l s.fed piece))))
 
   pub read_more : GaveMore piece r r' → r'.bytes ≡ reads.bytes ++ (s.fed ++ piece)
   read_more more = more.bytes ∙ (ap (λ it. it ++ piece) before.read ∙ append_assoc reads.bytes s.fed piece)
 
   -- one piece more, and the script goes on
-  pub following_on : (t : SessionState) (flow : Flow) → Gave a a' piece → GaveMore piece r r' → WroteAll (added s.limits s.fed piece) w w'
-      → t ≡ session_after s.limits (s.fed ++ piece) (so_far s.limits (s.fed ++ piece)).status → flow ≡ GoOn → flow ≡ flow_of (so_far s.limits (s.fed ++ piece)).status
+  pub following_on : (t : SessionState) (flow : Flow) → Gave a a' piece → GaveMore piece r r' → WroteAll (added s.setup s.fed piece) w w'
+      → t ≡ session_after s.setup (s.fed ++ piece) (so_far s.setup (s.fed ++ piece)).status → flow ≡ GoOn → flow ≡ flow_of (so_far s.setup (s.fed ++ piece)).status
       → Following l t left a' reads r' writes w'
   following_on t flow gave read more is goes tells =
-      let is' : t ≡ session_after l (s.fed ++ piece) (so_far l (s.fed ++ piece)).status = rw before.same_limits at is in
-      let none : (so_far l (s.fed ++ piece)).status ≡ None = flow_none _ (sym goes ∙ (rw before.same_limits at tells)) in
+      let is' : t ≡ session_after l (s.fed ++ piece) (so_far l (s.fed ++ piece)).status = rw before.same_setup at is in
+      let none : (so_far l (s.fed ++ piece)).status ≡ None = flow_none _ (sym goes ∙ (rw before.same_setup at tells)) in
       subst (λ (it : SessionState). Following l it left a' reads r' writes w') (sym is') (record {
-        same_limits = refl;
+        same_setup = refl;
         no_status = none;
         no_stop = refl;
         goes_on = none;
@@ -88,7 +88,7 @@ module _ (l : Limits) (s : SessionState) (left a a' : Option (List ℕ)) (reads 
       })
 
 -- each piece has a byte at least, so no more pieces come than bytes
-pub turns_on : (turn n : ℕ) (l : Limits) (fed buf : List ℕ) (status : Option Status) (t : SessionState) → t ≡ session_after l (fed ++ take n buf) status
+pub turns_on : (turn n : ℕ) (l : Setup) (fed buf : List ℕ) (status : Option Status) (t : SessionState) → t ≡ session_after l (fed ++ take n buf) status
     → turn ≤ length fed → n ≢ 0 → n ≤ length buf → turn + 1 ≤ length t.fed
 turns_on turn n l fed buf status t is before some within =
     let all : t.fed ≡ fed ++ take n buf = ap (λ t. t.fed) is in

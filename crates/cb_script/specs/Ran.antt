@@ -7,31 +7,32 @@ use Rattle.cb_script.specs.Outcomes.{ended_as, HasEnded, HasStopped, HasFailed}
 use Rattle.cb_script.specs.Runs.{IsPrompt}
 use Rattle.cb_script.specs.declared.outcome.Cause.TheVariants.{Done, ReadFault, WriteFault}
 use Rattle.cb_script.specs.declared.outcome.Outcome.{Outcome}
+use Rattle.cb_session.specs.Setups.{Setup, fresh_setup}
 use Rattle.cb_session.specs.Transcripts.{so_far, transcript, status_of}
 use Rattle.cb_session.specs.declared.limits.Limits.{Limits}
 
 -- the script has written all of its transcript and ended so
-abbrev pub IsTranscript : Limits → Outcome → List ℕ → List ℕ → Type 0
-IsTranscript limits result script wrote = (wrote ≡ transcript limits script) × (result ≡ ended_as (status_of limits script))
+abbrev pub IsTranscript : Setup → Outcome → List ℕ → List ℕ → Type 0
+IsTranscript setup result script wrote = (wrote ≡ transcript setup script) × (result ≡ ended_as (status_of setup script))
 
--- A run with this outcome. The source had `left` left when the run began and has `left'` now, if it says so; its reads had given
--- `reads` and have given `reads'`; the writes of the sink had taken `writes` and have taken `writes'`.
-pub record Ran (limits : Limits) (result : Outcome) (left left' : Option (List ℕ)) (reads reads' : PastReads) (writes writes' : PastWrites) : Type 0 where
+-- A run from this setup with this outcome. The source had `left` left when the run began and has `left'` now, if it says so; its
+-- reads had given `reads` and have given `reads'`; the writes of the sink had taken `writes` and have taken `writes'`.
+pub record RanFrom (setup : Setup) (result : Outcome) (left left' : Option (List ℕ)) (reads reads' : PastReads) (writes writes' : PastWrites) : Type 0 where
   -- what the run read and what it wrote
   pub read : List ℕ
   pub wrote : List ℕ
   pub read_is : reads'.bytes ≡ reads.bytes ++ read
   pub wrote_is : writes'.bytes ≡ writes.bytes ++ wrote
   -- However it went.
-  pub prompt : IsPrompt limits read wrote
+  pub prompt : IsPrompt setup read wrote
   -- The script has ended: by its end only where a read reported it; else so, however the script goes on.
-  pub ended : HasEnded result.cause → IsTranscript limits result read wrote
-  pub ended_however : HasEnded result.cause → reads'.ends ≡ reads.ends → (rest : List ℕ) → IsTranscript limits result (read ++ rest) wrote
+  pub ended : HasEnded result.cause → IsTranscript setup result read wrote
+  pub ended_however : HasEnded result.cause → reads'.ends ≡ reads.ends → (rest : List ℕ) → IsTranscript setup result (read ++ rest) wrote
   pub end_was_read : result.cause ≡ Done → reads.ends < reads'.ends
   -- The run failed.
-  pub after_read_fault : result.cause ≡ ReadFault → wrote ≡ (so_far limits read).written
-  pub after_stop : HasStopped result.cause → BeginsWith wrote (transcript limits read)
-  pub after_stop_however : HasStopped result.cause → reads'.ends ≡ reads.ends → (rest : List ℕ) → BeginsWith wrote (transcript limits (read ++ rest))
+  pub after_read_fault : result.cause ≡ ReadFault → wrote ≡ (so_far setup read).written
+  pub after_stop : HasStopped result.cause → BeginsWith wrote (transcript setup read)
+  pub after_stop_however : HasStopped result.cause → reads'.ends ≡ reads.ends → (rest : List ℕ) → BeginsWith wrote (transcript setup (read ++ rest))
   pub read_failed : result.cause ≡ ReadFault → length read < 2 ^ 64 - 1 → reads.failures < reads'.failures
   pub no_read_failed : (result.cause ≢ ReadFault) → reads'.failures ≡ reads.failures
   pub write_failed : result.cause ≡ WriteFault → writes.failures < writes'.failures
@@ -39,6 +40,10 @@ pub record Ran (limits : Limits) (result : Outcome) (left left' : Option (List �
   pub status_of_failure : HasFailed result.cause → result.status ≡ 3
   -- A source that says which bytes it has: of all of them, read or not. Where some are unread, it doesn't matter which.
   pub gave : Gave left left' read
-  pub whole_transcript : HasEnded result.cause → IfSome left (λ s. IsTranscript limits result s wrote)
-  pub after_stop_of_all : HasStopped result.cause → IfSome left (λ s. BeginsWith wrote (transcript limits s))
-  pub after_stop_with_more : HasStopped result.cause → IfSome left' (λ unread. unread ≢ [] → (rest : List ℕ) → BeginsWith wrote (transcript limits (read ++ rest)))
+  pub whole_transcript : HasEnded result.cause → IfSome left (λ s. IsTranscript setup result s wrote)
+  pub after_stop_of_all : HasStopped result.cause → IfSome left (λ s. BeginsWith wrote (transcript setup s))
+  pub after_stop_with_more : HasStopped result.cause → IfSome left' (λ unread. unread ≢ [] → (rest : List ℕ) → BeginsWith wrote (transcript setup (read ++ rest)))
+
+-- A run of the program with these limits and this outcome: no number was given before.
+abbrev pub Ran : Limits → Outcome → Option (List ℕ) → Option (List ℕ) → PastReads → PastReads → PastWrites → PastWrites → Type 0
+Ran limits result left left' reads reads' writes writes' = RanFrom (fresh_setup limits) result left left' reads reads' writes writes'

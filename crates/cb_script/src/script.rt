@@ -1,7 +1,7 @@
 //! A whole script, from a source to a sink.
 ghost use Rattle.std.specs.Prelude.{◌≡◌};
 ghost use Rattle.cb_io.specs.Output.{IsReady};
-ghost use Rattle.cb_script.specs.Ran.{Ran};
+ghost use Rattle.cb_script.specs.Ran.{Ran, RanFrom};
 ghost use Rattle.cb_session.specs.Sessions.{fresh_session};
 
 use crate::outcome::{Cause, Outcome};
@@ -15,8 +15,8 @@ use std::alloc::Global;
 ///
 /// It reads at most 4096 bytes at a time, and carries out and writes what they hold before it reads on. After the
 /// script's end at most the rest of those 4096 bytes has been read. After a read that failed nothing more is carried out
-/// or written. A source that gives no end in 18,446,744,073,709,551,615 reads counts as one that failed. The record `Ran`
-/// has a field for each promise.
+/// or written. A source that gives no end in 18,446,744,073,709,551,615 reads counts as one that failed. The record `RanFrom`
+/// has a field for each promise, and `Ran` is that of a run whose numbers begin at 1.
 pub fn run<S: Source, K: Sink>(
     alloc: Global,
     source: &mut S,
@@ -38,9 +38,9 @@ fn follow<M: Matcher<Mark>, S: Source, K: Sink>(
     source: &mut S,
     out: &mut Out<K>,
 ) -> Outcome
-    requires fresh { session.old ≡ fresh_session session.old.limits }
+    requires fresh { session.old ≡ fresh_session session.old.setup }
     requires ready { IsReady out.old }
-    ensures { Ran session.old.limits result
+    ensures { RanFrom session.old.setup result
         (S.left source.old) (S.left source.new) (S.reads source.old) (S.reads source.new)
         (K.writes out.old.sink) (K.writes out.new.sink) }
 {

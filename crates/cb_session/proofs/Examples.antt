@@ -1,6 +1,6 @@
 -- Scripts and what they write, worked out by hand from the rules.
 use Prim.Native.String.{String}
-use Rattle.std.proofs.Common.{◌≡◌, ◌≤◌, ◌-◌, ℕ, ℤ, pos, negsuc, List, [], ◌∷◌, map, Some, Ok, codes, refl, arith}
+use Rattle.std.proofs.Common.{◌≡◌, ◌-◌, ℕ, ℤ, pos, negsuc, List, [], ◌∷◌, map, Some, Ok, codes, refl}
 use Rattle.std.specs.Fmt.{digits}
 use Rattle.cb_forms.specs.Items.{whole, over, fitting, parts, is_open_list}
 use Rattle.cb_forms.specs.Pieces.{pieces}
@@ -9,18 +9,17 @@ use Rattle.cb_forms.specs.Words.{token_of}
 use Rattle.cb_forms.specs.declared.token.Token.TheVariants as token
 use Rattle.cb_functions.specs.Internal.Operations.{operator_of}
 use Rattle.cb_actions.specs.Changes.{moved}
-use Rattle.cb_actions.specs.Worlds.{first_world}
 use Rattle.cb_agenda.specs.Agendas.{agenda_list, popped}
 use Rattle.cb_lines.specs.Lines.{agenda_line}
 use Rattle.cb_matches.specs.Changes.{keys_come, keys_gone}
 use Rattle.cb_matches.specs.Matches.{matches_of}
-use Rattle.cb_matches.specs.Networks.{all_keys, all_matches, bindings_of, empty_network}
+use Rattle.cb_matches.specs.Networks.{all_keys, all_matches, bindings_of}
 use Rattle.cb_requests.specs.Reads.{rule_in}
 use Rattle.cb_session.specs.Actions.{acted}
+use Rattle.cb_session.specs.Setups.{Setup}
 use Rattle.cb_session.specs.States.{State, first_state}
 use Rattle.cb_session.specs.Transcripts.{begun, after_all, complete, executed, limit_status, so_far, status_of, transcript}
 use Rattle.cb_working_memory.specs.WorkingMemory.{greatest_index}
-use Rattle.cb_session.specs.declared.limits.Limits.{Limits}
 use Rattle.cb_session.specs.declared.status.Ending.TheVariants.{Done, Exit}
 use Rattle.cb_templates.specs.Reserved.{is_reserved}
 use Rattle.cb_words.specs.Words.{head_of}
@@ -52,25 +51,17 @@ abbrev call : String → List Tree → Tree
 call name args = list (word name ∷ args)
 
 -- limits of 3, of 9 and of 12 bytes for a form, of 2 turns for all loops, and of 1 firing
-abbrev limited : (n : ℕ) → 1 ≤ n → n ≤ 16777216 → Limits
-limited n some in_range = record {
-  max_form = n;
-  max_firings = 1;
-  max_turns = 2;
-  form_has_a_byte = some;
-  form_in_range = in_range;
-  firings_in_range = omega arith;
-  turns_in_range = omega arith;
-}
+abbrev limited : ℕ → Setup
+limited n = record { max_form = n; max_firings = 1; max_turns = 2; index = 0; rule = 0; stamp = 0 }
 
-abbrev three : Limits
-three = limited 3 (omega arith) (omega arith)
+abbrev three : Setup
+three = limited 3
 
-abbrev nine : Limits
-nine = limited 9 (omega arith) (omega arith)
+abbrev nine : Setup
+nine = limited 9
 
-abbrev twelve : Limits
-twelve = limited 12 (omega arith) (omega arith)
+abbrev twelve : Setup
+twelve = limited 12
 
 -- `(while (< ?x 2) do (bind ?x (+ ?x 1)))`
 abbrev loop : Tree
@@ -188,7 +179,7 @@ exits_faulted = refl
 
 -- past the greatest index the script ends, and the facts asserted before stay
 abbrev full : State
-full = record (first_state twelve) { world = record (first_world 0 0) { memory = record { network = empty_network; last = greatest_index - 1; last_rule = 0 } } }
+full = first_state (record twelve { index = greatest_index - 1 })
 
 exhausted : (executed full (Ok (call "assert" (call "a" [] ∷ call "b" [] ∷ call "c" [] ∷ [])))).written ≡ codes "[CB94] numbers exhausted\n"
 unfolding executed acted head_of operator_of is_reserved digits moved keys_come keys_gone all_keys all_matches matches_of popped

@@ -11,12 +11,12 @@ use Rattle.cb_forms.specs.declared.form.Item.{Item}
 use Rattle.cb_io.specs.Histories.{PastWrites}
 use Rattle.cb_io.specs.Output.{OutState}
 use Rattle.cb_io.specs.contracts.cited.LawsCited.TheImpl as io_laws
+use Rattle.cb_session.specs.Setups.{Setup}
 use Rattle.cb_session.specs.States.{State}
 use Rattle.cb_session.specs.Internal.Scripts.{from, cut_run, IsUnderWay, Steps, Ends}
 use Rattle.cb_session.specs.Sessions.{SessionState, session_after}
 use Rattle.cb_session.specs.Transcripts.{after_all, executed, so_far, added}
 use Rattle.cb_session.specs.Internal.Executing.{Executes}
-use Rattle.cb_session.specs.declared.limits.Limits.{Limits}
 use Rattle.cb_session.specs.declared.status.Status.{Status}
 use Rattle.cb_actions.specs.declared.stop.Stop.{Stop}
 use Rattle.cb_actions.specs.declared.stop.Stop.TheVariants as stop
@@ -34,7 +34,7 @@ on_ok : {T E : Type 0} (P Q : Type 0) (r : Result T E) → (P → Q) → OnOk r 
 on_ok P Q (Ok x) f h = f h
 on_ok P Q (Err e) f h = tt
 
-module _ {K : Type 0} (writes : K → PastWrites) (o o1 : OutState K) (l : Limits) (fed : List ℕ) (b : ℕ) (cutter cutter' : Progress) (state state' : State) (way : IsUnderWay l fed cutter state) where
+module _ {K : Type 0} (writes : K → PastWrites) (o o1 : OutState K) (l : Setup) (fed : List ℕ) (b : ℕ) (cutter cutter' : Progress) (state state' : State) (way : IsUnderWay l fed cutter state) where
   -- a byte and what the cutter gives with it
   pub steps-cut : (given : Cut) (result : Result (Option Status) Stop) → cutter'.limit ≡ cutter.limit → cutter'.stepped ≡ cutter.stepped ++ b ∷ [] → cutter'.given ≡ cutter.given ++ cut_items given
       → (over cutter'.limit cutter'.stepped ≡ false → readings_in cutter'.given ≡ whole cutter'.stepped) → is_too_long given ≡ over cutter'.limit cutter'.stepped → cutter'.failed ≡ false
@@ -51,7 +51,7 @@ module _ {K : Type 0} (writes : K → PastWrites) (o o1 : OutState K) (l : Limit
   pub steps-refused : o.fault ≡ false → Steps writes o o l fed b cutter' state' (Err stop.NoMemory)
   steps-refused fine = record { puts = io_laws.ghosts.puts_nothing _ writes o (added l fed (b ∷ [])) fine; status = tt; goes = tt }
 
-module _ {K : Type 0} (writes : K → PastWrites) (o o1 : OutState K) (l : Limits) (fed : List ℕ) (cutter : Progress) (state state' : State) (way : IsUnderWay l fed cutter state) where
+module _ {K : Type 0} (writes : K → PastWrites) (o o1 : OutState K) (l : Setup) (fed : List ℕ) (cutter : Progress) (state state' : State) (way : IsUnderWay l fed cutter state) where
   -- the end, and the item that is open there
   ends-run : (item : Option Item) (result : Result (Option Status) Stop) → (over cutter.limit cutter.stepped ≡ false → readings_in cutter.given ++ item_readings item ≡ items cutter.stepped)
       → Executes writes o o1 state' result (after_all (from state) (item_readings item)) → Ends writes o o1 l fed state' result
@@ -73,11 +73,11 @@ module _ {K : Type 0} (writes : K → PastWrites) (o o1 : OutState K) (l : Limit
       ends-run None (Ok None) items_is (subst P (sym same) (record { puts = io_laws.ghosts.puts_none _ writes o fine; state_is = still; status_is = refl }))
 
 -- bytes after the end
-pub after-end-status : (l : Limits) (fed q : List ℕ) (o : Option Status) → o ≡ (so_far l fed).status → is_some o ≡ true → o ≡ (so_far l (fed ++ q)).status
+pub after-end-status : (l : Setup) (fed q : List ℕ) (o : Option Status) → o ≡ (so_far l fed).status → is_some o ≡ true → o ≡ (so_far l (fed ++ q)).status
 after-end-status l fed q None e some = absurd (cc)
 after-end-status l fed q (Some status) e some = sym (ended-status l fed q status (sym e))
 
-pub after-end-adds : (l : Limits) (fed q : List ℕ) (o : Option Status) → o ≡ (so_far l fed).status → is_some o ≡ true → added l fed q ≡ []
+pub after-end-adds : (l : Setup) (fed q : List ℕ) (o : Option Status) → o ≡ (so_far l fed).status → is_some o ≡ true → added l fed q ≡ []
 after-end-adds l fed q None e some = absurd (cc)
 after-end-adds l fed q (Some status) e some = ended-adds l fed q status (sym e)
 
@@ -86,55 +86,55 @@ none-of None h = refl
 none-of (Some x) h = absurd (cc)
 
 -- a session that has taken bytes after the end
-pub taken-after-end : (s t : SessionState) (q : List ℕ) → s.stop ≡ None → is_some s.status ≡ true → s.status ≡ (so_far s.limits s.fed).status → t ≡ record s { fed = s.fed ++ q }
-    → t ≡ session_after s.limits (s.fed ++ q) (so_far s.limits (s.fed ++ q)).status
+pub taken-after-end : (s t : SessionState) (q : List ℕ) → s.stop ≡ None → is_some s.status ≡ true → s.status ≡ (so_far s.setup s.fed).status → t ≡ record s { fed = s.fed ++ q }
+    → t ≡ session_after s.setup (s.fed ++ q) (so_far s.setup (s.fed ++ q)).status
 taken-after-end s t q on some goes is =
-    is ∙ ap₂ (λ (o : Option Status) (u : Option Stop). record { limits = s.limits; fed = s.fed ++ q; status = o; stop = u }) (after-end-status s.limits s.fed q s.status goes some) on
+    is ∙ ap₂ (λ (o : Option Status) (u : Option Stop). record { setup = s.setup; fed = s.fed ++ q; status = o; stop = u }) (after-end-status s.setup s.fed q s.status goes some) on
 
 -- a session before the next byte of a piece
-pub session-here : (s : SessionState) → s.stop ≡ None → s.status ≡ (so_far s.limits s.fed).status → s ≡ session_after s.limits (s.fed ++ []) (so_far s.limits (s.fed ++ [])).status
+pub session-here : (s : SessionState) → s.stop ≡ None → s.status ≡ (so_far s.setup s.fed).status → s ≡ session_after s.setup (s.fed ++ []) (so_far s.setup (s.fed ++ [])).status
 session-here s on goes =
-    ap₂ (λ (o : Option Status) (u : Option Stop). record { limits = s.limits; fed = s.fed; status = o; stop = u }) goes on
-    ∙ ap (λ p. session_after s.limits p (so_far s.limits p).status) (sym (append-nil s.fed))
+    ap₂ (λ (o : Option Status) (u : Option Stop). record { setup = s.setup; fed = s.fed; status = o; stop = u }) goes on
+    ∙ ap (λ p. session_after s.setup p (so_far s.setup p).status) (sym (append-nil s.fed))
 
-module _ (s0 s : SessionState) (bytes : List ℕ) (i : ℕ) (here : s ≡ session_after s0.limits (s0.fed ++ take i bytes) (so_far s0.limits (s0.fed ++ take i bytes)).status) where
+module _ (s0 s : SessionState) (bytes : List ℕ) (i : ℕ) (here : s ≡ session_after s0.setup (s0.fed ++ take i bytes) (so_far s0.setup (s0.fed ++ take i bytes)).status) where
   pub taken-on : s.stop ≡ None
   taken-on = ap (λ it. it.stop) here
 
-  pub taken-goes : s.status ≡ (so_far s.limits s.fed).status
-  taken-goes = subst (λ (it : SessionState). it.status ≡ (so_far it.limits it.fed).status) (sym here) refl
+  pub taken-goes : s.status ≡ (so_far s.setup s.fed).status
+  taken-goes = subst (λ (it : SessionState). it.status ≡ (so_far it.setup it.fed).status) (sym here) refl
 
-  pub taken-next : (t : SessionState) → i < length bytes → t ≡ session_after s.limits (s.fed ++ get_or bytes i 0 ∷ []) (so_far s.limits (s.fed ++ get_or bytes i 0 ∷ [])).status
-      → t ≡ session_after s0.limits (s0.fed ++ take (i + 1) bytes) (so_far s0.limits (s0.fed ++ take (i + 1) bytes)).status
+  pub taken-next : (t : SessionState) → i < length bytes → t ≡ session_after s.setup (s.fed ++ get_or bytes i 0 ∷ []) (so_far s.setup (s.fed ++ get_or bytes i 0 ∷ [])).status
+      → t ≡ session_after s0.setup (s0.fed ++ take (i + 1) bytes) (so_far s0.setup (s0.fed ++ take (i + 1) bytes)).status
   taken-next t below is =
-      is ∙ (ap (λ (it : SessionState). session_after it.limits (it.fed ++ get_or bytes i 0 ∷ []) (so_far it.limits (it.fed ++ get_or bytes i 0 ∷ [])).status) here
-      ∙ ap (λ p. session_after s0.limits p (so_far s0.limits p).status) (sym (next-byte s0.fed bytes i below)))
+      is ∙ (ap (λ (it : SessionState). session_after it.setup (it.fed ++ get_or bytes i 0 ∷ []) (so_far it.setup (it.fed ++ get_or bytes i 0 ∷ [])).status) here
+      ∙ ap (λ p. session_after s0.setup p (so_far s0.setup p).status) (sym (next-byte s0.fed bytes i below)))
 
-  pub adds-next : i < length bytes → added s0.limits s0.fed (take (i + 1) bytes) ≡ added s0.limits s0.fed (take i bytes) ++ added s.limits s.fed (get_or bytes i 0 ∷ [])
+  pub adds-next : i < length bytes → added s0.setup s0.fed (take (i + 1) bytes) ≡ added s0.setup s0.fed (take i bytes) ++ added s.setup s.fed (get_or bytes i 0 ∷ [])
   adds-next below =
-      ap (added s0.limits s0.fed) (take_more bytes i 0 below) ∙ (added-then s0.limits s0.fed (take i bytes) (get_or bytes i 0 ∷ [])
-      ∙ ap (λ it. added s0.limits s0.fed (take i bytes) ++ it) (sym (ap (λ (it : SessionState). added it.limits it.fed (get_or bytes i 0 ∷ [])) here)))
+      ap (added s0.setup s0.fed) (take_more bytes i 0 below) ∙ (added-then s0.setup s0.fed (take i bytes) (get_or bytes i 0 ∷ [])
+      ∙ ap (λ it. added s0.setup s0.fed (take i bytes) ++ it) (sym (ap (λ (it : SessionState). added it.setup it.fed (get_or bytes i 0 ∷ [])) here)))
 
-  pub adds-all : i < length bytes → added s0.limits s0.fed bytes ≡ added s0.limits s0.fed (take i bytes) ++ (added s.limits s.fed (get_or bytes i 0 ∷ []) ++ added s0.limits (s0.fed ++ take (i + 1) bytes) (drop (i + 1) bytes))
+  pub adds-all : i < length bytes → added s0.setup s0.fed bytes ≡ added s0.setup s0.fed (take i bytes) ++ (added s.setup s.fed (get_or bytes i 0 ∷ []) ++ added s0.setup (s0.fed ++ take (i + 1) bytes) (drop (i + 1) bytes))
   adds-all below =
-      let rest = added s0.limits (s0.fed ++ take (i + 1) bytes) (drop (i + 1) bytes) in
-      ap (added s0.limits s0.fed) (sym (take-append-drop (i + 1) bytes)) ∙ (added-then s0.limits s0.fed (take (i + 1) bytes) (drop (i + 1) bytes)
-      ∙ (ap (λ it. it ++ rest) (adds-next below) ∙ append_assoc (added s0.limits s0.fed (take i bytes)) (added s.limits s.fed (get_or bytes i 0 ∷ [])) rest))
+      let rest = added s0.setup (s0.fed ++ take (i + 1) bytes) (drop (i + 1) bytes) in
+      ap (added s0.setup s0.fed) (sym (take-append-drop (i + 1) bytes)) ∙ (added-then s0.setup s0.fed (take (i + 1) bytes) (drop (i + 1) bytes)
+      ∙ (ap (λ it. it ++ rest) (adds-next below) ∙ append_assoc (added s0.setup s0.fed (take i bytes)) (added s.setup s.fed (get_or bytes i 0 ∷ [])) rest))
 
   -- a run of bytes that adds nothing
   run-split : (n : ℕ) → take (i + n) bytes ≡ take i bytes ++ take n (drop i bytes)
   run-split n = take-add i n bytes
 
-  pub run-next : (t : SessionState) (n : ℕ) → t ≡ session_after s.limits (s.fed ++ take n (drop i bytes)) (so_far s.limits (s.fed ++ take n (drop i bytes))).status
-      → t ≡ session_after s0.limits (s0.fed ++ take (i + n) bytes) (so_far s0.limits (s0.fed ++ take (i + n) bytes)).status
+  pub run-next : (t : SessionState) (n : ℕ) → t ≡ session_after s.setup (s.fed ++ take n (drop i bytes)) (so_far s.setup (s.fed ++ take n (drop i bytes))).status
+      → t ≡ session_after s0.setup (s0.fed ++ take (i + n) bytes) (so_far s0.setup (s0.fed ++ take (i + n) bytes)).status
   run-next t n is =
-      is ∙ (ap (λ (it : SessionState). session_after it.limits (it.fed ++ take n (drop i bytes)) (so_far it.limits (it.fed ++ take n (drop i bytes))).status) here
-      ∙ ap (λ p. session_after s0.limits p (so_far s0.limits p).status) (append_assoc s0.fed (take i bytes) (take n (drop i bytes)) ∙ ap (λ it. s0.fed ++ it) (sym (run-split n))))
+      is ∙ (ap (λ (it : SessionState). session_after it.setup (it.fed ++ take n (drop i bytes)) (so_far it.setup (it.fed ++ take n (drop i bytes))).status) here
+      ∙ ap (λ p. session_after s0.setup p (so_far s0.setup p).status) (append_assoc s0.fed (take i bytes) (take n (drop i bytes)) ∙ ap (λ it. s0.fed ++ it) (sym (run-split n))))
 
-  pub run-adds : (n : ℕ) → added s.limits s.fed (take n (drop i bytes)) ≡ [] → added s0.limits s0.fed (take (i + n) bytes) ≡ added s0.limits s0.fed (take i bytes)
+  pub run-adds : (n : ℕ) → added s.setup s.fed (take n (drop i bytes)) ≡ [] → added s0.setup s0.fed (take (i + n) bytes) ≡ added s0.setup s0.fed (take i bytes)
   run-adds n none =
-      ap (added s0.limits s0.fed) (run-split n) ∙ (added-then s0.limits s0.fed (take i bytes) (take n (drop i bytes))
-      ∙ (ap (λ it. added s0.limits s0.fed (take i bytes) ++ it) (sym (ap (λ (it : SessionState). added it.limits it.fed (take n (drop i bytes))) here) ∙ none) ∙ append-nil (added s0.limits s0.fed (take i bytes))))
+      ap (added s0.setup s0.fed) (run-split n) ∙ (added-then s0.setup s0.fed (take i bytes) (take n (drop i bytes))
+      ∙ (ap (λ it. added s0.setup s0.fed (take i bytes) ++ it) (sym (ap (λ (it : SessionState). added it.setup it.fed (take n (drop i bytes))) here) ∙ none) ∙ append-nil (added s0.setup s0.fed (take i bytes))))
 
-  pub adds-rest : added s0.limits s0.fed bytes ≡ added s0.limits s0.fed (take i bytes) ++ added s0.limits (s0.fed ++ take i bytes) (drop i bytes)
-  adds-rest = ap (added s0.limits s0.fed) (sym (take-append-drop i bytes)) ∙ added-then s0.limits s0.fed (take i bytes) (drop i bytes)
+  pub adds-rest : added s0.setup s0.fed bytes ≡ added s0.setup s0.fed (take i bytes) ++ added s0.setup (s0.fed ++ take i bytes) (drop i bytes)
+  adds-rest = ap (added s0.setup s0.fed) (sym (take-append-drop i bytes)) ∙ added-then s0.setup s0.fed (take i bytes) (drop i bytes)

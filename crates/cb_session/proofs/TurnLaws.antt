@@ -16,9 +16,9 @@ use Rattle.cb_requests.specs.Requests as asked
 use Rattle.cb_requests.specs.Requests.{Request}
 use Rattle.cb_session.proofs.CommandTurns.{exited_falls, ran_falls, rule_defined_falls, undefined_falls}
 use Rattle.cb_session.specs.Actions.{acted, definitions_dropped, initials_kept, on_world, performed, performed_and_shown, requested, reset_to, shown, variables_dropped}
+use Rattle.cb_session.specs.Setups.{Setup}
 use Rattle.cb_session.specs.States.{State}
 use Rattle.cb_session.specs.Transcripts.{Run, after, after_all, after_status, begun, complete, concluded, executed, too_long, too_long_status}
-use Rattle.cb_session.specs.declared.limits.Limits.{Limits}
 use Rattle.cb_session.specs.declared.status.Status.{Status}
 use Rattle.cb_working_memory.specs.Deffacts.{kept_facts}
 
@@ -88,14 +88,14 @@ too_long_falls : (status : Option Status) (run : Run) → left (too_long_status 
 too_long_falls None run = omega arith
 too_long_falls (Some status) run = omega arith
 
-script_by : (b : Bool) (limits : Limits) (items : List Reading) → left (if b then too_long (after_all (begun limits) items) else after_all (begun limits) items).state ≤ limits.max_turns
-script_by true limits items =
-    let run = after_all (begun limits) items in
+script_by : (b : Bool) (setup : Setup) (items : List Reading) → left (if b then too_long (after_all (begun setup) items) else after_all (begun setup) items).state ≤ setup.max_turns
+script_by true setup items =
+    let run = after_all (begun setup) items in
     let now = too_long_falls run.status run in
-    let before = all_fall (begun limits) items in
+    let before = all_fall (begun setup) items in
     omega arith
-script_by false limits items = all_fall (begun limits) items
+script_by false setup items = all_fall (begun setup) items
 
-pub script_falls : (limits : Limits) (s : List ℕ) → (complete limits s).state.world.turns ≤ limits.max_turns
+pub script_falls : (setup : Setup) (s : List ℕ) → (complete setup s).state.world.turns ≤ setup.max_turns
 unfolding complete
-script_falls limits s = script_by (over limits.max_form s) limits (fitting limits.max_form s)
+script_falls setup s = script_by (over setup.max_form s) setup (fitting setup.max_form s)

@@ -19,7 +19,7 @@ use Rattle.cb_session.specs.States.{State}
 -- a session has taken these bytes, where the call answers so
 abbrev pub HasTaken : {T : Type 0} → SessionState → List ℕ → SessionState → Result T Stop → Type 0
 HasTaken old bytes new result =
-    OnOk result (new ≡ session_after old.limits (old.fed ++ bytes) (so_far old.limits (old.fed ++ bytes)).status)
+    OnOk result (new ≡ session_after old.setup (old.fed ++ bytes) (so_far old.setup (old.fed ++ bytes)).status)
 
 -- how the logic stores it
 abbrev pub state_code : Coded World → Coded (List ℕ) → Coded Shape → Coded Piece → Coded State

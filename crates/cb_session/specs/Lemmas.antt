@@ -7,8 +7,8 @@ use Rattle.cb_forms.specs.Items.{items, parts, whole, over, fitting}
 use Rattle.cb_forms.specs.Trees.{Reading}
 use Rattle.cb_forms.specs.contracts.cited.LawsCited.TheImpl as forms_laws
 use Rattle.cb_session.specs.Actions.{acted}
+use Rattle.cb_session.specs.Setups.{Setup}
 use Rattle.cb_session.specs.States.{State}
-use Rattle.cb_session.specs.declared.limits.Limits.{Limits}
 use Rattle.cb_session.specs.Lines.{too_long_line}
 use Rattle.cb_session.specs.Transcripts.{Run, begun, concluded, executed, exit_status, limit_status, after_status, after, after_all, too_long_status, too_long, so_far, complete}
 use Rattle.cb_actions.specs.declared.act.Ended.{Ended}
@@ -57,29 +57,29 @@ pub grows-long : (run : Run) → Grows run.written (too_long run).written
 grows-long run = grows-long_status run.status run
 
 -- the run so far, by whether an item is too long
-pub so_far-fits : (l : Limits) (p : List ℕ) → over l.max_form p ≡ false → so_far l p ≡ after_all (begun l) (whole p)
+pub so_far-fits : (l : Setup) (p : List ℕ) → over l.max_form p ≡ false → so_far l p ≡ after_all (begun l) (whole p)
 unfolding so_far
 so_far-fits l p h = ap (λ t. if t then too_long (after_all (begun l) (fitting l.max_form p)) else after_all (begun l) (whole p)) h
 
-pub so_far-long : (l : Limits) (p : List ℕ) → over l.max_form p ≡ true → so_far l p ≡ too_long (after_all (begun l) (fitting l.max_form p))
+pub so_far-long : (l : Setup) (p : List ℕ) → over l.max_form p ≡ true → so_far l p ≡ too_long (after_all (begun l) (fitting l.max_form p))
 unfolding so_far
 so_far-long l p h = ap (λ t. if t then too_long (after_all (begun l) (fitting l.max_form p)) else after_all (begun l) (whole p)) h
 
-pub complete-fits : (l : Limits) (s : List ℕ) → over l.max_form s ≡ false → complete l s ≡ after_all (begun l) (items s)
+pub complete-fits : (l : Setup) (s : List ℕ) → over l.max_form s ≡ false → complete l s ≡ after_all (begun l) (items s)
 unfolding complete
 complete-fits l s h = ap (λ t. if t then too_long (after_all (begun l) (fitting l.max_form s)) else after_all (begun l) (fitting l.max_form s)) h ∙ ap (after_all (begun l)) (forms_laws.ghosts.fitting_items l.max_form s h)
 
-pub complete-long : (l : Limits) (s : List ℕ) → over l.max_form s ≡ true → complete l s ≡ too_long (after_all (begun l) (fitting l.max_form s))
+pub complete-long : (l : Setup) (s : List ℕ) → over l.max_form s ≡ true → complete l s ≡ too_long (after_all (begun l) (fitting l.max_form s))
 unfolding complete
 complete-long l s h = ap (λ t. if t then too_long (after_all (begun l) (fitting l.max_form s)) else after_all (begun l) (fitting l.max_form s)) h
 
 -- what fits, after what has ended
-fitting-run : (l : Limits) (p r : List ℕ) → over l.max_form p ≡ false → (more : List Reading) × (after_all (begun l) (fitting l.max_form (p ++ r)) ≡ after_all (after_all (begun l) (whole p)) more)
+fitting-run : (l : Setup) (p r : List ℕ) → over l.max_form p ≡ false → (more : List Reading) × (after_all (begun l) (fitting l.max_form (p ++ r)) ≡ after_all (after_all (begun l) (whole p)) more)
 fitting-run l p r fits =
     let begins = forms_laws.ghosts.whole_fitting l.max_form p r fits in (begins.0, ap (after_all (begun l)) begins.1 ∙ after_all-append (begun l) (whole p) begins.0)
 
 -- however the script goes on, what is written so far is a beginning of all
-pub so_far-grows : (l : Limits) (p r : List ℕ) → Grows (so_far l p).written (complete l (p ++ r)).written
+pub so_far-grows : (l : Setup) (p r : List ℕ) → Grows (so_far l p).written (complete l (p ++ r)).written
 unfolding so_far complete
 so_far-grows l p r = elim (cases_Bool (over l.max_form p)) [
   | inl long ↦
@@ -99,7 +99,7 @@ so_far-grows l p r = elim (cases_Bool (over l.max_form p)) [
 ]
 
 -- a script that has ended so far has ended so
-pub so_far-ended : (l : Limits) (p r : List ℕ) (status : Status) → (so_far l p).status ≡ Some status → (so_far l (p ++ r) ≡ so_far l p) × (complete l (p ++ r) ≡ so_far l p)
+pub so_far-ended : (l : Setup) (p r : List ℕ) (status : Status) → (so_far l p).status ≡ Some status → (so_far l (p ++ r) ≡ so_far l p) × (complete l (p ++ r) ≡ so_far l p)
 unfolding so_far complete
 so_far-ended l p r status ended = elim (cases_Bool (over l.max_form p)) [
   | inl long ↦
@@ -121,7 +121,7 @@ so_far-ended l p r status ended = elim (cases_Bool (over l.max_form p)) [
 ]
 
 -- however the script goes on, what is written so far is a beginning of what is written then
-pub so_far-grows_far : (l : Limits) (p r : List ℕ) → Grows (so_far l p).written (so_far l (p ++ r)).written
+pub so_far-grows_far : (l : Setup) (p r : List ℕ) → Grows (so_far l p).written (so_far l (p ++ r)).written
 unfolding so_far
 so_far-grows_far l p r = elim (cases_Bool (over l.max_form p)) [
   | inl long ↦
@@ -140,7 +140,7 @@ so_far-grows_far l p r = elim (cases_Bool (over l.max_form p)) [
       subst (λ (it : Run). Grows it.written (so_far l (p ++ r)).written) (sym (so_far-fits l p fits)) all
 ]
 
-pub so_far-none : (l : Limits) → so_far l [] ≡ begun l
+pub so_far-none : (l : Setup) → so_far l [] ≡ begun l
 unfolding so_far over whole parts
 so_far-none l = refl
 
@@ -171,10 +171,10 @@ long-early : (o : Option Status) (run : Run) → o ≡ run.status → IsEarly ru
 long-early None run is early = λ status h done. let same : limit_status ≡ status = cc in (let no : limit_status.ending ≡ ending.Done = ap (λ it. it.ending) same ∙ done in cc)
 long-early (Some status) run is early = early
 
-begun-early : (l : Limits) → IsEarly (begun l).status
+begun-early : (l : Setup) → IsEarly (begun l).status
 begun-early l status h = absurd (cc)
 
-pub so_far-early : (l : Limits) (p : List ℕ) (status : Status) → (so_far l p).status ≡ Some status → status.ending ≢ ending.Done
+pub so_far-early : (l : Setup) (p : List ℕ) (status : Status) → (so_far l p).status ≡ Some status → status.ending ≢ ending.Done
 unfolding so_far
 so_far-early l p = elim (cases_Bool (over l.max_form p)) [
   | inl long ↦ subst (λ (it : Run). IsEarly it.status) (sym (so_far-long l p long)) (long-early (after_all (begun l) (fitting l.max_form p)).status (after_all (begun l) (fitting l.max_form p)) refl (all-early (begun l) (fitting l.max_form p) (begun-early l)))

@@ -6,5 +6,6 @@ pub mod Lemmas
 pub mod Lines
 pub mod Listings
 pub mod Sessions
+pub mod Setups
 pub mod States
 pub mod Transcripts

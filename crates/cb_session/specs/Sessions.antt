@@ -1,6 +1,6 @@
 -- What a session has been fed, and how it goes on.
 use Rattle.std.specs.Prelude.{ℕ, List, [], Option, Some, None}
-use Rattle.cb_session.specs.declared.limits.Limits.{Limits}
+use Rattle.cb_session.specs.Setups.{Setup}
 use Rattle.cb_session.specs.declared.status.Flow.{Flow}
 use Rattle.cb_session.specs.declared.status.Flow.TheVariants.{GoOn, Ended}
 use Rattle.cb_session.specs.declared.status.Status.{Status}
@@ -8,18 +8,18 @@ use Rattle.cb_actions.specs.declared.stop.Stop.{Stop}
 
 -- The bytes fed so far, the status where one was answered, and the stop where one was answered. After those nothing is fed.
 pub record SessionState : Type 0 where
-  pub limits : Limits
+  pub setup : Setup
   pub fed : List ℕ
   pub status : Option Status
   pub stop : Option Stop
 
 -- Nothing was fed or returned.
-abbrev pub fresh_session : Limits → SessionState
-fresh_session limits = record { limits = limits; fed = []; status = None; stop = None }
+abbrev pub fresh_session : Setup → SessionState
+fresh_session setup = record { setup = setup; fed = []; status = None; stop = None }
 
 -- the bytes and the status are these now
-abbrev pub session_after : Limits → List ℕ → Option Status → SessionState
-session_after limits fed status = record { limits = limits; fed = fed; status = status; stop = None }
+abbrev pub session_after : Setup → List ℕ → Option Status → SessionState
+session_after setup fed status = record { setup = setup; fed = fed; status = status; stop = None }
 
 -- A script without a status goes on, one with a status has ended.
 abbrev pub flow_of : Option Status → Flow

@@ -1,8 +1,8 @@
 -- What is kept from item to item.
-use Rattle.std.specs.Prelude.{ℕ, Bool, false, List, []}
-use Rattle.cb_actions.specs.Worlds.{World, first_world}
+use Rattle.std.specs.Prelude.{Bool, false, List, []}
+use Rattle.cb_actions.specs.Worlds.{World, first_world, with_numbers}
 use Rattle.cb_exprs.specs.GlobalTerms.{GlobalTerm}
-use Rattle.cb_session.specs.declared.limits.Limits.{Limits}
+use Rattle.cb_session.specs.Setups.{Setup}
 use Rattle.cb_working_memory.specs.Deffacts.{DeffactsTable}
 
 -- What is kept from item to item: what actions see and change, the facts of each `deffacts`, the initial expression of each
@@ -13,15 +13,15 @@ pub record State : Type 0 where
   pub globals : List GlobalTerm
   pub is_faulted : Bool
 
--- before the first item, with so many turns and so many firings left
-abbrev pub state_with : ℕ → ℕ → State
-state_with turns firings = record {
-  world = first_world turns firings;
+-- before the first item, in this world
+abbrev pub state_of : World → State
+state_of world = record {
+  world = world;
   deffacts = [];
   globals = [];
   is_faulted = false;
 }
 
 -- The state of a script before its first item.
-abbrev pub first_state : Limits → State
-first_state limits = state_with limits.max_turns limits.max_firings
+abbrev pub first_state : Setup → State
+first_state setup = state_of (with_numbers setup.index setup.rule setup.stamp (first_world setup.max_turns setup.max_firings))

@@ -2,12 +2,12 @@
 use Rattle.std.specs.Prelude.{ℕ, Bool, true, List, [], ◌∷◌, ◌++◌, Option, Some, None, Result, Ok, Err, length, drop, unwrap_or, if◌then◌else◌}
 use Rattle.cb_forms.specs.Items.{whole, over, fitting}
 use Rattle.cb_forms.specs.Trees.{Reading}
+use Rattle.cb_session.specs.Setups.{Setup}
 use Rattle.cb_session.specs.States.{State, first_state}
 use Rattle.cb_session.specs.Actions.{acted}
 use Rattle.cb_session.specs.Lines.{fault_line, limit_line, too_long_line}
 use Rattle.cb_actions.specs.declared.act.Ended.{Ended}
 use Rattle.cb_actions.specs.declared.act.Ended.TheVariants as ended
-use Rattle.cb_session.specs.declared.limits.Limits.{Limits}
 use Rattle.cb_session.specs.declared.status.Ending.TheVariants.{Done, Exit, Limit}
 use Rattle.cb_session.specs.declared.status.Status.{Status}
 
@@ -18,8 +18,8 @@ pub record Run : Type 0 where
   pub status : Option Status
 
 -- A script before its first item.
-abbrev pub begun : Limits → Run
-begun limits = record { state = first_state limits; written = []; status = None }
+abbrev pub begun : Setup → Run
+begun setup = record { state = first_state setup; written = []; status = None }
 
 -- A script that ends at a limit has status 4.
 abbrev pub limit_status : Status
@@ -78,26 +78,26 @@ status_at_end None is_faulted = record { code = fault_code is_faulted; ending = 
 status_at_end (Some status) is_faulted = status
 
 -- The script p, so far: each item that has ended is carried out, up to one that is too long.
-unfoldable pub so_far : Limits → List ℕ → Run
-so_far limits p = if over limits.max_form p then too_long (after_all (begun limits) (fitting limits.max_form p)) else after_all (begun limits) (whole p)
+unfoldable pub so_far : Setup → List ℕ → Run
+so_far setup p = if over setup.max_form p then too_long (after_all (begun setup) (fitting setup.max_form p)) else after_all (begun setup) (whole p)
 
 -- the whole script s
-unfoldable pub complete : Limits → List ℕ → Run
-complete limits s =
-    if over limits.max_form s then too_long (after_all (begun limits) (fitting limits.max_form s)) else after_all (begun limits) (fitting limits.max_form s)
+unfoldable pub complete : Setup → List ℕ → Run
+complete setup s =
+    if over setup.max_form s then too_long (after_all (begun setup) (fitting setup.max_form s)) else after_all (begun setup) (fitting setup.max_form s)
 
 -- what a script writes
-abbrev pub transcript : Limits → List ℕ → List ℕ
-transcript limits s = (complete limits s).written
+abbrev pub transcript : Setup → List ℕ → List ℕ
+transcript setup s = (complete setup s).written
 
 -- how it ends
-abbrev pub status_of : Limits → List ℕ → Status
-status_of limits s = status_at_end (complete limits s).status (complete limits s).state.is_faulted
+abbrev pub status_of : Setup → List ℕ → Status
+status_of setup s = status_at_end (complete setup s).status (complete setup s).state.is_faulted
 
 -- what the bytes q add to what the script p has written so far
-unfoldable pub added : Limits → List ℕ → List ℕ → List ℕ
-added limits p q = drop (length (so_far limits p).written) (so_far limits (p ++ q)).written
+unfoldable pub added : Setup → List ℕ → List ℕ → List ℕ
+added setup p q = drop (length (so_far setup p).written) (so_far setup (p ++ q)).written
 
 -- what the end of the script p adds to it
-unfoldable pub added_at_end : Limits → List ℕ → List ℕ
-added_at_end limits p = drop (length (so_far limits p).written) (transcript limits p)
+unfoldable pub added_at_end : Setup → List ℕ → List ℕ
+added_at_end setup p = drop (length (so_far setup p).written) (transcript setup p)

@@ -1,6 +1,7 @@
 //! Carrying out items.
 ghost use Rattle.std.specs.Prelude.{◌≡◌, IfSome, Ok, None, Some, IfOk, false, true};
 ghost use Rattle.cb_actions.specs.Went.{Went, stop_extent};
+ghost use Rattle.cb_actions.specs.Worlds.{first_world, with_numbers};
 ghost use Rattle.cb_forms.specs.Trees.{atom, reading_of};
 ghost use Rattle.cb_io.specs.Output.{Puts};
 ghost use Rattle.cb_matches.specs.Networks.{empty_network};
@@ -9,13 +10,13 @@ ghost use Rattle.cb_session.specs.Actions.{acted, performed_and_shown, shown_lin
 ghost use Rattle.cb_session.specs.Internal.Executing.{Executes};
 ghost use Rattle.cb_session.specs.Lines.{fault_line, value_line};
 ghost use Rattle.cb_session.specs.Internal.Scripts.{cut_run};
-ghost use Rattle.cb_session.specs.States.{state_with};
+ghost use Rattle.cb_session.specs.States.{state_of};
 ghost use Rattle.cb_session.specs.Transcripts.{executed, limit_status};
 
 use crate::globals::GlobalTable;
 use crate::line::{fault_line, limit_line, put_line, value_line};
 use crate::status::Status;
-use cb_actions::{Break, Ended, Stop, World, put, put_text};
+use cb_actions::{Break, Ended, Numbers, Stop, World, put, put_text};
 use cb_facts::{Names, Value};
 use cb_forms::{Cut, Fault, Item, Out, Sink, Token};
 use cb_matches::Matcher;
@@ -56,18 +57,31 @@ impl<M: Matcher<Mark>> Model for Engine<M> {
 impl<M: Matcher<Mark>> Engine<M> {
     /// An engine before the first item, over a matcher without rules and facts. All loops together may take so many turns,
     /// and so many rules may fire.
-    pub(crate) fn new(alloc: Global, matcher: M, turns: u64, firings: u64) -> Engine<M>
+    /// These numbers count as given already.
+    pub(crate) fn new(
+        alloc: Global,
+        matcher: M,
+        numbers: Numbers,
+        turns: u64,
+        firings: u64,
+    ) -> Engine<M>
         requires { M.network matcher ≡ empty_network }
-        ensures { result ≡ state_with turns firings }
+        ensures { result ≡ state_of
+            (with_numbers numbers.index numbers.rule numbers.stamp (first_world turns firings)) }
     {
         Engine {
             alloc,
             names: Names::new(alloc),
-            world: World::new(alloc, matcher, turns, firings),
+            world: World::starting_at(alloc, matcher, numbers, turns, firings),
             deffacts: DeffactsTable::new(alloc),
             globals: GlobalTable::new(alloc),
             is_faulted: false,
         }
+    }
+
+    /// How many tests of patterns assertions and retractions have made.
+    pub(crate) fn probes(&self) -> u64 {
+        self.world.memory().probes()
     }
 
     /// Whether a fault line was written.

@@ -5,11 +5,11 @@ ghost use Rattle.cb_exprs.specs.GlobalTerms.{GlobalTerm};
 ghost use Rattle.cb_forms.specs.Trees.{Reading};
 ghost use Rattle.cb_forms.specs.declared.fault.Fault.{Fault};
 ghost use Rattle.cb_requests.specs.Requests as request;
+ghost use Rattle.cb_session.specs.Setups.{Setup};
 ghost use Rattle.cb_session.specs.States.{State};
 ghost use Rattle.cb_session.specs.Actions.{acted, requested};
 ghost use Rattle.cb_session.specs.Laws.{EndsWithFault, KeepsDefinitions};
 ghost use Rattle.cb_session.specs.Transcripts.{added, added_at_end, begun, so_far, complete, executed, transcript};
-ghost use Rattle.cb_session.specs.declared.limits.Limits.{Limits};
 ghost use Rattle.cb_session.specs.declared.status.Ending.TheVariants as ending;
 ghost use Rattle.cb_session.specs.declared.status.Status.{Status};
 ghost use Rattle.cb_templates.specs.Slots.{SlotShape};
@@ -17,35 +17,35 @@ ghost use Rattle.cb_templates.specs.Slots.{SlotShape};
 /// Before its first byte a script has written nothing. What it has written so far is a beginning of what it writes
 /// however it goes on.
 pub fn what_is_written_stays()
-    ensures begun { (limits : Limits) → so_far limits [] ≡ begun limits }
-    ensures so_far { (limits : Limits) (p r : List ℕ)
-        → BeginsWith (so_far limits p).written (so_far limits (p ++ r)).written }
-    ensures whole { (limits : Limits) (p r : List ℕ)
-        → BeginsWith (so_far limits p).written (transcript limits (p ++ r)) }
+    ensures begun { (setup : Setup) → so_far setup [] ≡ begun setup }
+    ensures so_far { (setup : Setup) (p r : List ℕ)
+        → BeginsWith (so_far setup p).written (so_far setup (p ++ r)).written }
+    ensures whole { (setup : Setup) (p r : List ℕ)
+        → BeginsWith (so_far setup p).written (transcript setup (p ++ r)) }
 {}
 
 /// What bytes add to the transcript so far stands right after it, and what the end adds completes the transcript.
 pub fn what_is_added_stands_after_what_is_written()
-    ensures so_far { (limits : Limits) (p q : List ℕ)
-        → (so_far limits (p ++ q)).written ≡ (so_far limits p).written ++ added limits p q }
-    ensures whole { (limits : Limits) (p : List ℕ)
-        → transcript limits p ≡ (so_far limits p).written ++ added_at_end limits p }
+    ensures so_far { (setup : Setup) (p q : List ℕ)
+        → (so_far setup (p ++ q)).written ≡ (so_far setup p).written ++ added setup p q }
+    ensures whole { (setup : Setup) (p : List ℕ)
+        → transcript setup p ≡ (so_far setup p).written ++ added_at_end setup p }
 {}
 
 /// A script that has ended before its end doesn't end as one that was carried out to its end.
 pub fn what_ends_early_is_not_done()
-    ensures { (limits : Limits) (p : List ℕ) (status : Status)
-        → (so_far limits p).status ≡ Some status → status.ending ≢ ending.Done }
+    ensures { (setup : Setup) (p : List ℕ) (status : Status)
+        → (so_far setup p).status ≡ Some status → status.ending ≢ ending.Done }
 {}
 
 /// A script that has ended has ended so, whatever follows.
 pub fn what_has_ended_counts_alone()
-    ensures so_far { (limits : Limits) (p r : List ℕ) (status : Status)
-        → (so_far limits p).status ≡ Some status
-        → so_far limits (p ++ r) ≡ so_far limits p }
-    ensures whole { (limits : Limits) (p r : List ℕ) (status : Status)
-        → (so_far limits p).status ≡ Some status
-        → complete limits (p ++ r) ≡ so_far limits p }
+    ensures so_far { (setup : Setup) (p r : List ℕ) (status : Status)
+        → (so_far setup p).status ≡ Some status
+        → so_far setup (p ++ r) ≡ so_far setup p }
+    ensures whole { (setup : Setup) (p r : List ℕ) (status : Status)
+        → (so_far setup p).status ≡ Some status
+        → complete setup (p ++ r) ≡ so_far setup p }
 {}
 
 /// An item that is refused, be it a `deftemplate` or another, changes nothing but the mark for status 1. Nor does a
@@ -91,6 +91,6 @@ pub fn a_listing_changes_nothing()
 pub fn no_turn_comes_back()
     ensures item { (s : State) (r : Reading)
         → (executed s r).state.world.turns ≤ s.world.turns }
-    ensures script { (limits : Limits) (script : List ℕ)
-        → (complete limits script).state.world.turns ≤ limits.max_turns }
+    ensures script { (setup : Setup) (script : List ℕ)
+        → (complete setup script).state.world.turns ≤ setup.max_turns }
 {}

@@ -13,7 +13,7 @@ mod reset; // what `reset` does
 mod session; // `Session`, the public face: the cutter, the engine, and the status or the stop that was returned
 mod status; // how a script goes on and ends
 
-pub use cb_actions::Stop;
+pub use cb_actions::{Numbers, Stop};
 pub use cb_working_memory::Mark;
 pub use limits::Limits;
 pub use session::Session;

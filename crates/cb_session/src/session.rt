@@ -5,6 +5,7 @@ ghost use Rattle.cb_io.specs.Output.{IsReady, OutState, Puts};
 ghost use Rattle.cb_session.specs.Internal.Scripts.{Ends, IsUnderWay, Steps};
 ghost use Rattle.cb_session.specs.Sessions.{flow_of, fresh_session, session_after};
 ghost use Rattle.cb_session.specs.Internal.{HasTaken};
+ghost use Rattle.cb_session.specs.Setups.{Setup, fresh_setup, setup_of};
 ghost use Rattle.cb_session.specs.Transcripts.{added, added_at_end, so_far, status_at_end, status_of};
 ghost use Rattle.cb_actions.specs.Went.{extent_at, stop_extent};
 ghost use Rattle.cb_matches.specs.Networks.{empty_network};
@@ -12,7 +13,7 @@ ghost use Rattle.cb_matches.specs.Networks.{empty_network};
 use crate::engine::Engine;
 use crate::limits::Limits;
 use crate::status::{Ending, Flow, Status, fault_code};
-use cb_actions::Stop;
+use cb_actions::{Numbers, Stop};
 use cb_forms::{Cutter, History, Out, Sink};
 use cb_io::with_all;
 use cb_matches::Matcher;
@@ -22,11 +23,12 @@ use std::marker::Model;
 
 /// Carries out a script item by item, while its bytes come, and writes its transcript.
 ///
-/// Contracts see the limits, the bytes fed, the status that was returned where the script has ended, and the stop that was
-/// returned where it could not be carried out further.
+/// Contracts see the limits and the numbers that it began with, the bytes fed, the status that was returned where the script has
+/// ended, and the stop that was returned where it could not be carried out further.
 #[derive(Drop)]
 pub struct Session<M: Matcher<Mark>> {
     limits: Limits,
+    numbers: Numbers,
     cutter: Cutter,
     engine: Engine<M>,
     status: Option<Status>,
@@ -38,24 +40,45 @@ impl<M: Matcher<Mark>> Model for Session<M> {
     ghost use Rattle.std.specs.Prelude.{◌≡◌, None};
     ghost use Rattle.cb_session.specs.Internal.Scripts.{IsUnderWay};
     ghost use Rattle.cb_session.specs.Sessions.{SessionState};
+    ghost use Rattle.cb_session.specs.Setups.{setup_of};
 
     ghost Value = { SessionState };
 
-    ghost view = { λ s. record { limits = s.limits; fed = s.fed.items; status = s.status; stop = s.stop } };
+    ghost view = { λ s. record { setup = setup_of s.limits s.numbers; fed = s.fed.items; status = s.status; stop = s.stop } };
 
-    ghost invariant = { λ s. s.stop ≡ None → s.status ≡ None → IsUnderWay s.limits s.fed.items s.cutter s.engine };
+    ghost invariant = { λ s. s.stop ≡ None → s.status ≡ None → IsUnderWay (setup_of s.limits s.numbers) s.fed.items s.cutter s.engine };
 }
 
 impl<M: Matcher<Mark>> Session<M> {
     /// A session before the first byte of a script, over a matcher without rules and facts.
     pub fn new(alloc: Global, matcher: M, limits: Limits) -> Session<M>
         requires { M.network matcher ≡ empty_network }
-        ensures { result ≡ fresh_session limits }
+        ensures { result ≡ fresh_session (fresh_setup limits) }
+    {
+        let numbers = Numbers {
+            index: 0,
+            rule: 0,
+            stamp: 0,
+        };
+        Session::starting_at(alloc, matcher, limits, numbers)
+    }
+
+    /// The same, but as if these numbers had been given already: the first fact, rule and activation get the next ones.
+    pub fn starting_at(alloc: Global, matcher: M, limits: Limits, numbers: Numbers) -> Session<M>
+        requires { M.network matcher ≡ empty_network }
+        ensures { result ≡ fresh_session (setup_of limits numbers) }
     {
         Session {
             cutter: Cutter::new(alloc, limits.max_form),
-            engine: Engine::new(alloc, matcher, limits.max_turns, limits.max_firings),
+            engine: Engine::new(
+                alloc,
+                matcher,
+                numbers,
+                limits.max_turns,
+                limits.max_firings,
+            ),
             limits,
+            numbers,
             status: None,
             stop: None,
             fed: History::new(),
@@ -72,12 +95,12 @@ impl<M: Matcher<Mark>> Session<M> {
         // The script goes on.
         ensures puts { self.old.stop ≡ None → self.old.status ≡ None
             → Puts K.writes out.old out.new (stop_extent result)
-            (added self.old.limits self.old.fed bytes.now) }
+            (added self.old.setup self.old.fed bytes.now) }
         ensures fed { OnOk result (self.old.status ≡ None
-            → self.new ≡ session_after self.old.limits (self.old.fed ++ bytes.now)
-            (so_far self.old.limits (self.old.fed ++ bytes.now)).status) }
+            → self.new ≡ session_after self.old.setup (self.old.fed ++ bytes.now)
+            (so_far self.old.setup (self.old.fed ++ bytes.now)).status) }
         ensures flow { IfOk result (λ flow. self.old.status ≡ None
-            → flow ≡ flow_of (so_far self.old.limits (self.old.fed ++ bytes.now)).status) }
+            → flow ≡ flow_of (so_far self.old.setup (self.old.fed ++ bytes.now)).status) }
         ensures ready { OnOk result (IsReady out.new) }
 
         // It stops.
@@ -108,11 +131,11 @@ impl<M: Matcher<Mark>> Session<M> {
     /// Takes the next bytes, and writes all that their items write.
     fn feed_and_flush<K: Sink>(&mut self, bytes: &[u8], out: &mut Out<K>) -> Result<(), Stop>
         requires on { self.old.stop ≡ None }
-        requires goes { self.old.status ≡ (so_far self.old.limits self.old.fed).status }
+        requires goes { self.old.status ≡ (so_far self.old.setup self.old.fed).status }
         requires ready { IsReady out.old }
         ensures fed { HasTaken self.old bytes.now self.new result }
         ensures puts { Puts K.writes out.old out.new (stop_extent result)
-            (added self.old.limits self.old.fed bytes.now) }
+            (added self.old.setup self.old.fed bytes.now) }
         ensures ready { OnOk result (IsReady out.new) }
         ensures halted { result ≡ Err Stop.NoMemory → IsReady out.new }
     {
@@ -125,11 +148,11 @@ impl<M: Matcher<Mark>> Session<M> {
     /// Takes the next bytes, one after another.
     fn take_all<K: Sink>(&mut self, bytes: &[u8], out: &mut Out<K>) -> Result<(), Stop>
         requires on { self.old.stop ≡ None }
-        requires goes { self.old.status ≡ (so_far self.old.limits self.old.fed).status }
+        requires goes { self.old.status ≡ (so_far self.old.setup self.old.fed).status }
         requires fine { out.old.fault ≡ false }
         ensures fed { HasTaken self.old bytes.now self.new result }
         ensures puts { Puts K.writes out.old out.new (stop_extent result)
-            (added self.old.limits self.old.fed bytes.now) }
+            (added self.old.setup self.old.fed bytes.now) }
     {
         let mut done = 0;
         while done < bytes.len() {
@@ -146,11 +169,11 @@ impl<M: Matcher<Mark>> Session<M> {
     /// for it. After the script's end all bytes are such.
     fn take_run(&mut self, bytes: &[u8]) -> Result<usize, Stop>
         requires on { self.old.stop ≡ None }
-        requires goes { self.old.status ≡ (so_far self.old.limits self.old.fed).status }
+        requires goes { self.old.status ≡ (so_far self.old.setup self.old.fed).status }
         ensures within { IfOk result (λ n. n ≤ length bytes.now) }
         ensures fed { IfOk result (λ n. HasTaken self.old (take n bytes.now) self.new result) }
         ensures adds { IfOk result
-            (λ n. added self.old.limits self.old.fed (take n bytes.now) ≡ []) }
+            (λ n. added self.old.setup self.old.fed (take n bytes.now) ≡ []) }
         ensures err { IfErr result (λ stop. stop ≡ Stop.NoMemory) }
     {
         if let Some(_) = self.status {
@@ -168,11 +191,11 @@ impl<M: Matcher<Mark>> Session<M> {
     /// Takes the next byte, and carries out what it completes. After the script's end a byte does nothing.
     fn take<K: Sink>(&mut self, byte: u8, out: &mut Out<K>) -> Result<(), Stop>
         requires on { self.old.stop ≡ None }
-        requires goes { self.old.status ≡ (so_far self.old.limits self.old.fed).status }
+        requires goes { self.old.status ≡ (so_far self.old.setup self.old.fed).status }
         requires fine { out.old.fault ≡ false }
         ensures fed { HasTaken self.old (byte ∷ []) self.new result }
         ensures puts { Puts K.writes out.old out.new (stop_extent result)
-            (added self.old.limits self.old.fed (byte ∷ [])) }
+            (added self.old.setup self.old.fed (byte ∷ [])) }
     {
         if self.status.is_some() {
             self.fed = self.fed.and(&byte);
@@ -195,11 +218,11 @@ impl<M: Matcher<Mark>> Session<M> {
         // The script ends.
         ensures puts { self.old.stop ≡ None → self.old.status ≡ None
             → Puts K.writes out.old out.new (stop_extent result)
-            (added_at_end self.old.limits self.old.fed) }
+            (added_at_end self.old.setup self.old.fed) }
         ensures ended_now { IfOk result (λ status. self.old.status ≡ None
-            → self.new ≡ session_after self.old.limits self.old.fed (Some status)) }
+            → self.new ≡ session_after self.old.setup self.old.fed (Some status)) }
         ensures status { IfOk result (λ status. self.old.status ≡ None
-            → status ≡ status_of self.old.limits self.old.fed) }
+            → status ≡ status_of self.old.setup self.old.fed) }
         ensures ready { OnOk result (IsReady out.new) }
 
         // It stops.
@@ -233,10 +256,10 @@ impl<M: Matcher<Mark>> Session<M> {
         requires goes { self.old.status ≡ None }
         requires ready { IsReady out.old }
         ensures ended { IfOk result
-            (λ status. self.new ≡ session_after self.old.limits self.old.fed (Some status)) }
-        ensures status { IfOk result (λ status. status ≡ status_of self.old.limits self.old.fed) }
+            (λ status. self.new ≡ session_after self.old.setup self.old.fed (Some status)) }
+        ensures status { IfOk result (λ status. status ≡ status_of self.old.setup self.old.fed) }
         ensures puts { Puts K.writes out.old out.new (stop_extent result)
-            (added_at_end self.old.limits self.old.fed) }
+            (added_at_end self.old.setup self.old.fed) }
         ensures ready { OnOk result (IsReady out.new) }
         ensures halted { result ≡ Err Stop.NoMemory → IsReady out.new }
     {
@@ -254,10 +277,10 @@ impl<M: Matcher<Mark>> Session<M> {
         requires goes { self.old.status ≡ None }
         requires fine { out.old.fault ≡ false }
         ensures ended { IfOk result
-            (λ status. self.new ≡ session_after self.old.limits self.old.fed (Some status)) }
-        ensures status { IfOk result (λ status. status ≡ status_of self.old.limits self.old.fed) }
+            (λ status. self.new ≡ session_after self.old.setup self.old.fed (Some status)) }
+        ensures status { IfOk result (λ status. status ≡ status_of self.old.setup self.old.fed) }
         ensures puts { Puts K.writes out.old out.new (stop_extent result)
-            (added_at_end self.old.limits self.old.fed) }
+            (added_at_end self.old.setup self.old.fed) }
     {
         self.stop = Some(Stop::NoMemory);
         let status = execute_last(&mut self.cutter, &mut self.engine, out)?;
@@ -272,12 +295,19 @@ impl<M: Matcher<Mark>> Session<M> {
         ensures rest { self.now.stop ≡ None → self.now.status ≡ None
             → result.now ≡ rest self.now.fed }
         ensures ended { self.now.stop ≡ None → IsSome self.now.status → result.now ≡ [] }
-        ensures within { self.now.stop ≡ None → length result.now ≤ self.now.limits.max_form }
+        ensures within { self.now.stop ≡ None → length result.now ≤ self.now.setup.max_form }
     {
         match self.status {
             Some(_) => &[],
             None => self.cutter.held(),
         }
+    }
+
+    /// How many tests of patterns the assertions and retractions of the script have made, all together, or 2^64 - 1 if there
+    /// were more. No other tests count. Contracts say nothing of it here: how many one assertion or retraction may make is a
+    /// clause of the matcher's `assert` and `retract`.
+    pub fn probes(&self) -> u64 {
+        self.engine.probes()
     }
 
     /// Whether a call has returned a `Stop`.
@@ -297,8 +327,8 @@ fn step<M: Matcher<Mark>, K: Sink>(
     out: &mut Out<K>,
 ) -> Result<Option<Status>, Stop>
     requires { out.old.fault ≡ false }
-    ensures { (limits : Limits) (fed : List ℕ) → IsUnderWay limits fed cutter.old engine.old
-        → Steps K.writes out.old out.new limits fed byte cutter.new engine.new result }
+    ensures { (setup : Setup) (fed : List ℕ) → IsUnderWay setup fed cutter.old engine.old
+        → Steps K.writes out.old out.new setup fed byte cutter.new engine.new result }
 {
     let cut = match cutter.step(byte) {
         Ok(cut) => cut,
@@ -315,8 +345,8 @@ fn execute_last<M: Matcher<Mark>, K: Sink>(
     out: &mut Out<K>,
 ) -> Result<Option<Status>, Stop>
     requires { out.old.fault ≡ false }
-    ensures { (limits : Limits) (fed : List ℕ) → IsUnderWay limits fed cutter.old engine.old
-        → Ends K.writes out.old out.new limits fed engine.new result }
+    ensures { (setup : Setup) (fed : List ℕ) → IsUnderWay setup fed cutter.old engine.old
+        → Ends K.writes out.old out.new setup fed engine.new result }
 {
     match cutter.end() {
         Ok(Some(item)) => engine.execute(&item, out),

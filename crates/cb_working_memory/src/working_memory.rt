@@ -1,5 +1,5 @@
 //! The working memory.
-ghost use Rattle.std.specs.Prelude.{◌≡◌, ◌<◌, ◌+◌, IfOk, OnOk, Some, None, if◌then◌else◌, false, is_err, nat_eq, nat_lt, not, option_copied};
+ghost use Rattle.std.specs.Prelude.{◌≡◌, ◌<◌, ◌≤◌, ◌+◌, IfOk, OnOk, Some, None, if◌then◌else◌, false, is_err, nat_eq, nat_lt, not, option_copied};
 ghost use Rattle.std.specs.List.{filter, list_any};
 ghost use Rattle.std.specs.Str.{bytes_eq};
 ghost use Rattle.cb_rules.specs.Elements.{branches_of};
@@ -63,6 +63,17 @@ impl<M: Matcher<Mark>> WorkingMemory<M> {
         requires { M.network matcher ≡ empty_network }
         ensures { result ≡ empty_memory }
     {
+        WorkingMemory::starting_at(alloc, matcher, 0, 0)
+    }
+
+    /// The same, but as if this index and this number of a rule had been given already: the next ones are one more. Each is at
+    /// most 2^63 - 1.
+    pub fn starting_at(alloc: Global, matcher: M, index: u64, rule: u64) -> WorkingMemory<M>
+        requires none { M.network matcher ≡ empty_network }
+        requires index { index ≤ greatest_index }
+        requires rule { rule ≤ greatest_index }
+        ensures { result ≡ record empty_memory { last = index; last_rule = rule } }
+    {
         WorkingMemory {
             alloc,
             matcher,
@@ -70,9 +81,15 @@ impl<M: Matcher<Mark>> WorkingMemory<M> {
             other_meter: Meter::new(Mark),
             counts: RelationCounts::new(alloc),
             numbers: Vec::new(alloc),
-            last: 0,
-            last_rule: 0,
+            last: index,
+            last_rule: rule,
         }
+    }
+
+    /// How many tests of patterns assertions and retractions have made, all together, or 2^64 - 1 if there were more. Contracts
+    /// say nothing of it here. How many one assertion or retraction may make is a clause of the matcher's `assert` and `retract`.
+    pub fn probes(&self) -> u64 {
+        self.meter.probes()
     }
 
     /// The facts.

@@ -16,6 +16,7 @@ mod page_runs;
 mod pattern_ways;
 mod patterns;
 mod pieces;
+mod probes;
 mod refused_runs;
 mod rows;
 mod rule_orders;

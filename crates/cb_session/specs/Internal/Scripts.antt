@@ -5,6 +5,7 @@ use Rattle.cb_forms.specs.Cuts.{is_too_long}
 use Rattle.cb_forms.specs.Internal.Cuts.{cut_readings}
 use Rattle.cb_forms.specs.Items.{whole, over}
 use Rattle.cb_forms.specs.declared.cut.Cut.{Cut}
+use Rattle.cb_session.specs.Setups.{Setup}
 use Rattle.cb_session.specs.States.{State}
 use Rattle.cb_io.specs.Histories.{PastWrites}
 use Rattle.cb_io.specs.Output.{OutState, Puts}
@@ -12,7 +13,6 @@ use Rattle.cb_session.specs.Transcripts.{Run, begun, after_all, too_long, so_far
 use Rattle.cb_actions.specs.Went.{stop_extent}
 use Rattle.cb_session.specs.declared.status.Status.{Status}
 use Rattle.cb_actions.specs.declared.stop.Stop.{Stop}
-use Rattle.cb_session.specs.declared.limits.Limits.{Limits}
 
 -- a run that begins in this state
 abbrev pub from : State → Run
@@ -24,25 +24,25 @@ cut_run state given = if is_too_long given then too_long (from state) else after
 
 -- The script goes on after these bytes: the cutter has stepped them, no item is too long, and the state is that after the items
 -- that have ended, none of which has ended the script.
-pub record IsUnderWay (limits : Limits) (fed : List ℕ) (cutter : Progress) (state : State) : Type 0 where
-  pub limit : cutter.limit ≡ limits.max_form
+pub record IsUnderWay (setup : Setup) (fed : List ℕ) (cutter : Progress) (state : State) : Type 0 where
+  pub limit : cutter.limit ≡ setup.max_form
   pub stepped : cutter.stepped ≡ fed
-  pub some : 1 ≤ limits.max_form
+  pub some : 1 ≤ setup.max_form
   pub fine : cutter.failed ≡ false
-  pub fits : over limits.max_form fed ≡ false
+  pub fits : over setup.max_form fed ≡ false
   pub given : readings_in cutter.given ≡ whole fed
-  pub state_is : state ≡ (after_all (begun limits) (whole fed)).state
-  pub goes : (after_all (begun limits) (whole fed)).status ≡ None
+  pub state_is : state ≡ (after_all (begun setup) (whole fed)).state
+  pub goes : (after_all (begun setup) (whole fed)).status ≡ None
 
 -- A byte more of a script that goes on: what it adds was put, and it goes on after it unless it has ended with it.
-pub record Steps {K : Type 0} (writes : K → PastWrites) (old new : OutState K) (limits : Limits) (fed : List ℕ) (byte : ℕ) (cutter : Progress) (state : State)
+pub record Steps {K : Type 0} (writes : K → PastWrites) (old new : OutState K) (setup : Setup) (fed : List ℕ) (byte : ℕ) (cutter : Progress) (state : State)
     (result : Result (Option Status) Stop) : Type 0 where
-  pub puts : Puts writes old new (stop_extent result) (added limits fed (byte ∷ []))
-  pub status : IfOk result (λ status. status ≡ (so_far limits (fed ++ byte ∷ [])).status)
-  pub goes : IfOk result (λ status. status ≡ None → IsUnderWay limits (fed ++ byte ∷ []) cutter state)
+  pub puts : Puts writes old new (stop_extent result) (added setup fed (byte ∷ []))
+  pub status : IfOk result (λ status. status ≡ (so_far setup (fed ++ byte ∷ [])).status)
+  pub goes : IfOk result (λ status. status ≡ None → IsUnderWay setup (fed ++ byte ∷ []) cutter state)
 
 -- The end of a script that goes on: what it adds was put.
-pub record Ends {K : Type 0} (writes : K → PastWrites) (old new : OutState K) (limits : Limits) (fed : List ℕ) (state : State) (result : Result (Option Status) Stop) : Type 0 where
-  pub puts : Puts writes old new (stop_extent result) (added_at_end limits fed)
-  pub state_is : OnOk result (state ≡ (complete limits fed).state)
-  pub status : IfOk result (λ status. status ≡ (complete limits fed).status)
+pub record Ends {K : Type 0} (writes : K → PastWrites) (old new : OutState K) (setup : Setup) (fed : List ℕ) (state : State) (result : Result (Option Status) Stop) : Type 0 where
+  pub puts : Puts writes old new (stop_extent result) (added_at_end setup fed)
+  pub state_is : OnOk result (state ≡ (complete setup fed).state)
+  pub status : IfOk result (λ status. status ≡ (complete setup fed).status)

@@ -11,11 +11,11 @@ use Rattle.cb_forms.specs.Trees.{Reading, reading_of}
 use Rattle.cb_forms.specs.contracts.cited.LawsCited.TheImpl as forms_laws
 use Rattle.cb_forms.specs.declared.cut.Cut.{Cut}
 use Rattle.cb_forms.specs.declared.form.Item.{Item}
+use Rattle.cb_session.specs.Setups.{Setup}
 use Rattle.cb_session.specs.States.{State, first_state}
 use Rattle.cb_session.specs.Lines.{too_long_line}
 use Rattle.cb_session.specs.Internal.Scripts.{from, cut_run, IsUnderWay}
 use Rattle.cb_session.specs.Transcripts.{Run, begun, runs_joined, executed, after_status, after, after_all, too_long_status, too_long, so_far, complete, transcript, added, added_at_end}
-use Rattle.cb_session.specs.declared.limits.Limits.{Limits}
 use Rattle.cb_session.specs.declared.status.Status.{Status}
 use Rattle.cb_session.specs.Lemmas.{Grows, after_all-append, complete-fits, so_far-fits, so_far-long, so_far-ended, so_far-grows, so_far-grows_far}
 
@@ -39,29 +39,29 @@ joined-from run h = ap (λ w. record { state = run.state; written = w; status = 
 added-grows : (before more whole : List ℕ) → whole ≡ before ++ more → drop (length before) whole ≡ more
 added-grows before more whole is = ap (drop (length before)) is ∙ drop-append_seam before more
 
-pub added-joined : (l : Limits) (p q : List ℕ) (part : Run) → so_far l (p ++ q) ≡ runs_joined (so_far l p) part → added l p q ≡ part.written
+pub added-joined : (l : Setup) (p q : List ℕ) (part : Run) → so_far l (p ++ q) ≡ runs_joined (so_far l p) part → added l p q ≡ part.written
 unfolding added
 added-joined l p q part is = added-grows (so_far l p).written part.written (so_far l (p ++ q)).written (ap (λ it. it.written) is)
 
-pub added-grown : (l : Limits) (p q : List ℕ) → (so_far l (p ++ q)).written ≡ (so_far l p).written ++ added l p q
+pub added-grown : (l : Setup) (p q : List ℕ) → (so_far l (p ++ q)).written ≡ (so_far l p).written ++ added l p q
 unfolding added
 added-grown l p q =
     let grows = so_far-grows_far l p q in
     grows.is ∙ ap (λ it. (so_far l p).written ++ it) (sym (added-grows (so_far l p).written grows.more (so_far l (p ++ q)).written grows.is))
 
-pub end-grown : (l : Limits) (p : List ℕ) → transcript l p ≡ (so_far l p).written ++ added_at_end l p
+pub end-grown : (l : Setup) (p : List ℕ) → transcript l p ≡ (so_far l p).written ++ added_at_end l p
 unfolding added_at_end
 end-grown l p =
     let P : List ℕ → Type 0 = λ s. Grows (so_far l p).written (complete l s).written in
     let grows : Grows (so_far l p).written (complete l p).written = subst P (append-nil p) (so_far-grows l p []) in
     grows.is ∙ ap (λ it. (so_far l p).written ++ it) (sym (added-grows (so_far l p).written grows.more (complete l p).written grows.is))
 
-pub end-joined : (l : Limits) (p : List ℕ) (part : Run) → complete l p ≡ runs_joined (so_far l p) part → added_at_end l p ≡ part.written
+pub end-joined : (l : Setup) (p : List ℕ) (part : Run) → complete l p ≡ runs_joined (so_far l p) part → added_at_end l p ≡ part.written
 unfolding added_at_end
 end-joined l p part is = added-grows (so_far l p).written part.written (transcript l p) (ap (λ it. it.written) is)
 
 -- one text after another
-pub added-then : (l : Limits) (p q r : List ℕ) → added l p (q ++ r) ≡ added l p q ++ added l (p ++ q) r
+pub added-then : (l : Setup) (p q r : List ℕ) → added l p (q ++ r) ≡ added l p q ++ added l (p ++ q) r
 unfolding added
 added-then l p q r =
     let first = added-grown l p q in
@@ -70,19 +70,19 @@ added-then l p q r =
     ap (λ it. (so_far l it).written) (sym (append_assoc p q r)) ∙ (second ∙ (ap (λ it. it ++ added l (p ++ q) r) first ∙ append_assoc (so_far l p).written (added l p q) (added l (p ++ q) r))) in
     added-grows (so_far l p).written (added l p q ++ added l (p ++ q) r) (so_far l (p ++ (q ++ r))).written all
 
-pub added-nothing : (l : Limits) (p : List ℕ) → added l p [] ≡ []
+pub added-nothing : (l : Setup) (p : List ℕ) → added l p [] ≡ []
 unfolding added
 added-nothing l p = added-grows (so_far l p).written [] (so_far l (p ++ [])).written (ap (λ it. (so_far l it).written) (append-nil p) ∙ sym (append-nil (so_far l p).written))
 
 -- after the end nothing is added, and the status stays
-pub ended-status : (l : Limits) (p q : List ℕ) (status : Status) → (so_far l p).status ≡ Some status → (so_far l (p ++ q)).status ≡ Some status
+pub ended-status : (l : Setup) (p q : List ℕ) (status : Status) → (so_far l p).status ≡ Some status → (so_far l (p ++ q)).status ≡ Some status
 ended-status l p q status h = ap (λ it. it.status) (so_far-ended l p q status h).0 ∙ h
 
-pub ended-adds : (l : Limits) (p q : List ℕ) (status : Status) → (so_far l p).status ≡ Some status → added l p q ≡ []
+pub ended-adds : (l : Setup) (p q : List ℕ) (status : Status) → (so_far l p).status ≡ Some status → added l p q ≡ []
 unfolding added
 ended-adds l p q status h = added-grows (so_far l p).written [] (so_far l (p ++ q)).written (ap (λ it. it.written) (so_far-ended l p q status h).0 ∙ sym (append-nil (so_far l p).written))
 
-module _ (l : Limits) (fed : List ℕ) (cutter : Progress) (state : State) (way : IsUnderWay l fed cutter state) where
+module _ (l : Setup) (fed : List ℕ) (cutter : Progress) (state : State) (way : IsUnderWay l fed cutter state) where
   -- a script that is under way has not ended
   pub way-status : (so_far l fed).status ≡ None
   way-status = ap (λ it. it.status) (so_far-fits l fed way.fits) ∙ way.goes
@@ -159,12 +159,12 @@ module _ (l : Limits) (fed : List ℕ) (cutter : Progress) (state : State) (way 
       complete-fits l fed way.fits ∙ (ap (after_all (begun l)) all ∙ (after_all-append (begun l) (whole fed) (item_readings item)
       ∙ (ap (λ it. after_all it (item_readings item)) (sym way-start) ∙ (sym (joined-all here (from state) (item_readings item)) ∙ sym far))))
 
-start_way : (l : Limits) (cutter : Progress) (state : State) → cutter ≡ fresh_progress l.max_form → state ≡ first_state l → 1 ≤ l.max_form → IsUnderWay l [] cutter state
+start_way : (l : Setup) (cutter : Progress) (state : State) → cutter ≡ fresh_progress l.max_form → state ≡ first_state l → 1 ≤ l.max_form → IsUnderWay l [] cutter state
 unfolding over whole parts
 start_way l cutter state fresh first some = rw (fresh, first) (record { limit = refl; stepped = refl; some = some; fine = refl; fits = refl; given = refl; state_is = refl; goes = refl })
 
 -- before the first byte
-pub way-start_of : (l : Limits) (cutter : Progress) (state : State) → cutter ≡ fresh_progress l.max_form → state ≡ first_state l → 1 ≤ l.max_form → IsUnderWay l [] cutter state
+pub way-start_of : (l : Setup) (cutter : Progress) (state : State) → cutter ≡ fresh_progress l.max_form → state ≡ first_state l → 1 ≤ l.max_form → IsUnderWay l [] cutter state
 way-start_of l cutter state fresh first some = start_way l cutter state fresh first some
 
 long_status : (o : Option Status) (run : Run) → (too_long_status o run).status ≡ None → run.status ≡ o → ⊥
@@ -172,11 +172,11 @@ long_status None run h e = cc
 long_status (Some status) run h e = cc
 
 -- an item that is too long ends the script
-long-ends : (l : Limits) (p : List ℕ) → over l.max_form p ≡ true → (so_far l p).status ≡ None → ⊥
+long-ends : (l : Setup) (p : List ℕ) → over l.max_form p ≡ true → (so_far l p).status ≡ None → ⊥
 long-ends l p long goes = long_status (after_all (begun l) (fitting l.max_form p)).status (after_all (begun l) (fitting l.max_form p)) (ap (λ it. it.status) (sym (so_far-long l p long)) ∙ goes) refl
 
 -- where a byte ends nothing, the script goes on after it
-pub way-push : (l : Limits) (fed : List ℕ) (cutter cutter' : Progress) (state state' : State) (b : ℕ) (given : Cut) → IsUnderWay l fed cutter state → cutter'.limit ≡ cutter.limit → cutter'.stepped ≡ cutter.stepped ++ b ∷ [] → cutter'.given ≡ cutter.given ++ cut_items given
+pub way-push : (l : Setup) (fed : List ℕ) (cutter cutter' : Progress) (state state' : State) (b : ℕ) (given : Cut) → IsUnderWay l fed cutter state → cutter'.limit ≡ cutter.limit → cutter'.stepped ≡ cutter.stepped ++ b ∷ [] → cutter'.given ≡ cutter.given ++ cut_items given
     → (over cutter'.limit cutter'.stepped ≡ false → readings_in cutter'.given ≡ whole cutter'.stepped) → is_too_long given ≡ over cutter'.limit cutter'.stepped → cutter'.failed ≡ false → state' ≡ (cut_run state given).state → (so_far l (fed ++ b ∷ [])).status ≡ None
     → IsUnderWay l (fed ++ b ∷ []) cutter' state'
 way-push l fed cutter cutter' state state' b given way limit stepped items whole_is long_is fine state_is goes =

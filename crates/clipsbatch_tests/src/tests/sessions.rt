@@ -5,7 +5,7 @@ ghost use Rattle.cb_io.specs.Output.{IsReady};
 use cb_forms::{MemSink, NoMemory, Out};
 use cb_matches::Matcher;
 use cb_rematch::Rematch;
-use cb_session::{Ending, Flow, Limits, Mark, Session, Status, Stop};
+use cb_session::{Ending, Flow, Limits, Mark, Numbers, Session, Status, Stop};
 use std::alloc::Global;
 
 /// A call, and what it answers.
@@ -21,9 +21,10 @@ struct Turn {
     written: &'static [u8],
 }
 
-/// The calls of a session, whose sink may fail at a write.
+/// The calls of a session that begins after these numbers, and whose sink may fail at a write.
 struct Talk {
     name: &'static str,
+    numbers: Numbers,
     fail_at: Option<u64>,
     turns: &'static [Turn],
 }
@@ -38,9 +39,21 @@ const FAULTY: Status = Status {
     ending: Ending::Done,
 };
 
-const TALKS: [Talk; 5] = [
+const LIMITED: Status = Status {
+    code: 4,
+    ending: Ending::Limit,
+};
+
+const NONE: Numbers = Numbers {
+    index: 0,
+    rule: 0,
+    stamp: 0,
+};
+
+const TALKS: [Talk; 8] = [
     Talk {
         name: "it shows what is open",
+        numbers: NONE,
         fail_at: None,
         turns: &[
             Turn {
@@ -57,6 +70,7 @@ const TALKS: [Talk; 5] = [
     },
     Talk {
         name: "it ends an open string",
+        numbers: NONE,
         fail_at: None,
         turns: &[
             Turn {
@@ -73,6 +87,7 @@ const TALKS: [Talk; 5] = [
     },
     Talk {
         name: "it ends an open word",
+        numbers: NONE,
         fail_at: None,
         turns: &[
             Turn {
@@ -89,6 +104,7 @@ const TALKS: [Talk; 5] = [
     },
     Talk {
         name: "it stays ended",
+        numbers: NONE,
         fail_at: None,
         turns: &[
             Turn {
@@ -110,6 +126,7 @@ const TALKS: [Talk; 5] = [
     },
     Talk {
         name: "it stays stopped",
+        numbers: NONE,
         fail_at: Some(1),
         turns: &[
             Turn {
@@ -126,6 +143,72 @@ const TALKS: [Talk; 5] = [
                 call: Call::Finish(Err(Stop::WriteFault)),
                 held: b"",
                 written: b"",
+            },
+        ],
+    },
+    Talk {
+        name: "it ends after the last index",
+        numbers: Numbers {
+            index: 9_223_372_036_854_775_806,
+            rule: 0,
+            stamp: 0,
+        },
+        fail_at: None,
+        turns: &[
+            Turn {
+                call: Call::Feed(b"(assert (a))(assert (b))", Ok(Flow::Ended(LIMITED))),
+                held: b"",
+                written: b"<Fact-9223372036854775807>\n[CB94] numbers exhausted\n",
+            },
+            Turn {
+                call: Call::Finish(Ok(LIMITED)),
+                held: b"",
+                written: b"<Fact-9223372036854775807>\n[CB94] numbers exhausted\n",
+            },
+        ],
+    },
+    Talk {
+        name: "it ends after the last stamp",
+        numbers: Numbers {
+            index: 0,
+            rule: 0,
+            stamp: 9_223_372_036_854_775_807,
+        },
+        fail_at: None,
+        turns: &[
+            Turn {
+                call: Call::Feed(
+                    b"(watch all)(defrule r (a) =>)(assert (a))",
+                    Ok(Flow::Ended(LIMITED)),
+                ),
+                held: b"",
+                written: b"==> f-1     (a)\n[CB94] numbers exhausted\n",
+            },
+            Turn {
+                call: Call::Finish(Ok(LIMITED)),
+                held: b"",
+                written: b"==> f-1     (a)\n[CB94] numbers exhausted\n",
+            },
+        ],
+    },
+    Talk {
+        name: "it ends after the last number of a rule",
+        numbers: Numbers {
+            index: 0,
+            rule: 9_223_372_036_854_775_807,
+            stamp: 0,
+        },
+        fail_at: None,
+        turns: &[
+            Turn {
+                call: Call::Feed(b"(defrule r (a) =>)", Ok(Flow::Ended(LIMITED))),
+                held: b"",
+                written: b"[CB94] numbers exhausted\n",
+            },
+            Turn {
+                call: Call::Finish(Ok(LIMITED)),
+                held: b"",
+                written: b"[CB94] numbers exhausted\n",
             },
         ],
     },
@@ -207,7 +290,7 @@ fn goes_so(alloc: Global, talk: &Talk) -> Result<bool, NoMemory> {
         max_firings: 1000,
         max_turns: 1000,
     };
-    let mut session = Session::new(alloc, Rematch::new(alloc), limits);
+    let mut session = Session::starting_at(alloc, Rematch::new(alloc), limits, talk.numbers);
     let mut out = Out::new(MemSink::new(alloc, 1000, 1000, talk.fail_at)?);
     Ok(go_so(&mut session, &mut out, talk.turns))
 }

@@ -15,7 +15,7 @@ flush-requires g c = io_laws.ghosts.puts_fine _ g.K.Sink.writes _ _ _ c.in-Ok.en
 pub returns-in_err-flush-clause-puts : goal.returns-in_err-flush-clause-puts
 returns-in_err-flush-clause-puts g c =
     let r : c.from_residual.result ≡ Err c.in_err-flush.field-0.0 = search rules in
-    io_laws.ghosts.puts_as _ g.K.Sink.writes _ _ _ _ _ _ (ap stop_extent r) (sym (append-nil (added_at_end c.args.self.now.limits c.args.self.now.fed))) (io_laws.ghosts.puts_then _ g.K.Sink.writes _ _ _ _ (added_at_end c.args.self.now.limits c.args.self.now.fed) [] c.in-Ok.ensures.puts c.in_err-flush.ensures.puts)
+    io_laws.ghosts.puts_as _ g.K.Sink.writes _ _ _ _ _ _ (ap stop_extent r) (sym (append-nil (added_at_end c.args.self.now.setup c.args.self.now.fed))) (io_laws.ghosts.puts_then _ g.K.Sink.writes _ _ _ _ (added_at_end c.args.self.now.setup c.args.self.now.fed) [] c.in-Ok.ensures.puts c.in_err-flush.ensures.puts)
 
 pub returns-in_err-flush-clause-halted : goal.returns-in_err-flush-clause-halted
 returns-in_err-flush-clause-halted g c =
@@ -24,4 +24,4 @@ returns-in_err-flush-clause-halted g c =
 
 pub returns-clause-puts : goal.returns-clause-puts
 returns-clause-puts g c =
-    io_laws.ghosts.puts_as _ g.K.Sink.writes _ _ _ _ _ _ refl (sym (append-nil (added_at_end c.args.self.now.limits c.args.self.now.fed))) (io_laws.ghosts.puts_then _ g.K.Sink.writes _ _ _ _ (added_at_end c.args.self.now.limits c.args.self.now.fed) [] c.in-Ok.ensures.puts c.in_ok-flush.ensures.puts)
+    io_laws.ghosts.puts_as _ g.K.Sink.writes _ _ _ _ _ _ refl (sym (append-nil (added_at_end c.args.self.now.setup c.args.self.now.fed))) (io_laws.ghosts.puts_then _ g.K.Sink.writes _ _ _ _ (added_at_end c.args.self.now.setup c.args.self.now.fed) [] c.in-Ok.ensures.puts c.in_ok-flush.ensures.puts)

@@ -13,5 +13,5 @@ halt-requires g c = λ e. io_laws.ghosts.puts_fine_part _ g.K.Sink.writes _ _ _ 
 
 pub returns-in-Ok-clause-puts : goal.returns-in-Ok-clause-puts
 returns-in-Ok-clause-puts g c =
-    let adds = added c.args.self.now.limits c.args.self.now.fed c.args.bytes.now in
+    let adds = added c.args.self.now.setup c.args.self.now.fed c.args.bytes.now in
     io_laws.ghosts.puts_as _ g.K.Sink.writes _ _ _ _ _ _ refl (sym (append-nil adds)) (io_laws.ghosts.puts_then _ g.K.Sink.writes _ _ _ _ adds [] c.in-Ok.ensures.puts c.flush.ensures.puts)

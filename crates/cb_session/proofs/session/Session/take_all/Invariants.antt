@@ -7,8 +7,8 @@ use Rattle.cb_session.proofs.session.Session.take_all.Given as goal
 abbrev pub invariant-loop-done : goal.invariant-loop-done
 invariant-loop-done g l = record {
   within : l.done ≤ length l.bytes;
-  fed : l.self ≡ session_after l.initial.self.limits (l.initial.self.fed ++ take l.done l.bytes) (so_far l.initial.self.limits (l.initial.self.fed ++ take l.done l.bytes)).status;
-  puts : Puts g.K.Sink.writes l.initial.out l.out all_put (added l.initial.self.limits l.initial.self.fed (take l.done l.bytes));
+  fed : l.self ≡ session_after l.initial.self.setup (l.initial.self.fed ++ take l.done l.bytes) (so_far l.initial.self.setup (l.initial.self.fed ++ take l.done l.bytes)).status;
+  puts : Puts g.K.Sink.writes l.initial.out l.out all_put (added l.initial.self.setup l.initial.self.fed (take l.done l.bytes));
 }
 
 abbrev pub decreases-loop-done : goal.decreases-loop-done

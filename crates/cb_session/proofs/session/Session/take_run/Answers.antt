@@ -2,6 +2,7 @@ use Rattle.std.proofs.Common.{◌≡◌, ◌++◌, Ok, None, true, is_some, take
 use Rattle.std.proofs.Math.Seq.{take-length}
 use Rattle.cb_session.specs.Internal.Scripts.{IsUnderWay}
 use Rattle.cb_session.specs.Sessions.{SessionState}
+use Rattle.cb_session.specs.Setups.{setup_of}
 use Rattle.cb_session.specs.Transcripts.{so_far}
 use Rattle.cb_session.specs.Lemmas.ScriptLaws.{run-nothing, way-status, way-taken}
 use Rattle.cb_session.proofs.StepLaws.{after-end-adds, taken-after-end}
@@ -17,16 +18,16 @@ pub returns-in-Some-clause-adds : goal.returns-in-Some-clause-adds
 returns-in-Some-clause-adds g c =
     let some : is_some c.args.self.now.status ≡ true = rw (← c.self.view_is) (ap is_some c.in-Some.is) in
     let all = take-length c.args.bytes.now in
-    rw all (after-end-adds c.args.self.now.limits c.args.self.now.fed c.args.bytes.now c.args.self.now.status c.requires.goes some)
+    rw all (after-end-adds c.args.self.now.setup c.args.self.now.fed c.args.bytes.now c.args.self.now.status c.requires.goes some)
 
 pub returns-clause-fed : goal.returns-clause-fed
 returns-clause-fed g c =
     let none : c.self.inside.status ≡ None = search rules in
     let way = c.self.invariant (ap (λ it. it.stop) c.self.view_is ∙ c.requires.on) none in
     let told = c.in_ok-n.ensures in
-    let after : IsUnderWay c.self.inside.limits (c.self.inside.fed.items ++ take c.in_ok-n.n c.args.bytes.now) c.step_run.new.self c.self.inside.engine =
+    let after : IsUnderWay (setup_of c.self.inside.limits c.self.inside.numbers) (c.self.inside.fed.items ++ take c.in_ok-n.n c.args.bytes.now) c.step_run.new.self c.self.inside.engine =
     way-taken _ _ _ _ way c.args.bytes.now c.in_ok-n.n _ told.limit told.stepped told.given told.items told.fits (λ e. told.untouched (ap Ok e)) told.ok in
-    let status : c.self.inside.status ≡ (so_far c.self.inside.limits (c.self.inside.fed.items ++ take c.in_ok-n.n c.args.bytes.now)).status = none ∙ sym (way-status _ _ _ _ after) in
+    let status : c.self.inside.status ≡ (so_far (setup_of c.self.inside.limits c.self.inside.numbers) (c.self.inside.fed.items ++ take c.in_ok-n.n c.args.bytes.now)).status = none ∙ sym (way-status _ _ _ _ after) in
     rw (← c.self.view_is, c.with_all-self-inside-2.ensures, c.split_at.ensures.front, status) refl
 
 pub returns-clause-adds : goal.returns-clause-adds
@@ -34,6 +35,6 @@ returns-clause-adds g c =
     let none : c.self.inside.status ≡ None = search rules in
     let way = c.self.invariant (ap (λ it. it.stop) c.self.view_is ∙ c.requires.on) none in
     let told = c.in_ok-n.ensures in
-    let after : IsUnderWay c.self.inside.limits (c.self.inside.fed.items ++ take c.in_ok-n.n c.args.bytes.now) c.step_run.new.self c.self.inside.engine =
+    let after : IsUnderWay (setup_of c.self.inside.limits c.self.inside.numbers) (c.self.inside.fed.items ++ take c.in_ok-n.n c.args.bytes.now) c.step_run.new.self c.self.inside.engine =
     way-taken _ _ _ _ way c.args.bytes.now c.in_ok-n.n _ told.limit told.stepped told.given told.items told.fits (λ e. told.untouched (ap Ok e)) told.ok in
     rw (← c.self.view_is) (run-nothing _ _ _ _ way (take c.in_ok-n.n c.args.bytes.now) _ after told.given)
