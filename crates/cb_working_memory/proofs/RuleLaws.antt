@@ -76,9 +76,9 @@ pub without_all : (n : Network) → without_rules (keys_of n.rules) n ≡ record
 without_all n = all_go (keys_of n.rules) n (their_own n.rules)
 
 -- what fits where nothing is left
-pub kept_empty : (counts : Counts) (numbers : List ℕ) (last_rule : ℕ) (n : Network) → IsEmpty counts → numbers ≡ [] → n ≡ empty_network → AreKept counts numbers 0 last_rule n
-kept_empty counts numbers last_rule n empty none e =
-    subst (λ (ns : List ℕ). AreKept counts ns 0 last_rule n) (sym none) (subst (AreKept counts [] 0 last_rule) (sym e)
+pub kept_empty : (counts : Counts) (numbers : List ℕ) (last last_rule : ℕ) (n : Network) → IsEmpty counts → numbers ≡ [] → n ≡ empty_network → AreKept counts numbers last last_rule n
+kept_empty counts numbers last last_rule n empty none e =
+    subst (λ (ns : List ℕ). AreKept counts ns last last_rule n) (sym none) (subst (AreKept counts [] last last_rule) (sym e)
     (record { indices = tt; counted = λ q. empty q; numbered = refl; rules = none_above last_rule }))
 
 pub kept_restarted : (old counts : Counts) (numbers : List ℕ) (last last_rule : ℕ) (n m : Network) → AreKept old numbers last last_rule n → IsEmpty counts → m ≡ network.restarted n → AreKept counts numbers 0 last_rule m
