@@ -65,7 +65,7 @@ branch_last_is_there es = let l = last_below es 0 1 (omega (arith)) in let e = l
 
 -- the node that makes list k names lists before it
 abbrev pub IsBelow : ℕ → FlatNode → Type 0
-IsBelow k (joining from x p) = from < k
+IsBelow k (joining from x p ts) = from < k
 IsBelow k (testing from t) = from < k
 IsBelow k (grouping from inner positive width) = (from < k) × (inner < k)
 

@@ -11,6 +11,8 @@ pub(crate) struct Place<T> {
     /// The variable of the `?f <-` before the pattern.
     pub(crate) address: Option<Name>,
     pub(crate) pattern: Pattern<T>,
+    /// The tests that stand directly behind the pattern: what is kept of a match is only kept where they hold.
+    pub(crate) tests: Vec<Expr>,
     /// The pattern without its variables and expressions.
     pub(crate) loose: Pattern<T>,
     /// The facts that have the pattern's shape, by their indices.

@@ -1,5 +1,5 @@
 -- A branch as nodes, each of which makes a list of partial matches from lists before it, which it names by number.
-use Rattle.std.specs.Prelude.{◌≡◌, ◌+◌, ◌*◌, ◌<◌, ℕ, suc, Bool, true, false, List, [], ◌∷◌, ◌++◌, Option, filter, length, map, not, slice_index_or, take}
+use Rattle.std.specs.Prelude.{◌≡◌, ◌+◌, ◌*◌, ◌<◌, ℕ, suc, ◌&&◌, Bool, true, false, List, [], ◌∷◌, ◌++◌, Option, filter, length, map, not, slice_index_or, take}
 use Rattle.std.specs.Cmp.Lexicographic.{pointwise}
 use Rattle.std.specs.List.{list_any}
 use Rattle.cb_constraints.specs.PatternValues.{PatternValue}
@@ -8,21 +8,26 @@ use Rattle.cb_facts.specs.FactLists.{IndexedFacts}
 use Rattle.cb_facts.specs.Facts.{FactValue}
 use Rattle.cb_joins.specs.declared.node.Node.{Node}
 use Rattle.cb_joins.specs.declared.node.Node.TheVariants as node
+use Rattle.cb_joins.specs.declared.node.Place.{Place}
 use Rattle.cb_matches.specs.Keys.{PartValue, part_eq}
 use Rattle.cb_matches.specs.Matches.{Partial, next, test_holds}
 use Rattle.cb_partials.specs.Probes.{added_probes, is_candidate, partials_come, partials_kept}
 use Rattle.cb_rules.specs.Elements.{Element, pattern, test, group, Elements, no_elements, element}
 
 pub data FlatNode : Type 0 where
-  -- the list before it
-  joining : ℕ → Option (List ℕ) → PatternValue → FlatNode
+  -- the list before it, the variable of the address, the pattern, and the tests behind it
+  joining : ℕ → Option (List ℕ) → PatternValue → List Term → FlatNode
   testing : ℕ → Term → FlatNode
   -- the list before it, the last one inside it, and how many parts the partial matches before it have
   grouping : ℕ → ℕ → Bool → ℕ → FlatNode
 
 module _ {T : Type 0} where
+  -- the tests that stand behind a pattern
+  abbrev pub tests_of : Place T → List Term
+  tests_of place = map term_of place.tests.items
+
   abbrev pub flat_node : Node T → FlatNode
-  flat_node (node.Pattern from place) = joining from place.address place.pattern
+  flat_node (node.Pattern from place) = joining from place.address place.pattern (tests_of place)
   flat_node (node.Test from e) = testing from (term_of e)
   flat_node (node.Group from inner positive width) = grouping from inner positive width
 
@@ -42,9 +47,18 @@ holds_by false any = not any
 abbrev pub Lists : Type 0
 Lists = ℕ → List Partial
 
+-- all of these tests hold
+abbrev pub all_hold : List Term → Partial → Bool
+all_hold [] m = true
+all_hold (t ∷ ts) m = test_holds t m.env && all_hold ts m
+
+-- the partial matches that go on from those of a list with these facts, and for which the tests hold
+abbrev pub next_where : Option (List ℕ) → PatternValue → List Term → IndexedFacts → List Partial → List Partial
+next_where x p ts fs ms = filter (all_hold ts) (next x p fs ms)
+
 -- the list that a node makes
 abbrev pub node_list : FlatNode → IndexedFacts → Lists → List Partial
-node_list (joining from x p) fs ls = next x p fs (ls from)
+node_list (joining from x p ts) fs ls = next_where x p ts fs (ls from)
 node_list (testing from t) fs ls = filter (λ m. test_holds t m.env) (ls from)
 node_list (grouping from inner positive width) fs ls = filter (λ m. holds_by positive (list_any (begins m.parts) (ls inner))) (ls from)
 
@@ -55,13 +69,13 @@ pub record AreLists (ns : List FlatNode) (fs : IndexedFacts) (first : List Parti
 
 -- how many parts the partial matches of the list have that a node makes, by the lists before it
 abbrev pub node_width : FlatNode → (ℕ → ℕ) → ℕ
-node_width (joining from x p) ws = suc (ws from)
+node_width (joining from x p ts) ws = suc (ws from)
 node_width (testing from t) ws = ws from
 node_width (grouping from inner positive width) ws = ws from
 
 -- the node at place k names lists before its own, and the right width
 abbrev pub IsWell : ℕ → FlatNode → (ℕ → ℕ) → Type 0
-IsWell k (joining from x p) ws = from < suc k
+IsWell k (joining from x p ts) ws = from < suc k
 IsWell k (testing from t) ws = from < suc k
 IsWell k (grouping from inner positive width) ws = (from < suc k) × (inner < suc k) × (width ≡ ws from)
 
@@ -73,7 +87,7 @@ pub record AreWidths (ns : List FlatNode) (ws : ℕ → ℕ) : Type 0 where
 
 -- how often the pattern of a node may be tested
 abbrev pub flat_probes_of : Option FactValue → IndexedFacts → Lists → Lists → FlatNode → ℕ
-flat_probes_of added fs' old new (joining from x p) =
+flat_probes_of added fs' old new (joining from x p ts) =
     length (partials_come (old from) (new from)) * length (filter (is_candidate p) fs') + added_probes p added (length (partials_kept (old from) (new from)))
 flat_probes_of added fs' old new (testing from t) = 0
 flat_probes_of added fs' old new (grouping from inner positive width) = 0
