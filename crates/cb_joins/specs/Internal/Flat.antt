@@ -112,42 +112,43 @@ widths_from (n ∷ ns) ws = widths_from ns (ws ++ node_width n (λ k. slice_inde
 abbrev pub widths_of : List FlatNode → ℕ → ℕ
 widths_of ns k = slice_index_or (widths_from ns (0 ∷ [])) k 0
 
-abbrev mutual
-  -- how many nodes come before the last one of an element
-  pub nodes_inside : Element → ℕ
-  nodes_inside (pattern x p) = 0
-  nodes_inside (test t) = 0
-  nodes_inside (group positive inner) = node_count inner
+-- the tests that elements begin with
+abbrev pub tests_first : Elements → List Term
+tests_first no_elements = []
+tests_first (element (pattern x p) es) = []
+tests_first (element (test t) es) = t ∷ tests_first es
+tests_first (element (group positive inner) es) = []
 
-  pub node_count : Elements → ℕ
-  node_count no_elements = 0
-  node_count (element e es) = (nodes_inside e + 1) + node_count es
+-- how many nodes elements have. `behind` says whether a pattern of the same sequence stands before them, with only tests between. Then
+-- the tests that they begin with have no nodes of their own, and belong to that of the pattern
+abbrev pub node_count : Bool → Elements → ℕ
+node_count behind no_elements = 0
+node_count behind (element (pattern x p) es) = suc (node_count true es)
+node_count true (element (test t) es) = node_count true es
+node_count false (element (test t) es) = suc (node_count false es)
+node_count behind (element (group positive inner) es) = node_count false inner + suc (node_count false es)
 
 -- the number of the last list, where they go on from one list and the next to be made has the number k
-abbrev pub last_list : Elements → ℕ → ℕ → ℕ
-last_list no_elements from k = from
-last_list (element e es) from k = last_list es (k + nodes_inside e) (k + (nodes_inside e + 1))
+abbrev pub last_list : Bool → Elements → ℕ → ℕ → ℕ
+last_list behind no_elements from k = from
+last_list behind (element (pattern x p) es) from k = last_list true es k (suc k)
+last_list true (element (test t) es) from k = last_list true es from k
+last_list false (element (test t) es) from k = last_list false es k (suc k)
+last_list behind (element (group positive inner) es) from k = let j = k + node_count false inner in last_list false es j (suc j)
 
--- how many parts an element adds
-abbrev pub parts_of : Element → ℕ
-parts_of (pattern x p) = 1
-parts_of (test t) = 0
-parts_of (group positive inner) = 0
-
--- the nodes of elements, where the partial matches before them have n parts
-abbrev mutual
-  pub flat_one : Element → ℕ → ℕ → ℕ → List FlatNode
-  flat_one (pattern x p) from k n = joining from x p ∷ []
-  flat_one (test t) from k n = testing from t ∷ []
-  flat_one (group positive inner) from k n = flat_all inner from k n ++ grouping from (last_list inner from k) positive n ∷ []
-
-  pub flat_all : Elements → ℕ → ℕ → ℕ → List FlatNode
-  flat_all no_elements from k n = []
-  flat_all (element e es) from k n = flat_one e from k n ++ flat_all es (k + nodes_inside e) (k + (nodes_inside e + 1)) (n + parts_of e)
+-- the nodes of elements, where the partial matches before them have n parts. Those inside a group come before that of the group
+abbrev pub flat_all : Bool → Elements → ℕ → ℕ → ℕ → List FlatNode
+flat_all behind no_elements from k n = []
+flat_all behind (element (pattern x p) es) from k n = joining from x p (tests_first es) ∷ flat_all true es k (suc k) (suc n)
+flat_all true (element (test t) es) from k n = flat_all true es from k n
+flat_all false (element (test t) es) from k n = testing from t ∷ flat_all false es k (suc k) n
+flat_all behind (element (group positive inner) es) from k n =
+    let j = k + node_count false inner in
+    flat_all false inner from k n ++ grouping from (last_list false inner from k) positive n ∷ flat_all false es j (suc j) n
 
 -- the nodes of a branch, and the number of its last list
 abbrev pub branch_nodes : Elements → List FlatNode
-branch_nodes es = flat_all es 0 1 0
+branch_nodes es = flat_all false es 0 1 0
 
 abbrev pub branch_last : Elements → ℕ
-branch_last es = last_list es 0 1
+branch_last es = last_list false es 0 1
