@@ -1,20 +1,20 @@
 -- The nodes of elements, made one element after another.
 use Rattle.std.proofs.Common.{◌≡◌, ℕ, zero, suc, ◌+◌, Bool, true, false, List, [], ◌∷◌, ◌++◌, Option, Global, Vec, length, map, set, refl, sym, ◌∙◌, ap, ap₂, subst, arith, cond, get_or}
-use Rattle.std.proofs.lemmas.List.{append-nil, append_assoc, length-append, length-map, map-append}
+use Rattle.std.proofs.lemmas.List.{append-nil, append_assoc, length-append, map-append}
+use Rattle.cb_constraints.specs.PatternValues.{PatternValue}
+use Rattle.cb_exprs.specs.Terms.{Term, term_of}
+use Rattle.cb_exprs.specs.declared.expr.Expr.{Expr}
+use Rattle.cb_joins.proofs.Named.{long_flat_all}
 use Rattle.cb_joins.specs.Internal.Flat.{FlatNode, flat_all, flat_node, flat_nodes, grouping, joining, last_list, node_count, testing, tests_first}
 use Rattle.cb_joins.specs.Internal.Plans.{IsFurther, last_tested, last_with, node_with, nodes_with}
-use Rattle.cb_rules.specs.declared.ce.Ce.{Ce}
-use Rattle.cb_exprs.specs.declared.expr.Expr.{Expr}
+use Rattle.cb_joins.specs.declared.node.Node.{Node}
+use Rattle.cb_joins.specs.declared.planning.End.{End}
+use Rattle.cb_rules.specs.Elements.{Element, pattern, test, group, Elements, no_elements, element, element_of, element_step, elements}
 use Rattle.cb_rules.specs.declared.ce.Ce.TheFolds.{fold-roll-Ce}
 use Rattle.cb_rules.specs.declared.ce.Ce.TheOpen as program
 use Rattle.cb_rules.specs.declared.ce.Ce.TheVariants as is
 use Rattle.cb_rules.specs.declared.ce.Ce.TheViews as views
-use Rattle.cb_joins.specs.declared.node.Node.{Node}
-use Rattle.cb_joins.specs.declared.planning.End.{End}
-use Rattle.cb_joins.proofs.Named.{long_flat_all}
-use Rattle.cb_constraints.specs.PatternValues.{PatternValue}
-use Rattle.cb_exprs.specs.Terms.{Term, term_of}
-use Rattle.cb_rules.specs.Elements.{Element, pattern, test, group, Elements, no_elements, element, element_of, element_step, elements}
+use Rattle.cb_rules.specs.declared.ce.Ce.{Ce}
 
 -- tests that belong to a node
 none_more : (n : FlatNode) → node_with [] n ≡ n
@@ -49,7 +49,10 @@ long_last ts [] = refl
 long_last ts (n ∷ []) = refl
 long_last ts (n ∷ m ∷ ns) = ap suc (long_last ts (m ∷ ns))
 
--- in the list of nodes
+-- in the list of nodes: a node behind the others, and another last one
+pub nodes_pushed : {T : Type 0} (old new : List (Node T)) (node : Node T) (n : FlatNode) → new ≡ old ++ node ∷ [] → flat_node node ≡ n → flat_nodes new ≡ flat_nodes old ++ n ∷ []
+nodes_pushed old new node n is e = ap flat_nodes is ∙ (map-append flat_node old (node ∷ []) ∙ ap (λ (it : FlatNode). flat_nodes old ++ it ∷ []) e)
+
 pub last_set : {T : Type 0} (ts : List Term) (nodes : List (Node T)) (n n' : Node T) (k : ℕ) → suc k ≡ length nodes → n ≡ get_or nodes k n → flat_node n' ≡ node_with ts (flat_node n)
     → flat_nodes (set nodes k n') ≡ last_tested ts (flat_nodes nodes)
 last_set ts [] n n' k l at is = absurd (omega (arith, l))
@@ -58,18 +61,14 @@ last_set ts (m ∷ []) n n' (suc k) l at is = absurd (omega (arith, l))
 last_set ts (m ∷ o ∷ nodes) n n' zero l at is = absurd (omega (arith, l))
 last_set ts (m ∷ o ∷ nodes) n n' (suc k) l at is = ap (λ (it : List FlatNode). flat_node m ∷ it) (last_set ts (o ∷ nodes) n n' k (omega (arith, l)) at is)
 
--- where no elements follow, all nodes are there
-pub nothing_follows : (ns : List FlatNode) (end : End) → nodes_with ns end no_elements ≡ ns
-nothing_follows ns end = all end.is_pattern
-  where
-    all : (b : Bool) → cond b (last_tested [] ns) ns ++ [] ≡ ns
-    all true = append-nil (last_tested [] ns) ∙ none_last ns
-    all false = append-nil ns
-
 -- where no test follows, the nodes stay
 stay : (b : Bool) (ns : List FlatNode) → cond b (last_tested [] ns) ns ≡ ns
 stay true ns = none_last ns
 stay false ns = refl
+
+-- and where nothing follows, they are all
+pub nothing_follows : (ns : List FlatNode) (end : End) → nodes_with ns end no_elements ≡ ns
+nothing_follows ns end = append-nil (cond end.is_pattern (last_tested [] ns) ns) ∙ stay end.is_pattern ns
 
 placed : (b : Bool) (es : Elements) (from from' k k' n n' : ℕ) → from ≡ from' → k ≡ k' → n ≡ n' → flat_all b es from k n ≡ flat_all b es from' k' n'
 placed b es from from' k k' n n' e f g = ap (λ it. flat_all b es it k n) e ∙ (ap (λ it. flat_all b es from' it n) f ∙ ap (λ it. flat_all b es from' k' it) g)
@@ -155,13 +154,6 @@ group_further ns mid ns' end list last positive inner within ends is l =
           ∙ (append_assoc ns inside (n ∷ rest) ∙ ap (λ it. it ++ (inside ++ n ∷ rest)) (sym (stay end.is_pattern ns))));
       last = λ es. placed_last false es list j (length ns' + 1) (suc j) at next_at;
     }
-
--- a node behind the others
-pub nodes_pushed : {T : Type 0} (old new : List (Node T)) (node : Node T) (n : FlatNode) → new ≡ old ++ node ∷ [] → flat_node node ≡ n → flat_nodes new ≡ flat_nodes old ++ n ∷ []
-nodes_pushed old new node n is e = ap flat_nodes is ∙ (map-append flat_node old (node ∷ []) ∙ ap (λ (it : FlatNode). flat_nodes old ++ it ∷ []) e)
-
-pub places : {T : Type 0} (nodes : List (Node T)) (k : ℕ) → k ≡ length nodes → k ≡ length (flat_nodes nodes)
-places nodes k e = e ∙ sym (length-map nodes flat_node)
 
 -- what the elements of the program are
 module _ (T : Type 0) where

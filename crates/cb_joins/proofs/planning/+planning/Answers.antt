@@ -1,8 +1,8 @@
 use Rattle.std.proofs.Common.{◌≡◌, ◌∙◌, ◌+◌, ◌∷◌, [], ap, false, length, map, refl, rules, subst, sym, true}
-use Rattle.std.proofs.lemmas.List.{nil_from_length}
-use Rattle.cb_joins.specs.Internal.Flat.{flat_nodes, grouping, joining}
+use Rattle.std.proofs.lemmas.List.{length-map, nil_from_length}
+use Rattle.cb_joins.specs.Internal.Flat.{flat_node, flat_nodes, grouping, joining}
 use Rattle.cb_joins.specs.Internal.Plans.{IsFurther, nodes_with}
-use Rattle.cb_joins.proofs.Planned.{group_further, nodes_pushed, nothing_follows, of_group, of_pattern, pattern_further, places}
+use Rattle.cb_joins.proofs.Planned.{group_further, nodes_pushed, nothing_follows, of_group, of_pattern, pattern_further}
 use Rattle.cb_rules.specs.Elements.{element_of, elements, group, no_elements, pattern}
 use Rattle.cb_joins.proofs.planning.+planning.Goals as goal
 
@@ -16,7 +16,7 @@ add_node-returns-in_ok-push-in-Pattern-clause-further g t c =
     let long : c.len.result ≡ length new = search rules in
     subst (IsFurther (flat_nodes old) (flat_nodes new) end (record { list = c.len.result; width = end.width + 1; is_pattern = true })) (sym is)
     (pattern_further (flat_nodes old) (flat_nodes new) end c.len.result c.in-Pattern.address c.in-Pattern.pattern
-    (nodes_pushed old new c.in_ok-node-in-Pattern.node n c.in_ok-push-in-Pattern.ensures.items c.in_ok-node-in-Pattern.ensures.node) (places new c.len.result long))
+    (nodes_pushed old new c.in_ok-node-in-Pattern.node n c.in_ok-push-in-Pattern.ensures.items c.in_ok-node-in-Pattern.ensures.node) (long ∙ sym (length-map new flat_node)))
 
 pub add_node-returns-in_ok-push-in-Group-clause-further : goal.add_node-returns-in_ok-push-in-Group-clause-further
 add_node-returns-in_ok-push-in-Group-clause-further g t c =
@@ -32,7 +32,7 @@ add_node-returns-in_ok-push-in-Group-clause-further g t c =
     subst (IsFurther (flat_nodes old) (flat_nodes new) end (record { list = c.len-in-Group.result; width = end.width; is_pattern = false })) (sym is)
     (group_further (flat_nodes old) (flat_nodes mid) (flat_nodes new) end c.len-in-Group.result last c.in-Group.positive inner
     c.in_ok-last-in-Group.ensures.nodes c.in_ok-last-in-Group.ensures.last
-    (nodes_pushed mid new _ n c.in_ok-push-in-Group.ensures.items refl) (places new c.len-in-Group.result long))
+    (nodes_pushed mid new _ n c.in_ok-push-in-Group.ensures.items refl) (long ∙ sym (length-map new flat_node)))
 
 pub add_nodes-returns-clause-nodes : goal.add_nodes-returns-clause-nodes
 add_nodes-returns-clause-nodes g t c =

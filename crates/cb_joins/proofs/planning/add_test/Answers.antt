@@ -1,7 +1,8 @@
-use Rattle.std.proofs.Common.{◌≡◌, length, refl, rules}
-use Rattle.cb_joins.specs.Internal.Flat.{flat_nodes, testing}
+use Rattle.std.proofs.Common.{◌≡◌, ◌∙◌, length, refl, rules, sym}
+use Rattle.std.proofs.lemmas.List.{length-map}
 use Rattle.cb_exprs.specs.Terms.{term_of}
-use Rattle.cb_joins.proofs.Planned.{folded_further, nodes_pushed, places, test_further}
+use Rattle.cb_joins.specs.Internal.Flat.{flat_node, flat_nodes, testing}
+use Rattle.cb_joins.proofs.Planned.{folded_further, nodes_pushed, test_further}
 use Rattle.cb_joins.proofs.planning.add_test.Goals as goal
 
 pub returns-then-end-clause-further : goal.returns-then-end-clause-further
@@ -14,4 +15,4 @@ returns-clause-further g c =
     let new = c.push.new.self.items in
     let n = testing c.args.end.list (term_of c.args.condition) in
     let long : c.len.result ≡ length new = search rules in
-    test_further (flat_nodes old) (flat_nodes new) c.args.end c.len.result (term_of c.args.condition) (nodes_pushed old new _ n c.in_ok-push.ensures.items refl) (places new c.len.result long) c.if-end.false
+    test_further (flat_nodes old) (flat_nodes new) c.args.end c.len.result (term_of c.args.condition) (nodes_pushed old new _ n c.in_ok-push.ensures.items refl) (long ∙ sym (length-map new flat_node)) c.if-end.false
