@@ -9,7 +9,7 @@ use Rattle.cb_joins.specs.Internal.Flat.{FlatNode, flat_all, flat_node, flat_nod
 use Rattle.cb_joins.specs.Internal.Plans.{IsFurther, last_tested, last_with, node_with, nodes_with}
 use Rattle.cb_joins.specs.declared.node.Node.{Node}
 use Rattle.cb_joins.specs.declared.planning.End.{End}
-use Rattle.cb_rules.specs.Elements.{Element, pattern, test, group, Elements, no_elements, element, element_of, element_step, elements}
+use Rattle.cb_rules.specs.Elements.{Element, pattern, test, group, Elements, no_elements, element_of, element_step, elements}
 use Rattle.cb_rules.specs.declared.ce.Ce.TheFolds.{fold-roll-Ce}
 use Rattle.cb_rules.specs.declared.ce.Ce.TheOpen as program
 use Rattle.cb_rules.specs.declared.ce.Ce.TheVariants as is

@@ -12,7 +12,7 @@ use Rattle.cb_joins.specs.declared.node.Place.{Place}
 use Rattle.cb_matches.specs.Keys.{PartValue, part_eq}
 use Rattle.cb_matches.specs.Matches.{Partial, next, test_holds}
 use Rattle.cb_partials.specs.Probes.{added_probes, is_candidate, partials_come, partials_kept}
-use Rattle.cb_rules.specs.Elements.{Element, pattern, test, group, Elements, no_elements, element}
+use Rattle.cb_rules.specs.Elements.{pattern, test, group, Elements, no_elements, element}
 
 pub data FlatNode : Type 0 where
   -- the list before it, the variable of the address, the pattern, and the tests behind it

@@ -1,5 +1,5 @@
 -- The nodes of elements, while they are made one element after another.
-use Rattle.std.specs.Prelude.{◌≡◌, ◌+◌, ℕ, true, false, List, [], ◌∷◌, ◌++◌, length, if◌then◌else◌}
+use Rattle.std.specs.Prelude.{◌≡◌, ◌+◌, ℕ, List, [], ◌∷◌, ◌++◌, length, if◌then◌else◌}
 use Rattle.cb_exprs.specs.Terms.{Term}
 use Rattle.cb_joins.specs.Internal.Flat.{FlatNode, flat_all, grouping, joining, last_list, testing, tests_first}
 use Rattle.cb_joins.specs.declared.planning.End.{End}

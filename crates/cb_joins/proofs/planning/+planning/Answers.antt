@@ -1,9 +1,9 @@
-use Rattle.std.proofs.Common.{◌≡◌, ◌∙◌, ◌+◌, ◌∷◌, [], ap, false, length, map, refl, rules, subst, sym, true}
+use Rattle.std.proofs.Common.{◌≡◌, ◌∙◌, ◌+◌, [], ap, false, length, map, refl, rules, subst, sym, true}
 use Rattle.std.proofs.lemmas.List.{length-map, nil_from_length}
 use Rattle.cb_joins.specs.Internal.Flat.{flat_node, flat_nodes, grouping, joining}
 use Rattle.cb_joins.specs.Internal.Plans.{IsFurther, nodes_with}
 use Rattle.cb_joins.proofs.Planned.{group_further, nodes_pushed, nothing_follows, of_group, of_pattern, pattern_further}
-use Rattle.cb_rules.specs.Elements.{element_of, elements, group, no_elements, pattern}
+use Rattle.cb_rules.specs.Elements.{element_of, elements, group, pattern}
 use Rattle.cb_joins.proofs.planning.+planning.Goals as goal
 
 pub add_node-returns-in_ok-push-in-Pattern-clause-further : goal.add_node-returns-in_ok-push-in-Pattern-clause-further
