@@ -59,7 +59,7 @@ pub record GoOn (ls : Lists) (behind : Bool) (es : Elements) (from n : ℕ) (ms 
 pub starts_from : (ls : Lists) (behind : Bool) (es : Elements) (from n : ℕ) (ms : List Partial) → GoOn ls behind es from n ms → tests_first es ≡ [] → ls from ≡ ms
 starts_from ls behind es from n ms h e = h.is ∙ all_kept behind es ms e
 
--- where lists are those that the nodes of elements make, so do the elements behind the first one
+-- where lists are those that the nodes of elements make, the elements behind the first one go on from the list that this makes
 module _ (rise : WaysRise) (fs : IndexedFacts) (indices : HaveIndices fs) (ls : Lists) where
   pub behind_pattern : (behind : Bool) (x : Option (List ℕ)) (p : PatternValue) (es : Elements) (from k n : ℕ) (ms : List Partial)
       → GoOn ls behind (element (pattern x p) es) from n ms → MakeLists fs ls k (joining from x p (tests_first es)) → GoOn ls true es k (suc n) (next x p fs ms)
