@@ -1,5 +1,5 @@
 -- The last list that is kept for a branch has its matches.
-use Rattle.std.proofs.Common.{◌≡◌, ℕ, zero, suc, ◌<◌, List, [], ◌∷◌, ◌++◌, Option, length, get_or, refl, sym, ◌∙◌, ap, subst, arith}
+use Rattle.std.proofs.Common.{◌≡◌, ℕ, zero, suc, ◌<◌, List, [], ◌∷◌, ◌++◌, Option, length, get_or, refl, sym, ◌∙◌, ap, false, subst, arith}
 use Rattle.std.specs.BTreeSet.{BTreeSet}
 use Rattle.std.specs.List.Sorted.{IsStrictlySortedBy}
 use Rattle.cb_facts.specs.FactLists.{IndexedFacts}
@@ -54,8 +54,8 @@ end_is rise es fs ns last indices are l = ap (λ it. branch_lists it fs last) ar
 pub end_within : (es : Elements) (ns : List FlatNode) (last : ℕ) → ns ≡ branch_nodes es → last ≡ branch_last es → last < suc (length ns)
 end_within es ns last are l =
     let long : length ns ≡ length (branch_nodes es) = ap length are in
-    let all = long_flat_all es 0 1 0 in
-    let most = last_below es 0 1 (omega (arith)) in
+    let all = long_flat_all false es 0 1 0 in
+    let most = last_below false es 0 1 (omega (arith)) in
     omega (arith, long, all, most, l)
 
 -- it is kept in order

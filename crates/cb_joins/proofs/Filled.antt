@@ -38,7 +38,7 @@ ready_for fs ls ls' k same (node.Test from e) below is = tt
 ready_for fs ls ls' k same (node.Group from inner positive width) below is = tt
 
 names_below : (k : ℕ) (n : FlatNode) → IsBelow k n → NamesListsBelow k n
-names_below k (joining from x p) h = h
+names_below k (joining from x p ts) h = h
 names_below k (testing from t) h = h
 names_below k (grouping from inner positive width) h = h
 

@@ -1,11 +1,11 @@
 -- The lists that nodes make.
-use Rattle.std.proofs.Common.{◌≡◌, ℕ, zero, suc, ◌+◌, ◌<◌, List, [], ◌∷◌, ◌++◌, filter, length, refl, sym, ◌∙◌, ap, ap₂, subst, arith}
+use Rattle.std.proofs.Common.{◌≡◌, ℕ, zero, suc, ◌+◌, ◌<◌, List, [], ◌∷◌, ◌++◌, filter, length, refl, sym, ◌∙◌, ap, ap₂, false, subst, arith}
 use Rattle.std.specs.List.{list_any}
 use Rattle.std.specs.Prelude.{slice_index_or}
 use Rattle.cb_facts.specs.FactLists.{IndexedFacts}
-use Rattle.cb_joins.specs.Internal.Flat.{AreLists, FlatNode, Lists, begins, branch_nodes, grouping, holds_by, joining, lists_from, lists_of, node_list, testing}
+use Rattle.cb_joins.specs.Internal.Flat.{AreLists, FlatNode, Lists, begins, branch_nodes, grouping, holds_by, joining, lists_from, lists_of, next_where, node_list, testing}
 use Rattle.cb_joins.proofs.Named.{AllAt, IsBelow, at_each, below_all, from_each}
-use Rattle.cb_matches.specs.Matches.{Partial, next, test_holds}
+use Rattle.cb_matches.specs.Matches.{Partial, test_holds}
 use Rattle.cb_rules.specs.Elements.{Elements}
 
 pub in_front : {A : Type 0} (none : A) (xs : List A) (x : A) (k : ℕ) → k < length xs → slice_index_or (xs ++ x ∷ []) k none ≡ slice_index_or xs k none
@@ -58,7 +58,7 @@ lists_gathered [] fs ls = refl
 lists_gathered (n ∷ ns) fs ls = lists_gathered ns fs (ls ++ node_list n fs (λ k. slice_index_or ls k []) ∷ [])
 
 pub list_local : (fs : IndexedFacts) (n : FlatNode) (k : ℕ) (f g : Lists) → IsBelow k n → ((j : ℕ) → j < k → f j ≡ g j) → node_list n fs f ≡ node_list n fs g
-list_local fs (joining from x p) k f g l h = ap (λ it. next x p fs it) (h from l)
+list_local fs (joining from x p ts) k f g l h = ap (λ it. next_where x p ts fs it) (h from l)
 list_local fs (testing from t) k f g l h = ap (λ it. filter (λ m. test_holds t m.env) it) (h from l)
 list_local fs (grouping from inner positive width) k f g l h =
     ap₂ (λ (is : List Partial) (it : List Partial). filter (λ m. holds_by positive (list_any (begins m.parts) is)) it) (h inner l.1) (h from l.0)
@@ -79,7 +79,7 @@ are_lists ns fs first h = record {
 
 -- the lists of a branch are those that its nodes make
 pub branch_lists : (es : Elements) (fs : IndexedFacts) (first : List Partial) → AreLists (branch_nodes es) fs first (lists_of (branch_nodes es) fs first)
-branch_lists es fs first = are_lists (branch_nodes es) fs first (below_all es 0 1 0 (omega (arith)))
+branch_lists es fs first = are_lists (branch_nodes es) fs first (below_all false es 0 1 0 (omega (arith)))
 
 pub each_made : (ns : List FlatNode) (fs : IndexedFacts) (first : List Partial) (ls : Lists) → AreLists ns fs first ls → AllAt (MakeLists fs ls) 1 ns
 each_made ns fs first ls a = from_each (MakeLists fs ls) 1 ns (λ i d l. ap ls (let e : i + 1 ≡ suc i = omega (arith) in e) ∙ a.each i d l)

@@ -1,18 +1,16 @@
 -- The nodes of a branch take as many tests of patterns as the branch.
-use Rattle.std.proofs.Common.{◌≡◌, ℕ, ◌+◌, List, [], ◌∷◌, ◌++◌, Option, length, refl, sym, ◌∙◌, ap, ap₂, subst, arith}
+use Rattle.std.proofs.Common.{◌≡◌, ℕ, suc, ◌+◌, Bool, true, false, List, [], ◌∷◌, ◌++◌, Option, filter, refl, ◌∙◌, ap, ap₂, arith}
 use Rattle.cb_facts.specs.FactLists.{IndexedFacts}
 use Rattle.cb_facts.specs.Facts.{FactValue}
-use Rattle.cb_joins.specs.Internal.Flat.{AreLists, FlatNode, Lists, branch_nodes, flat_all, flat_one, flat_probes, grouping, last_list, lists_of, nodes_inside, parts_of}
-use Rattle.cb_joins.specs.Internal.Nodes.{HaveIndices, HaveParts}
-use Rattle.cb_joins.proofs.InOrder.{once_one}
-use Rattle.cb_joins.proofs.Origins.{long_one}
-use Rattle.cb_joins.proofs.Named.{AllAt, all_first, all_second, long_flat_one}
+use Rattle.cb_joins.specs.Internal.Flat.{AreLists, FlatNode, Lists, branch_nodes, flat_all, flat_probes, flat_probes_of, grouping, joining, last_list, lists_of, node_count, tests_first}
+use Rattle.cb_joins.specs.Internal.Nodes.{HaveIndices}
+use Rattle.cb_joins.proofs.Named.{AllAt, all_first, all_second, place_behind}
 use Rattle.cb_joins.proofs.Flat.{MakeLists, branch_lists, each_made}
-use Rattle.cb_joins.proofs.Last.{last_of_one, start_has_no_parts, start_is_once}
-use Rattle.cb_matches.specs.Lemmas.Order.{IsOnce, WaysRise}
-use Rattle.cb_matches.specs.Matches.{after, no_parts}
+use Rattle.cb_joins.proofs.Last.{GoOn, behind_folded, behind_group, behind_pattern, behind_test, inside_group, last_of_all, start_has_no_parts, start_is_once, starts_from}
+use Rattle.cb_matches.specs.Lemmas.Order.{WaysRise}
+use Rattle.cb_matches.specs.Matches.{Partial, after, next, no_parts, test_holds}
 use Rattle.cb_partials.specs.Probes.{branch_probes, element_probes, probes}
-use Rattle.cb_rules.specs.Elements.{Element, pattern, test, group, Elements, no_elements, element}
+use Rattle.cb_rules.specs.Elements.{pattern, test, group, Elements, no_elements, element}
 
 -- the tests of patterns that two pieces of nodes take
 probes_both : (added : Option FactValue) (fs : IndexedFacts) (old new : Lists) (ns os : List FlatNode) → flat_probes added fs old new (ns ++ os) ≡ flat_probes added fs old new ns + flat_probes added fs old new os
@@ -21,51 +19,49 @@ probes_both added fs old new (n ∷ ns) os = let e = probes_both added fs old ne
 
 -- the nodes of elements take as many tests of patterns as the elements
 module _ (rise : WaysRise) (added : Option FactValue) (fs fs' : IndexedFacts) (indices : HaveIndices fs) (indices' : HaveIndices fs') (old new : Lists) where
-  mutual
-    probes_of_one : (e : Element) (from k n : ℕ) → HaveParts n (old from) → IsOnce (old from) → HaveParts n (new from) → IsOnce (new from)
-        → AllAt (MakeLists fs old) k (flat_one e from k n) → AllAt (MakeLists fs' new) k (flat_one e from k n)
-        → flat_probes added fs' old new (flat_one e from k n) ≡ element_probes added fs fs' e (old from) (new from)
-    probes_of_one (pattern x p) from k n long once long' once' h h' = omega (arith)
-    probes_of_one (test t) from k n long once long' once' h h' = refl
-    probes_of_one (group positive inner) from k n long once long' once' h h' =
-        let inside = flat_all inner from k n in
-        let last = grouping from (last_list inner from k) positive n ∷ [] in
-        let both = probes_both added fs' old new inside last in
-        let more = probes_of_all inner from k n long once long' once' (all_first (MakeLists fs old) k inside last h) (all_first (MakeLists fs' new) k inside last h') in
-        both ∙ (ap (λ it. it + 0) more ∙ omega (arith))
-
-    probes_of_all : (es : Elements) (from k n : ℕ) → HaveParts n (old from) → IsOnce (old from) → HaveParts n (new from) → IsOnce (new from)
-        → AllAt (MakeLists fs old) k (flat_all es from k n) → AllAt (MakeLists fs' new) k (flat_all es from k n)
-        → flat_probes added fs' old new (flat_all es from k n) ≡ probes added fs fs' es (old from) (new from)
-    probes_of_all no_elements from k n long once long' once' h h' = refl
-    probes_of_all (element e es) from k n long once long' once' h h' =
-        let os = flat_all es (k + nodes_inside e) (k + (nodes_inside e + 1)) (n + parts_of e) in
-        let next_at : k + (nodes_inside e + 1) ≡ k + length (flat_one e from k n) = let l = long_flat_one e from k n in omega (arith, l) in
-        let first = all_first (MakeLists fs old) k (flat_one e from k n) os h in
-        let first' = all_first (MakeLists fs' new) k (flat_one e from k n) os h' in
-        let here : old (k + nodes_inside e) ≡ after e fs (old from) = last_of_one rise fs indices old e from k n long once first in
-        let here' : new (k + nodes_inside e) ≡ after e fs' (new from) = last_of_one rise fs' indices' new e from k n long' once' first' in
-        probes_both added fs' old new (flat_one e from k n) os
-        ∙ ap₂ (λ a b. a + b) (probes_of_one e from k n long once long' once' first first')
-        (probes_of_all es (k + nodes_inside e) (k + (nodes_inside e + 1)) (n + parts_of e)
-        (subst (HaveParts (n + parts_of e)) (sym here) (long_one e fs n (old from) long))
-        (subst IsOnce (sym here) (once_one rise e fs (old from) indices once))
-        (subst (HaveParts (n + parts_of e)) (sym here') (long_one e fs' n (new from) long'))
-        (subst IsOnce (sym here') (once_one rise e fs' (new from) indices' once'))
-        (all_second (MakeLists fs old) k (k + (nodes_inside e + 1)) (flat_one e from k n) os next_at h)
-        (all_second (MakeLists fs' new) k (k + (nodes_inside e + 1)) (flat_one e from k n) os next_at h')
-        ∙ ap₂ (λ a b. probes added fs fs' es a b) here here')
+  probes_of_all : (behind : Bool) (es : Elements) (from k n : ℕ) (ms ms' : List Partial) → GoOn old behind es from n ms → GoOn new behind es from n ms'
+      → AllAt (MakeLists fs old) k (flat_all behind es from k n) → AllAt (MakeLists fs' new) k (flat_all behind es from k n)
+      → flat_probes added fs' old new (flat_all behind es from k n) ≡ probes added fs fs' es ms ms'
+  probes_of_all behind no_elements from k n ms ms' h h' made made' = refl
+  probes_of_all behind (element (pattern x p) es) from k n ms ms' h h' made made' =
+      let first : flat_probes_of added fs' old new (joining from x p (tests_first es)) ≡ element_probes added fs fs' (pattern x p) ms ms' =
+      ap₂ (λ a b. element_probes added fs fs' (pattern x p) a b) (starts_from old behind (element (pattern x p) es) from n ms h refl) (starts_from new behind (element (pattern x p) es) from n ms' h' refl) in
+      ap₂ (λ a b. a + b) first
+      (probes_of_all true es k (suc k) (suc n) (next x p fs ms) (next x p fs' ms')
+      (behind_pattern rise fs indices old behind x p es from k n ms h made.0) (behind_pattern rise fs' indices' new behind x p es from k n ms' h' made'.0) made.1 made'.1)
+  probes_of_all true (element (test t) es) from k n ms ms' h h' made made' =
+      let more = probes_of_all true es from k n (filter (λ m. test_holds t m.env) ms) (filter (λ m. test_holds t m.env) ms')
+      (behind_folded rise fs indices old t es from n ms h) (behind_folded rise fs' indices' new t es from n ms' h') made made' in
+      omega (arith, more)
+  probes_of_all false (element (test t) es) from k n ms ms' h h' made made' =
+      ap (λ it. 0 + it) (probes_of_all false es k (suc k) n (filter (λ m. test_holds t m.env) ms) (filter (λ m. test_holds t m.env) ms')
+      (behind_test rise fs indices old t es from k n ms h made.0) (behind_test rise fs' indices' new t es from k n ms' h' made'.0) made.1 made'.1)
+  probes_of_all behind (element (group positive inner) es) from k n ms ms' h h' made made' =
+      let j : ℕ = k + node_count false inner in
+      let last = last_list false inner from k in
+      let inside = flat_all false inner from k n in
+      let rest = grouping from last positive n ∷ flat_all false es j (suc j) n in
+      let within = inside_group rise fs indices old behind positive inner es from n ms h in
+      let within' = inside_group rise fs' indices' new behind positive inner es from n ms' h' in
+      let first = all_first (MakeLists fs old) k inside rest made in
+      let first' = all_first (MakeLists fs' new) k inside rest made' in
+      let more = all_second (MakeLists fs old) k j inside rest (place_behind inner from k n) made in
+      let more' = all_second (MakeLists fs' new) k j inside rest (place_behind inner from k n) made' in
+      let here = probes_of_all false inner from k n ms ms' within within' first first' in
+      let there = probes_of_all false es j (suc j) n (after (group positive inner) fs ms) (after (group positive inner) fs' ms')
+      (behind_group rise fs indices old behind positive inner es from last j n ms h (last_of_all rise fs indices old false inner from k n ms within first) more.0)
+      (behind_group rise fs' indices' new behind positive inner es from last j n ms' h' (last_of_all rise fs' indices' new false inner from k n ms' within' first') more'.0)
+      more.1 more'.1 in
+      probes_both added fs' old new inside rest ∙ ap₂ (λ a b. a + b) here (let e : 0 + flat_probes added fs' old new (flat_all false es j (suc j) n) ≡ flat_probes added fs' old new (flat_all false es j (suc j) n) = omega (arith) in e ∙ there)
 
 -- any lists of the nodes of a branch, before and after
 pub probes_of_lists : WaysRise → (added : Option FactValue) (es : Elements) (fs fs' : IndexedFacts) (old new : Lists) → HaveIndices fs → HaveIndices fs'
     → AreLists (branch_nodes es) fs (no_parts ∷ []) old → AreLists (branch_nodes es) fs' (no_parts ∷ []) new
     → flat_probes added fs' old new (branch_nodes es) ≡ branch_probes added fs fs' es
 probes_of_lists rise added es fs fs' old new indices indices' a b =
-    probes_of_all rise added fs fs' indices indices' old new es 0 1 0
-    (subst (HaveParts 0) (sym a.start) start_has_no_parts) (subst IsOnce (sym a.start) start_is_once)
-    (subst (HaveParts 0) (sym b.start) start_has_no_parts) (subst IsOnce (sym b.start) start_is_once)
+    probes_of_all rise added fs fs' indices indices' old new false es 0 1 0 (no_parts ∷ []) (no_parts ∷ [])
+    (record { long = start_has_no_parts; once = start_is_once; is = a.start }) (record { long = start_has_no_parts; once = start_is_once; is = b.start })
     (each_made (branch_nodes es) fs (no_parts ∷ []) old a) (each_made (branch_nodes es) fs' (no_parts ∷ []) new b)
-    ∙ ap₂ (λ x y. probes added fs fs' es x y) a.start b.start
 
 pub branch_probes_are : WaysRise → (added : Option FactValue) (es : Elements) (fs fs' : IndexedFacts) → HaveIndices fs → HaveIndices fs'
     → flat_probes added fs' (lists_of (branch_nodes es) fs (no_parts ∷ [])) (lists_of (branch_nodes es) fs' (no_parts ∷ [])) (branch_nodes es) ≡ branch_probes added fs fs' es

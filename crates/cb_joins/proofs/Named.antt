@@ -1,9 +1,9 @@
 -- The nodes of a branch by their places: how many there are, and that each names lists before its own.
-use Rattle.std.proofs.Common.{◌≡◌, ℕ, zero, suc, ◌+◌, ◌<◌, List, [], ◌∷◌, ◌++◌, length, refl, ◌∙◌, ap, ap₂, subst, arith}
+use Rattle.std.proofs.Common.{◌≡◌, ℕ, zero, suc, ◌+◌, ◌<◌, Bool, true, false, List, [], ◌∷◌, ◌++◌, length, refl, ◌∙◌, ap, ap₂, subst, arith}
 use Rattle.std.proofs.lemmas.List.{length-append}
 use Rattle.std.specs.Prelude.{slice_index_or}
-use Rattle.cb_joins.specs.Internal.Flat.{FlatNode, branch_last, branch_nodes, flat_all, flat_one, grouping, joining, last_list, node_count, nodes_inside, parts_of, testing}
-use Rattle.cb_rules.specs.Elements.{Element, pattern, test, group, Elements, no_elements, element}
+use Rattle.cb_joins.specs.Internal.Flat.{FlatNode, branch_last, branch_nodes, flat_all, grouping, joining, last_list, node_count, testing}
+use Rattle.cb_rules.specs.Elements.{pattern, test, group, Elements, no_elements, element}
 
 -- each of these nodes, of which the first has the place k, is so at its place
 abbrev pub AllAt : (ℕ → FlatNode → Type 0) → ℕ → List FlatNode → Type 0
@@ -41,45 +41,46 @@ all_weaker P Q f k [] h = tt
 all_weaker P Q f k (n ∷ ns) h = (f k n h.0, all_weaker P Q f (suc k) ns h.1)
 
 -- how many nodes there are
-mutual
-  pub long_flat_one : (e : Element) (from k n : ℕ) → length (flat_one e from k n) ≡ nodes_inside e + 1
-  long_flat_one (pattern x p) from k n = refl
-  long_flat_one (test t) from k n = refl
-  long_flat_one (group positive inner) from k n =
-      length-append (flat_all inner from k n) (grouping from (last_list inner from k) positive n ∷ []) ∙ ap (λ it. it + 1) (long_flat_all inner from k n)
+pub long_flat_all : (behind : Bool) (es : Elements) (from k n : ℕ) → length (flat_all behind es from k n) ≡ node_count behind es
+long_flat_all behind no_elements from k n = refl
+long_flat_all behind (element (pattern x p) es) from k n = ap suc (long_flat_all true es k (suc k) (suc n))
+long_flat_all true (element (test t) es) from k n = long_flat_all true es from k n
+long_flat_all false (element (test t) es) from k n = ap suc (long_flat_all false es k (suc k) n)
+long_flat_all behind (element (group positive inner) es) from k n =
+    let j = k + node_count false inner in
+    length-append (flat_all false inner from k n) (grouping from (last_list false inner from k) positive n ∷ flat_all false es j (suc j) n)
+    ∙ ap₂ (λ a b. a + suc b) (long_flat_all false inner from k n) (long_flat_all false es j (suc j) n)
 
-  pub long_flat_all : (es : Elements) (from k n : ℕ) → length (flat_all es from k n) ≡ node_count es
-  long_flat_all no_elements from k n = refl
-  long_flat_all (element e es) from k n =
-      length-append (flat_one e from k n) (flat_all es (k + nodes_inside e) (k + (nodes_inside e + 1)) (n + parts_of e))
-      ∙ ap₂ (λ a b. a + b) (long_flat_one e from k n) (long_flat_all es (k + nodes_inside e) (k + (nodes_inside e + 1)) (n + parts_of e))
+-- a group stands behind the nodes inside it
+pub place_behind : (inner : Elements) (from k n : ℕ) → k + node_count false inner ≡ k + length (flat_all false inner from k n)
+place_behind inner from k n = let e = long_flat_all false inner from k n in omega (arith, e)
 
 -- the last list is one of those that there are
-pub last_below : (es : Elements) (from k : ℕ) → from < k → last_list es from k < k + node_count es
-last_below no_elements from k l = omega (arith, l)
-last_below (element e es) from k l =
-    let more = last_below es (k + nodes_inside e) (k + (nodes_inside e + 1)) (omega (arith)) in omega (arith, more)
+pub last_below : (behind : Bool) (es : Elements) (from k : ℕ) → from < k → last_list behind es from k < k + node_count behind es
+last_below behind no_elements from k l = omega (arith, l)
+last_below behind (element (pattern x p) es) from k l = let more = last_below true es k (suc k) (omega (arith)) in omega (arith, more)
+last_below true (element (test t) es) from k l = last_below true es from k l
+last_below false (element (test t) es) from k l = let more = last_below false es k (suc k) (omega (arith)) in omega (arith, more)
+last_below behind (element (group positive inner) es) from k l =
+    let j = k + node_count false inner in
+    let more = last_below false es j (suc j) (omega (arith)) in omega (arith, more)
 
 pub branch_last_is_there : (es : Elements) → branch_last es < suc (length (branch_nodes es))
-branch_last_is_there es = let l = last_below es 0 1 (omega (arith)) in let e = long_flat_all es 0 1 0 in omega (arith, l, e)
+branch_last_is_there es = let l = last_below false es 0 1 (omega (arith)) in let e = long_flat_all false es 0 1 0 in omega (arith, l, e)
 
 -- the node that makes list k names lists before it
 abbrev pub IsBelow : ℕ → FlatNode → Type 0
-IsBelow k (joining from x p) = from < k
+IsBelow k (joining from x p ts) = from < k
 IsBelow k (testing from t) = from < k
 IsBelow k (grouping from inner positive width) = (from < k) × (inner < k)
 
-mutual
-  pub below_one : (e : Element) (from k n : ℕ) → from < k → AllAt IsBelow k (flat_one e from k n)
-  below_one (pattern x p) from k n l = (l, tt)
-  below_one (test t) from k n l = (l, tt)
-  below_one (group positive inner) from k n l =
-      all_both IsBelow k (k + node_count inner) (flat_all inner from k n) (grouping from (last_list inner from k) positive n ∷ []) (let e = long_flat_all inner from k n in omega (arith, e))
-      (below_all inner from k n l) ((omega (arith, l), last_below inner from k l), tt)
-
-  pub below_all : (es : Elements) (from k n : ℕ) → from < k → AllAt IsBelow k (flat_all es from k n)
-  below_all no_elements from k n l = tt
-  below_all (element e es) from k n l =
-      all_both IsBelow k (k + (nodes_inside e + 1)) (flat_one e from k n) (flat_all es (k + nodes_inside e) (k + (nodes_inside e + 1)) (n + parts_of e))
-      (let i = long_flat_one e from k n in omega (arith, i))
-      (below_one e from k n l) (below_all es (k + nodes_inside e) (k + (nodes_inside e + 1)) (n + parts_of e) (omega (arith)))
+pub below_all : (behind : Bool) (es : Elements) (from k n : ℕ) → from < k → AllAt IsBelow k (flat_all behind es from k n)
+below_all behind no_elements from k n l = tt
+below_all behind (element (pattern x p) es) from k n l = (l, below_all true es k (suc k) (suc n) (omega (arith)))
+below_all true (element (test t) es) from k n l = below_all true es from k n l
+below_all false (element (test t) es) from k n l = (l, below_all false es k (suc k) n (omega (arith)))
+below_all behind (element (group positive inner) es) from k n l =
+    let j : ℕ = k + node_count false inner in
+    all_both IsBelow k j (flat_all false inner from k n) (grouping from (last_list false inner from k) positive n ∷ flat_all false es j (suc j) n) (place_behind inner from k n)
+    (below_all false inner from k n l)
+    ((omega (arith, l), last_below false inner from k l), below_all false es j (suc j) n (omega (arith)))

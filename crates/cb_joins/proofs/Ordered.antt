@@ -10,14 +10,14 @@ use Rattle.cb_facts.specs.FactLists.{IndexedFacts}
 use Rattle.cb_joins.proofs.InOrder.{sorted_all}
 use Rattle.cb_joins.proofs.Pieces.{less_in}
 use Rattle.cb_joins.proofs.Widths.{up_to}
-use Rattle.cb_joins.specs.Internal.Flat.{AreLists, AreWidths, FlatNode, IsWell, Lists, begins, grouping, holds_by, joining, node_list, testing}
+use Rattle.cb_joins.specs.Internal.Flat.{AreLists, AreWidths, FlatNode, IsWell, Lists, all_hold, begins, grouping, holds_by, joining, node_list, testing}
 use Rattle.cb_joins.specs.Internal.Steps.{IsWith}
 use Rattle.cb_matches.specs.Lemmas.Growth.{sorted_next}
 use Rattle.cb_matches.specs.Lemmas.Lists.{chain_filter, chain_weaker, one_chain}
 use Rattle.cb_matches.specs.Lemmas.Members.{AreSame, Chain, In}
 use Rattle.cb_matches.specs.Lemmas.Order.{IsAhead, IsApart, IsEarlier, IsOnce, IsRising, IsSorted, WaysRise}
 use Rattle.cb_matches.specs.Lemmas.Parts.{earlier_is_less, never_earlier}
-use Rattle.cb_matches.specs.Matches.{Partial, matches_of, no_parts, test_holds}
+use Rattle.cb_matches.specs.Matches.{Partial, matches_of, next, no_parts, test_holds}
 use Rattle.cb_partials.specs.Internal.PartialLaws.{partial_total}
 use Rattle.cb_partials.specs.Partials.{partial_cmp}
 use Rattle.cb_rules.specs.Elements.{Elements}
@@ -50,7 +50,7 @@ set_is ms keys with strict sorted =
 
 -- the lists of nodes are in order where the facts are in that of their indices
 list_is_sorted : WaysRise → (n : FlatNode) (k : ℕ) (fs : IndexedFacts) (ls : Lists) (ws : ℕ → ℕ) → IsRising fs → IsWell k n ws → ((j : ℕ) → j < suc k → IsSorted (ls j)) → IsSorted (node_list n fs ls)
-list_is_sorted rise (joining from x p) k fs ls ws rising l h = sorted_next rise x p fs (ls from) rising (h from l)
+list_is_sorted rise (joining from x p ts) k fs ls ws rising l h = chain_filter IsAhead (all_hold ts) (next x p fs (ls from)) (sorted_next rise x p fs (ls from) rising (h from l))
 list_is_sorted rise (testing from t) k fs ls ws rising l h = chain_filter IsAhead (λ m. test_holds t m.env) (ls from) (h from l)
 list_is_sorted rise (grouping from inner positive width) k fs ls ws rising l h =
     chain_filter IsAhead (λ m. holds_by positive (list_any (begins m.parts) (ls inner))) (ls from) (h from l.0)

@@ -1,9 +1,8 @@
 -- Each partial match goes on from one that was there before.
-use Rattle.std.proofs.Common.{◌≡◌, ℕ, ◌+◌, suc, List, [], ◌∷◌, ◌++◌, Option, length, inl, inr, refl, sym, ◌∙◌, ap, ap₂, subst, arith}
+use Rattle.std.proofs.Common.{◌≡◌, ℕ, suc, Bool, List, [], ◌∷◌, ◌++◌, Option, filter, length, inl, inr, refl, sym, ◌∙◌, ap, ap₂, subst, arith}
 use Rattle.std.proofs.lemmas.List.{append-nil, append_assoc}
 use Rattle.cb_constraints.specs.PatternValues.{PatternValue}
 use Rattle.cb_facts.specs.FactLists.{IndexedFacts}
-use Rattle.cb_joins.specs.Internal.Flat.{parts_of}
 use Rattle.cb_joins.specs.Internal.Nodes.{HaveParts}
 use Rattle.cb_joins.proofs.Steps.{moved, regrown}
 use Rattle.cb_matches.specs.Keys.{PartValue}
@@ -97,8 +96,6 @@ pub long_pattern : (x : Option (List ℕ)) (p : PatternValue) (fs : IndexedFacts
 long_pattern x p fs n ms long z h =
     let k = is_grown x p fs ms z h in ap (λ it. length it.parts) k.is ∙ (long_next (record { index = k.fact.0; cuts = k.way.cuts }) k.parent.parts ∙ ap suc (long k.parent k.parent_in))
 
--- each pattern outside groups adds a part
-pub long_one : (e : Element) (fs : IndexedFacts) (n : ℕ) (ms : List Partial) → HaveParts n ms → HaveParts (n + parts_of e) (after e fs ms)
-long_one (pattern x p) fs n ms long z h = long_pattern x p fs n ms long z h ∙ omega (arith)
-long_one (test t) fs n ms long z h = long z (in_filter (λ m. test_holds t m.env) z ms h).0 ∙ omega (arith)
-long_one (group positive inner) fs n ms long z h = long z (in_filter (λ m. group_holds positive (after_all inner fs (m ∷ []))) z ms h).0 ∙ omega (arith)
+-- what is left out takes none away
+pub long_filter : (t : Partial → Bool) (n : ℕ) (ms : List Partial) → HaveParts n ms → HaveParts n (filter t ms)
+long_filter t n ms long z h = long z (in_filter t z ms h).0

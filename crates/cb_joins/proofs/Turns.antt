@@ -20,12 +20,12 @@ use Rattle.cb_matches.specs.Lemmas.Order.{IsOnce, WaysRise}
 use Rattle.cb_matches.specs.Matches.{Partial, no_parts}
 
 pub names_below : (k : ℕ) (n : FlatNode) (ws : ℕ → ℕ) → IsWell k n ws → NamesListsBelow (suc k) n
-names_below k (joining from x p) ws h = h
+names_below k (joining from x p ts) ws h = h
 names_below k (testing from t) ws h = h
 names_below k (grouping from inner positive width) ws h = (h.0, h.1)
 
 has_width : (k : ℕ) (n : FlatNode) (ws : ℕ → ℕ) → IsWell k n ws → HasWidth ws n
-has_width k (joining from x p) ws h = tt
+has_width k (joining from x p ts) ws h = tt
 has_width k (testing from t) ws h = tt
 has_width k (grouping from inner positive width) ws h = h.2
 

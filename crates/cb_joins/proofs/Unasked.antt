@@ -14,7 +14,7 @@ use Rattle.cb_joins.proofs.Facts.{flat_with, flat_without}
 use Rattle.cb_joins.proofs.Ends.{end_is}
 use Rattle.cb_joins.specs.Internal.Asked.{ask_for, asks_for}
 use Rattle.cb_joins.specs.Internal.Changes.{Holds, IsMade, fact_changed, facts_before}
-use Rattle.cb_joins.specs.Internal.Flat.{FlatNode, Lists, flat_node, flat_nodes, grouping, joining, lists_from, node_list, testing}
+use Rattle.cb_joins.specs.Internal.Flat.{FlatNode, Lists, all_hold, flat_node, flat_nodes, grouping, joining, lists_from, node_list, testing}
 use Rattle.cb_joins.specs.Internal.Keys.{Tells, key_of, keys_in_branch}
 use Rattle.cb_joins.specs.Internal.Nodes.{AreKept, AreReady, HaveIndices, IsJoined, IsReady, branch_lists}
 use Rattle.cb_joins.specs.Internal.Rules.{IsBranch, IsPlanned, branch_elements}
@@ -56,9 +56,10 @@ given_alike (change.Assert f) fs made g none = flat_without g f.0 f.1 none fs ma
 given_alike (change.Retract f) fs made g none = flat_with g f.0 f.1 none fs made
 
 one_unasked : (n : FlatNode) (c : FactChange) (fs : IndexedFacts) → IsMade c fs → asks_for (fact_changed c).1.relation n ≡ false → (ls : Lists) → node_list n (facts_before c fs) ls ≡ node_list n fs ls
-one_unasked (joining from x p) c fs made other ls =
-    flat_same (λ m. flat_map (extended x p m) (facts_before c fs)) (λ m. flat_map (extended x p m) fs)
-    (λ m. given_alike c fs made (extended x p m) (no_way x p (fact_changed c) m other)) (ls from)
+one_unasked (joining from x p ts) c fs made other ls =
+    ap (filter (all_hold ts))
+    (flat_same (λ m. flat_map (extended x p m) (facts_before c fs)) (λ m. flat_map (extended x p m) fs)
+    (λ m. given_alike c fs made (extended x p m) (no_way x p (fact_changed c) m other)) (ls from))
 one_unasked (testing from t) c fs made other ls = refl
 one_unasked (grouping from inner positive width) c fs made other ls = refl
 

@@ -1,19 +1,19 @@
 -- How many parts the partial matches of each list have, and that none is there twice.
-use Rattle.std.proofs.Common.{◌≡◌, ℕ, zero, suc, ◌+◌, ◌<◌, true, List, [], ◌∷◌, ◌++◌, ◌⊎◌, inl, inr, length, refl, sym, ◌∙◌, ap, subst, arith}
+use Rattle.std.proofs.Common.{◌≡◌, ℕ, zero, suc, ◌+◌, ◌<◌, Bool, true, false, List, [], ◌∷◌, ◌++◌, ◌⊎◌, inl, inr, length, refl, sym, ◌∙◌, ap, subst, arith}
 use Rattle.std.specs.List.{list_any}
 use Rattle.std.specs.Prelude.{slice_index_or}
 use Rattle.cb_facts.specs.FactLists.{IndexedFacts}
-use Rattle.cb_joins.specs.Internal.Flat.{AreLists, AreWidths, FlatNode, IsWell, Lists, begins, branch_nodes, flat_all, flat_one, grouping, holds_by, joining, last_list, lists_of, node_count, node_list, node_width, nodes_inside, parts_of, testing, widths_from, widths_of}
+use Rattle.cb_joins.specs.Internal.Flat.{AreLists, AreWidths, FlatNode, IsWell, Lists, all_hold, begins, branch_nodes, flat_all, grouping, holds_by, joining, last_list, lists_of, node_count, node_list, node_width, testing, widths_from, widths_of}
 use Rattle.cb_joins.specs.Internal.Nodes.{HaveIndices, HaveParts}
-use Rattle.cb_joins.proofs.Origins.{long_pattern}
-use Rattle.cb_joins.proofs.Named.{AllAt, IsBelow, all_both, all_first, all_second, at_each, below_all, from_each, long_flat_all, long_flat_one}
+use Rattle.cb_joins.proofs.Origins.{long_filter, long_pattern}
+use Rattle.cb_joins.proofs.Named.{AllAt, IsBelow, all_both, all_first, all_second, at_each, below_all, from_each, place_behind}
 use Rattle.cb_joins.proofs.Flat.{are_lists, gathered, gathered_front, gathered_is, list_local}
 use Rattle.cb_matches.specs.Lemmas.Growth.{once_next}
-use Rattle.cb_matches.specs.Lemmas.Lists.{chain_filter, in_filter}
+use Rattle.cb_matches.specs.Lemmas.Lists.{chain_filter}
 use Rattle.cb_matches.specs.Lemmas.Members.{In}
 use Rattle.cb_matches.specs.Lemmas.Order.{IsApart, IsOnce, WaysRise}
-use Rattle.cb_matches.specs.Matches.{Partial, test_holds}
-use Rattle.cb_rules.specs.Elements.{Element, pattern, test, group, Elements, no_elements, element}
+use Rattle.cb_matches.specs.Matches.{Partial, next, test_holds}
+use Rattle.cb_rules.specs.Elements.{pattern, test, group, Elements, no_elements, element}
 
 widths_gathered : (ns : List FlatNode) (ws : List ℕ) → widths_from ns ws ≡ gathered node_width 0 ns ws
 widths_gathered [] ws = refl
@@ -23,45 +23,31 @@ abbrev pub MakeWidths : (ℕ → ℕ) → ℕ → FlatNode → Type 0
 MakeWidths ws k n = ws k ≡ node_width n ws
 
 width_local : (n : FlatNode) (k : ℕ) (f g : ℕ → ℕ) → IsBelow k n → ((j : ℕ) → j < k → f j ≡ g j) → node_width n f ≡ node_width n g
-width_local (joining from x p) k f g l h = ap suc (h from l)
+width_local (joining from x p ts) k f g l h = ap suc (h from l)
 width_local (testing from t) k f g l h = h from l
 width_local (grouping from inner positive width) k f g l h = h from l.0
 
 -- a group has the width of the list before it
 abbrev pub IsWide : (ℕ → ℕ) → ℕ → FlatNode → Type 0
-IsWide ws k (joining from x p) = Unit {0}
+IsWide ws k (joining from x p ts) = Unit {0}
 IsWide ws k (testing from t) = Unit {0}
 IsWide ws k (grouping from inner positive width) = width ≡ ws from
 
-mutual
-  wide_one : (e : Element) (from k n : ℕ) (ws : ℕ → ℕ) → ws from ≡ n → AllAt (MakeWidths ws) k (flat_one e from k n) → AllAt (IsWide ws) k (flat_one e from k n)
-  wide_one (pattern x p) from k n ws e h = (tt, tt)
-  wide_one (test t) from k n ws e h = (tt, tt)
-  wide_one (group positive inner) from k n ws e h =
-      all_both (IsWide ws) k (k + node_count inner) (flat_all inner from k n) (grouping from (last_list inner from k) positive n ∷ []) (let l = long_flat_all inner from k n in omega (arith, l))
-      (wide_all inner from k n ws e (all_first (MakeWidths ws) k (flat_all inner from k n) (grouping from (last_list inner from k) positive n ∷ []) h)) (sym e, tt)
-
-  width_after : (e : Element) (from k n : ℕ) (ws : ℕ → ℕ) → ws from ≡ n → AllAt (MakeWidths ws) k (flat_one e from k n) → ws (k + nodes_inside e) ≡ n + parts_of e
-  width_after (pattern x p) from k n ws e h =
-      ap ws (let i : k + 0 ≡ k = omega (arith) in i) ∙ (h.0 ∙ (ap suc e ∙ (let i : suc n ≡ n + 1 = omega (arith) in i)))
-  width_after (test t) from k n ws e h =
-      ap ws (let i : k + 0 ≡ k = omega (arith) in i) ∙ (h.0 ∙ (e ∙ (let i : n ≡ n + 0 = omega (arith) in i)))
-  width_after (group positive inner) from k n ws e h =
-      let last = all_second (MakeWidths ws) k (k + node_count inner) (flat_all inner from k n) (grouping from (last_list inner from k) positive n ∷ []) (let l = long_flat_all inner from k n in omega (arith, l)) h in
-      last.0 ∙ (e ∙ (let i : n ≡ n + 0 = omega (arith) in i))
-
-  wide_all : (es : Elements) (from k n : ℕ) (ws : ℕ → ℕ) → ws from ≡ n → AllAt (MakeWidths ws) k (flat_all es from k n) → AllAt (IsWide ws) k (flat_all es from k n)
-  wide_all no_elements from k n ws e h = tt
-  wide_all (element d es) from k n ws e h =
-      let ns = flat_one d from k n in
-      let os = flat_all es (k + nodes_inside d) (k + (nodes_inside d + 1)) (n + parts_of d) in
-      let next_at : k + (nodes_inside d + 1) ≡ k + length (flat_one d from k n) = let l = long_flat_one d from k n in omega (arith, l) in
-      let here = all_first (MakeWidths ws) k ns os h in
-      all_both (IsWide ws) k (k + (nodes_inside d + 1)) ns os next_at (wide_one d from k n ws e here)
-      (wide_all es (k + nodes_inside d) (k + (nodes_inside d + 1)) (n + parts_of d) ws (width_after d from k n ws e here) (all_second (MakeWidths ws) k (k + (nodes_inside d + 1)) ns os next_at h))
+wide_all : (behind : Bool) (es : Elements) (from k n : ℕ) (ws : ℕ → ℕ) → ws from ≡ n → AllAt (MakeWidths ws) k (flat_all behind es from k n) → AllAt (IsWide ws) k (flat_all behind es from k n)
+wide_all behind no_elements from k n ws e h = tt
+wide_all behind (element (pattern x p) es) from k n ws e h = (tt, wide_all true es k (suc k) (suc n) ws (h.0 ∙ ap suc e) h.1)
+wide_all true (element (test t) es) from k n ws e h = wide_all true es from k n ws e h
+wide_all false (element (test t) es) from k n ws e h = (tt, wide_all false es k (suc k) n ws (h.0 ∙ e) h.1)
+wide_all behind (element (group positive inner) es) from k n ws e h =
+    let j : ℕ = k + node_count false inner in
+    let inside = flat_all false inner from k n in
+    let rest = grouping from (last_list false inner from k) positive n ∷ flat_all false es j (suc j) n in
+    let more = all_second (MakeWidths ws) k j inside rest (place_behind inner from k n) h in
+    all_both (IsWide ws) k j inside rest (place_behind inner from k n) (wide_all false inner from k n ws e (all_first (MakeWidths ws) k inside rest h))
+    (sym e, wide_all false es j (suc j) n ws (more.0 ∙ e) more.1)
 
 well_of : (k : ℕ) (n : FlatNode) (ws : ℕ → ℕ) → IsBelow (k + 1) n → IsWide ws (k + 1) n → IsWell k n ws
-well_of k (joining from x p) ws l w = omega (arith, l)
+well_of k (joining from x p ts) ws l w = omega (arith, l)
 well_of k (testing from t) ws l w = omega (arith, l)
 well_of k (grouping from inner positive width) ws l w = let a = l.0 in let b = l.1 in (omega (arith, a), omega (arith, b), w)
 
@@ -69,11 +55,11 @@ pub branch_widths : (es : Elements) → AreWidths (branch_nodes es) (widths_of (
 branch_widths es =
     let ns = branch_nodes es in
     let ws = widths_of (branch_nodes es) in
-    let below = below_all es 0 1 0 (omega (arith)) in
+    let below = below_all false es 0 1 0 (omega (arith)) in
     let same = widths_gathered (branch_nodes es) (0 ∷ []) in
     let start : widths_of (branch_nodes es) 0 ≡ 0 = ap (λ it. slice_index_or it 0 0) same ∙ gathered_front node_width 0 (branch_nodes es) (0 ∷ []) 0 (omega (arith)) in
     let made : AllAt (MakeWidths ws) 1 ns = subst (λ it. AllAt (MakeWidths (λ j. slice_index_or it j 0)) 1 ns) (sym same) (gathered_is node_width 0 width_local ns (0 ∷ []) 1 refl below) in
-    let wide = wide_all es 0 1 0 ws start made in
+    let wide = wide_all false es 0 1 0 ws start made in
     record {
       start = start;
       each = λ k d l. ap ws (let e : suc k ≡ k + 1 = omega (arith) in e) ∙ at_each (MakeWidths ws) 1 ns made k d l;
@@ -86,13 +72,13 @@ any_node = grouping 0 0 true 0
 
 -- the list that a node makes has its width, and is there once, where that holds of those before it
 list_is_wide : (n : FlatNode) (k : ℕ) (fs : IndexedFacts) (ls : Lists) (ws : ℕ → ℕ) → IsWell k n ws → ((j : ℕ) → j < suc k → HaveParts (ws j) (ls j)) → HaveParts (node_width n ws) (node_list n fs ls)
-list_is_wide (joining from x p) k fs ls ws l h = long_pattern x p fs (ws from) (ls from) (h from l)
-list_is_wide (testing from t) k fs ls ws l h = λ z i. h from l z (in_filter (λ m. test_holds t m.env) z (ls from) i).0
+list_is_wide (joining from x p ts) k fs ls ws l h = long_filter (all_hold ts) (suc (ws from)) (next x p fs (ls from)) (long_pattern x p fs (ws from) (ls from) (h from l))
+list_is_wide (testing from t) k fs ls ws l h = long_filter (λ m. test_holds t m.env) (ws from) (ls from) (h from l)
 list_is_wide (grouping from inner positive width) k fs ls ws l h =
-    λ z i. h from l.0 z (in_filter (λ m. holds_by positive (list_any (begins m.parts) (ls inner))) z (ls from) i).0
+    long_filter (λ m. holds_by positive (list_any (begins m.parts) (ls inner))) (ws from) (ls from) (h from l.0)
 
 list_is_once : WaysRise → (n : FlatNode) (k : ℕ) (fs : IndexedFacts) (ls : Lists) (ws : ℕ → ℕ) → HaveIndices fs → IsWell k n ws → ((j : ℕ) → j < suc k → IsOnce (ls j)) → IsOnce (node_list n fs ls)
-list_is_once rise (joining from x p) k fs ls ws indices l h = once_next rise x p fs (ls from) indices (h from l)
+list_is_once rise (joining from x p ts) k fs ls ws indices l h = chain_filter IsApart (all_hold ts) (next x p fs (ls from)) (once_next rise x p fs (ls from) indices (h from l))
 list_is_once rise (testing from t) k fs ls ws indices l h = chain_filter IsApart (λ m. test_holds t m.env) (ls from) (h from l)
 list_is_once rise (grouping from inner positive width) k fs ls ws indices l h =
     chain_filter IsApart (λ m. holds_by positive (list_any (begins m.parts) (ls inner))) (ls from) (h from l.0)
@@ -131,7 +117,7 @@ lists_are_once rise ns fs first ls ws indices w a once k l =
 
 -- what lists of nodes with widths there are
 below_of : (k : ℕ) (n : FlatNode) (ws : ℕ → ℕ) → IsWell k n ws → IsBelow (k + 1) n
-below_of k (joining from x p) ws h = omega (arith, h)
+below_of k (joining from x p ts) ws h = omega (arith, h)
 below_of k (testing from t) ws h = omega (arith, h)
 below_of k (grouping from inner positive width) ws h = let a = h.0 in let b = h.1 in (omega (arith, a), omega (arith, b))
 

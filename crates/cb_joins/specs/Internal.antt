@@ -1,4 +1,4 @@
--- What only the code of the matcher needs. A branch as nodes, and the lists that these make: Flat, Nodes, Steps. What a change does to
+-- What only the code of the matcher needs. A branch as nodes, and the lists that these make: Flat, Plans, Nodes, Steps. What a change does to
 -- the facts and to a list: Changes, Memories. Facts and partial matches by the values of variables: Indexes. What is kept for
 -- branches and rules, the keys of matches, and which relations nodes ask for: Rules, Keys, Asked.
 pub mod Asked
@@ -8,5 +8,6 @@ pub mod Indexes
 pub mod Keys
 pub mod Memories
 pub mod Nodes
+pub mod Plans
 pub mod Rules
 pub mod Steps

@@ -1,10 +1,10 @@
 //! A matcher that keeps partial matches, and goes on from what changed alone.
 //!
-//! A branch is a list of nodes, one for each element, those of a group before the group itself. Each node makes a list of partial
-//! matches of lists before it: a pattern joins a list with the facts of its shape, a test and a group keep those of a list for
-//! which they hold. The lists are sets in the order of the parts, so that those that go on from given parts stand next to each
-//! other. Where patterns share variables, an index of each pattern finds the facts and the partial matches before it by the values of
-//! these (`index.rt`).
+//! A branch is a list of nodes, one for each element, those of a group before the group itself. But a test directly behind a pattern
+//! belongs to the node of the pattern. Each node makes a list of partial matches of lists before it: a pattern joins a list with the
+//! facts of its shape and keeps those for which its tests hold, a test and a group keep those of a list for which they hold. The
+//! lists are sets in the order of the parts, so that those that go on from given parts stand next to each other. Where patterns share
+//! variables, an index of each pattern finds the facts and the partial matches before it by the values of these (`index.rt`).
 //!
 //! Where a fact is added or taken out, what goes and what comes at each list is found from the changed fact and from what went and
 //! came at the lists before it. Behind a pattern, what went on from a partial match that went, or from the fact that was taken out,

@@ -11,6 +11,8 @@ pub(crate) struct Place<T> {
     /// The variable of the `?f <-` before the pattern.
     pub(crate) address: Option<Name>,
     pub(crate) pattern: Pattern<T>,
+    /// The tests that stand directly behind the pattern: what is kept of a match is only kept where they hold.
+    pub(crate) tests: Vec<Expr>,
     /// The pattern without its variables and expressions.
     pub(crate) loose: Pattern<T>,
     /// The facts that have the pattern's shape, by their indices.
@@ -20,15 +22,16 @@ pub(crate) struct Place<T> {
     pub(crate) index: Option<Index>,
 }
 
-/// An element of a branch. List 0 is before the first element; the node at place k makes list k + 1 of the lists before it.
+/// An element of a branch, and with a pattern the tests directly behind it. List 0 is before the first element; the node at place k makes
+/// list k + 1 of the lists before it.
 #[derive(Drop)]
 pub(crate) enum Node<T> {
-    /// A pattern, joined with the partial matches of list `from`.
+    /// A pattern with the tests behind it, joined with the partial matches of list `from`.
     Pattern {
         from: usize,
         place: Place<T>,
     },
-    /// A test of the partial matches of list `from`.
+    /// A test of the partial matches of list `from`, where no pattern stands directly before it.
     Test {
         from: usize,
         test: Expr,

@@ -1,12 +1,15 @@
 //! What is to be kept for a branch, by its elements.
-ghost use Rattle.std.specs.Prelude.{◌≡◌, ◌≢◌, ◌≤◌, ◌+◌, ◌++◌, All, IfOk, OnOk, Some, length, map, true};
-ghost use Rattle.cb_joins.specs.Internal.Flat.{branch_last, branch_nodes, flat_all, flat_node, flat_nodes, flat_one, joining, last_list, parts_of};
+ghost use Rattle.std.specs.Prelude.{◌≡◌, ◌≢◌, ◌≤◌, [], ◌∷◌, All, IfOk, OnOk, Some, length, map, true};
+ghost use Rattle.cb_exprs.specs.Terms.{term_of};
+ghost use Rattle.cb_joins.specs.Internal.Flat.{branch_last, branch_nodes, flat_node, flat_nodes, joining};
 ghost use Rattle.cb_joins.specs.Internal.Indexes.{index_fields};
 ghost use Rattle.cb_joins.specs.Internal.Nodes.{AreJoinFields, IsPrepared};
-ghost use Rattle.cb_rules.specs.Elements.{element_of, elements};
+ghost use Rattle.cb_joins.specs.Internal.Plans.{IsFurther, last_tested, last_with, node_with, nodes_with};
+ghost use Rattle.cb_rules.specs.Elements.{element_of, elements, test};
 
 use crate::index::{Index, new_index};
 use crate::node::{Node, Place};
+use cb_exprs::Expr;
 use cb_facts::Name;
 use cb_fit::Pattern;
 use cb_forms::NoMemory;
@@ -23,6 +26,18 @@ pub(crate) struct Plan<T> {
     pub(crate) last: usize,
 }
 
+/// Where elements that have their nodes end.
+#[derive(Clone, Copy)]
+pub(crate) struct End {
+    /// The number of the list there.
+    pub(crate) list: usize,
+    /// How many parts its partial matches have.
+    pub(crate) width: usize,
+    /// Whether the last of them, but for tests behind it, is a pattern. Then its node is the last one, and a test that follows belongs
+    /// to it.
+    pub(crate) is_pattern: bool,
+}
+
 /// What is to be kept for a branch of these elements, before anything is found.
 pub(crate) fn plan_nodes<T>(alloc: Global, branch: Vec<Ce<T>>) -> Result<Plan<T>, NoMemory>
     ensures nodes { IfOk result (λ plan. flat_nodes plan.nodes.items
@@ -33,83 +48,144 @@ pub(crate) fn plan_nodes<T>(alloc: Global, branch: Vec<Ce<T>>) -> Result<Plan<T>
 {
     let mut nodes = Vec::new(alloc);
     let mut bound = BTreeSet::new(alloc);
-    let last = add_nodes(alloc, branch, 0, 0, &mut bound, &mut nodes)?;
+    let start = End {
+        list: 0,
+        width: 0,
+        is_pattern: false,
+    };
+    let last = add_nodes(alloc, branch, start, &mut bound, &mut nodes)?;
     Ok(Plan { nodes, last })
 }
 
-/// Adds the nodes of elements that go on from list `from`, whose partial matches have `width` parts. `bound` has variables to which
-/// the elements before give values, and gets those of these elements. The answer is the number of the list behind them.
+/// Adds the nodes of elements that stand behind `start`. `bound` has variables to which the elements before give values, and gets
+/// those of these elements. The answer is the number of the list behind them.
 ///
 /// It calls itself as deep as groups are nested.
 #[cycle(planning)]
 fn add_nodes<T>(
     alloc: Global,
     branch: Vec<Ce<T>>,
-    from: usize,
-    width: usize,
+    start: End,
     bound: &mut BTreeSet<Name>,
     nodes: &mut Vec<Node<T>>,
 ) -> Result<usize, NoMemory>
-    requires width { width ≤ length nodes.old.items }
+    requires width { start.width ≤ length nodes.old.items }
     requires before { All IsPrepared nodes.old.items }
-    ensures nodes { OnOk result (flat_nodes nodes.new.items ≡ flat_nodes nodes.old.items
-        ++ flat_all (elements (map element_of branch.items)) from (length nodes.old.items + 1)
-        width) }
+    ensures nodes { OnOk result (flat_nodes nodes.new.items
+        ≡ nodes_with (flat_nodes nodes.old.items) start (elements (map element_of branch.items))) }
     ensures last { IfOk result (λ last. last
-        ≡ last_list (elements (map element_of branch.items)) from (length nodes.old.items + 1)) }
+        ≡ last_with (flat_nodes nodes.old.items) start (elements (map element_of branch.items))) }
+    ensures longer { OnOk result (length nodes.old.items ≤ length nodes.new.items) }
     ensures prepared { OnOk result (All IsPrepared nodes.new.items) }
 {
-    let mut last = from;
-    let mut parts = width;
+    let mut end = start;
     for element in branch {
-        parts = add_node(alloc, element, last, parts, bound, nodes)?;
-        last = nodes.len();
+        end = add_node(alloc, element, end, bound, nodes)?;
     }
-    Ok(last)
+    Ok(end.list)
 }
 
-/// The same of one element. The answer is how many parts the partial matches behind it have.
+/// The same of one element, which stands behind `end`. The answer is the end behind it.
 #[cycle(planning)]
 fn add_node<T>(
     alloc: Global,
     element: Ce<T>,
-    from: usize,
-    width: usize,
+    end: End,
     bound: &mut BTreeSet<Name>,
     nodes: &mut Vec<Node<T>>,
-) -> Result<usize, NoMemory>
-    requires width { width ≤ length nodes.old.items }
+) -> Result<End, NoMemory>
+    requires width { end.width ≤ length nodes.old.items }
     requires before { All IsPrepared nodes.old.items }
-    ensures nodes { OnOk result (flat_nodes nodes.new.items ≡ flat_nodes nodes.old.items
-        ++ flat_one (element_of element) from (length nodes.old.items + 1) width) }
-    ensures width { IfOk result (λ wider. wider ≡ width + parts_of (element_of element)) }
+    ensures further { IfOk result (λ behind. IsFurther (flat_nodes nodes.old.items)
+        (flat_nodes nodes.new.items) end behind (element_of element)) }
+    ensures width { IfOk result (λ behind. behind.width ≤ length nodes.new.items) }
+    ensures longer { OnOk result (length nodes.old.items ≤ length nodes.new.items) }
     ensures prepared { OnOk result (All IsPrepared nodes.new.items) }
 {
     match element {
         Ce::Pattern { address, pattern } => {
-            let node = pattern_node(alloc, from, address, pattern, bound)?;
+            let node = pattern_node(alloc, end.list, address, pattern, bound)?;
             nodes.push(node)?;
-            Ok(width + 1)
+            Ok(End {
+                list: nodes.len(),
+                width: end.width + 1,
+                is_pattern: true,
+            })
         }
-        Ce::Test(test) => {
-            nodes.push(Node::Test { from, test })?;
-            Ok(width)
-        }
+        Ce::Test(condition) => add_test(condition, end, nodes),
         Ce::Group { positive, inner } => {
             let mut within = bound.clone()?;
-            let last = add_nodes(alloc, inner, from, width, &mut within, nodes)?;
+            let start = End {
+                is_pattern: false,
+                ..end
+            };
+            let last = add_nodes(alloc, inner, start, &mut within, nodes)?;
             nodes.push(Node::Group {
-                from,
+                from: end.list,
                 inner: last,
                 positive,
-                width,
+                width: end.width,
             })?;
-            Ok(width)
+            Ok(End {
+                list: nodes.len(),
+                ..start
+            })
         }
     }
 }
 
-/// The node of a pattern, without candidates. `bound` gets the variables that it gives values.
+/// The same of a test. Where it stands directly behind a pattern, it belongs to the node of the pattern.
+fn add_test<T>(condition: Expr, end: End, nodes: &mut Vec<Node<T>>) -> Result<End, NoMemory>
+    requires width { end.width ≤ length nodes.old.items }
+    requires before { All IsPrepared nodes.old.items }
+    ensures further { IfOk result (λ behind. IsFurther (flat_nodes nodes.old.items)
+        (flat_nodes nodes.new.items) end behind (test (term_of condition))) }
+    ensures width { IfOk result (λ behind. behind.width ≤ length nodes.new.items) }
+    ensures longer { OnOk result (length nodes.old.items ≤ length nodes.new.items) }
+    ensures prepared { OnOk result (All IsPrepared nodes.new.items) }
+{
+    if end.is_pattern {
+        add_to_last(condition, nodes)?;
+        return Ok(end);
+    }
+    nodes.push(Node::Test {
+        from: end.list,
+        test: condition,
+    })?;
+    Ok(End {
+        list: nodes.len(),
+        width: end.width,
+        is_pattern: false,
+    })
+}
+
+/// Adds a test to those of the last node, if that is a pattern.
+fn add_to_last<T>(condition: Expr, nodes: &mut Vec<Node<T>>) -> Result<(), NoMemory>
+    requires before { All IsPrepared nodes.old.items }
+    ensures nodes { OnOk result (flat_nodes nodes.new.items
+        ≡ last_tested (term_of condition ∷ []) (flat_nodes nodes.old.items)) }
+    ensures len { OnOk result (length nodes.new.items ≡ length nodes.old.items) }
+    ensures prepared { OnOk result (All IsPrepared nodes.new.items) }
+{
+    if let Some(node) = nodes.last_mut() {
+        add_to(condition, node)?;
+    }
+    Ok(())
+}
+
+/// Adds a test to those of a node, if that is a pattern.
+fn add_to<T>(condition: Expr, node: &mut Node<T>) -> Result<(), NoMemory>
+    ensures node { OnOk result
+        (flat_node node.new ≡ node_with (term_of condition ∷ []) (flat_node node.old)) }
+    ensures prepared { OnOk result (IsPrepared node.old → IsPrepared node.new) }
+{
+    if let Node::Pattern { place, .. } = node {
+        place.tests.push(condition)?;
+    }
+    Ok(())
+}
+
+/// The node of a pattern, without tests and candidates. `bound` gets the variables that it gives values.
 fn pattern_node<T>(
     alloc: Global,
     from: usize,
@@ -117,7 +193,7 @@ fn pattern_node<T>(
     pattern: Pattern<T>,
     bound: &mut BTreeSet<Name>,
 ) -> Result<Node<T>, NoMemory>
-    ensures node { IfOk result (λ node. flat_node node ≡ joining from address pattern) }
+    ensures node { IfOk result (λ node. flat_node node ≡ joining from address pattern []) }
     ensures prepared { IfOk result IsPrepared }
 {
     let loose = pattern.loose(alloc)?;
@@ -127,6 +203,7 @@ fn pattern_node<T>(
         place: Place {
             address,
             pattern,
+            tests: Vec::new(alloc),
             loose,
             candidates: BTreeMap::new(alloc),
             index,

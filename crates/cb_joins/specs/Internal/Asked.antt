@@ -5,7 +5,7 @@ use Rattle.cb_joins.specs.Internal.Flat.{FlatNode, joining, testing, grouping}
 
 -- the node is a pattern for facts of this relation
 abbrev pub asks_for : List ℕ → FlatNode → Bool
-asks_for relation (joining from x p) = bytes_eq p.relation relation
+asks_for relation (joining from x p ts) = bytes_eq p.relation relation
 asks_for relation (testing from t) = false
 asks_for relation (grouping from inner positive width) = false
 

@@ -11,7 +11,7 @@ use Rattle.cb_fit.specs.Shapes.{loose}
 use Rattle.cb_fit.specs.Ways.{WayValue, ways}
 use Rattle.cb_fit.specs.declared.join_fields.JoinField.{JoinField}
 use Rattle.cb_joins.specs.Internal.Changes.{Holds, IsMoved}
-use Rattle.cb_joins.specs.Internal.Flat.{FlatNode, AreLists, AreWidths, Lists, flat_nodes, lists_of}
+use Rattle.cb_joins.specs.Internal.Flat.{FlatNode, AreLists, AreWidths, Lists, flat_nodes, lists_of, next_where, tests_of}
 use Rattle.cb_joins.specs.Internal.Indexes.{HasIndex, index_fields}
 use Rattle.cb_joins.specs.declared.moved.Moved.{Moved}
 use Rattle.cb_joins.specs.declared.node.Node.{Node}
@@ -94,7 +94,8 @@ module _ {T : Type 0} where
   -- what is found at a pattern where a fact is added, where these came before it and these are there now
   abbrev pub found_with : Place T → ℕ × FactValue → List Partial → List Partial → List Partial
   found_with place f came before =
-      next place.address place.pattern place.candidates.entries came ++ (if is_candidate place.pattern f then next place.address place.pattern (f ∷ []) before else [])
+      next_where place.address place.pattern (tests_of place) place.candidates.entries came
+      ++ (if is_candidate place.pattern f then next_where place.address place.pattern (tests_of place) (f ∷ []) before else [])
 
 -- the lists that are kept for nodes are theirs over these facts
 pub record AreKept (ns : List FlatNode) (fs : IndexedFacts) (lists : List (BTreeSet Partial)) : Type 0 where

@@ -6,7 +6,7 @@ use Rattle.cb_constraints.specs.PatternValues.{PatternValue}
 use Rattle.cb_facts.specs.FactLists.{IndexedFacts}
 use Rattle.cb_facts.specs.Facts.{FactValue}
 use Rattle.cb_joins.specs.Internal.Changes.{Holds, IsMoved}
-use Rattle.cb_joins.specs.Internal.Flat.{FlatNode, joining, testing, grouping, Lists, begins, flat_node, holds_by, node_list}
+use Rattle.cb_joins.specs.Internal.Flat.{FlatNode, joining, testing, grouping, Lists, begins, flat_node, holds_by, next_where, node_list, tests_of}
 use Rattle.cb_joins.specs.Internal.Memories.{begins_with, ends_with}
 use Rattle.cb_joins.specs.Internal.Nodes.{AreEnough, HaveParts, IsPlace, IsReady}
 use Rattle.cb_joins.specs.declared.moved.Moved.{Moved}
@@ -15,7 +15,7 @@ use Rattle.cb_joins.specs.declared.node.Place.{Place}
 use Rattle.cb_matches.specs.Keys.{PartValue}
 use Rattle.cb_matches.specs.Lemmas.Members.{In}
 use Rattle.cb_matches.specs.Lemmas.Order.{IsOnce}
-use Rattle.cb_matches.specs.Matches.{Partial, next}
+use Rattle.cb_matches.specs.Matches.{Partial}
 use Rattle.cb_partials.specs.Probes.{added_probes, is_candidate, partials_come, partials_kept}
 
 -- those of a list that pass a test are taken out of it, and stand behind what was gone before, in any order
@@ -53,13 +53,13 @@ module _ {T : Type 0} where
     pub is_place : IsPlace place fs old
     pub is_before : Holds before new
     pub is_moved : IsMoved old new moved
-    pub is_own : Holds own (next place.address place.pattern fs old)
+    pub is_own : Holds own (next_where place.address place.pattern (tests_of place) fs old)
 
   -- and after it
   pub record IsAfter (fs fs' : IndexedFacts) (old new : List Partial) (place : Place T) (own : List Partial) (moved : Moved) : Type 0 where
     pub is_place : IsPlace place fs' new
-    pub is_own : Holds own (next place.address place.pattern fs' new)
-    pub is_moved : IsMoved (next place.address place.pattern fs old) (next place.address place.pattern fs' new) moved
+    pub is_own : Holds own (next_where place.address place.pattern (tests_of place) fs' new)
+    pub is_moved : IsMoved (next_where place.address place.pattern (tests_of place) fs old) (next_where place.address place.pattern (tests_of place) fs' new) moved
 
 -- the group holds for m, where these are complete
 abbrev pub group_with : Bool → List Partial → Partial → Bool
@@ -87,13 +87,13 @@ pub record IsSettled (is : Partial → Bool) (old new lost : List Partial) (sett
 
 -- the node goes on from lists with smaller numbers
 abbrev pub NamesListsBelow : ℕ → FlatNode → Type 0
-NamesListsBelow k (joining from x p) = from < k
+NamesListsBelow k (joining from x p ts) = from < k
 NamesListsBelow k (testing from t) = from < k
 NamesListsBelow k (grouping from inner positive width) = (from < k) × (inner < k)
 
 -- the group's width is that of the list before it
 abbrev pub HasWidth : (ℕ → ℕ) → FlatNode → Type 0
-HasWidth ws (joining from x p) = Unit {0}
+HasWidth ws (joining from x p ts) = Unit {0}
 HasWidth ws (testing from t) = Unit {0}
 HasWidth ws (grouping from inner positive width) = width ≡ ws from
 

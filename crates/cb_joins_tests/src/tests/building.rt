@@ -1,9 +1,11 @@
 //! Elements and facts by rows.
 use cb_constraints::{Check, Constraint, Demand, Parts, Row, Test};
+use cb_exprs::Expr;
 use cb_facts::{Fact, Multifield, Name, Single, Value};
 use cb_fit::Pattern;
 use cb_forms::NoMemory;
 use cb_rules::Ce;
+use cb_words::Function;
 use std::alloc::Global;
 
 /// The mark of the meters.
@@ -39,6 +41,10 @@ pub(crate) enum Element {
     Group(bool, &'static [Asked]),
     /// The same of patterns and a `not` behind them.
     Nested(bool, &'static [Asked], &'static [Asked]),
+    /// `(test (> ?x ?y))`, by the letters.
+    Above(u8, u8),
+    /// A group of patterns, such a test, and patterns.
+    Tested(bool, &'static [Asked], u8, u8, &'static [Asked]),
 }
 
 pub(crate) fn letter(alloc: Global, letter: u8) -> Result<Name, NoMemory> {
@@ -108,8 +114,13 @@ fn pattern_element(
     })
 }
 
-fn patterns(alloc: Global, asked: &[Asked]) -> Result<Vec<Ce<Mark>>, NoMemory> {
-    let mut all = Vec::new(alloc);
+/// Elements, and patterns behind them.
+fn and_patterns(
+    alloc: Global,
+    elements: Vec<Ce<Mark>>,
+    asked: &[Asked],
+) -> Result<Vec<Ce<Mark>>, NoMemory> {
+    let mut all = elements;
     for one in asked {
         all.push(pattern_element(alloc, None, one)?)?;
     }
@@ -117,7 +128,7 @@ fn patterns(alloc: Global, asked: &[Asked]) -> Result<Vec<Ce<Mark>>, NoMemory> {
 }
 
 fn group(alloc: Global, positive: bool, asked: &[Asked]) -> Result<Ce<Mark>, NoMemory> {
-    let inner = patterns(alloc, asked)?;
+    let inner = and_patterns(alloc, Vec::new(alloc), asked)?;
     Ok(Ce::Group { positive, inner })
 }
 
@@ -127,8 +138,28 @@ fn nested(
     asked: &[Asked],
     without: &[Asked],
 ) -> Result<Ce<Mark>, NoMemory> {
-    let mut inner = patterns(alloc, asked)?;
+    let mut inner = and_patterns(alloc, Vec::new(alloc), asked)?;
     inner.push(group(alloc, false, without)?)?;
+    Ok(Ce::Group { positive, inner })
+}
+
+fn above(alloc: Global, x: u8, y: u8) -> Result<Ce<Mark>, NoMemory> {
+    let mut values = Vec::new(alloc);
+    values.push(Expr::Variable(letter(alloc, x)?))?;
+    values.push(Expr::Variable(letter(alloc, y)?))?;
+    Ok(Ce::Test(Expr::Call(Function::Greater, values)))
+}
+
+fn tested(
+    alloc: Global,
+    positive: bool,
+    first: &[Asked],
+    test: Ce<Mark>,
+    then: &[Asked],
+) -> Result<Ce<Mark>, NoMemory> {
+    let mut inner = and_patterns(alloc, Vec::new(alloc), first)?;
+    inner.push(test)?;
+    let inner = and_patterns(alloc, inner, then)?;
     Ok(Ce::Group { positive, inner })
 }
 
@@ -138,6 +169,10 @@ fn make_element(alloc: Global, element: &Element) -> Result<Ce<Mark>, NoMemory> 
         Element::Addressed(asked) => { pattern_element(alloc, Some(letter(alloc, b'f')?), asked) }
         Element::Group(positive, asked) => group(alloc, *positive, asked),
         Element::Nested(positive, asked, without) => nested(alloc, *positive, asked, without),
+        Element::Above(x, y) => above(alloc, *x, *y),
+        Element::Tested(positive, first, x, y, then) => {
+            tested(alloc, *positive, first, above(alloc, *x, *y)?, then)
+        }
     }
 }
 

@@ -78,7 +78,12 @@ const B_REST_Y: Asked = Asked {
     fields: &[Field::Rest, Field::Is(b'y')],
 };
 
-pub(crate) const ROWS: [Row; 14] = [
+const A_Z: Asked = Asked {
+    relation: b'a',
+    fields: &[Field::Is(b'z')],
+};
+
+pub(crate) const ROWS: [Row; 18] = [
     // (a ?x) (b ?x): the second pattern first, and then a fact that nothing goes with
     Row {
         story: Story {
@@ -309,6 +314,88 @@ pub(crate) const ROWS: [Row; 14] = [
             ],
         },
         keys: 4,
+    },
+    // (a ?x) (c ?y) (test (> ?x ?y)): a test behind two patterns
+    Row {
+        story: Story {
+            first: &[],
+            branches: &[&[
+                Element::Pattern(A_X),
+                Element::Pattern(C_Y),
+                Element::Above(b'x', b'y'),
+            ]],
+            then: &[
+                Change::Assert(1, b'a', &[2]),
+                Change::Assert(2, b'c', &[1]),
+                Change::Assert(3, b'c', &[2]),
+                Change::Assert(4, b'a', &[3]),
+                Change::Retract(2),
+                Change::Retract(4),
+            ],
+        },
+        keys: 6,
+    },
+    // (b ?x ?y) (a ?z) (test (> ?x ?y)) (test (> ?z ?x)) (not (c ?x)): two tests behind a pattern, and then a group
+    Row {
+        story: Story {
+            first: &[Change::Assert(1, b'b', &[2, 1])],
+            branches: &[&[
+                Element::Pattern(B_X_Y),
+                Element::Pattern(A_Z),
+                Element::Above(b'x', b'y'),
+                Element::Above(b'z', b'x'),
+                Element::Group(false, &[C_X]),
+            ]],
+            then: &[
+                Change::Assert(2, b'a', &[3]),
+                Change::Assert(3, b'b', &[1, 2]),
+                Change::Assert(4, b'a', &[2]),
+                Change::Assert(5, b'c', &[2]),
+                Change::Retract(5),
+                Change::Assert(6, b'a', &[4]),
+                Change::Retract(2),
+            ],
+        },
+        keys: 5,
+    },
+    // (b ?x ?y) (not (test (> ?x ?y)) (c ?x)): a test first inside a group, which says nothing of the pattern before the group
+    Row {
+        story: Story {
+            first: &[],
+            branches: &[&[
+                Element::Pattern(B_X_Y),
+                Element::Tested(false, &[], b'x', b'y', &[C_X]),
+            ]],
+            then: &[
+                Change::Assert(1, b'b', &[2, 1]),
+                Change::Assert(2, b'b', &[1, 2]),
+                Change::Assert(3, b'c', &[2]),
+                Change::Assert(4, b'c', &[1]),
+                Change::Retract(3),
+                Change::Retract(2),
+            ],
+        },
+        keys: 5,
+    },
+    // (a ?x) (exists (c ?y) (test (> ?x ?y))): a test behind a pattern inside a group
+    Row {
+        story: Story {
+            first: &[],
+            branches: &[&[
+                Element::Pattern(A_X),
+                Element::Tested(true, &[C_Y], b'x', b'y', &[]),
+            ]],
+            then: &[
+                Change::Assert(1, b'a', &[2]),
+                Change::Assert(2, b'c', &[2]),
+                Change::Assert(3, b'c', &[1]),
+                Change::Assert(4, b'c', &[0]),
+                Change::Retract(3),
+                Change::Retract(4),
+                Change::Assert(5, b'a', &[3]),
+            ],
+        },
+        keys: 3,
     },
 ];
 

@@ -1,30 +1,43 @@
-use Rattle.std.proofs.Common.{◌≡◌, ◌+◌, ◌++◌, ◌∷◌, length, map, rules, subst}
-use Rattle.cb_joins.specs.Internal.Flat.{flat_all, flat_nodes, last_list}
-use Rattle.cb_joins.proofs.Planned.{last_further, nodes_further, still_fits}
-use Rattle.cb_rules.specs.Elements.{element_of, elements}
+use Rattle.std.proofs.Common.{◌≡◌, ◌∙◌, ◌+◌, [], ap, false, length, map, refl, rules, subst, sym, true}
+use Rattle.std.proofs.lemmas.List.{length-map, nil_from_length}
+use Rattle.cb_joins.specs.Internal.Flat.{flat_node, flat_nodes, grouping, joining}
+use Rattle.cb_joins.specs.Internal.Plans.{IsFurther, nodes_with}
+use Rattle.cb_joins.proofs.Planned.{group_further, nodes_pushed, nothing_follows, of_group, of_pattern, pattern_further}
+use Rattle.cb_rules.specs.Elements.{element_of, elements, group, pattern}
 use Rattle.cb_joins.proofs.planning.+planning.Goals as goal
 
-pub add_nodes-loop-element-preserved : goal.add_nodes-loop-element-preserved
-add_nodes-loop-element-preserved g t c =
-    let old = c.loop-element.nodes.items in
-    let new = c.add_node.new.nodes.items in
-    let e = element_of c.in-Some.element in
-    let es = elements (map element_of c.next.new.self.rest.items) in
-    let last = c.loop-element.last in
-    let parts = c.loop-element.parts in
-    let whole = flat_nodes c.args.nodes.now.items ++ flat_all (elements (map element_of c.args.branch.items)) c.args.from (length c.args.nodes.now.items + 1) c.args.width in
-    let end = last_list (elements (map element_of c.args.branch.items)) c.args.from (length c.args.nodes.now.items + 1) in
-    let step : c.loop-element.element-iterator.rest.items ≡ c.in-Some.element ∷ c.next.new.self.rest.items = search rules in
-    let number : c.len-last.result ≡ length new = search rules in
-    let added = c.in_ok-parts.ensures.nodes in
-    let wider = c.in_ok-parts.ensures.width in
-    record {
-      made =
-          nodes_further old new e es whole last parts c.in_ok-parts.parts c.len-last.result added wider number
-          (subst (λ it. flat_nodes old ++ flat_all (elements (map element_of it)) last (length old + 1) parts ≡ whole) step c.loop-element.invariant.made);
-      to_last =
-          last_further old new e es end last parts c.len-last.result added number
-          (subst (λ it. last_list (elements (map element_of it)) last (length old + 1) ≡ end) step c.loop-element.invariant.to_last);
-      fits = still_fits old new e last parts c.in_ok-parts.parts added wider c.loop-element.invariant.fits;
-      prepared = c.in_ok-parts.ensures.prepared;
-    }
+pub add_node-returns-in_ok-push-in-Pattern-clause-further : goal.add_node-returns-in_ok-push-in-Pattern-clause-further
+add_node-returns-in_ok-push-in-Pattern-clause-further g t c =
+    let end = c.args.end in
+    let old = c.args.nodes.now.items in
+    let new = c.push.new.self.items in
+    let n = joining end.list c.in-Pattern.address c.in-Pattern.pattern [] in
+    let is : element_of c.args.element ≡ pattern c.in-Pattern.address c.in-Pattern.pattern = ap element_of c.in-Pattern.is ∙ of_pattern _ c.in-Pattern.address c.in-Pattern.pattern in
+    let long : c.len.result ≡ length new = search rules in
+    subst (IsFurther (flat_nodes old) (flat_nodes new) end (record { list = c.len.result; width = end.width + 1; is_pattern = true })) (sym is)
+    (pattern_further (flat_nodes old) (flat_nodes new) end c.len.result c.in-Pattern.address c.in-Pattern.pattern
+    (nodes_pushed old new c.in_ok-node-in-Pattern.node n c.in_ok-push-in-Pattern.ensures.items c.in_ok-node-in-Pattern.ensures.node) (long ∙ sym (length-map new flat_node)))
+
+pub add_node-returns-in_ok-push-in-Group-clause-further : goal.add_node-returns-in_ok-push-in-Group-clause-further
+add_node-returns-in_ok-push-in-Group-clause-further g t c =
+    let end = c.args.end in
+    let old = c.args.nodes.now.items in
+    let mid = c.add_nodes.new.nodes.items in
+    let new = c.push-in-Group.new.self.items in
+    let last = c.in_ok-last-in-Group.last in
+    let inner = elements (map element_of c.in-Group.inner.items) in
+    let n = grouping end.list last c.in-Group.positive end.width in
+    let is : element_of c.args.element ≡ group c.in-Group.positive inner = ap element_of c.in-Group.is ∙ of_group _ c.in-Group.positive c.in-Group.inner in
+    let long : c.len-in-Group.result ≡ length new = search rules in
+    subst (IsFurther (flat_nodes old) (flat_nodes new) end (record { list = c.len-in-Group.result; width = end.width; is_pattern = false })) (sym is)
+    (group_further (flat_nodes old) (flat_nodes mid) (flat_nodes new) end c.len-in-Group.result last c.in-Group.positive inner
+    c.in_ok-last-in-Group.ensures.nodes c.in_ok-last-in-Group.ensures.last
+    (nodes_pushed mid new _ n c.in_ok-push-in-Group.ensures.items refl) (long ∙ sym (length-map new flat_node)))
+
+pub add_nodes-returns-clause-nodes : goal.add_nodes-returns-clause-nodes
+add_nodes-returns-clause-nodes g t c =
+    let ns = flat_nodes c.loop-element.nodes.items in
+    let end = c.loop-element.end in
+    let len : length c.loop-element.element-iterator.rest.items ≡ 0 = search rules in
+    let none : c.loop-element.element-iterator.rest.items ≡ [] = nil_from_length _ len in
+    sym (nothing_follows ns end) ∙ (ap (λ it. nodes_with ns end (elements (map element_of it))) (sym none) ∙ c.loop-element.invariant.made)
