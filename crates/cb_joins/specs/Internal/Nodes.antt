@@ -95,7 +95,7 @@ module _ {T : Type 0} where
   abbrev pub found_with : Place T → ℕ × FactValue → List Partial → List Partial → List Partial
   found_with place f came before =
       next_where place.address place.pattern (tests_of place) place.candidates.entries came
-          ++ (if is_candidate place.pattern f then next_where place.address place.pattern (tests_of place) (f ∷ []) before else [])
+      ++ (if is_candidate place.pattern f then next_where place.address place.pattern (tests_of place) (f ∷ []) before else [])
 
 -- the lists that are kept for nodes are theirs over these facts
 pub record AreKept (ns : List FlatNode) (fs : IndexedFacts) (lists : List (BTreeSet Partial)) : Type 0 where

@@ -1,7 +1,7 @@
-use Rattle.std.proofs.Common.{◌≡◌, ◌≤◌, ◌∙◌, ◌∷◌, ◌++◌, ◌+◌, [], IfSome, ap, arith, length, rules, subst}
+use Rattle.std.proofs.Common.{◌≡◌, ◌≤◌, ◌∙◌, ◌∷◌, ◌++◌, ◌+◌, [], IfSome, ap, arith, filter, length, rules, subst}
 use Rattle.cb_joins.proofs.Results.{on_ok}
+use Rattle.cb_joins.specs.Internal.Flat.{all_hold, next_where, tests_of}
 use Rattle.cb_joins.specs.Internal.Nodes.{AreEnough, IsJoined}
-use Rattle.cb_matches.specs.Matches.{next}
 use Rattle.cb_joins.proofs.joining.join_fact.Goals as goal
 
 pub returns-in-Some-clause-found : goal.returns-in-Some-clause-found
@@ -12,7 +12,8 @@ returns-in-Some-clause-found g c =
     subst (λ it. IfSome it (λ all. IsJoined place c.args.before.now.keys → AreEnough place.address place.pattern f c.args.before.now.keys all.items)) c.in-Some.is c.in_ok-partials.ensures in
     let now : c.as_slice.result.now ≡ c.in-Some.partials.items = search rules in
     on_ok c.join_each.result c.join_each.ensures.found c.join_each.ensures.found
-    (λ found _ joined. found ∙ (ap (λ it. c.args.found.now.items ++ next place.address place.pattern (f ∷ []) it) now ∙ ap (λ it. c.args.found.now.items ++ it) (enough joined).same))
+    (λ found _ joined. found ∙ (ap (λ it. c.args.found.now.items ++ next_where place.address place.pattern (tests_of place) (f ∷ []) it) now
+    ∙ ap (λ it. c.args.found.now.items ++ filter (all_hold (tests_of place)) it) (enough joined).same))
 
 pub returns-in-Some-clause-probes : goal.returns-in-Some-clause-probes
 returns-in-Some-clause-probes g c =
