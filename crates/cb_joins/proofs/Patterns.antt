@@ -167,7 +167,9 @@ module _ {T : Type 0} (rise : WaysRise) (shapeless : Shapeless) (place : Place T
   list_now : (q : Place T) → q.address ≡ x → q.pattern ≡ p → tests_of q ≡ ts → (gs : IndexedFacts) (ms : List Partial)
       → next_where x p ts gs ms ≡ next_where q.address q.pattern (tests_of q) gs ms
   list_now q address pattern tests gs ms =
-      ap (λ it. next_where it p ts gs ms) (sym address) ∙ (ap (λ it. next_where q.address it ts gs ms) (sym pattern) ∙ ap (λ it. next_where q.address q.pattern it gs ms) (sym tests))
+      ap (λ it. next_where it p ts gs ms) (sym address)
+      ∙ (ap (λ it. next_where q.address it ts gs ms) (sym pattern)
+      ∙ ap (λ it. next_where q.address q.pattern it gs ms) (sym tests))
 
   candidate_in : (g : Fact) → In g cs → In g fs
   candidate_in g h = (in_filter (is_candidate p) g fs (b.is_place.candidates.0 g h)).0
@@ -280,7 +282,8 @@ module _ {T : Type 0} (rise : WaysRise) (shapeless : Shapeless) (place : Place T
     found_is =
         sym (filter-append passes (next x p cs m.come.items) (by_fact (is_candidate p f))
         ∙ ap (λ it. filter passes (next x p cs m.come.items) ++ it)
-        (elim (is_candidate p f) as (λ s. filter passes (by_fact s) ≡ (if s then next_where x p ts (f ∷ []) before else [])) [ true ↦ refl | false ↦ refl ]))
+        (elim (is_candidate p f) as (λ s. filter passes (by_fact s) ≡ (if s then next_where x p ts (f ∷ []) before else []))
+        [ true ↦ refl | false ↦ refl ]))
 
     found_to : (z : Partial) → In z found → behind x p fs' fs (f ∷ []) new old m.come.items z
     found_to z h = elim (in_either z (next x p cs m.come.items) (by_fact (is_candidate p f)) h) as (λ _. behind x p fs' fs (f ∷ []) new old m.come.items z) [
@@ -322,15 +325,20 @@ module _ {T : Type 0} (rise : WaysRise) (shapeless : Shapeless) (place : Place T
         added.absent k.fact (candidate_in k.fact k.fact_in) ((same_parents x p cs (f ∷ []) m.come.items before z y k l e).1 ∙ ap (λ it. it.0) (only_one l.fact f l.fact_in)))
 
     -- afterwards
-    module _ (q : Place T) (address : q.address ≡ x) (pattern : q.pattern ≡ p) (tests : tests_of q ≡ ts) (is_loose : q.loose ≡ place.loose) (candidates : q.candidates.entries ≡ candidates_with place f)
+    module _ (q : Place T) (address : q.address ≡ x) (pattern : q.pattern ≡ p) (tests : tests_of q ≡ ts)
+        (is_loose : q.loose ≡ place.loose) (candidates : q.candidates.entries ≡ candidates_with place f)
         (fields : AreJoinFields (index_fields q.index) x p) (index : HasIndex q.index q.candidates.entries new)
-        (r : Moved) (left own' : List Partial) (taken : IsTaken behind_gone own left [] r.gone.items) (came : r.come.items ≡ found_with place f m.come.items before) (more : IsWith left r.come.items own')
+        (r : Moved) (left own' : List Partial) (taken : IsTaken behind_gone own left [] r.gone.items)
+        (came : r.come.items ≡ found_with place f m.come.items before) (more : IsWith left r.come.items own')
       where
         leaves : Leaves own left r.gone.items
         leaves = first_leaves behind_gone own left r.gone.items taken
 
         gone_to : (z : Partial) → In z r.gone.items → behind x p fs fs' [] old new m.gone.items z × (passes z ≡ true)
-        gone_to z h = elim (taken.only z h) as (λ _. behind x p fs fs' [] old new m.gone.items z × (passes z ≡ true)) [ inl i ↦ absurd i | inr i ↦ (inl (goes_to z i.0 i.1), (own_in z i.0).1) ]
+        gone_to z h = elim (taken.only z h) as (λ _. behind x p fs fs' [] old new m.gone.items z × (passes z ≡ true)) [
+          | inl i ↦ absurd i
+          | inr i ↦ (inl (goes_to z i.0 i.1), (own_in z i.0).1)
+        ]
 
         to_gone : (z : Partial) → behind x p fs fs' [] old new m.gone.items z → passes z ≡ true → In z r.gone.items
         to_gone z (inl h) t = let i = goes_from z h t in taken.taken z i.0 i.1
@@ -342,7 +350,8 @@ module _ {T : Type 0} (rise : WaysRise) (shapeless : Shapeless) (place : Place T
         moves_now : PartialMoves (next_where x p ts fs old) (next_where x p ts fs' new) r.gone.items r.come.items
         moves_now =
             subst (λ it. PartialMoves (next_where x p ts fs old) (next_where x p ts fs' new) r.gone.items it) (sym come_is)
-            (place_moves x p fs fs' [] (f ∷ []) old new m.gone.items m.come.items (fact_more f fs fs' added) c passes r.gone.items found gone_to to_gone found_to to_found)
+            (place_moves x p fs fs' [] (f ∷ []) old new m.gone.items m.come.items (fact_more f fs fs' added) c
+            passes r.gone.items found gone_to to_gone found_to to_found)
 
         come_once : IsOnce r.come.items
         come_once = subst IsOnce (sym come_is) (chain_filter IsApart passes found found_once)
@@ -356,8 +365,10 @@ module _ {T : Type 0} (rise : WaysRise) (shapeless : Shapeless) (place : Place T
             joined = joined_now q address pattern fields (subst IsRising (sym candidates) with_rising) index;
           };
           is_own = subst (Holds own') (list_now q address pattern tests fs' new)
-              (held_after (next_where x p ts fs old) (next_where x p ts fs' new) r.gone.items r.come.items own left own' moves_now b.is_own leaves (subst IsOnce (sym taken.left) (chain_filter IsApart (λ z. not (behind_gone z)) own b.is_own.once)) come_once more);
-          is_moved = subst (λ it. IsMoved it (next_where q.address q.pattern (tests_of q) fs' new) r) (list_now q address pattern tests fs old)
+              (held_after (next_where x p ts fs old) (next_where x p ts fs' new) r.gone.items r.come.items own left own' moves_now b.is_own leaves
+              (subst IsOnce (sym taken.left) (chain_filter IsApart (λ z. not (behind_gone z)) own b.is_own.once)) come_once more);
+          is_moved =
+              subst (λ it. IsMoved it (next_where q.address q.pattern (tests_of q) fs' new) r) (list_now q address pattern tests fs old)
               (subst (λ it. IsMoved (next_where x p ts fs old) it r) (list_now q address pattern tests fs' new)
               (record { moves = moves_now; gone_once = taken.once b.is_own.once tt (λ z y h. absurd h); come_once = come_once }));
         }
@@ -400,13 +411,16 @@ module _ {T : Type 0} (rise : WaysRise) (shapeless : Shapeless) (place : Place T
 
     -- the index after what moved before the pattern, and then without the fact
     pub joined_without : (i : Option Index) (q : Place T) → q.address ≡ x → q.pattern ≡ p → q.candidates.entries ≡ without
-        → KeepsFields (index_fields place.index) i → ((es : IndexedFacts) (was are : List Partial) → HasIndex place.index es was → IsOnce was → IsMoved was are m → HasIndex i es are)
+        → KeepsFields (index_fields place.index) i
+        → ((es : IndexedFacts) (was are : List Partial) → HasIndex place.index es was → IsOnce was → IsMoved was are m → HasIndex i es are)
         → KeepsFields (index_fields i) q.index
-        → ((es : IndexedFacts) (ms : List Partial) → HasIndex i es ms → IsRising es → ((g : Fact) → In g es → g.0 ≡ f.0 → g ≡ f) → HasIndex q.index (without_fact es f.0) ms)
+        → ((es : IndexedFacts) (ms : List Partial) → HasIndex i es ms → IsRising es → ((g : Fact) → In g es → g.0 ≡ f.0 → g ≡ f)
+        → HasIndex q.index (without_fact es f.0) ms)
         → IsJoined q new
     joined_without i q address pattern candidates keeps filed still_keeps unfiled =
         let joined = joined_moved place i old new m b.is_place.joined b.once b.is_moved keeps filed in
-        joined_now q address pattern (still_join_fields x p (index_fields i) q.index still_keeps joined.fields) (subst IsRising (sym candidates) without_rising)
+        joined_now q address pattern (still_join_fields x p (index_fields i) q.index still_keeps joined.fields)
+        (subst IsRising (sym candidates) without_rising)
         (subst (λ it. HasIndex q.index it new) (sym candidates) (unfiled cs new joined.index joined.rising only_fact))
 
     without_in : (g : Fact) → In g without → In g (filter (is_candidate p) fs')
@@ -453,7 +467,8 @@ module _ {T : Type 0} (rise : WaysRise) (shapeless : Shapeless) (place : Place T
         ]
 
     fact_own : (z : Partial) → In z (next x p (f ∷ []) old) → passes z ≡ true → In z own
-    fact_own z h t = in_own z (moved_in x p (f ∷ []) fs old old (λ g i. subst (λ it. In it fs) (sym (only_one g f i)) added.there) (λ m i. i) z h) t
+    fact_own z h t =
+        in_own z (moved_in x p (f ∷ []) fs old old (λ g i. subst (λ it. In it fs) (sym (only_one g f i)) added.there) (λ m i. i) z h) t
 
     took_from : (ms : List Partial) → AreEnough x p f before ms → (z : Partial) → In z (next x p (f ∷ []) old) → (behind_gone z ≡ true) ⊎ (took_it ms z ≡ true)
     took_from ms enough z h =
@@ -493,8 +508,10 @@ module _ {T : Type 0} (rise : WaysRise) (shapeless : Shapeless) (place : Place T
         (to_begins z.parts z ([], sym (append-nil z.parts)))
 
     -- afterwards
-    module _ (q : Place T) (address : q.address ≡ x) (pattern : q.pattern ≡ p) (tests : tests_of q ≡ ts) (is_loose : q.loose ≡ place.loose) (candidates : q.candidates.entries ≡ without)
-        (joined : IsJoined q new) (r : Moved) (first left own' gone1 : List Partial) (taken1 : IsTaken behind_gone own first [] gone1) (took : Partial → Bool) (taken : IsTaken took first left gone1 r.gone.items)
+    module _ (q : Place T) (address : q.address ≡ x) (pattern : q.pattern ≡ p) (tests : tests_of q ≡ ts)
+        (is_loose : q.loose ≡ place.loose) (candidates : q.candidates.entries ≡ without)
+        (joined : IsJoined q new) (r : Moved) (first left own' gone1 : List Partial) (taken1 : IsTaken behind_gone own first [] gone1)
+        (took : Partial → Bool) (taken : IsTaken took first left gone1 r.gone.items)
         (by_fact : (z : Partial) → In z first → took z ≡ true → In z (next x p (f ∷ []) old)) (to_fact : (z : Partial) → In z (next x p (f ∷ []) old) → In z first → (behind_gone z ≡ true) ⊎ (took z ≡ true))
         (came : r.come.items ≡ filter passes rest) (more : IsWith left r.come.items own')
       where
@@ -506,7 +523,10 @@ module _ {T : Type 0} (rise : WaysRise) (shapeless : Shapeless) (place : Place T
 
         took_gone_to : (z : Partial) → In z r.gone.items → behind x p fs fs' (f ∷ []) old new m.gone.items z × (passes z ≡ true)
         took_gone_to z h = elim (taken.only z h) as (λ _. behind x p fs fs' (f ∷ []) old new m.gone.items z × (passes z ≡ true)) [
-          | inl i ↦ elim (taken1.only z i) as (λ _. behind x p fs fs' (f ∷ []) old new m.gone.items z × (passes z ≡ true)) [ inl j ↦ absurd j | inr j ↦ (inl (goes_to z j.0 j.1), (own_in z j.0).1) ]
+          | inl i ↦ elim (taken1.only z i) as (λ _. behind x p fs fs' (f ∷ []) old new m.gone.items z × (passes z ≡ true)) [
+            | inl j ↦ absurd j
+            | inr j ↦ (inl (goes_to z j.0 j.1), (own_in z j.0).1)
+          ]
           | inr i ↦ (inr (by_fact z i.0 i.1), (own_in z (leaves1.left_own z i.0)).1)
         ]
 
@@ -522,7 +542,8 @@ module _ {T : Type 0} (rise : WaysRise) (shapeless : Shapeless) (place : Place T
         took_moves_now : PartialMoves (next_where x p ts fs old) (next_where x p ts fs' new) r.gone.items r.come.items
         took_moves_now =
             subst (λ it. PartialMoves (next_where x p ts fs old) (next_where x p ts fs' new) r.gone.items it) (sym came)
-            (place_moves x p fs fs' (f ∷ []) [] old new m.gone.items m.come.items (swapped index_of_fact fs' fs [] (f ∷ []) (fact_more f fs' fs added)) c passes r.gone.items rest took_gone_to took_to_gone rest_to to_rest)
+            (place_moves x p fs fs' (f ∷ []) [] old new m.gone.items m.come.items
+            (swapped index_of_fact fs' fs [] (f ∷ []) (fact_more f fs' fs added)) c passes r.gone.items rest took_gone_to took_to_gone rest_to to_rest)
 
         took_come_once : IsOnce r.come.items
         took_come_once = subst IsOnce (sym came) (chain_filter IsApart passes rest rest_once)
@@ -542,15 +563,19 @@ module _ {T : Type 0} (rise : WaysRise) (shapeless : Shapeless) (place : Place T
             joined = joined;
           };
           is_own = subst (Holds own') (list_now q address pattern tests fs' new)
-              (held_after (next_where x p ts fs old) (next_where x p ts fs' new) r.gone.items r.come.items own left own' took_moves_now b.is_own took_leaves (subst IsOnce (sym taken.left) (chain_filter IsApart (λ z. not (took z)) first first_once)) took_come_once more);
-          is_moved = subst (λ it. IsMoved it (next_where q.address q.pattern (tests_of q) fs' new) r) (list_now q address pattern tests fs old)
+              (held_after (next_where x p ts fs old) (next_where x p ts fs' new) r.gone.items r.come.items own left own' took_moves_now b.is_own took_leaves
+              (subst IsOnce (sym taken.left) (chain_filter IsApart (λ z. not (took z)) first first_once)) took_come_once more);
+          is_moved =
+              subst (λ it. IsMoved it (next_where q.address q.pattern (tests_of q) fs' new) r) (list_now q address pattern tests fs old)
               (subst (λ it. IsMoved (next_where x p ts fs old) it r) (list_now q address pattern tests fs' new)
               (record { moves = took_moves_now; gone_once = gone_once; come_once = took_come_once }));
         }
 
     -- in whichever way it was taken out
-    pub taken_with_now : (q : Place T) (address : q.address ≡ x) (pattern : q.pattern ≡ p) (tests : tests_of q ≡ ts) (is_loose : q.loose ≡ place.loose) (candidates : q.candidates.entries ≡ without)
-        (joined : IsJoined q new) (r : Moved) (first left own' gone1 : List Partial) → IsTaken behind_gone own first [] gone1 → IsTakenWith x p f before first left gone1 r.gone.items
+    pub taken_with_now : (q : Place T) (address : q.address ≡ x) (pattern : q.pattern ≡ p) (tests : tests_of q ≡ ts)
+        (is_loose : q.loose ≡ place.loose) (candidates : q.candidates.entries ≡ without)
+        (joined : IsJoined q new) (r : Moved) (first left own' gone1 : List Partial)
+        → IsTaken behind_gone own first [] gone1 → IsTakenWith x p f before first left gone1 r.gone.items
         → r.come.items ≡ next_where x p ts without m.come.items → IsWith left r.come.items own' → IsAfter fs fs' old new q own' r
     taken_with_now q address pattern tests is_loose candidates joined r first left own' gone1 taken1 taken came more =
         let among = (first_leaves behind_gone own first gone1 taken1).left_own in

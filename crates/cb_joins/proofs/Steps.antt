@@ -16,8 +16,10 @@ use Rattle.cb_matches.specs.Lemmas.Growth.{Fact, IsGrown, in_next, is_grown}
 use Rattle.cb_matches.specs.Matches.{Partial, next}
 
 -- the ways of a pattern and a fact rise, from the law that says so by places
-pub ways_rise : ((p : PatternValue) (f : FactValue) (before : Bindings) → AllPairs (λ (v : WayValue) (w : WayValue). slice_cmp nat_cmp v.cuts w.cuts ≡ Less) (ways p f before)) → WaysRise
-ways_rise law p f before = chain_from_pairs (λ (v : WayValue) (w : WayValue). slice_cmp nat_cmp v.cuts w.cuts ≡ Less) (ways p f before) (law p f before)
+pub ways_rise : ((p : PatternValue) (f : FactValue) (before : Bindings)
+    → AllPairs (λ (v : WayValue) (w : WayValue). slice_cmp nat_cmp v.cuts w.cuts ≡ Less) (ways p f before)) → WaysRise
+ways_rise law p f before =
+    chain_from_pairs (λ (v : WayValue) (w : WayValue). slice_cmp nat_cmp v.cuts w.cuts ≡ Less) (ways p f before) (law p f before)
 
 -- with its parent and its fact among others
 pub regrown : (x : Option (List ℕ)) (p : PatternValue) (fs gs : IndexedFacts) (ms ns : List Partial) (z : Partial) (k : IsGrown x p fs ms z) → In k.parent ns → In k.fact gs → In z (next x p gs ns)

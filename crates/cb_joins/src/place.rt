@@ -42,7 +42,8 @@ pub(crate) fn change_place<T>(
     ensures tests { OnOk result (tests_of place.new ≡ tests_of place.old) }
     ensures after { IfOk result (IsChanged (facts_before change.now setting.now.facts.now) setting.now.facts.now
         place.old before.now.keys own.old.keys moved.now place.new own.new.keys) }
-    ensures probes { OnOk result (IsWithinProbes (fact_added change.now) (facts_before change.now setting.now.facts.now) setting.now.facts.now
+    ensures probes { OnOk result (IsWithinProbes (fact_added change.now)
+        (facts_before change.now setting.now.facts.now) setting.now.facts.now
         place.old before.now.keys own.old.keys moved.now meter.old meter.new) }
 {
     match change {

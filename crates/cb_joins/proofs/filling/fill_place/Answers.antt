@@ -9,6 +9,7 @@ use Rattle.cb_joins.proofs.Joined.{still_join_fields}
 use Rattle.cb_joins.specs.Internal.Flat.{all_hold, next_where, tests_of}
 use Rattle.cb_joins.specs.Internal.Indexes.{HasIndex, KeepsFields, index_fields}
 use Rattle.cb_joins.specs.Internal.Nodes.{IsJoined}
+use Rattle.cb_joins.specs.declared.node.Place.{Place}
 use Rattle.cb_joins.proofs.filling.fill_place.Goals as goal
 use Rattle.cb_matches.specs.Lemmas.Growth.{Fact}
 use Rattle.cb_matches.specs.Lemmas.Lists.{chain_filter}
@@ -46,7 +47,8 @@ returns-clause-found g c =
     let ms = c.args.partials.items in
     let candidates : c.in_ok-place.field-0.entries ≡ filter (is_candidate p) fs =
     c.in_ok-place.ensures ∙ ap (λ q. filter (λ f. has_way (ways q f.1 no_bindings)) fs) c.requires.loose in
-    let joined : IsJoined (record { address = x; pattern = p; tests = c.args.place.now.tests; loose = c.args.place.now.loose; candidates = c.in_ok-place.field-0; index = c.in_ok-place-2.field-0 }) ms = (returns-clause-place g c).joined in
+    let place : Place g.row.T.Denot = record c.args.place.now { candidates = c.in_ok-place.field-0; index = c.in_ok-place-2.field-0 } in
+    let joined : IsJoined place ms = (returns-clause-place g c).joined in
     c.in_ok-join.ensures.found ms joined
     ∙ (ap (λ it. it ++ next_where x p ts c.in_ok-place.field-0.entries c.as_slice-2.result.now) c.new-found.ensures.items
     ∙ (ap₂ (λ it ms. next_where x p ts it ms) candidates c.as_slice-2.ensures.value

@@ -1,4 +1,4 @@
-use Rattle.std.proofs.Common.{◌≡◌, ◌∙◌, ◌++◌, [], ap, arith, filter, length, map, rules, sym}
+use Rattle.std.proofs.Common.{◌≡◌, ◌∙◌, ◌++◌, [], ap, arith, filter, map, rules, sym}
 use Rattle.std.proofs.lemmas.Grind.{common_steps}
 use Rattle.cb_exprs.specs.Terms.{term_of}
 use Rattle.cb_joins.proofs.Tested.{all_kept}

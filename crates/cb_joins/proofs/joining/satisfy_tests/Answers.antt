@@ -14,7 +14,8 @@ loop-test-preserved c =
     let cut : drop i xs ≡ t ∷ drop (i + 1) xs = cut_at xs i t l c.test-item.is in
     let ms = c.loop-test.all.items in
     ap (filter (all_hold (map term_of (drop (i + 1) xs)))) c.in_ok-all.ensures
-    ∙ (first_and_others (term_of t) (map term_of (drop (i + 1) xs)) ms ∙ (ap (λ it. filter (all_hold (map term_of it)) ms) (sym cut) ∙ c.loop-test.invariant))
+    ∙ (first_and_others (term_of t) (map term_of (drop (i + 1) xs)) ms
+    ∙ (ap (λ it. filter (all_hold (map term_of it)) ms) (sym cut) ∙ c.loop-test.invariant))
 
 pub returns : goal.returns
 returns c =

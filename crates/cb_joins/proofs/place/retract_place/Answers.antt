@@ -34,12 +34,14 @@ returns-clause-after g c n old new b =
     let s1 : c.as_slice.result.now ≡ lost = search rules in
     let s2 : c.as_slice-2.result.now ≡ came = search rules in
     let s3 : c.as_slice-3.result.now ≡ c.join.new.found.items = search rules in
-    let candidates : c.remove.new.self.entries ≡ without_fact cs f.0 = c.remove.ensures.entries ∙ ap (λ it. without_fact cs it.0) c.one.view_is in
+    let candidates : c.remove.new.self.entries ≡ without_fact cs f.0 =
+    c.remove.ensures.entries ∙ ap (λ it. without_fact cs it.0) c.one.view_is in
     let moved = c.in_ok-file_moved.ensures in
     let unfiled = c.in_ok-unfile_fact.ensures in
     let place1 : Place g.row.T.Denot = record place { index = c.file_moved.new.index } in
     let place2 : Place g.row.T.Denot = record place { candidates = c.remove.new.self; index = c.unfile_fact.new.index } in
-    let joined1 : IsJoined place1 new = joined_moved place c.file_moved.new.index old new c.args.moved.now b.is_place.joined b.once b.is_moved moved.fields moved.index in
+    let joined1 : IsJoined place1 new =
+    joined_moved place c.file_moved.new.index old new c.args.moved.now b.is_place.joined b.once b.is_moved moved.fields moved.index in
     let joined2 : IsJoined place2 new =
     joined_without rise c.no_shape_gives_no_ways.ensures place n fs old new before own c.args.moved.now b f fs' added rising
     c.file_moved.new.index place2 refl refl candidates moved.fields moved.index unfiled.fields unfiled.index in
@@ -52,10 +54,13 @@ returns-clause-after g c n old new b =
     let taken : IsTakenWith x p f before first left out1 c.take_joined.new.gone.items =
     c.in_ok-take_joined.ensures (joined_alike place1 new before (b.is_before.same.1, b.is_before.same.0) joined1) in
     let come_is : c.join.new.found.items ≡ next_where x p ts (without_fact cs f.0) came =
-    c.in_ok-join.ensures.found new joined2 ∙ (ap (λ it. it ++ next_where x p ts c.remove.new.self.entries c.as_slice-2.result.now) c.new-come.ensures.items
-    ∙ (ap (λ it. next_where x p ts it c.as_slice-2.result.now) candidates ∙ ap (λ it. next_where x p ts (without_fact cs f.0) it) s2)) in
+    c.in_ok-join.ensures.found new joined2
+    ∙ (ap (λ it. it ++ next_where x p ts c.remove.new.self.entries c.as_slice-2.result.now) c.new-come.ensures.items
+    ∙ (ap (λ it. next_where x p ts it c.as_slice-2.result.now) candidates
+    ∙ ap (λ it. next_where x p ts (without_fact cs f.0) it) s2)) in
     taken_with_now rise c.no_shape_gives_no_ways.ensures place n fs old new before own c.args.moved.now b f fs' added rising
-    place2 refl refl refl refl candidates joined2 (record { gone = c.take_joined.new.gone; come = c.join.new.found }) first left c.add_all.new.list.keys out1 taken1 taken come_is
+    place2 refl refl refl refl candidates joined2 (record { gone = c.take_joined.new.gone; come = c.join.new.found })
+    first left c.add_all.new.list.keys out1 taken1 taken come_is
     (subst (λ it. IsWith left it c.add_all.new.list.keys) s3 c.in_ok-add_all.ensures)
 
 pub returns-clause-probes : goal.returns-clause-probes
@@ -71,7 +76,8 @@ returns-clause-probes g c n old new b =
     let before = c.args.before.now.keys in
     let own = c.args.own.now.keys in
     let s2 : c.as_slice-2.result.now ≡ c.args.moved.now.come.items = search rules in
-    let candidates : c.remove.new.self.entries ≡ without_fact cs f.0 = c.remove.ensures.entries ∙ ap (λ it. without_fact cs it.0) c.one.view_is in
+    let candidates : c.remove.new.self.entries ≡ without_fact cs f.0 =
+    c.remove.ensures.entries ∙ ap (λ it. without_fact cs it.0) c.one.view_is in
     let moved = c.in_ok-file_moved.ensures in
     let unfiled = c.in_ok-unfile_fact.ensures in
     let place2 : Place g.row.T.Denot = record place { candidates = c.remove.new.self; index = c.unfile_fact.new.index } in
