@@ -33,6 +33,7 @@ mod Results
 mod Sorting
 mod Steps
 mod Takings
+mod Tested
 mod Turns
 mod Unasked
 mod Widths

@@ -83,17 +83,34 @@ module _ (x : Option (List ℕ)) (p : PatternValue) where
         facts k.fact l.fact k.fact_in l.fact_in (same_parents x p gone_facts fs' old new z y k l e).1
 
   module _ (fs fs' gone_facts come_facts : IndexedFacts) (old new gone come : List Partial) (facts : FactMoves fs fs' gone_facts come_facts) (c : PartialMoves old new gone come) where
-    pub place_moves : (gone' come' : List Partial)
-        → ((z : Partial) → In z gone' → behind fs fs' gone_facts old new gone z) → ((z : Partial) → behind fs fs' gone_facts old new gone z → In z gone')
-        → ((z : Partial) → In z come' → behind fs' fs come_facts new old come z) → ((z : Partial) → behind fs' fs come_facts new old come z → In z come')
-        → PartialMoves (next x p fs old) (next x p fs' new) gone' come'
-    place_moves gone' come' g_to g_from c_to c_from = record {
-      stays = λ z h. elim (splits fs fs' gone_facts old new gone facts.stays c.stays z h) as (λ _. In z (next x p fs' new) ⊎ In z gone') [ inl i ↦ inl i | inr i ↦ inr (g_from z i) ];
-      came = λ z h. elim (splits fs' fs come_facts new old come facts.came c.came z h) as (λ _. In z (next x p fs old) ⊎ In z come') [ inl i ↦ inl i | inr i ↦ inr (c_from z i) ];
-      gone_old = λ z h. within fs fs' gone_facts old new gone facts.gone_old c.gone_old z (g_to z h);
-      come_new = λ z h. within fs' fs come_facts new old come facts.come_new c.come_new z (c_to z h);
-      gone_apart = λ z y h i e. apart fs fs' gone_facts old new gone facts.gone_apart c.gone_apart z y (g_to z h) i e;
-      come_apart = λ z y h i e. apart fs' fs come_facts new old come facts.come_apart c.come_apart z y (c_to z h) i e;
+    -- of which only those are kept that pass a test
+    pub place_moves : (q : Partial → Bool) (gone' come' : List Partial)
+        → ((z : Partial) → In z gone' → behind fs fs' gone_facts old new gone z × (q z ≡ true))
+        → ((z : Partial) → behind fs fs' gone_facts old new gone z → q z ≡ true → In z gone')
+        → ((z : Partial) → In z come' → behind fs' fs come_facts new old come z)
+        → ((z : Partial) → behind fs' fs come_facts new old come z → In z come')
+        → PartialMoves (filter q (next x p fs old)) (filter q (next x p fs' new)) gone' (filter q come')
+    place_moves q gone' come' g_to g_from c_to c_from = record {
+      stays = λ z h. let i = in_filter q z (next x p fs old) h in
+          elim (splits fs fs' gone_facts old new gone facts.stays c.stays z i.0) as (λ _. In z (filter q (next x p fs' new)) ⊎ In z gone') [
+            | inl j ↦ inl (filter_in q z (next x p fs' new) j i.1)
+            | inr j ↦ inr (g_from z j i.1)
+          ];
+      came = λ z h. let i = in_filter q z (next x p fs' new) h in
+          elim (splits fs' fs come_facts new old come facts.came c.came z i.0)
+          as (λ _. In z (filter q (next x p fs old)) ⊎ In z (filter q come')) [
+            | inl j ↦ inl (filter_in q z (next x p fs old) j i.1)
+            | inr j ↦ inr (filter_in q z come' (c_from z j) i.1)
+          ];
+      gone_old = λ z h. let i = g_to z h in
+          filter_in q z (next x p fs old) (within fs fs' gone_facts old new gone facts.gone_old c.gone_old z i.0) i.1;
+      come_new = λ z h. let i = in_filter q z come' h in
+          filter_in q z (next x p fs' new) (within fs' fs come_facts new old come facts.come_new c.come_new z (c_to z i.0)) i.1;
+      gone_apart = λ z y h i e.
+          apart fs fs' gone_facts old new gone facts.gone_apart c.gone_apart z y (g_to z h).0 (in_filter q y (next x p fs' new) i).0 e;
+      come_apart = λ z y h i e.
+          apart fs' fs come_facts new old come facts.come_apart c.come_apart z y
+          (c_to z (in_filter q z come' h).0) (in_filter q y (next x p fs old) i).0 e;
     }
 
 -- what stays of a list that is kept, and what was taken out of it

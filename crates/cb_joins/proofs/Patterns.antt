@@ -7,11 +7,13 @@ use Rattle.std.specs.Cmp.{nat_cmp_is, unsigned_tied}
 use Rattle.std.specs.declared.cmp.Ordering.TheVariants.{Less, Equal, Greater}
 use Rattle.std.proofs.lemmas.Bool.Decides.{Decides-eqb}
 use Rattle.std.proofs.lemmas.List.{append-nil, length-append}
+use Rattle.std.proofs.lemmas.List.Elements.{filter-append}
 use Rattle.std.specs.List.{list_any}
 use Rattle.std.specs.Option.{option_map_or}
 use Rattle.std.specs.Ordering.{nat_cmp}
 use Rattle.cb_constraints.specs.PatternValues.{PatternValue}
 use Rattle.cb_exprs.specs.Bindings.{Bindings, no_bindings}
+use Rattle.cb_exprs.specs.Terms.{Term}
 use Rattle.cb_facts.specs.FactLists.{IndexedFacts, fact_at, with_fact, without_fact}
 use Rattle.cb_facts.specs.Facts.{FactValue}
 use Rattle.cb_fit.specs.Shapes.{has_way, loose}
@@ -21,14 +23,16 @@ use Rattle.cb_joins.proofs.Origins.{same_begin}
 use Rattle.cb_joins.proofs.Counts.{as_long, same_length}
 use Rattle.cb_joins.proofs.Deltas.{any_parts, parts_any}
 use Rattle.cb_joins.proofs.Facts.{added_fact, indices_of, left_in, looked, none_of_some, put, rising_with, rising_without}
+use Rattle.cb_joins.proofs.Joined.{joined_moved, still_join_fields}
 use Rattle.cb_joins.proofs.Moves.{behind, fact_more, first_leaves, held_after, leaves_apart, Leaves, place_moves, second_leaves, swapped}
 use Rattle.cb_joins.proofs.Steps.{and_both, and_second, moved as moved_in, not_true, regrown, same_parents}
 use Rattle.cb_joins.specs.Internal.Changes.{Added, Holds, IsMoved, PartialMoves, index_of_fact}
-use Rattle.cb_joins.specs.Internal.Flat.{begins}
-use Rattle.cb_joins.specs.Internal.Indexes.{HasIndex, index_fields}
+use Rattle.cb_joins.specs.Internal.Flat.{all_hold, begins, next_where, tests_of}
+use Rattle.cb_joins.specs.Internal.Indexes.{HasIndex, KeepsFields, index_fields}
 use Rattle.cb_joins.specs.Internal.Memories.{begins_with, ends_with}
-use Rattle.cb_joins.specs.Internal.Nodes.{AreEnough, AreJoinFields, IsJoined, Shapeless, candidates_with}
-use Rattle.cb_joins.specs.Internal.Steps.{IsAfter, IsBefore, IsTaken, IsWith, pattern_probes}
+use Rattle.cb_joins.specs.Internal.Nodes.{AreEnough, AreJoinFields, IsJoined, Shapeless, candidates_with, found_with}
+use Rattle.cb_joins.specs.Internal.Steps.{IsAfter, IsBefore, IsTaken, IsTakenWith, IsWith, pattern_probes}
+use Rattle.cb_joins.specs.declared.index.Index.{Index}
 use Rattle.cb_joins.specs.declared.moved.Moved.{Moved}
 use Rattle.cb_joins.specs.declared.node.Place.{Place}
 use Rattle.cb_matches.specs.Keys.{PartValue}
@@ -143,8 +147,29 @@ module _ {T : Type 0} (rise : WaysRise) (shapeless : Shapeless) (place : Place T
   abbrev cs : IndexedFacts
   cs = place.candidates.entries
 
+  abbrev ts : List Term
+  ts = tests_of place
+
+  abbrev passes : Partial → Bool
+  passes = all_hold ts
+
   c : PartialMoves old new m.gone.items m.come.items
   c = b.is_moved.moves
+
+  -- what is behind the pattern goes on from what was before it, and passes the tests
+  own_in : (z : Partial) → In z own → In z (next x p fs old) × (passes z ≡ true)
+  own_in z h = in_filter passes z (next x p fs old) (b.is_own.same.0 z h)
+
+  in_own : (z : Partial) → In z (next x p fs old) → passes z ≡ true → In z own
+  in_own z h t = b.is_own.same.1 z (filter_in passes z (next x p fs old) h t)
+
+  -- what the pattern makes, read from what it is afterwards
+  list_now : (q : Place T) → q.address ≡ x → q.pattern ≡ p → tests_of q ≡ ts → (gs : IndexedFacts) (ms : List Partial)
+      → next_where x p ts gs ms ≡ next_where q.address q.pattern (tests_of q) gs ms
+  list_now q address pattern tests gs ms =
+      ap (λ it. next_where it p ts gs ms) (sym address)
+      ∙ (ap (λ it. next_where q.address it ts gs ms) (sym pattern)
+      ∙ ap (λ it. next_where q.address q.pattern it gs ms) (sym tests))
 
   candidate_in : (g : Fact) → In g cs → In g fs
   candidate_in g h = (in_filter (is_candidate p) g fs (b.is_place.candidates.0 g h)).0
@@ -166,7 +191,7 @@ module _ {T : Type 0} (rise : WaysRise) (shapeless : Shapeless) (place : Place T
 
   goes_to : (z : Partial) → In z own → behind_gone z ≡ true → In z (next x p fs m.gone.items)
   goes_to z h t =
-      let k = is_grown x p fs old z (b.is_own.same.0 z h) in
+      let k = is_grown x p fs old z (own_in z h).0 in
       let g = some_in (λ g. begins g.parts z) m.gone.items t in
       let e : k.parent.parts ≡ g.0.parts = same_begin k.parent.parts g.0.parts z.parts (b.long k.parent k.parent_in ∙ sym (b.long g.0 (c.gone_old g.0 g.1))) (part k.fact.0 k.way.cuts ∷ [], ap (λ it. it.parts) k.is) (begins_to g.0.parts z g.2) in
       elim (c.stays k.parent k.parent_in) as (λ _. In z (next x p fs m.gone.items)) [
@@ -174,10 +199,10 @@ module _ {T : Type 0} (rise : WaysRise) (shapeless : Shapeless) (place : Place T
         | inl i ↦ absurd (c.gone_apart g.0 k.parent g.1 i (sym e))
       ]
 
-  goes_from : (z : Partial) → In z (next x p fs m.gone.items) → In z own × (behind_gone z ≡ true)
-  goes_from z h =
+  goes_from : (z : Partial) → In z (next x p fs m.gone.items) → passes z ≡ true → In z own × (behind_gone z ≡ true)
+  goes_from z h t =
       let k = is_grown x p fs m.gone.items z h in (
-        b.is_own.same.1 z (moved_in x p fs fs m.gone.items old (λ g i. i) c.gone_old z h),
+        in_own z (moved_in x p fs fs m.gone.items old (λ g i. i) c.gone_old z h) t,
         in_some (λ g. begins g.parts z) k.parent m.gone.items k.parent_in (to_begins k.parent.parts z (part k.fact.0 k.way.cuts ∷ [], ap (λ it. it.parts) k.is)),
       )
 
@@ -252,6 +277,14 @@ module _ {T : Type 0} (rise : WaysRise) (shapeless : Shapeless) (place : Place T
     abbrev found : List Partial
     found = next x p cs m.come.items ++ by_fact (is_candidate p f)
 
+    -- of this, that which passes
+    found_is : found_with place f m.come.items before ≡ filter passes found
+    found_is =
+        sym (filter-append passes (next x p cs m.come.items) (by_fact (is_candidate p f))
+        ∙ ap (λ it. filter passes (next x p cs m.come.items) ++ it)
+        (elim (is_candidate p f) as (λ s. filter passes (by_fact s) ≡ (if s then next_where x p ts (f ∷ []) before else []))
+        [ true ↦ refl | false ↦ refl ]))
+
     found_to : (z : Partial) → In z found → behind x p fs' fs (f ∷ []) new old m.come.items z
     found_to z h = elim (in_either z (next x p cs m.come.items) (by_fact (is_candidate p f)) h) as (λ _. behind x p fs' fs (f ∷ []) new old m.come.items z) [
       | inl i ↦ inl (moved_in x p cs fs' m.come.items m.come.items (λ g j. added.was g (candidate_in g j)) (λ m j. j) z i)
@@ -292,27 +325,36 @@ module _ {T : Type 0} (rise : WaysRise) (shapeless : Shapeless) (place : Place T
         added.absent k.fact (candidate_in k.fact k.fact_in) ((same_parents x p cs (f ∷ []) m.come.items before z y k l e).1 ∙ ap (λ it. it.0) (only_one l.fact f l.fact_in)))
 
     -- afterwards
-    module _ (q : Place T) (address : q.address ≡ x) (pattern : q.pattern ≡ p) (is_loose : q.loose ≡ place.loose) (candidates : q.candidates.entries ≡ candidates_with place f)
+    module _ (q : Place T) (address : q.address ≡ x) (pattern : q.pattern ≡ p) (tests : tests_of q ≡ ts)
+        (is_loose : q.loose ≡ place.loose) (candidates : q.candidates.entries ≡ candidates_with place f)
         (fields : AreJoinFields (index_fields q.index) x p) (index : HasIndex q.index q.candidates.entries new)
-        (r : Moved) (left own' : List Partial) (taken : IsTaken behind_gone own left [] r.gone.items) (came : r.come.items ≡ found) (more : IsWith left r.come.items own')
+        (r : Moved) (left own' : List Partial) (taken : IsTaken behind_gone own left [] r.gone.items)
+        (came : r.come.items ≡ found_with place f m.come.items before) (more : IsWith left r.come.items own')
       where
         leaves : Leaves own left r.gone.items
         leaves = first_leaves behind_gone own left r.gone.items taken
 
-        gone_to : (z : Partial) → In z r.gone.items → behind x p fs fs' [] old new m.gone.items z
-        gone_to z h = elim (taken.only z h) as (λ _. behind x p fs fs' [] old new m.gone.items z) [ inl i ↦ absurd i | inr i ↦ inl (goes_to z i.0 i.1) ]
+        gone_to : (z : Partial) → In z r.gone.items → behind x p fs fs' [] old new m.gone.items z × (passes z ≡ true)
+        gone_to z h = elim (taken.only z h) as (λ _. behind x p fs fs' [] old new m.gone.items z × (passes z ≡ true)) [
+          | inl i ↦ absurd i
+          | inr i ↦ (inl (goes_to z i.0 i.1), (own_in z i.0).1)
+        ]
 
-        to_gone : (z : Partial) → behind x p fs fs' [] old new m.gone.items z → In z r.gone.items
-        to_gone z (inl h) = let i = goes_from z h in taken.taken z i.0 i.1
-        to_gone z (inr h) = let k = is_grown x p [] old z h in absurd k.fact_in
+        to_gone : (z : Partial) → behind x p fs fs' [] old new m.gone.items z → passes z ≡ true → In z r.gone.items
+        to_gone z (inl h) t = let i = goes_from z h t in taken.taken z i.0 i.1
+        to_gone z (inr h) t = let k = is_grown x p [] old z h in absurd k.fact_in
 
-        moves_now : PartialMoves (next x p fs old) (next x p fs' new) r.gone.items r.come.items
+        come_is : r.come.items ≡ filter passes found
+        come_is = came ∙ found_is
+
+        moves_now : PartialMoves (next_where x p ts fs old) (next_where x p ts fs' new) r.gone.items r.come.items
         moves_now =
-            subst (λ it. PartialMoves (next x p fs old) (next x p fs' new) r.gone.items it) (sym came)
-            (place_moves x p fs fs' [] (f ∷ []) old new m.gone.items m.come.items (fact_more f fs fs' added) c r.gone.items found gone_to to_gone found_to to_found)
+            subst (λ it. PartialMoves (next_where x p ts fs old) (next_where x p ts fs' new) r.gone.items it) (sym come_is)
+            (place_moves x p fs fs' [] (f ∷ []) old new m.gone.items m.come.items (fact_more f fs fs' added) c
+            passes r.gone.items found gone_to to_gone found_to to_found)
 
         come_once : IsOnce r.come.items
-        come_once = subst IsOnce (sym came) found_once
+        come_once = subst IsOnce (sym come_is) (chain_filter IsApart passes found found_once)
 
         pub added_now : IsAfter fs fs' old new q own' r
         added_now = record {
@@ -322,9 +364,12 @@ module _ {T : Type 0} (rise : WaysRise) (shapeless : Shapeless) (place : Place T
                 (subst (λ it. AreSame (candidates_with place f) (filter (is_candidate it) fs')) (sym pattern) (with_in, in_with));
             joined = joined_now q address pattern fields (subst IsRising (sym candidates) with_rising) index;
           };
-          is_own = subst (λ it. Holds own' (next it q.pattern fs' new)) (sym address) (subst (λ it. Holds own' (next x it fs' new)) (sym pattern)
-              (held_after (next x p fs old) (next x p fs' new) r.gone.items r.come.items own left own' moves_now b.is_own leaves (subst IsOnce (sym taken.left) (chain_filter IsApart (λ z. not (behind_gone z)) own b.is_own.once)) come_once more));
-          is_moved = subst (λ it. IsMoved (next it q.pattern fs old) (next it q.pattern fs' new) r) (sym address) (subst (λ it. IsMoved (next x it fs old) (next x it fs' new) r) (sym pattern)
+          is_own = subst (Holds own') (list_now q address pattern tests fs' new)
+              (held_after (next_where x p ts fs old) (next_where x p ts fs' new) r.gone.items r.come.items own left own' moves_now b.is_own leaves
+              (subst IsOnce (sym taken.left) (chain_filter IsApart (λ z. not (behind_gone z)) own b.is_own.once)) come_once more);
+          is_moved =
+              subst (λ it. IsMoved it (next_where q.address q.pattern (tests_of q) fs' new) r) (list_now q address pattern tests fs old)
+              (subst (λ it. IsMoved (next_where x p ts fs old) it r) (list_now q address pattern tests fs' new)
               (record { moves = moves_now; gone_once = taken.once b.is_own.once tt (λ z y h. absurd h); come_once = come_once }));
         }
 
@@ -358,11 +403,25 @@ module _ {T : Type 0} (rise : WaysRise) (shapeless : Shapeless) (place : Place T
     without = without_fact cs f.0
 
     -- a candidate with its index is the fact
-    pub only_fact : (g : Fact) → In g cs → g.0 ≡ f.0 → g ≡ f
+    only_fact : (g : Fact) → In g cs → g.0 ≡ f.0 → g ≡ f
     only_fact g h e = elim (added.is g (candidate_in g h)) as (λ _. g ≡ f) [ inl i ↦ absurd (added.absent g i e) | inr d ↦ d ]
 
-    pub without_rising : IsRising without
+    without_rising : IsRising without
     without_rising = rising_without f.0 f.1 cs b.is_place.joined.rising
+
+    -- the index after what moved before the pattern, and then without the fact
+    pub joined_without : (i : Option Index) (q : Place T) → q.address ≡ x → q.pattern ≡ p → q.candidates.entries ≡ without
+        → KeepsFields (index_fields place.index) i
+        → ((es : IndexedFacts) (was are : List Partial) → HasIndex place.index es was → IsOnce was → IsMoved was are m → HasIndex i es are)
+        → KeepsFields (index_fields i) q.index
+        → ((es : IndexedFacts) (ms : List Partial) → HasIndex i es ms → IsRising es → ((g : Fact) → In g es → g.0 ≡ f.0 → g ≡ f)
+        → HasIndex q.index (without_fact es f.0) ms)
+        → IsJoined q new
+    joined_without i q address pattern candidates keeps filed still_keeps unfiled =
+        let joined = joined_moved place i old new m b.is_place.joined b.once b.is_moved keeps filed in
+        joined_now q address pattern (still_join_fields x p (index_fields i) q.index still_keeps joined.fields)
+        (subst IsRising (sym candidates) without_rising)
+        (subst (λ it. HasIndex q.index it new) (sym candidates) (unfiled cs new joined.index joined.rising only_fact))
 
     without_in : (g : Fact) → In g without → In g (filter (is_candidate p) fs')
     without_in g h =
@@ -393,12 +452,12 @@ module _ {T : Type 0} (rise : WaysRise) (shapeless : Shapeless) (place : Place T
     rest_once = once_next rise x p without m.come.items (indices_of without without_rising) b.is_moved.come_once
 
     -- what goes on with the fact from enough of what is before the pattern
-    abbrev pub took_it : List Partial → Partial → Bool
+    abbrev took_it : List Partial → Partial → Bool
     took_it ms z = list_any (λ l. begins_with l.parts f.0 z) ms
 
-    pub took_to : (ms : List Partial) → AreEnough x p f before ms → (z : Partial) → In z own → took_it ms z ≡ true → In z (next x p (f ∷ []) old)
+    took_to : (ms : List Partial) → AreEnough x p f before ms → (z : Partial) → In z own → took_it ms z ≡ true → In z (next x p (f ∷ []) old)
     took_to ms enough z h t =
-        let k = is_grown x p fs old z (b.is_own.same.0 z h) in
+        let k = is_grown x p fs old z (own_in z h).0 in
         let l = some_in (λ l. begins_with l.parts f.0 z) ms t in
         let long : length k.parent.parts ≡ length l.0.parts = b.long k.parent k.parent_in ∙ sym (b.long_now l.0 (b.is_before.same.0 l.0 (enough.among l.0 l.1))) in
         let index : f.0 ≡ k.fact.0 = next_index l.0.parts f.0 z k.parent.parts (part k.fact.0 k.way.cuts) (ap (λ it. it.parts) k.is) long l.2 in
@@ -407,10 +466,11 @@ module _ {T : Type 0} (rise : WaysRise) (shapeless : Shapeless) (place : Place T
           | inr e ↦ regrown x p fs (f ∷ []) old old z k k.parent_in (inl e)
         ]
 
-    fact_own : (z : Partial) → In z (next x p (f ∷ []) old) → In z own
-    fact_own z h = b.is_own.same.1 z (moved_in x p (f ∷ []) fs old old (λ g i. subst (λ it. In it fs) (sym (only_one g f i)) added.there) (λ m i. i) z h)
+    fact_own : (z : Partial) → In z (next x p (f ∷ []) old) → passes z ≡ true → In z own
+    fact_own z h t =
+        in_own z (moved_in x p (f ∷ []) fs old old (λ g i. subst (λ it. In it fs) (sym (only_one g f i)) added.there) (λ m i. i) z h) t
 
-    pub took_from : (ms : List Partial) → AreEnough x p f before ms → (z : Partial) → In z (next x p (f ∷ []) old) → (behind_gone z ≡ true) ⊎ (took_it ms z ≡ true)
+    took_from : (ms : List Partial) → AreEnough x p f before ms → (z : Partial) → In z (next x p (f ∷ []) old) → (behind_gone z ≡ true) ⊎ (took_it ms z ≡ true)
     took_from ms enough z h =
         let k = is_grown x p (f ∷ []) old z h in
         let e = only_one k.fact f k.fact_in in
@@ -421,15 +481,15 @@ module _ {T : Type 0} (rise : WaysRise) (shapeless : Shapeless) (place : Place T
         ]
 
     -- or those whose last fact it is
-    abbrev pub ended : List Partial → Partial → Bool
+    abbrev ended : List Partial → Partial → Bool
     ended first z = list_any (λ l. begins l.parts z) (filter (ends_with f.0) first)
 
-    pub ended_to : (first : List Partial) → ((z : Partial) → In z first → In z own) → (z : Partial) → In z first → ended first z ≡ true → In z (next x p (f ∷ []) old)
+    ended_to : (first : List Partial) → ((z : Partial) → In z first → In z own) → (z : Partial) → In z first → ended first z ≡ true → In z (next x p (f ∷ []) old)
     ended_to first among z h t =
-        let k = is_grown x p fs old z (b.is_own.same.0 z (among z h)) in
+        let k = is_grown x p fs old z (own_in z (among z h)).0 in
         let l = some_in (λ l. begins l.parts z) (filter (ends_with f.0) first) t in
         let i = in_filter (ends_with f.0) l.0 first l.1 in
-        let j = is_grown x p fs old l.0 (b.is_own.same.0 l.0 (among l.0 i.0)) in
+        let j = is_grown x p fs old l.0 (own_in l.0 (among l.0 i.0)).0 in
         let long : length l.0.parts ≡ length z.parts =
         ap (λ it. length it.parts) j.is ∙ (length-append j.parent.parts (part j.fact.0 j.way.cuts ∷ []) ∙ (ap (λ it. it + 1) (b.long j.parent j.parent_in ∙ sym (b.long k.parent k.parent_in)) ∙ (sym (length-append k.parent.parts (part k.fact.0 k.way.cuts ∷ [])) ∙ sym (ap (λ it. length it.parts) k.is)))) in
         let same : l.0.parts ≡ z.parts = same_begin l.0.parts z.parts z.parts long (begins_to l.0.parts z l.2) ([], sym (append-nil z.parts)) in
@@ -439,7 +499,7 @@ module _ {T : Type 0} (rise : WaysRise) (shapeless : Shapeless) (place : Place T
           | inr e ↦ regrown x p fs (f ∷ []) old old z k k.parent_in (inl e)
         ]
 
-    pub ended_from : (first : List Partial) (z : Partial) → In z (next x p (f ∷ []) old) → In z first → ended first z ≡ true
+    ended_from : (first : List Partial) (z : Partial) → In z (next x p (f ∷ []) old) → In z first → ended first z ≡ true
     ended_from first z h i =
         let k = is_grown x p (f ∷ []) old z h in
         let e = only_one k.fact f k.fact_in in
@@ -448,11 +508,12 @@ module _ {T : Type 0} (rise : WaysRise) (shapeless : Shapeless) (place : Place T
         (to_begins z.parts z ([], sym (append-nil z.parts)))
 
     -- afterwards
-    module _ (q : Place T) (address : q.address ≡ x) (pattern : q.pattern ≡ p) (is_loose : q.loose ≡ place.loose) (candidates : q.candidates.entries ≡ without)
-        (fields : AreJoinFields (index_fields q.index) x p) (index : HasIndex q.index q.candidates.entries new)
-        (r : Moved) (first left own' gone1 : List Partial) (taken1 : IsTaken behind_gone own first [] gone1) (took : Partial → Bool) (taken : IsTaken took first left gone1 r.gone.items)
+    module _ (q : Place T) (address : q.address ≡ x) (pattern : q.pattern ≡ p) (tests : tests_of q ≡ ts)
+        (is_loose : q.loose ≡ place.loose) (candidates : q.candidates.entries ≡ without)
+        (joined : IsJoined q new) (r : Moved) (first left own' gone1 : List Partial) (taken1 : IsTaken behind_gone own first [] gone1)
+        (took : Partial → Bool) (taken : IsTaken took first left gone1 r.gone.items)
         (by_fact : (z : Partial) → In z first → took z ≡ true → In z (next x p (f ∷ []) old)) (to_fact : (z : Partial) → In z (next x p (f ∷ []) old) → In z first → (behind_gone z ≡ true) ⊎ (took z ≡ true))
-        (came : r.come.items ≡ rest) (more : IsWith left r.come.items own')
+        (came : r.come.items ≡ filter passes rest) (more : IsWith left r.come.items own')
       where
         leaves1 : Leaves own first gone1
         leaves1 = first_leaves behind_gone own first gone1 taken1
@@ -460,28 +521,32 @@ module _ {T : Type 0} (rise : WaysRise) (shapeless : Shapeless) (place : Place T
         took_leaves : Leaves own left r.gone.items
         took_leaves = second_leaves took own first left gone1 r.gone.items leaves1 taken
 
-        took_gone_to : (z : Partial) → In z r.gone.items → behind x p fs fs' (f ∷ []) old new m.gone.items z
-        took_gone_to z h = elim (taken.only z h) as (λ _. behind x p fs fs' (f ∷ []) old new m.gone.items z) [
-          | inl i ↦ elim (taken1.only z i) as (λ _. behind x p fs fs' (f ∷ []) old new m.gone.items z) [ inl j ↦ absurd j | inr j ↦ inl (goes_to z j.0 j.1) ]
-          | inr i ↦ inr (by_fact z i.0 i.1)
+        took_gone_to : (z : Partial) → In z r.gone.items → behind x p fs fs' (f ∷ []) old new m.gone.items z × (passes z ≡ true)
+        took_gone_to z h = elim (taken.only z h) as (λ _. behind x p fs fs' (f ∷ []) old new m.gone.items z × (passes z ≡ true)) [
+          | inl i ↦ elim (taken1.only z i) as (λ _. behind x p fs fs' (f ∷ []) old new m.gone.items z × (passes z ≡ true)) [
+            | inl j ↦ absurd j
+            | inr j ↦ (inl (goes_to z j.0 j.1), (own_in z j.0).1)
+          ]
+          | inr i ↦ (inr (by_fact z i.0 i.1), (own_in z (leaves1.left_own z i.0)).1)
         ]
 
-        took_to_gone : (z : Partial) → behind x p fs fs' (f ∷ []) old new m.gone.items z → In z r.gone.items
-        took_to_gone z (inl h) = let i = goes_from z h in taken.stay z (taken1.taken z i.0 i.1)
-        took_to_gone z (inr h) =
-            let i = fact_own z h in
+        took_to_gone : (z : Partial) → behind x p fs fs' (f ∷ []) old new m.gone.items z → passes z ≡ true → In z r.gone.items
+        took_to_gone z (inl h) t = let i = goes_from z h t in taken.stay z (taken1.taken z i.0 i.1)
+        took_to_gone z (inr h) t =
+            let i = fact_own z h t in
             elim (leaves1.splits_own z i) as (λ _. In z r.gone.items) [
               | inr j ↦ taken.stay z j
               | inl j ↦ elim (to_fact z h j) as (λ _. In z r.gone.items) [ inl t ↦ taken.stay z (taken1.taken z i t) | inr t ↦ taken.taken z j t ]
             ]
 
-        took_moves_now : PartialMoves (next x p fs old) (next x p fs' new) r.gone.items r.come.items
+        took_moves_now : PartialMoves (next_where x p ts fs old) (next_where x p ts fs' new) r.gone.items r.come.items
         took_moves_now =
-            subst (λ it. PartialMoves (next x p fs old) (next x p fs' new) r.gone.items it) (sym came)
-            (place_moves x p fs fs' (f ∷ []) [] old new m.gone.items m.come.items (swapped index_of_fact fs' fs [] (f ∷ []) (fact_more f fs' fs added)) c r.gone.items rest took_gone_to took_to_gone rest_to to_rest)
+            subst (λ it. PartialMoves (next_where x p ts fs old) (next_where x p ts fs' new) r.gone.items it) (sym came)
+            (place_moves x p fs fs' (f ∷ []) [] old new m.gone.items m.come.items
+            (swapped index_of_fact fs' fs [] (f ∷ []) (fact_more f fs' fs added)) c passes r.gone.items rest took_gone_to took_to_gone rest_to to_rest)
 
         took_come_once : IsOnce r.come.items
-        took_come_once = subst IsOnce (sym came) rest_once
+        took_come_once = subst IsOnce (sym came) (chain_filter IsApart passes rest rest_once)
 
         first_once : IsOnce first
         first_once = subst IsOnce (sym taken1.left) (chain_filter IsApart (λ z. not (behind_gone z)) own b.is_own.once)
@@ -489,19 +554,37 @@ module _ {T : Type 0} (rise : WaysRise) (shapeless : Shapeless) (place : Place T
         gone_once : IsOnce r.gone.items
         gone_once = taken.once first_once (taken1.once b.is_own.once tt (λ z y h. absurd h)) (leaves_apart own first gone1 b.is_own.once leaves1)
 
-        pub taken_now : IsAfter fs fs' old new q own' r
+        taken_now : IsAfter fs fs' old new q own' r
         taken_now = record {
           is_place = record {
             is_loose = is_loose ∙ (b.is_place.is_loose ∙ ap loose (sym pattern));
             candidates = subst (λ it. AreSame it (filter (is_candidate q.pattern) fs')) (sym candidates)
                 (subst (λ it. AreSame without (filter (is_candidate it) fs')) (sym pattern) (without_in, in_without));
-            joined = joined_now q address pattern fields (subst IsRising (sym candidates) without_rising) index;
+            joined = joined;
           };
-          is_own = subst (λ it. Holds own' (next it q.pattern fs' new)) (sym address) (subst (λ it. Holds own' (next x it fs' new)) (sym pattern)
-              (held_after (next x p fs old) (next x p fs' new) r.gone.items r.come.items own left own' took_moves_now b.is_own took_leaves (subst IsOnce (sym taken.left) (chain_filter IsApart (λ z. not (took z)) first first_once)) took_come_once more));
-          is_moved = subst (λ it. IsMoved (next it q.pattern fs old) (next it q.pattern fs' new) r) (sym address) (subst (λ it. IsMoved (next x it fs old) (next x it fs' new) r) (sym pattern)
+          is_own = subst (Holds own') (list_now q address pattern tests fs' new)
+              (held_after (next_where x p ts fs old) (next_where x p ts fs' new) r.gone.items r.come.items own left own' took_moves_now b.is_own took_leaves
+              (subst IsOnce (sym taken.left) (chain_filter IsApart (λ z. not (took z)) first first_once)) took_come_once more);
+          is_moved =
+              subst (λ it. IsMoved it (next_where q.address q.pattern (tests_of q) fs' new) r) (list_now q address pattern tests fs old)
+              (subst (λ it. IsMoved (next_where x p ts fs old) it r) (list_now q address pattern tests fs' new)
               (record { moves = took_moves_now; gone_once = gone_once; come_once = took_come_once }));
         }
+
+    -- in whichever way it was taken out
+    pub taken_with_now : (q : Place T) (address : q.address ≡ x) (pattern : q.pattern ≡ p) (tests : tests_of q ≡ ts)
+        (is_loose : q.loose ≡ place.loose) (candidates : q.candidates.entries ≡ without)
+        (joined : IsJoined q new) (r : Moved) (first left own' gone1 : List Partial)
+        → IsTaken behind_gone own first [] gone1 → IsTakenWith x p f before first left gone1 r.gone.items
+        → r.come.items ≡ next_where x p ts without m.come.items → IsWith left r.come.items own' → IsAfter fs fs' old new q own' r
+    taken_with_now q address pattern tests is_loose candidates joined r first left own' gone1 taken1 taken came more =
+        let among = (first_leaves behind_gone own first gone1 taken1).left_own in
+        elim taken as (λ _. IsAfter fs fs' old new q own' r) [
+          | inl t ↦ taken_now q address pattern tests is_loose candidates joined r first left own' gone1 taken1 (took_it t.0) t.2
+              (λ z h. took_to t.0 t.1 z (among z h)) (λ z h _. took_from t.0 t.1 z h) came more
+          | inr t ↦ taken_now q address pattern tests is_loose candidates joined r first left own' gone1 taken1 (ended first) t
+              (ended_to first among) (λ z h i. inr (ended_from first z h i)) came more
+        ]
 
     -- the bound
     pub taken_bound : (t t' : ℕ) → t' ≤ t + length m.come.items * length without → t' ≤ t + pattern_probes p None fs' old new

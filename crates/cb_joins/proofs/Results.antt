@@ -1,4 +1,5 @@
 -- What follows of an answer that isn't a failure.
+use Rattle.std.proofs.Common.{◌≡◌, IfSome, Option, Some, subst}
 use Rattle.std.specs.Result.{IfOk, OnOk}
 use Rattle.std.specs.declared.result.Result.{Result}
 use Rattle.std.specs.declared.result.Result.TheVariants.{Ok, Err}
@@ -10,3 +11,7 @@ on_ok (Err e) p q f = tt
 pub if_ok : {X E : Type 0} {P Q : X → Type 0} (r : Result X E) → IfOk r P → ((x : X) → P x → Q x) → IfOk r Q
 if_ok (Ok x) p f = f x p
 if_ok (Err e) p f = tt
+
+-- and of one that is something
+pub if_some : {X : Type 0} (P : X → Type 0) (o : Option X) (x : X) → o ≡ Some x → IfSome o P → P x
+if_some P o x is h = subst (λ it. IfSome it P) is h

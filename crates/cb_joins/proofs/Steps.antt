@@ -1,11 +1,25 @@
 -- Partial matches that go on at a pattern, with their parents and their facts among others.
-use Rattle.std.proofs.Common.{◌≡◌, ℕ, ◌&&◌, not, Bool, true, false, List, Option, sym, ◌∙◌, ap, ap₂, refl, subst}
+use Rattle.std.proofs.Common.{◌≡◌, AllPairs, ℕ, ◌&&◌, not, Bool, true, false, List, Option, sym, ◌∙◌, ap, ap₂, refl, subst}
+use Rattle.std.specs.Cmp.Lexicographic.{slice_cmp}
+use Rattle.std.specs.Ordering.{nat_cmp}
+use Rattle.std.specs.declared.cmp.Ordering.TheVariants.{Less}
 use Rattle.cb_constraints.specs.PatternValues.{PatternValue}
+use Rattle.cb_exprs.specs.Bindings.{Bindings}
 use Rattle.cb_facts.specs.FactLists.{IndexedFacts}
+use Rattle.cb_facts.specs.Facts.{FactValue}
+use Rattle.cb_fit.specs.Ways.{WayValue, ways}
+use Rattle.cb_matches.specs.Lemmas.Lists.{chain_from_pairs}
 use Rattle.cb_matches.specs.Lemmas.Members.{In}
+use Rattle.cb_matches.specs.Lemmas.Order.{WaysRise}
 use Rattle.cb_matches.specs.Lemmas.Parts.{part, same_last}
 use Rattle.cb_matches.specs.Lemmas.Growth.{Fact, IsGrown, in_next, is_grown}
 use Rattle.cb_matches.specs.Matches.{Partial, next}
+
+-- the ways of a pattern and a fact rise, from the law that says so by places
+pub ways_rise : ((p : PatternValue) (f : FactValue) (before : Bindings)
+    → AllPairs (λ (v : WayValue) (w : WayValue). slice_cmp nat_cmp v.cuts w.cuts ≡ Less) (ways p f before)) → WaysRise
+ways_rise law p f before =
+    chain_from_pairs (λ (v : WayValue) (w : WayValue). slice_cmp nat_cmp v.cuts w.cuts ≡ Less) (ways p f before) (law p f before)
 
 -- with its parent and its fact among others
 pub regrown : (x : Option (List ℕ)) (p : PatternValue) (fs gs : IndexedFacts) (ms ns : List Partial) (z : Partial) (k : IsGrown x p fs ms z) → In k.parent ns → In k.fact gs → In z (next x p gs ns)

@@ -5,13 +5,13 @@ ghost use Rattle.cb_exprs.specs.Bindings.{no_bindings};
 ghost use Rattle.cb_facts.specs.FactLists.{IsFactBase};
 ghost use Rattle.cb_fit.specs.Shapes.{has_way, loose};
 ghost use Rattle.cb_fit.specs.Ways.{ways};
-ghost use Rattle.cb_joins.specs.Internal.Flat.{flat_node, flat_nodes, node_list};
+ghost use Rattle.cb_joins.specs.Internal.Flat.{flat_node, flat_nodes, next_where, node_list, tests_of};
 ghost use Rattle.cb_joins.specs.Internal.Indexes.{index_fields};
 ghost use Rattle.cb_joins.specs.Internal.Nodes.{AreJoinFields, AreKept, AreReady, AreWhole, IsPlace, IsPrepared, IsReady};
 ghost use Rattle.cb_joins.specs.Internal.Rules.{keys_at};
 ghost use Rattle.cb_joins.specs.Internal.Steps.{NamesListsBelow, group_with};
 ghost use Rattle.cb_matches.specs.Lemmas.Order.{IsOnce, IsSorted};
-ghost use Rattle.cb_matches.specs.Matches.{next, no_parts};
+ghost use Rattle.cb_matches.specs.Matches.{no_parts};
 
 use crate::index::fill_index;
 use crate::joining::{fits_loosely, join};
@@ -118,9 +118,10 @@ fn fill_place<T>(
     requires once { IsOnce partials.items }
     ensures address { OnOk result (place.new.address ≡ place.old.address) }
     ensures pattern { OnOk result (place.new.pattern ≡ place.old.pattern) }
+    ensures tests { OnOk result (tests_of place.new ≡ tests_of place.old) }
     ensures place { OnOk result (IsPlace place.new setting.now.facts.now partials.items) }
     ensures found { IfOk result (λ all. all.items
-        ≡ next place.old.address place.old.pattern setting.now.facts.now partials.items) }
+        ≡ next_where place.old.address place.old.pattern (tests_of place.old) setting.now.facts.now partials.items) }
 {
     no_shape_gives_no_ways();
     place.candidates = find_candidates(setting, &place.loose, meter)?;

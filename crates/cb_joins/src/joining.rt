@@ -1,24 +1,27 @@
 //! Partial matches joined with facts.
-ghost use Rattle.std.specs.Prelude.{◌≡◌, ◌≤◌, ◌+◌, ◌*◌, ◌++◌, ◌∷◌, [], IfOk, IfSome, List, OnOk, flat_map, length};
+ghost use Rattle.std.specs.Prelude.{◌≡◌, ◌≤◌, ◌+◌, ◌*◌, ◌++◌, ◌∷◌, [], IfOk, IfSome, List, OnOk, flat_map, length, map};
+ghost use Rattle.std.specs.List.{filter};
 ghost use Rattle.cb_exprs.specs.Bindings.{no_bindings};
+ghost use Rattle.cb_exprs.specs.Terms.{term_of};
 ghost use Rattle.cb_fit.specs.Shapes.{has_way};
 ghost use Rattle.cb_fit.specs.Ways.{ways};
+ghost use Rattle.cb_joins.specs.Internal.Flat.{all_hold, next_where, tests_of};
 ghost use Rattle.cb_joins.specs.Internal.Nodes.{AreEnough, AreFound, IsJoined};
-ghost use Rattle.cb_matches.specs.Matches.{Partial, extended, next};
+ghost use Rattle.cb_matches.specs.Matches.{Partial, extended};
 
 use crate::index::{facts_with, partials_with, values_of_fact, values_of_partial};
 use crate::indexed::Indexed;
 use crate::node::Place;
-use cb_exprs::Env;
-use cb_facts::{Fact, Name};
+use cb_exprs::{Env, Expr};
+use cb_facts::Fact;
 use cb_fit::laws::a_fact_that_fits_has_the_values_of_variables;
 use cb_fit::{Meter, Pattern, fit};
 use cb_forms::NoMemory;
-use cb_partials::{Partial, Setting, extend};
+use cb_partials::{Partial, Setting, extend, satisfy_test};
 use std::alloc::Global;
 use std::collections::{BTreeMap, BTreeSet};
 
-/// Adds each of these partial matches with each of the facts of a pattern.
+/// Adds each of these partial matches with each of the facts of a pattern, where the tests behind it hold.
 pub(crate) fn join<T>(
     setting: &Setting<'_>,
     place: &Place<T>,
@@ -28,21 +31,13 @@ pub(crate) fn join<T>(
 ) -> Result<(), NoMemory>
     ensures found { OnOk result ((ms : List Partial) → IsJoined place.now ms
         → found.new.items ≡ found.old.items
-        ++ next place.now.address place.now.pattern place.now.candidates.entries partials.now) }
+        ++ next_where place.now.address place.now.pattern (tests_of place.now) place.now.candidates.entries partials.now) }
     ensures probes { OnOk result ((ms : List Partial) → IsJoined place.now ms
         → meter.new ≤ meter.old + length partials.now * length place.now.candidates.entries) }
 {
     for partial in partials {
         let facts = facts_for(setting.alloc, place, partial)?;
-        join_one(
-            setting,
-            &place.address,
-            &place.pattern,
-            facts.as_slice(),
-            partial,
-            found,
-            meter,
-        )?;
+        join_one(setting, place, facts.as_slice(), partial, found, meter)?;
     }
     Ok(())
 }
@@ -78,26 +73,71 @@ fn all_facts(alloc: Global, facts: &BTreeMap<u64, Fact>) -> Result<Vec<Indexed>,
     Ok(all)
 }
 
-/// Adds a partial match with each of these facts.
+/// Adds a partial match with each of these facts, where the tests hold.
 fn join_one<T>(
     setting: &Setting<'_>,
-    address: &Option<Name>,
-    pattern: &Pattern<T>,
+    place: &Place<T>,
     facts: &[Indexed],
     partial: &Partial,
     found: &mut Vec<Partial>,
     meter: &mut Meter<T>,
 ) -> Result<(), NoMemory>
     ensures found { OnOk result (found.new.items ≡ found.old.items
-        ++ flat_map (extended address.now pattern.now partial.now) facts.now) }
+        ++ filter (all_hold (tests_of place.now)) (flat_map (extended place.now.address place.now.pattern partial.now) facts.now)) }
     ensures probes { meter.new ≤ meter.old + length facts.now }
 {
     for one in facts {
-        extend(
-            setting, address, pattern, partial, one.ix, &one.fact, found, meter,
-        )?;
+        join_pair(setting, place, one, partial, found, meter)?;
     }
     Ok(())
+}
+
+/// Adds a partial match with one fact, in each way in which it fits and the tests hold. What fails them is dropped at once.
+fn join_pair<T>(
+    setting: &Setting<'_>,
+    place: &Place<T>,
+    one: &Indexed,
+    partial: &Partial,
+    found: &mut Vec<Partial>,
+    meter: &mut Meter<T>,
+) -> Result<(), NoMemory>
+    ensures found { OnOk result (found.new.items ≡ found.old.items
+        ++ filter (all_hold (tests_of place.now)) (extended place.now.address place.now.pattern partial.now one.now)) }
+    ensures probes { meter.new ≤ meter.old + 1 }
+{
+    let before = found.len();
+    extend(
+        setting,
+        &place.address,
+        &place.pattern,
+        partial,
+        one.ix,
+        &one.fact,
+        found,
+        meter,
+    )?;
+    if place.tests.is_empty() {
+        return Ok(());
+    }
+    let grown = found.split_off(before)?;
+    let mut kept = satisfy_tests(setting, place.tests.as_slice(), grown)?;
+    found.append(&mut kept)?;
+    Ok(())
+}
+
+/// Of these partial matches those for which all of these tests hold.
+fn satisfy_tests(
+    setting: &Setting<'_>,
+    tests: &[Expr],
+    partials: Vec<Partial>,
+) -> Result<Vec<Partial>, NoMemory>
+    ensures { IfOk result (λ all. all.items ≡ filter (all_hold (map term_of tests.now)) partials.items) }
+{
+    let mut all = partials;
+    for test in tests {
+        all = satisfy_test(setting, test, all)?;
+    }
+    Ok(all)
 }
 
 /// The partial matches before a pattern that a fact can be joined with, by the values of variables; `None` where there is no index,
@@ -122,7 +162,7 @@ pub(crate) fn partials_for<T>(
     }
 }
 
-/// Adds each partial match before a pattern with one fact.
+/// Adds each partial match before a pattern with one fact, where the tests behind it hold.
 pub(crate) fn join_fact<T>(
     setting: &Setting<'_>,
     place: &Place<T>,
@@ -132,71 +172,49 @@ pub(crate) fn join_fact<T>(
     meter: &mut Meter<T>,
 ) -> Result<(), NoMemory>
     ensures found { OnOk result (IsJoined place.now before.now.keys → found.new.items ≡ found.old.items
-        ++ next place.now.address place.now.pattern (one.now ∷ []) before.now.keys) }
+        ++ next_where place.now.address place.now.pattern (tests_of place.now) (one.now ∷ []) before.now.keys) }
     ensures probes { OnOk result (IsJoined place.now before.now.keys → meter.new ≤ meter.old + length before.now.keys) }
 {
     match partials_for(setting.alloc, place, before, one)? {
-        Some(partials) => join_each(
-            setting,
-            &place.address,
-            &place.pattern,
-            one,
-            partials.as_slice(),
-            found,
-            meter,
-        ),
-        None => join_all(
-            setting,
-            &place.address,
-            &place.pattern,
-            one,
-            before,
-            found,
-            meter,
-        ),
+        Some(partials) => join_each(setting, place, one, partials.as_slice(), found, meter),
+        None => join_all(setting, place, one, before, found, meter),
     }
 }
 
-/// Adds each of these partial matches with one fact.
+/// Adds each of these partial matches with one fact, where the tests hold.
 fn join_each<T>(
     setting: &Setting<'_>,
-    address: &Option<Name>,
-    pattern: &Pattern<T>,
+    place: &Place<T>,
     one: &Indexed,
     partials: &[Partial],
     found: &mut Vec<Partial>,
     meter: &mut Meter<T>,
 ) -> Result<(), NoMemory>
     ensures found { OnOk result (found.new.items
-        ≡ found.old.items ++ next address.now pattern.now (one.now ∷ []) partials.now) }
+        ≡ found.old.items ++ next_where place.now.address place.now.pattern (tests_of place.now) (one.now ∷ []) partials.now) }
     ensures probes { meter.new ≤ meter.old + length partials.now }
 {
     for partial in partials {
-        extend(
-            setting, address, pattern, partial, one.ix, &one.fact, found, meter,
-        )?;
+        join_pair(setting, place, one, partial, found, meter)?;
     }
     Ok(())
 }
 
-/// Adds each partial match of a list with one fact.
+/// Adds each partial match of a list with one fact, where the tests hold.
 fn join_all<T>(
     setting: &Setting<'_>,
-    address: &Option<Name>,
-    pattern: &Pattern<T>,
+    place: &Place<T>,
     one: &Indexed,
     list: &BTreeSet<Partial>,
     found: &mut Vec<Partial>,
     meter: &mut Meter<T>,
 ) -> Result<(), NoMemory>
     ensures found { OnOk result (found.new.items
-        ≡ found.old.items ++ next address.now pattern.now (one.now ∷ []) list.now.keys) }
+        ≡ found.old.items ++ next_where place.now.address place.now.pattern (tests_of place.now) (one.now ∷ []) list.now.keys) }
     ensures probes { meter.new ≤ meter.old + length list.now.keys }
 {
     for partial in list.iter() {
-        extend(
-            setting, address, pattern, partial, one.ix, &one.fact, found, meter,
-        )?;
+        join_pair(setting, place, one, partial, found, meter)?;
     }
     Ok(())
 }

@@ -1,12 +1,13 @@
 //! A pattern of a branch, and what a change does at it.
-ghost use Rattle.std.specs.Prelude.{◌≡◌, ◌≤◌, ◌+◌, ◌*◌, ℕ, IfOk, List, OnOk, None, Some, length};
+ghost use Rattle.std.specs.Prelude.{◌≡◌, ◌≤◌, ◌+◌, ◌*◌, IfOk, List, OnOk, None, Some, length};
 ghost use Rattle.cb_facts.specs.FactLists.{IsFactBase, fact_at, with_fact, without_fact};
 ghost use Rattle.cb_fit.specs.Shapes.{loose};
 ghost use Rattle.cb_joins.specs.Internal.Changes.{IsMade, fact_added, facts_before};
+ghost use Rattle.cb_joins.specs.Internal.Flat.{tests_of};
 ghost use Rattle.cb_joins.specs.Internal.Indexes.{HasIndex, KeepsFields, index_fields};
 ghost use Rattle.cb_joins.specs.Internal.Nodes.{IsJoined, candidates_with, found_with};
-ghost use Rattle.cb_joins.specs.Internal.Steps.{IsAfter, IsBefore, IsTakenWith, pattern_probes};
-ghost use Rattle.cb_matches.specs.Matches.{Partial, next};
+ghost use Rattle.cb_joins.specs.Internal.Steps.{IsChanged, IsTakenWith, IsWithinProbes};
+ghost use Rattle.cb_matches.specs.Matches.{Partial};
 ghost use Rattle.cb_partials.specs.Probes.{added_probes};
 
 use crate::fact_change::FactChange;
@@ -38,12 +39,12 @@ pub(crate) fn change_place<T>(
     requires made { IsMade change.now setting.now.facts.now }
     ensures address { OnOk result (place.new.address ≡ place.old.address) }
     ensures pattern { OnOk result (place.new.pattern ≡ place.old.pattern) }
-    ensures after { IfOk result (λ r. (n : ℕ) (old new : List Partial)
-        → IsBefore n (facts_before change.now setting.now.facts.now) old new place.old before.now.keys own.old.keys moved.now
-        → IsAfter (facts_before change.now setting.now.facts.now) setting.now.facts.now old new place.new own.new.keys r) }
-    ensures probes { OnOk result ((n : ℕ) (old new : List Partial)
-        → IsBefore n (facts_before change.now setting.now.facts.now) old new place.old before.now.keys own.old.keys moved.now
-        → meter.new ≤ meter.old + pattern_probes place.old.pattern (fact_added change.now) setting.now.facts.now old new) }
+    ensures tests { OnOk result (tests_of place.new ≡ tests_of place.old) }
+    ensures after { IfOk result (IsChanged (facts_before change.now setting.now.facts.now) setting.now.facts.now
+        place.old before.now.keys own.old.keys moved.now place.new own.new.keys) }
+    ensures probes { OnOk result (IsWithinProbes (fact_added change.now)
+        (facts_before change.now setting.now.facts.now) setting.now.facts.now
+        place.old before.now.keys own.old.keys moved.now meter.old meter.new) }
 {
     match change {
         FactChange::Assert(one) => assert_place(setting, place, before, moved, own, one, meter),
@@ -65,12 +66,11 @@ fn assert_place<T>(
     requires there { fact_at setting.now.facts.now one.now.0 ≡ Some one.now.1 }
     ensures address { OnOk result (place.new.address ≡ place.old.address) }
     ensures pattern { OnOk result (place.new.pattern ≡ place.old.pattern) }
-    ensures after { IfOk result (λ r. (n : ℕ) (old new : List Partial)
-        → IsBefore n (without_fact setting.now.facts.now one.now.0) old new place.old before.now.keys own.old.keys moved.now
-        → IsAfter (without_fact setting.now.facts.now one.now.0) setting.now.facts.now old new place.new own.new.keys r) }
-    ensures probes { OnOk result ((n : ℕ) (old new : List Partial)
-        → IsBefore n (without_fact setting.now.facts.now one.now.0) old new place.old before.now.keys own.old.keys moved.now
-        → meter.new ≤ meter.old + pattern_probes place.old.pattern (Some one.now.1) setting.now.facts.now old new) }
+    ensures tests { OnOk result (tests_of place.new ≡ tests_of place.old) }
+    ensures after { IfOk result (IsChanged (without_fact setting.now.facts.now one.now.0) setting.now.facts.now
+        place.old before.now.keys own.old.keys moved.now place.new own.new.keys) }
+    ensures probes { OnOk result (IsWithinProbes (Some one.now.1) (without_fact setting.now.facts.now one.now.0) setting.now.facts.now
+        place.old before.now.keys own.old.keys moved.now meter.old meter.new) }
 {
     no_shape_gives_no_ways();
     the_ways_rise_by_their_cuts();
@@ -93,6 +93,7 @@ fn find_with<T>(
 ) -> Result<Vec<Partial>, NoMemory>
     ensures address { OnOk result (place.new.address ≡ place.old.address) }
     ensures pattern { OnOk result (place.new.pattern ≡ place.old.pattern) }
+    ensures tests { OnOk result (tests_of place.new ≡ tests_of place.old) }
     ensures loose { OnOk result (place.new.loose ≡ place.old.loose) }
     ensures fields { OnOk result (KeepsFields (index_fields place.old.index) place.new.index) }
     ensures candidates { OnOk result (place.old.loose ≡ loose place.old.pattern
@@ -131,12 +132,11 @@ fn retract_place<T>(
     requires free { fact_at setting.now.facts.now one.now.0 ≡ None }
     ensures address { OnOk result (place.new.address ≡ place.old.address) }
     ensures pattern { OnOk result (place.new.pattern ≡ place.old.pattern) }
-    ensures after { IfOk result (λ r. (n : ℕ) (old new : List Partial)
-        → IsBefore n (with_fact setting.now.facts.now one.now.0 one.now.1) old new place.old before.now.keys own.old.keys moved.now
-        → IsAfter (with_fact setting.now.facts.now one.now.0 one.now.1) setting.now.facts.now old new place.new own.new.keys r) }
-    ensures probes { OnOk result ((n : ℕ) (old new : List Partial)
-        → IsBefore n (with_fact setting.now.facts.now one.now.0 one.now.1) old new place.old before.now.keys own.old.keys moved.now
-        → meter.new ≤ meter.old + pattern_probes place.old.pattern None setting.now.facts.now old new) }
+    ensures tests { OnOk result (tests_of place.new ≡ tests_of place.old) }
+    ensures after { IfOk result (IsChanged (with_fact setting.now.facts.now one.now.0 one.now.1) setting.now.facts.now
+        place.old before.now.keys own.old.keys moved.now place.new own.new.keys) }
+    ensures probes { OnOk result (IsWithinProbes None (with_fact setting.now.facts.now one.now.0 one.now.1) setting.now.facts.now
+        place.old before.now.keys own.old.keys moved.now meter.old meter.new) }
 {
     no_shape_gives_no_ways();
     the_ways_rise_by_their_cuts();

@@ -1,5 +1,5 @@
 -- What a change does at one node.
-use Rattle.std.specs.Prelude.{◌≡◌, ◌≢◌, ◌⊎◌, ◌+◌, ◌*◌, ◌<◌, ℕ, Bool, true, false, List, Option, filter, length, map, not, slice_index_or, take}
+use Rattle.std.specs.Prelude.{◌≡◌, ◌≢◌, ◌⊎◌, ◌+◌, ◌*◌, ◌<◌, ◌≤◌, ℕ, Bool, true, false, List, Option, filter, length, map, not, slice_index_or, take}
 use Rattle.std.specs.BTreeSet.{BTreeSet}
 use Rattle.std.specs.List.{list_any}
 use Rattle.cb_constraints.specs.PatternValues.{PatternValue}
@@ -60,6 +60,19 @@ module _ {T : Type 0} where
     pub is_place : IsPlace place fs' new
     pub is_own : Holds own (next_where place.address place.pattern (tests_of place) fs' new)
     pub is_moved : IsMoved (next_where place.address place.pattern (tests_of place) fs old) (next_where place.address place.pattern (tests_of place) fs' new) moved
+
+  -- a pattern and its list become these, and this moves in the list, whatever the list before the pattern was
+  abbrev pub IsChanged : IndexedFacts → IndexedFacts → Place T → List Partial → List Partial → Moved
+      → Place T → List Partial → Moved → Type 0
+  IsChanged fs fs' place before own m place' own' m' =
+      (n : ℕ) (old new : List Partial) → IsBefore n fs old new place before own m → IsAfter fs fs' old new place' own' m'
+
+  -- the meter goes from t to t', by no more probes than the pattern needs
+  abbrev pub IsWithinProbes : Option FactValue → IndexedFacts → IndexedFacts → Place T → List Partial → List Partial → Moved
+      → ℕ → ℕ → Type 0
+  IsWithinProbes added fs fs' place before own m t t' =
+      (n : ℕ) (old new : List Partial) → IsBefore n fs old new place before own m
+      → t' ≤ t + pattern_probes place.pattern added fs' old new
 
 -- the group holds for m, where these are complete
 abbrev pub group_with : Bool → List Partial → Partial → Bool

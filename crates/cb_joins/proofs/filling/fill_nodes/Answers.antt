@@ -2,21 +2,17 @@ use Rattle.std.proofs.Common.{◌≡◌, ℕ, ◌<◌, ◌∷◌, ◌++◌, [], 
 use Rattle.std.proofs.Math.ListN.{length-set}
 use Rattle.std.proofs.lemmas.List.{length-map}
 use Rattle.std.specs.BTreeSet.{BTreeSet}
-use Rattle.std.specs.Cmp.Lexicographic.{slice_cmp}
-use Rattle.std.specs.Ordering.{nat_cmp}
-use Rattle.std.specs.declared.cmp.Ordering.TheVariants.{Less}
 use Rattle.cb_facts.specs.FactLists.{IndexedFacts}
-use Rattle.cb_fit.specs.Ways.{WayValue, ways}
 use Rattle.cb_joins.proofs.Facts.{rising_base}
 use Rattle.cb_joins.proofs.Filled.{below, found_now, found_sorted, kept_found, long_now, ready_for}
 use Rattle.cb_joins.proofs.Networks.{done_more, left_more}
 use Rattle.cb_joins.proofs.OneMore.{stay_mapped}
+use Rattle.cb_joins.proofs.Steps.{ways_rise}
 use Rattle.cb_joins.proofs.filling.fill_nodes.Goals as goal
 use Rattle.cb_joins.specs.Internal.Flat.{FlatNode, flat_node, flat_nodes, node_list}
 use Rattle.cb_joins.specs.Internal.Nodes.{IsPrepared, IsReady, branch_lists}
 use Rattle.cb_joins.specs.Internal.Rules.{keys_at}
 use Rattle.cb_joins.specs.Internal.Steps.{NamesListsBelow}
-use Rattle.cb_matches.specs.Lemmas.Lists.{chain_from_pairs}
 use Rattle.cb_matches.specs.Lemmas.Order.{IsRising, IsSorted, WaysRise}
 use Rattle.cb_matches.specs.Matches.{Partial}
 
@@ -25,7 +21,7 @@ fill_node-requires-clause-below g c =
     let inv = c.loop-node.invariant in
     let fs : IndexedFacts = c.args.setting.now.facts.now in
     let ns : List FlatNode = flat_nodes c.args.nodes.now in
-    let rise : WaysRise = λ p f b. chain_from_pairs (λ (v : WayValue) (w : WayValue). slice_cmp nat_cmp v.cuts w.cuts ≡ Less) (ways p f b) (c.the_ways_rise_by_their_cuts.ensures p f b) in
+    let rise : WaysRise = ways_rise c.the_ways_rise_by_their_cuts.ensures in
     let rising : IsRising fs = rising_base fs c.len-facts.ensures.base in
     let xs = c.loop-node.nodes in
     let i : ℕ = c.loop-node.node-index in
@@ -40,7 +36,7 @@ loop-node-preserved g c =
     let inv = c.loop-node.invariant in
     let fs : IndexedFacts = c.args.setting.now.facts.now in
     let ns : List FlatNode = flat_nodes c.args.nodes.now in
-    let rise : WaysRise = λ p f b. chain_from_pairs (λ (v : WayValue) (w : WayValue). slice_cmp nat_cmp v.cuts w.cuts ≡ Less) (ways p f b) (c.the_ways_rise_by_their_cuts.ensures p f b) in
+    let rise : WaysRise = ways_rise c.the_ways_rise_by_their_cuts.ensures in
     let rising : IsRising fs = rising_base fs c.len-facts.ensures.base in
     let xs = c.loop-node.nodes in
     let i : ℕ = c.loop-node.node-index in
@@ -80,7 +76,7 @@ pub returns-clause-kept : goal.returns-clause-kept
 returns-clause-kept g c =
     let fs : IndexedFacts = c.args.setting.now.facts.now in
     let ns : List FlatNode = flat_nodes c.args.nodes.now in
-    let rise : WaysRise = λ p f b. chain_from_pairs (λ (v : WayValue) (w : WayValue). slice_cmp nat_cmp v.cuts w.cuts ≡ Less) (ways p f b) (c.the_ways_rise_by_their_cuts.ensures p f b) in
+    let rise : WaysRise = ways_rise c.the_ways_rise_by_their_cuts.ensures in
     let inv = c.loop-node.invariant in
     let all : length ns ≡ length c.args.nodes.now = length-map c.args.nodes.now flat_node in
     let now : length c.args.nodes.now ≡ length c.loop-node.nodes = (sym all ∙ (ap length (sym inv.stay) ∙ length-map c.loop-node.nodes flat_node)) in

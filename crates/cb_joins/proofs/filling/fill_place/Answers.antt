@@ -6,14 +6,15 @@ use Rattle.cb_fit.specs.Ways.{ways}
 use Rattle.cb_joins.proofs.Facts.{rising_base}
 use Rattle.cb_joins.proofs.Filled.{next_of_candidates}
 use Rattle.cb_joins.proofs.Joined.{still_join_fields}
+use Rattle.cb_joins.specs.Internal.Flat.{all_hold, next_where, tests_of}
 use Rattle.cb_joins.specs.Internal.Indexes.{HasIndex, KeepsFields, index_fields}
 use Rattle.cb_joins.specs.Internal.Nodes.{IsJoined}
+use Rattle.cb_joins.specs.declared.node.Place.{Place}
 use Rattle.cb_joins.proofs.filling.fill_place.Goals as goal
 use Rattle.cb_matches.specs.Lemmas.Growth.{Fact}
 use Rattle.cb_matches.specs.Lemmas.Lists.{chain_filter}
 use Rattle.cb_matches.specs.Lemmas.Members.{AreSame}
 use Rattle.cb_matches.specs.Lemmas.Order.{IsOnce, IsRising}
-use Rattle.cb_matches.specs.Matches.{next}
 use Rattle.cb_partials.specs.Probes.{is_candidate}
 
 pub returns-clause-place : goal.returns-clause-place
@@ -42,11 +43,13 @@ returns-clause-found g c =
     let fs : IndexedFacts = c.args.setting.now.facts.now in
     let p = c.args.place.now.pattern in
     let x = c.args.place.now.address in
+    let ts = tests_of c.args.place.now in
     let ms = c.args.partials.items in
     let candidates : c.in_ok-place.field-0.entries ≡ filter (is_candidate p) fs =
     c.in_ok-place.ensures ∙ ap (λ q. filter (λ f. has_way (ways q f.1 no_bindings)) fs) c.requires.loose in
-    let joined : IsJoined (record { address = x; pattern = p; loose = c.args.place.now.loose; candidates = c.in_ok-place.field-0; index = c.in_ok-place-2.field-0 }) ms = (returns-clause-place g c).joined in
+    let place : Place g.row.T.Denot = record c.args.place.now { candidates = c.in_ok-place.field-0; index = c.in_ok-place-2.field-0 } in
+    let joined : IsJoined place ms = (returns-clause-place g c).joined in
     c.in_ok-join.ensures.found ms joined
-    ∙ (ap (λ it. it ++ next x p c.in_ok-place.field-0.entries c.as_slice-2.result.now) c.new-found.ensures.items
-    ∙ (ap₂ (λ it ms. next x p it ms) candidates c.as_slice-2.ensures.value
-    ∙ next_of_candidates c.no_shape_gives_no_ways.ensures x p fs c.args.partials.items))
+    ∙ (ap (λ it. it ++ next_where x p ts c.in_ok-place.field-0.entries c.as_slice-2.result.now) c.new-found.ensures.items
+    ∙ (ap₂ (λ it ms. next_where x p ts it ms) candidates c.as_slice-2.ensures.value
+    ∙ ap (filter (all_hold ts)) (next_of_candidates c.no_shape_gives_no_ways.ensures x p fs c.args.partials.items)))

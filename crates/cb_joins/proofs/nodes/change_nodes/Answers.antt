@@ -1,19 +1,15 @@
 use Rattle.std.proofs.Common.{◌≡◌, ◌∙◌, ◌++◌, ◌∷◌, [], ℕ, suc, ◌+◌, ◌<◌, List, ap, arith, get_or, length, refl, set, subst, sym}
 use Rattle.std.proofs.Math.ListN.{length-set}
 use Rattle.std.specs.BTreeSet.{BTreeSet}
-use Rattle.std.specs.Cmp.Lexicographic.{slice_cmp}
-use Rattle.std.specs.Ordering.{nat_cmp}
-use Rattle.std.specs.declared.cmp.Ordering.TheVariants.{Less}
 use Rattle.cb_facts.specs.FactLists.{IndexedFacts}
-use Rattle.cb_fit.specs.Ways.{WayValue, ways}
 use Rattle.cb_joins.proofs.Facts.{indices_before, indices_of, rising_base}
+use Rattle.cb_joins.proofs.Steps.{ways_rise}
 use Rattle.cb_joins.proofs.Turns.{all_long_now, around, below, done_now, left_now, lists_done_now, lists_left_now, lists_long_now, moves_now, nothing_moves, stay_now, tests_now}
 use Rattle.cb_joins.specs.Internal.Changes.{Holds, IsMoved, fact_added, facts_before}
 use Rattle.cb_joins.specs.Internal.Flat.{FlatNode, flat_node, flat_nodes}
 use Rattle.cb_joins.specs.Internal.Nodes.{HaveIndices, branch_lists}
 use Rattle.cb_joins.specs.Internal.Steps.{AreAround, IsStep, NamesListsBelow}
 use Rattle.cb_joins.specs.declared.moved.Moved.{Moved}
-use Rattle.cb_matches.specs.Lemmas.Lists.{chain_from_pairs}
 use Rattle.cb_matches.specs.Lemmas.Order.{WaysRise}
 use Rattle.cb_matches.specs.Matches.{Partial, no_parts}
 use Rattle.cb_joins.proofs.nodes.change_nodes.Goals as goal
@@ -50,7 +46,7 @@ change_node-requires-clause-below g c =
     let fs : IndexedFacts = facts_before c.args.change.now fs' in
     let ns : List FlatNode = flat_nodes c.args.nodes.now in
     let inv = c.loop-node.invariant in
-    let rise : WaysRise = λ p f b. chain_from_pairs (λ (v : WayValue) (w : WayValue). slice_cmp nat_cmp v.cuts w.cuts ≡ Less) (ways p f b) (c.the_ways_rise_by_their_cuts.ensures p f b) in
+    let rise : WaysRise = ways_rise c.the_ways_rise_by_their_cuts.ensures in
     let indices' : HaveIndices fs' = indices_of fs' (rising_base fs' c.requires.base) in
     let indices : HaveIndices fs = indices_before c.args.change.now fs' (rising_base fs' c.requires.base) c.requires.made in
     let nodes = c.loop-node.nodes in
@@ -69,7 +65,7 @@ loop-node-preserved g c =
     let fs : IndexedFacts = facts_before c.args.change.now fs' in
     let ns : List FlatNode = flat_nodes c.args.nodes.now in
     let inv = c.loop-node.invariant in
-    let rise : WaysRise = λ p f b. chain_from_pairs (λ (v : WayValue) (w : WayValue). slice_cmp nat_cmp v.cuts w.cuts ≡ Less) (ways p f b) (c.the_ways_rise_by_their_cuts.ensures p f b) in
+    let rise : WaysRise = ways_rise c.the_ways_rise_by_their_cuts.ensures in
     let indices' : HaveIndices fs' = indices_of fs' (rising_base fs' c.requires.base) in
     let indices : HaveIndices fs = indices_before c.args.change.now fs' (rising_base fs' c.requires.base) c.requires.made in
     let nodes = c.loop-node.nodes in

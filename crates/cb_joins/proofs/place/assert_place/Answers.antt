@@ -1,20 +1,16 @@
 use Rattle.std.proofs.Common.{◌≡◌, ◌≤◌, ◌+◌, ◌*◌, ◌∙◌, [], List, None, Some, ap, length, rules, subst}
-use Rattle.std.specs.Cmp.Lexicographic.{slice_cmp}
 use Rattle.std.specs.List.{list_any}
-use Rattle.std.specs.Ordering.{nat_cmp}
-use Rattle.std.specs.declared.cmp.Ordering.TheVariants.{Less}
 use Rattle.cb_facts.specs.FactLists.{IndexedFacts, fact_at, without_fact}
-use Rattle.cb_fit.specs.Ways.{WayValue, ways}
 use Rattle.cb_joins.proofs.Facts.{rising_base, taken_fact}
 use Rattle.cb_joins.proofs.Joined.{joined_alike, joined_moved, still_join_fields}
 use Rattle.cb_joins.proofs.Patterns.{added_bound, added_now, free}
+use Rattle.cb_joins.proofs.Steps.{ways_rise}
 use Rattle.cb_joins.specs.Internal.Changes.{Added}
 use Rattle.cb_joins.specs.Internal.Flat.{begins}
 use Rattle.cb_joins.specs.Internal.Indexes.{index_fields}
 use Rattle.cb_joins.specs.Internal.Nodes.{IsJoined, found_with}
 use Rattle.cb_joins.specs.declared.node.Place.{Place}
 use Rattle.cb_joins.specs.Internal.Steps.{IsTaken, IsWith}
-use Rattle.cb_matches.specs.Lemmas.Lists.{chain_from_pairs}
 use Rattle.cb_matches.specs.Lemmas.Order.{IsRising, WaysRise}
 use Rattle.cb_matches.specs.Matches.{Partial}
 use Rattle.cb_partials.specs.Probes.{added_probes}
@@ -26,7 +22,7 @@ returns-clause-after g c n old new b =
     let f = c.args.one.now in
     let rising : IsRising fs' = rising_base fs' c.requires.base in
     let added : Added f (without_fact fs' f.0) fs' = taken_fact f.0 f.1 fs' rising c.requires.there in
-    let rise : WaysRise = λ p f b. chain_from_pairs (λ (v : WayValue) (w : WayValue). slice_cmp nat_cmp v.cuts w.cuts ≡ Less) (ways p f b) (c.the_ways_rise_by_their_cuts.ensures p f b) in
+    let rise : WaysRise = ways_rise c.the_ways_rise_by_their_cuts.ensures in
     let lost : List Partial = c.args.moved.now.gone.items in
     let came : List Partial = c.args.moved.now.come.items in
     let s1 : c.as_slice.result.now ≡ lost = search rules in
@@ -47,7 +43,7 @@ returns-clause-after g c n old new b =
     let come_is : c.in_ok-come.come.items ≡ found_with c.args.place.now f came c.args.before.now.keys =
     found.come b.is_place.is_loose joined ∙ ap (λ it. found_with place f it c.args.before.now.keys) s2 in
     added_now rise c.no_shape_gives_no_ways.ensures c.args.place.now n (without_fact fs' f.0) old new c.args.before.now.keys own c.args.moved.now b f fs' added rising
-    c.find_with.new.place found.address found.pattern found.loose (found.candidates b.is_place.is_loose)
+    c.find_with.new.place found.address found.pattern found.tests found.loose (found.candidates b.is_place.is_loose)
     (still_join_fields place.address place.pattern (index_fields place.index) c.find_with.new.place.index found.fields now.fields)
     (found.index b.is_place.is_loose absent new now.index)
     (record { gone = c.take_behind.new.gone; come = c.in_ok-come.come }) left c.add_all.new.list.keys taken come_is
@@ -59,7 +55,7 @@ returns-clause-probes g c n old new b =
     let f = c.args.one.now in
     let rising : IsRising fs' = rising_base fs' c.requires.base in
     let added : Added f (without_fact fs' f.0) fs' = taken_fact f.0 f.1 fs' rising c.requires.there in
-    let rise : WaysRise = λ p f b. chain_from_pairs (λ (v : WayValue) (w : WayValue). slice_cmp nat_cmp v.cuts w.cuts ≡ Less) (ways p f b) (c.the_ways_rise_by_their_cuts.ensures p f b) in
+    let rise : WaysRise = ways_rise c.the_ways_rise_by_their_cuts.ensures in
     let came : List Partial = c.args.moved.now.come.items in
     let s2 : c.as_slice-2.result.now ≡ came = search rules in
     let place : Place g.row.T.Denot = record c.args.place.now { index = c.file_moved.new.index } in

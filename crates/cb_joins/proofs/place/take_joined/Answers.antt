@@ -1,7 +1,7 @@
-use Rattle.std.proofs.Common.{◌≡◌, IfSome, ap, filter, inl, inr, rules, subst}
+use Rattle.std.proofs.Common.{◌≡◌, ap, filter, inl, inr, rules, subst}
 use Rattle.std.specs.List.{list_any}
 use Rattle.cb_joins.proofs.Joined.{all_enough}
-use Rattle.cb_joins.proofs.Results.{on_ok}
+use Rattle.cb_joins.proofs.Results.{if_some, on_ok}
 use Rattle.cb_joins.specs.Internal.Flat.{begins}
 use Rattle.cb_joins.specs.Internal.Memories.{begins_with, ends_with}
 use Rattle.cb_joins.specs.Internal.Nodes.{AreEnough, IsJoined}
@@ -19,7 +19,7 @@ returns-in-Some g c =
     let out' = c.take_with.new.gone.items in
     let ix : c.one.inside.ix ≡ f.0 = ap (λ it. it.0) c.one.view_is in
     let enough : IsJoined place before → AreEnough place.address place.pattern f before c.in-Some.partials.items =
-    subst (λ it. IfSome it (λ all. IsJoined place before → AreEnough place.address place.pattern f before all.items)) c.in-Some.is c.in_ok-partials.ensures in
+    if_some _ _ c.in-Some.partials c.in-Some.is c.in_ok-partials.ensures in
     let now : c.as_slice.result.now ≡ c.in-Some.partials.items = search rules in
     on_ok c.take_with.result c.take_with.ensures c.take_with.ensures
     (λ taken _ joined. elim taken as (λ _. IsTakenWith place.address place.pattern f before own own' out out') [
