@@ -9,4 +9,5 @@ pub mod Keys
 pub mod Memories
 pub mod Nodes
 pub mod Rules
+pub mod Stub
 pub mod Steps

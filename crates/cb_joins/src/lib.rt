@@ -16,6 +16,7 @@
 //! `docs/ARCHITECTURE.md` says where it belongs.
 #![tactic(auto)]
 
+mod asked; // the rules that ask for a fact, looked up
 mod asking; // which facts the nodes of a branch ask for
 mod branch; // a branch, and what a change does to it
 mod changes; // what each call of the matcher does to its rules and facts
@@ -33,6 +34,7 @@ mod node; // the elements of a branch as nodes
 mod nodes; // the nodes of a branch, and what a change does to their lists
 mod place; // a pattern, and what a change does at it
 mod planning; // the elements of a branch as nodes
+mod stub;
 mod rules; // rules, and what a change does to them
 mod taking; // what is taken out of a list, and what is added to it
 mod telling; // keys of the partial matches at the end of a branch
