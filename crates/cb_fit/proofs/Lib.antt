@@ -1,6 +1,7 @@
 mod AllGiven
 mod ByCuts
 mod Choices
+mod Constants
 mod CutsFix
 mod CutsInOrder
 mod Examples
@@ -13,6 +14,7 @@ mod Looked
 mod LooseDemands
 mod Numbers
 mod Parted
+mod Placed
 mod Places
 mod Related
 mod Rows
