@@ -10,7 +10,7 @@ use Rattle.cb_facts.specs.contracts.cited.LawsCited.TheImpl as facts_laws
 use Rattle.cb_facts.specs.declared.value.Value.{Value}
 use Rattle.cb_fit.proofs.Listed.{Among, among-cases, among-contained, among-flat-back, among-map-back}
 use Rattle.cb_fit.proofs.LooseDemands.{holds-loosely}
-use Rattle.cb_fit.proofs.Placed.{loose_placed, parts_hold, parts_loose}
+use Rattle.cb_fit.proofs.Alone.{loose_placed, parts_hold, parts_loose}
 use Rattle.cb_fit.proofs.ShapeTested.{shape-tested}
 use Rattle.cb_fit.proofs.WithoutVariables.{both-true, provided-if}
 use Rattle.cb_fit.specs.ConstantFields.{constant_fields, constants, demand_constant_fields, plain_constant, plain_constants}
@@ -49,8 +49,9 @@ shape_has p f h c i =
     let shape : HasShape p f = (shape-tested p f).0 h in
     let from = among-flat-back demand_constant_fields c (placed_demands p.parts) (among-contained c (constant_fields p.parts) i) in
     let w = among-map-back (λ u. record { place = from.0.place; value = u }) c (constants from.0.demand) from.2 in
-    let (v, there, mid, grown, keeps, holds) =
+    let (v, there, held) =
     parts_hold (loose_parts p.parts) f.content shape.0 no_bindings no_bindings shape.1.1 (loose_placed from.0) (parts_loose p.parts from.0 from.1) in
+    let (mid, grown, keeps, holds) = held in
     let may : may_hold from.0.demand v ≡ true = (provided-if (may_hold from.0.demand v) mid grown (sym (holds-loosely from.0.demand v mid) ∙ holds)).0 in
     let equal : v ≡ w.0 = demand_is from.0.demand v w.0 may w.2 in
     ap (λ (z : ConstantField). field_value z.place.slot z.place.field f.content) (sym w.1) ∙ (there ∙ (ap Some equal ∙ ap (λ (z : ConstantField). Some z.value) w.1))

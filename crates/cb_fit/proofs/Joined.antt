@@ -13,7 +13,7 @@ use Rattle.cb_facts.specs.declared.value.Value.{Value}
 use Rattle.cb_functions.specs.Comparison.{same}
 use Rattle.cb_fit.proofs.AllGiven.{test-gives}
 use Rattle.cb_fit.proofs.Listed.{Among, among-cases, among-contained, among-flat-back, among-map-back}
-use Rattle.cb_fit.proofs.Placed.{parts_hold}
+use Rattle.cb_fit.proofs.Alone.{parts_hold}
 use Rattle.cb_fit.proofs.Related.{fitting}
 use Rattle.cb_fit.proofs.Segments.{then-some}
 use Rattle.cb_fit.proofs.WithoutVariables.{provided-if}
@@ -63,7 +63,8 @@ fits_have p f before w h j i v is =
     let fits = fitting p f before w h in
     let from = among-flat-back demand_join_fields j (placed_demands p.parts) (among-contained j (join_fields p.parts) i) in
     let x = among-map-back (λ y. record { variable = y; slot = from.0.place.slot; field = from.0.place.field }) j (binders from.0.demand) from.2 in
-    let (u, there, mid, grown, keeps, holds) = parts_hold p.parts f.content w.cuts before fits.0 fits.1.1 from.0 from.1 in
+    let (u, there, held) = parts_hold p.parts f.content w.cuts before fits.0 fits.1.1 from.0 from.1 in
+    let (mid, grown, keeps, holds) = held in
     let has : value_at x.0 before.variables ≡ Some v = ap (λ (z : JoinField). value_at z.variable before.variables) x.1 ∙ is in
     let equal : u ≡ v = demand_has from.0.demand x.0 u v mid grown holds x.2 (keeps x.0 v has) in
     ap (λ z. value_in z f.content) (sym x.1) ∙ (there ∙ ap Some equal)

@@ -1,4 +1,5 @@
 mod AllGiven
+mod Alone
 mod ByCuts
 mod Choices
 mod Constants
@@ -14,7 +15,6 @@ mod Looked
 mod LooseDemands
 mod Numbers
 mod Parted
-mod Placed
 mod Places
 mod Related
 mod Rows
