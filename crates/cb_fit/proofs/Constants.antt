@@ -49,9 +49,9 @@ shape_has p f h c i =
     let shape : HasShape p f = (shape-tested p f).0 h in
     let from = among-flat-back demand_constant_fields c (placed_demands p.parts) (among-contained c (constant_fields p.parts) i) in
     let w = among-map-back (λ u. record { place = from.0.place; value = u }) c (constants from.0.demand) from.2 in
-    let (v, there, held) =
-    parts_hold (loose_parts p.parts) f.content shape.0 no_bindings no_bindings shape.1.1 (loose_placed from.0) (parts_loose p.parts from.0 from.1) in
+    let there = parts_loose p.parts from.0 from.1 in
+    let (v, is, held) = parts_hold (loose_parts p.parts) f.content shape.0 no_bindings no_bindings shape.1.1 (loose_placed from.0) there in
     let (mid, grown, keeps, holds) = held in
     let may : may_hold from.0.demand v ≡ true = (provided-if (may_hold from.0.demand v) mid grown (sym (holds-loosely from.0.demand v mid) ∙ holds)).0 in
     let equal : v ≡ w.0 = demand_is from.0.demand v w.0 may w.2 in
-    ap (λ (z : ConstantField). field_value z.place.slot z.place.field f.content) (sym w.1) ∙ (there ∙ (ap Some equal ∙ ap (λ (z : ConstantField). Some z.value) w.1))
+    ap (λ (z : ConstantField). field_value z.place.slot z.place.field f.content) (sym w.1) ∙ (is ∙ (ap Some equal ∙ ap (λ (z : ConstantField). Some z.value) w.1))
