@@ -1,6 +1,8 @@
 mod AllGiven
+mod Alone
 mod ByCuts
 mod Choices
+mod Constants
 mod CutsFix
 mod CutsInOrder
 mod Examples

@@ -42,7 +42,7 @@ checks-kept (c ∷ cs) v env grown any e =
     let w = then-some (after_checks cs v) (after_check c v env) grown e in
     one-kept c.negated c.test cs v env w.0 any w.1 (checks-kept cs v w.0 grown any w.2)
 
-both-true : (a b : Bool) → a && b ≡ true → (a ≡ true) × (b ≡ true)
+pub both-true : (a b : Bool) → a && b ≡ true → (a ≡ true) × (b ≡ true)
 both-true true b e = (refl, e)
 both-true false b e = let never : false ≡ true = e in cc
 

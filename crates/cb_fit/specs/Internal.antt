@@ -1,5 +1,6 @@
 -- What only the code needs. How far a search for ways has got with a row.
 pub mod Choices
+pub mod Placed
 pub mod Standing
 use Rattle.std.specs.Prelude.{◌==◌, ◌&&◌, ◌||◌, ◌-◌, ℕ, Bool, true, false, List, [], ◌∷◌, ◌++◌, Option, Some, None, map, length, take, drop, nat_le, option_map, option_to_list, replicate, if◌then◌else◌}
 use Rattle.std.specs.List.{list_all}

@@ -1,3 +1,5 @@
+pub mod ConstantFields
+pub mod FieldPlaces
 pub mod Internal
 pub mod JoinFields
 pub mod Laws

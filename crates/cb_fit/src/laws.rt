@@ -11,11 +11,14 @@ ghost use Rattle.cb_facts.specs.Facts.{FactValue, ordered_fact};
 ghost use Rattle.cb_facts.specs.declared.single.Single.{Single};
 ghost use Rattle.cb_facts.specs.declared.value.Value.{Value};
 ghost use Rattle.cb_constraints.specs.Bound.{newly_bound};
+ghost use Rattle.cb_fit.specs.ConstantFields.{constant_fields};
+ghost use Rattle.cb_fit.specs.FieldPlaces.{field_value};
 ghost use Rattle.cb_fit.specs.JoinFields.{join_fields, value_in};
 ghost use Rattle.cb_fit.specs.Laws.{any_fields, of_length, of_one, one_field};
 ghost use Rattle.cb_fit.specs.Related.{Fits};
 ghost use Rattle.cb_fit.specs.Shapes.{HasShape, has_shape, loose, loose_demand};
 ghost use Rattle.cb_fit.specs.Ways.{WayValue, taken_way, ways};
+ghost use Rattle.cb_fit.specs.declared.constant_fields.ConstantField.{ConstantField};
 ghost use Rattle.cb_fit.specs.declared.join_fields.JoinField.{JoinField};
 
 /// The list of the ways has each way in which the pattern fits the fact, and no other.
@@ -109,4 +112,11 @@ pub fn a_fact_that_fits_has_the_values_of_variables()
         → Contains (ways p f before) w → (j : JoinField) → Contains (join_fields p.parts) j
         → (v : Value) → value_at j.variable before.variables ≡ Some v
         → value_in j f.content ≡ Some v }
+{}
+
+/// Where a fact has the shape of a pattern, each field that has to be equal to a constant is. So it is too where the pattern fits.
+pub fn a_fact_with_the_shape_has_the_constants()
+    ensures { (p : PatternValue) (f : FactValue) → has_shape p f ≡ true
+        → (c : ConstantField) → Contains (constant_fields p.parts) c
+        → field_value c.place.slot c.place.field f.content ≡ Some c.value }
 {}

@@ -7,6 +7,8 @@
 #![tactic(auto)]
 
 mod choice; // a choice: the places where a segment may end
+mod constant_fields; // the fields of a fact that have to be equal to constants
+mod field_place; // the place of a field in a fact
 mod fitting; // `fit`: from the pattern and the fact to the ways
 mod following; // what follows the beginning of a way: the rest of a row, the rows of the slots after it, the way
 mod join_fields; // the fields of a fact that have to be equal to variables
@@ -17,12 +19,15 @@ mod may_take; // whether a row may take fields, by their number and by constants
 mod meter; // how often patterns were tested
 mod open_choices; // the choices that are open
 mod pattern; // a pattern; what it asks is private to the crate
+mod placed; // what a pattern asks of each field that it takes alone
 mod rest; // how a row begins: the constraints before the first segment, and what is left after them
 mod search; // the search for all ways, which takes up one choice at a time
 mod slots; // whether the rows of all slots may take what a fact has
 mod taking; // whether the constraint that comes next holds; constraints that take fields, from a place on
 mod way; // a way
 
+pub use constant_fields::ConstantField;
+pub use field_place::FieldPlace;
 pub use fitting::fit;
 pub use join_fields::JoinField;
 pub use meter::Meter;

@@ -1,10 +1,12 @@
 //! Patterns.
 ghost use Rattle.std.specs.Prelude.{◌≡◌, IfOk};
 ghost use Rattle.cb_constraints.specs.PartValues.{asked_parts};
+ghost use Rattle.cb_fit.specs.ConstantFields.{constant_fields};
 ghost use Rattle.cb_fit.specs.JoinFields.{join_fields};
 ghost use Rattle.cb_fit.specs.Meters.{one_test_more};
 ghost use Rattle.cb_fit.specs.Shapes.{loose};
 
+use crate::constant_fields::{ConstantField, constants_of_parts};
 use crate::join_fields::{JoinField, fields_of_parts};
 use crate::loose::loose_parts;
 use crate::meter::Meter;
@@ -68,6 +70,14 @@ impl<T> Pattern<T> {
         ensures { IfOk result (λ all. all.items ≡ join_fields self.now.parts) }
     {
         fields_of_parts(alloc, self.body.parts())
+    }
+
+    /// The fields of a fact that have to be equal to constants, whatever else the pattern asks: where one of these fields is not equal
+    /// to its constant, the pattern doesn't fit. Growth is refused as `NoMemory`, and so is a count of sharers that is full.
+    pub fn constant_fields(&self, alloc: Global) -> Result<Vec<ConstantField>, NoMemory>
+        ensures { IfOk result (λ all. all.items ≡ constant_fields self.now.parts) }
+    {
+        constants_of_parts(alloc, self.body.parts())
     }
 
     /// The relation of the facts that it is for.

@@ -6,4 +6,4 @@ use Rattle.cb_fit.specs.JoinFields.{fields_for}
 
 abbrev pub invariant-loop-check : goal.invariant-loop-check
 invariant-loop-check l =
-    l.all.items ++ fields_for l.slot l.field (binders_of (map check_of (drop l.check-index l.checks))) ≡ l.fn.all.items ++ fields_for l.slot l.field (binders_of (map check_of l.checks))
+    l.all.items ++ fields_for l.place (binders_of (map check_of (drop l.check-index l.checks))) ≡ l.fn.all.items ++ fields_for l.place (binders_of (map check_of l.checks))
