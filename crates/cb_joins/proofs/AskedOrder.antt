@@ -20,7 +20,7 @@ use Rattle.cb_joins.specs.contracts.asked.SpotPartialEq.TheImpl as spot_eq
 use Rattle.cb_joins.specs.declared.asked.AskedBy.{AskedBy}
 use Rattle.cb_joins.specs.declared.asked.Spot.{Spot}
 use Rattle.cb_joins.specs.declared.asked.Wanted.{Wanted}
-use Rattle.cb_joins.specs.declared.stub.FieldPlace.{FieldPlace}
+use Rattle.cb_fit.specs.declared.field_place.FieldPlace.{FieldPlace}
 
 then_assoc : (r s o : Ordering) → ordering_then r (ordering_then s o) ≡ ordering_then (ordering_then r s) o
 then_assoc Less s o = refl

@@ -11,19 +11,19 @@ use Rattle.cb_constraints.specs.PatternValues.{PatternValue}
 use Rattle.cb_facts.specs.Facts.{FactValue}
 use Rattle.cb_facts.specs.contracts.cited.LawsCited.TheImpl as facts_laws
 use Rattle.cb_facts.specs.declared.value.Value.{Value}
-use Rattle.cb_fit.specs.JoinFields.{field_value}
+use Rattle.cb_fit.specs.FieldPlaces.{field_value}
 use Rattle.cb_fit.specs.Shapes.{has_shape}
 use Rattle.cb_joins.proofs.IndexLists.{none_any}
 use Rattle.cb_joins.proofs.Unasked.{no_shape}
 use Rattle.cb_joins.specs.Internal.Asked.{AreAllFound, AreEntered, AreNodesEntered, IsEntered, IsNodeEntered, IsRuleEntered, IsUnconcerned, KeepsEntered, LosesOnly, NoneTakes, asked_at, asked_by, asked_of, takes}
 use Rattle.cb_joins.specs.Internal.Flat.{FlatNode, branch_nodes, flat_nodes, grouping, joining, testing}
 use Rattle.cb_joins.specs.Internal.Rules.{CanBeFilled, IsPlanned, branch_elements, kept_branches}
-use Rattle.cb_joins.specs.Internal.Stub.{constant_fields}
+use Rattle.cb_fit.specs.ConstantFields.{constant_fields}
 use Rattle.cb_joins.specs.declared.asked.Asked.{Asked}
 use Rattle.cb_joins.specs.declared.asked.AskedBy.{AskedBy}
 use Rattle.cb_joins.specs.declared.branch.Branch.{Branch}
-use Rattle.cb_joins.specs.declared.stub.ConstantField.{ConstantField}
-use Rattle.cb_joins.specs.declared.stub.FieldPlace.{FieldPlace}
+use Rattle.cb_fit.specs.declared.constant_fields.ConstantField.{ConstantField}
+use Rattle.cb_fit.specs.declared.field_place.FieldPlace.{FieldPlace}
 use Rattle.cb_matches.specs.Lemmas.Growth.{Fact}
 use Rattle.cb_matches.specs.Lemmas.Lists.{by_test, in_at, in_contains, in_filter, place_of}
 use Rattle.cb_matches.specs.Lemmas.Members.{In}
@@ -74,7 +74,7 @@ module _ (law : HasConstants) (table : Asked) (f : Fact) (numbers : List ℕ) (f
 
 -- ---- what is entered
 
-entered_still : (old new : Asked) → KeepsEntered old new → (rule : ℕ) (n : FlatNode) → IsNodeEntered old rule n → IsNodeEntered new rule n
+pub entered_still : (old new : Asked) → KeepsEntered old new → (rule : ℕ) (n : FlatNode) → IsNodeEntered old rule n → IsNodeEntered new rule n
 entered_still old new keeps rule (joining from x p) was = keeps (asked_by p rule) was
 entered_still old new keeps rule (testing from t) was = tt
 entered_still old new keeps rule (grouping from inner positive width) was = tt
@@ -108,7 +108,7 @@ rule_entered table rule bs plans entered =
     (λ k d h. subst (AreNodesEntered table rule) (plans k d h).planned.nodes (entered k d h))
 
 -- and where a rule is taken away
-asked_rule : (r : List ℕ) (cs : List ConstantField) (rule : ℕ) → (asked_at r cs rule).rule ≡ rule
+pub asked_rule : (r : List ℕ) (cs : List ConstantField) (rule : ℕ) → (asked_at r cs rule).rule ≡ rule
 asked_rule r [] rule = refl
 asked_rule r (c ∷ cs) rule = refl
 

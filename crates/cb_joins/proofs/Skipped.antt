@@ -96,3 +96,18 @@ module _ {T : Type 0} where
             subst (IsUnconcerned (fact_changed c)) is
             (subst (AreAllFound (fact_changed c) numbers_found) (sym was.stays) found k (kept_rule d) there
             (subst (λ (q : ℕ × List Elements). In q.0 numbers_found → ⊥) (sym is) (pass k d h l)))
+
+  -- before all
+  pub none_changed : (c : FactChange) (fs : IndexedFacts) (rules : List (Rule T)) → All (IsRule (facts_before c fs)) rules → (gone come : List KeyValue) (meter : ℕ)
+      → AreChanged c fs (kept_rules rules) rules 0
+      gone (gone ++ come_of (rule_keys (kept_rules rules) fs) (rule_keys (kept_rules rules) (facts_before c fs)))
+      come (come ++ come_of (rule_keys (kept_rules rules) (facts_before c fs)) (rule_keys (kept_rules rules) fs))
+      meter (meter + rules_probes (fact_added c) (facts_before c fs) fs (kept_rules rules))
+  none_changed c fs rules are gone come meter = record {
+    stays = refl;
+    done = λ k d h. absurd (omega (arith, h));
+    left = λ k d h l. are k d l;
+    lost = refl;
+    told = refl;
+    tests = omega arith;
+  }

@@ -53,9 +53,9 @@ none_for_relation f [] other k d h = absurd (omega (arith, h))
 none_for_relation f (n ∷ ns) other zero d h = not_for n (first_false (asks_for f.1.relation n) (ask_for f.1.relation ns) other)
   where
     not_for : (m : FlatNode) → asks_for f.1.relation m ≡ false → takes f m ≡ false
-    not_for (joining from x p) no = no_shape p f no
-    not_for (testing from t) no = refl
-    not_for (grouping from inner positive width) no = refl
+    not_for (joining from x p) apart = no_shape p f apart
+    not_for (testing from t) apart = refl
+    not_for (grouping from inner positive width) apart = refl
 none_for_relation f (n ∷ ns) other (suc k) d h = none_for_relation f ns (second_false (asks_for f.1.relation n) (ask_for f.1.relation ns) other) k d (omega (arith, h))
 
 -- a pattern whose shape a fact hasn't has no way

@@ -9,5 +9,4 @@ pub mod Keys
 pub mod Memories
 pub mod Nodes
 pub mod Rules
-pub mod Stub
 pub mod Steps

@@ -6,12 +6,11 @@
 ghost use Rattle.std.specs.Prelude.{◌≡◌, ◌≢◌, ℕ, IfOk, None, OnOk, Option, false};
 ghost use Rattle.cb_joins.specs.Internal.Asked.{IsEntered, KeepsEntered, LosesOnly, asked_by, asked_of, value_there, wanted_at};
 ghost use Rattle.cb_joins.specs.declared.asked.AskedBy.{AskedBy};
-ghost use Rattle.cb_joins.specs.declared.stub.FieldPlace.{FieldPlace};
+ghost use Rattle.cb_fit.specs.declared.field_place.FieldPlace.{FieldPlace};
 ghost use Rattle.cb_matches.specs.Lemmas.Members.{In};
 
-use crate::stub::{FieldPlace, constant_fields};
 use cb_facts::{Fact, Name, Value};
-use cb_fit::Pattern;
+use cb_fit::{FieldPlace, Pattern};
 use cb_forms::NoMemory;
 use std::alloc::{AllocError, Global};
 use std::collections::BTreeSet;
@@ -73,7 +72,7 @@ pub(crate) fn asked_by<T>(
     ensures { IfOk result (λ asked. asked ≡ asked_by pattern.now rule) }
 {
     let relation = pattern.relation().clone()?;
-    let (place, value) = match constant_fields(pattern, alloc)?.into_iter().next() {
+    let (place, value) = match pattern.constant_fields(alloc)?.into_iter().next() {
         Some(constant) => (Some(constant.place), Some(constant.value)),
         None => (None, None),
     };

@@ -1,7 +1,7 @@
 //! What the nodes of rules ask for.
 ghost use Rattle.std.specs.Prelude.{◌≡◌, ◌≢◌, All, OnOk, nat_eq, not};
 ghost use Rattle.std.specs.List.{filter};
-ghost use Rattle.cb_joins.specs.Internal.Asked.{AreEntered, AreNodesEntered, IsRuleEntered, KeepsEntered, LosesOnly, ask_for, asks_for};
+ghost use Rattle.cb_joins.specs.Internal.Asked.{AreEntered, AreNodesEntered, IsNodeEntered, IsRuleEntered, KeepsEntered, LosesOnly, ask_for, asks_for};
 ghost use Rattle.cb_joins.specs.Internal.Flat.{flat_node, flat_nodes};
 ghost use Rattle.cb_joins.specs.Internal.Rules.{CanBeFilled, kept_rule};
 ghost use Rattle.cb_matches.specs.Networks.{Conditions};
@@ -75,11 +75,25 @@ fn enter_nodes<T>(
     ensures stay { OnOk result (KeepsEntered asked.old asked.new) }
 {
     for node in nodes {
-        if let Node::Pattern { place, .. } = node {
-            asked.add(asked_by(alloc, &place.pattern, rule)?)?;
-        }
+        enter_node(alloc, asked, rule, node)?;
     }
     Ok(())
+}
+
+/// The same of one node.
+fn enter_node<T>(
+    alloc: Global,
+    asked: &mut Asked,
+    rule: u64,
+    node: &Node<T>,
+) -> Result<(), NoMemory>
+    ensures entered { OnOk result (IsNodeEntered asked.new rule (flat_node node.now)) }
+    ensures stay { OnOk result (KeepsEntered asked.old asked.new) }
+{
+    match node {
+        Node::Pattern { place, .. } => asked.add(asked_by(alloc, &place.pattern, rule)?),
+        Node::Test { .. } | Node::Group { .. } => Ok(()),
+    }
 }
 
 /// Takes out what the rule with this number asks for, if there is one.
@@ -125,9 +139,22 @@ fn leave_nodes<T>(
     ensures { OnOk result (LosesOnly rule asked.old asked.new) }
 {
     for node in nodes {
-        if let Node::Pattern { place, .. } = node {
-            asked.remove(&asked_by(alloc, &place.pattern, rule)?)?;
-        }
+        leave_node(alloc, asked, rule, node)?;
     }
     Ok(())
+}
+
+/// The same of one node.
+fn leave_node<T>(
+    alloc: Global,
+    asked: &mut Asked,
+    rule: u64,
+    node: &Node<T>,
+) -> Result<(), NoMemory>
+    ensures { OnOk result (LosesOnly rule asked.old asked.new) }
+{
+    match node {
+        Node::Pattern { place, .. } => asked.remove(&asked_by(alloc, &place.pattern, rule)?),
+        Node::Test { .. } | Node::Group { .. } => Ok(()),
+    }
 }

@@ -34,7 +34,6 @@ mod node; // the elements of a branch as nodes
 mod nodes; // the nodes of a branch, and what a change does to their lists
 mod place; // a pattern, and what a change does at it
 mod planning; // the elements of a branch as nodes
-mod stub;
 mod rules; // rules, and what a change does to them
 mod taking; // what is taken out of a list, and what is added to it
 mod telling; // keys of the partial matches at the end of a branch

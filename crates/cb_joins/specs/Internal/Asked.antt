@@ -4,15 +4,15 @@ use Rattle.std.specs.Str.{bytes_eq}
 use Rattle.cb_constraints.specs.PatternValues.{PatternValue}
 use Rattle.cb_facts.specs.Facts.{FactValue}
 use Rattle.cb_facts.specs.declared.value.Value.{Value}
-use Rattle.cb_fit.specs.JoinFields.{field_value}
+use Rattle.cb_fit.specs.FieldPlaces.{field_value}
 use Rattle.cb_joins.specs.Internal.Flat.{FlatNode, joining, testing, grouping, branch_nodes}
-use Rattle.cb_joins.specs.Internal.Stub.{constant_fields}
+use Rattle.cb_fit.specs.ConstantFields.{constant_fields}
 use Rattle.cb_joins.specs.declared.asked.Asked.{Asked}
 use Rattle.cb_joins.specs.declared.asked.AskedBy.{AskedBy}
 use Rattle.cb_joins.specs.declared.asked.Spot.{Spot}
 use Rattle.cb_joins.specs.declared.asked.Wanted.{Wanted}
-use Rattle.cb_joins.specs.declared.stub.ConstantField.{ConstantField}
-use Rattle.cb_joins.specs.declared.stub.FieldPlace.{FieldPlace}
+use Rattle.cb_fit.specs.declared.constant_fields.ConstantField.{ConstantField}
+use Rattle.cb_fit.specs.declared.field_place.FieldPlace.{FieldPlace}
 use Rattle.cb_matches.specs.Lemmas.Members.{In}
 use Rattle.cb_matches.specs.Networks.{Conditions}
 use Rattle.cb_partials.specs.Probes.{is_candidate}
