@@ -6,12 +6,12 @@ use Rattle.cb_facts.specs.FactLists.{IndexedFacts}
 use Rattle.cb_joins.proofs.Concerned.{none_takes, one_more}
 use Rattle.cb_joins.proofs.OneMore.{drop_mapped, rule_come, rule_tests}
 use Rattle.cb_joins.proofs.Unasked.{none_more, rule_keys_unasked, rule_unasked}
-use Rattle.cb_joins.specs.Internal.Asked.{AreAllFound, IsUnconcerned, NoneTakes}
+use Rattle.cb_joins.specs.Internal.Asked.{AreAllFound, ArePassed, IsUnconcerned, NoneTakes}
 use Rattle.cb_joins.specs.Internal.Changes.{IsMade, fact_added, fact_changed, facts_before}
 use Rattle.cb_joins.specs.Internal.Flat.{flat_nodes}
 use Rattle.cb_joins.specs.Internal.Keys.{branch_keys, rule_keys}
 use Rattle.cb_joins.specs.Internal.Nodes.{HaveIndices, Shapeless}
-use Rattle.cb_joins.specs.Internal.Rules.{ArePassed, HaveOwnNumbers, IsPlanned, IsRule, kept_branches, kept_rule, kept_rules}
+use Rattle.cb_joins.specs.Internal.Rules.{HaveOwnNumbers, IsPlanned, IsRule, kept_branches, kept_rule, kept_rules}
 use Rattle.cb_joins.specs.declared.branch.Branch.{Branch}
 use Rattle.cb_joins.specs.declared.fact_change.FactChange.{FactChange}
 use Rattle.cb_joins.specs.declared.rules.Rule.{Rule}

@@ -2,10 +2,10 @@
 ghost use Rattle.std.specs.Prelude.{◌≡◌, ◌≤◌, ◌+◌, ◌++◌, [], All, IfOk, OnOk, if◌then◌else◌, length, nat_eq, not};
 ghost use Rattle.std.specs.List.{filter, flat_map};
 ghost use Rattle.cb_facts.specs.FactLists.{IsFactBase};
-ghost use Rattle.cb_joins.specs.Internal.Asked.{AreAllFound};
+ghost use Rattle.cb_joins.specs.Internal.Asked.{AreAllFound, ArePassed};
 ghost use Rattle.cb_joins.specs.Internal.Changes.{IsMade, fact_added, fact_changed, facts_before};
 ghost use Rattle.cb_joins.specs.Internal.Keys.{Tells, branch_keys, rule_keys};
-ghost use Rattle.cb_joins.specs.Internal.Rules.{ArePassed, CanBeFilled, HaveOwnNumbers, IsBranch, IsRule, kept_branches, kept_rule, kept_rules};
+ghost use Rattle.cb_joins.specs.Internal.Rules.{CanBeFilled, HaveOwnNumbers, IsBranch, IsRule, kept_branches, kept_rule, kept_rules};
 ghost use Rattle.cb_partials.specs.Probes.{branches_probes, rules_probes};
 ghost use Rattle.cb_rules.specs.Elements.{branches_of};
 

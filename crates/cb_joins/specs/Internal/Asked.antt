@@ -1,5 +1,5 @@
 -- The facts that patterns ask for.
-use Rattle.std.specs.Prelude.{◌≡◌, ◌≢◌, ◌||◌, ℕ, Bool, false, List, [], ◌∷◌, All, Option, Some, None}
+use Rattle.std.specs.Prelude.{◌≡◌, ◌≢◌, ◌<◌, ◌≤◌, ◌||◌, ℕ, Bool, false, List, [], ◌∷◌, All, Option, Some, None, slice_index_or}
 use Rattle.std.specs.Str.{bytes_eq}
 use Rattle.cb_constraints.specs.PatternValues.{PatternValue}
 use Rattle.cb_facts.specs.Facts.{FactValue}
@@ -11,6 +11,7 @@ use Rattle.cb_joins.specs.declared.asked.Asked.{Asked}
 use Rattle.cb_joins.specs.declared.asked.AskedBy.{AskedBy}
 use Rattle.cb_joins.specs.declared.asked.Spot.{Spot}
 use Rattle.cb_joins.specs.declared.asked.Wanted.{Wanted}
+use Rattle.cb_joins.specs.declared.rules.Rule.{Rule}
 use Rattle.cb_fit.specs.declared.constant_fields.ConstantField.{ConstantField}
 use Rattle.cb_fit.specs.declared.field_place.FieldPlace.{FieldPlace}
 use Rattle.cb_matches.specs.Lemmas.Members.{In}
@@ -46,6 +47,10 @@ IsUnconcerned f r = All (λ es. NoneTakes f (branch_nodes es)) r.1
 -- of these rules, each that has such a pattern is among the numbers
 abbrev pub AreAllFound : ℕ × FactValue → List ℕ → Conditions → Type 0
 AreAllFound f numbers rules = All (λ r. (In r.0 numbers → ⊥) → IsUnconcerned f r) rules
+
+-- from a place on and up to another, no rule has one of these numbers
+abbrev pub ArePassed : {T : Type 0} → List (Rule T) → ℕ → ℕ → List ℕ → Type 0
+ArePassed {T} rules from to numbers = (k : ℕ) (d : Rule T) → from ≤ k → k < to → In (slice_index_or rules k d).id numbers → ⊥
 
 -- a rule asks for facts of a relation with the value of the first of these fields, or for each of the relation where there is none
 abbrev pub asked_at : List ℕ → List ConstantField → ℕ → AskedBy

@@ -1,5 +1,5 @@
 -- What is kept for branches and rules.
-use Rattle.std.specs.Prelude.{◌≡◌, ◌≢◌, ◌<◌, ◌≤◌, ℕ, List, [], ◌∷◌, Option, Some, None, All, if◌then◌else◌, map, nat_eq, slice_get, slice_index_or}
+use Rattle.std.specs.Prelude.{◌≡◌, ◌≢◌, ℕ, List, [], ◌∷◌, Option, Some, None, All, if◌then◌else◌, map, nat_eq, slice_get}
 use Rattle.std.specs.BTreeSet.{BTreeSet}
 use Rattle.cb_exprs.specs.Bindings.{Bindings}
 use Rattle.cb_facts.specs.FactLists.{IndexedFacts}
@@ -8,7 +8,7 @@ use Rattle.cb_joins.specs.Internal.Nodes.{AreKept, AreReady, IsPrepared}
 use Rattle.cb_joins.specs.declared.branch.Branch.{Branch}
 use Rattle.cb_joins.specs.declared.rules.Rule.{Rule}
 use Rattle.cb_matches.specs.Keys.{KeyValue}
-use Rattle.cb_matches.specs.Lemmas.Members.{Chain, In}
+use Rattle.cb_matches.specs.Lemmas.Members.{Chain}
 use Rattle.cb_matches.specs.Matches.{Partial}
 use Rattle.cb_matches.specs.Networks.{Conditions, keyed}
 use Rattle.cb_rules.specs.Elements.{Elements, element_of, elements}
@@ -69,10 +69,6 @@ module _ {T : Type 0} where
   pub record IsKeeping (fs : IndexedFacts) (rules : List (Rule T)) : Type 0 where
     pub numbers : HaveOwnNumbers (kept_rules rules)
     pub kept : All (IsRule fs) rules
-
-  -- from a place on and up to another, no rule has one of these numbers
-  abbrev pub ArePassed : List (Rule T) → ℕ → ℕ → List ℕ → Type 0
-  ArePassed rules from to numbers = (k : ℕ) (d : Rule T) → from ≤ k → k < to → In (slice_index_or rules k d).id numbers → ⊥
 
   -- the partial matches at the end of the branch at this place, and of that of the rule with this number
   abbrev pub partials_at : Option (Branch T) → List Partial

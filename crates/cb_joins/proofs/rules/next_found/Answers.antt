@@ -12,14 +12,14 @@ loop-at-preserved g c =
     let rules = c.args.rules.now in
     let at : ℕ = c.loop-at.at in
     let numbers = c.args.found.now.keys in
-    let rule : Rule g.row.T.Denot = c.index-rules-at.result in
+    let rule : Rule g.row.T.Denot = get_or rules at c.index-rules-at.result in
     let l : at < length rules = omega arith in
     record {
       from = omega (arith, inv.from);
       within = omega (arith, l);
       passed = λ k d h j i. elim (cases_eq k at) as (λ _. ⊥) [
         | inl e ↦ none_listed rule.id numbers (sym c.contains.ensures ∙ c.if-contains.false)
-            (subst (λ (r : Rule g.row.T.Denot). In r.id numbers) (ap (λ n. get_or rules n d) e ∙ sym (c.index-rules-at.is ∙ get_or_default rules at rule d l)) i)
+            (subst (λ (r : Rule g.row.T.Denot). In r.id numbers) (ap (λ n. get_or rules n d) e ∙ get_or_default rules at d c.index-rules-at.result l) i)
         | inr ne ↦ inv.passed k d h (omega (arith, j, ne)) i
       ];
     }

@@ -1,6 +1,6 @@
 use Rattle.std.proofs.Common.{◌≤◌, ◌-◌, length}
 use Rattle.cb_joins.proofs.rules.next_found.Given as goal
-use Rattle.cb_joins.specs.Internal.Rules.{ArePassed}
+use Rattle.cb_joins.specs.Internal.Asked.{ArePassed}
 
 abbrev pub invariant-loop-at : goal.invariant-loop-at
 invariant-loop-at g l = record {
