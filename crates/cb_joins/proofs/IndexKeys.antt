@@ -1,7 +1,7 @@
 -- The order of the keys of an index: by the values, and then by the index of the fact, or by the parts.
 use Rattle.std.proofs.Common.{◌≡◌, ◌∙◌, ◌<◌, ℕ, true, false, List, [], ◌∷◌, Ordering, Less, Equal, Greater, ap, arith, is_eq, is_le, nat_cmp, refl, subst, sym}
 use Rattle.std.proofs.lemmas.Map.Lookups.{exact_unsigned}
-use Rattle.std.specs.Cmp.{Equal-is, nat_cmp_total, ranks, tied_itself}
+use Rattle.std.specs.Cmp.{Equal-is, IsTotalOrder, nat_cmp_total, ranks, tied_itself}
 use Rattle.std.specs.Cmp.Lexicographic.{lists_ties, lists_total, pointwise, pointwise_decides, slice_cmp}
 use Rattle.std.specs.Ordering.{MatchOrdering, ordering_reverse, ordering_then}
 use Rattle.cb_facts.specs.contracts.cited.LawsCited.TheImpl as facts_laws
@@ -26,7 +26,7 @@ then_equal Less s h = cc
 then_equal Equal s h = (refl, h)
 then_equal Greater s h = cc
 
-then_le : (r s : Ordering) → is_le (ordering_then r s) ≡ true → is_le r ≡ true
+pub then_le : (r s : Ordering) → is_le (ordering_then r s) ≡ true → is_le r ≡ true
 then_le Less s h = refl
 then_le Equal s h = refl
 then_le Greater s h = h
@@ -34,7 +34,7 @@ then_le Greater s h = h
 then_rest : (r s o : Ordering) → r ≡ Equal → ordering_then r s ≡ o → s ≡ o
 then_rest r s o e h = subst (λ it. ordering_then it s ≡ o) e h
 
-le_both : (r : Ordering) → is_le r ≡ true → is_le (ordering_reverse r) ≡ true → r ≡ Equal
+pub le_both : (r : Ordering) → is_le r ≡ true → is_le (ordering_reverse r) ≡ true → r ≡ Equal
 le_both Less h k = cc
 le_both Equal h k = refl
 le_both Greater h k = cc
@@ -50,8 +50,22 @@ not_equal Greater h = refl
 pub below_less : (i j : ℕ) → nat_cmp i j ≡ Less → i < j
 below_less i j h = subst (λ o. MatchOrdering o (i < j) (i ≡ j) (j < i)) h (ranks i j)
 
-least_index : (i : ℕ) → is_le (nat_cmp 0 i) ≡ true
+pub least_index : (i : ℕ) → is_le (nat_cmp 0 i) ≡ true
 least_index i = grind arith
+
+-- what lies between a first part and the same first part has it too, and what has it isn't before it with the least rest
+module _ {F : Type 0} (R : F → F → Ordering) (total : IsTotalOrder R) (exact : (a b : F) → R a b ≡ Equal → a ≡ b) where
+  pub piece_between : (q y z : F) (r s : Ordering) → is_le (ordering_then (R q y) r) ≡ true → ordering_then (R y z) s ≡ Less → z ≡ q
+      → y ≡ q
+  piece_between q y z r s low high e =
+      let up : is_le (R y q) ≡ true = subst (λ it. is_le (R y it) ≡ true) e (then_le (R y z) s (ap is_le high)) in
+      let down : is_le (ordering_reverse (R y q)) ≡ true = sym (ap is_le (total.antisymm q y)) ∙ then_le (R q y) r low in
+      exact y q (le_both (R y q) up down)
+
+  pub piece_begins : (q z : F) (s : Ordering) → z ≡ q → is_le s ≡ true → is_le (ordering_then (R q z) s) ≡ true
+  piece_begins q z s e h =
+      let level : R q z ≡ Equal = subst (λ it. R q it ≡ Equal) (sym e) (tied_itself total q) in
+      subst (λ o. is_le (ordering_then o s) ≡ true) (sym level) h
 
 -- ---- values
 
@@ -73,14 +87,10 @@ values_level vs ws e = subst (λ it. values_cmp vs it ≡ Equal) e (tied_itself 
 -- what lies between values and the same values has them too
 values_between : (q y z : List Value) (r s : Ordering) → is_le (ordering_then (values_cmp q y) r) ≡ true
     → ordering_then (values_cmp y z) s ≡ Less → z ≡ q → y ≡ q
-values_between q y z r s low high e =
-    let total = lists_total value_laws.total-law in
-    let up : is_le (values_cmp y q) ≡ true = subst (λ it. is_le (values_cmp y it) ≡ true) e (then_le (values_cmp y z) s (ap is_le high)) in
-    let down : is_le (ordering_reverse (values_cmp y q)) ≡ true = sym (ap is_le (total.antisymm q y)) ∙ then_le (values_cmp q y) r low in
-    values_exact y q (le_both (values_cmp y q) up down)
+values_between = piece_between values_cmp (lists_total value_laws.total-law) values_exact
 
 values_begin : (q z : List Value) (s : Ordering) → z ≡ q → is_le s ≡ true → is_le (ordering_then (values_cmp q z) s) ≡ true
-values_begin q z s e h = subst (λ it. is_le (ordering_then it s) ≡ true) (sym (values_level q z (sym e))) h
+values_begin = piece_begins values_cmp (lists_total value_laws.total-law) values_exact
 
 -- ---- partial matches
 

@@ -1,7 +1,10 @@
 mod Answered
 mod Around
+mod AskedFound
+mod AskedOrder
 mod Beginnings
 mod Begun
+mod Concerned
 mod Counts
 mod Deltas
 mod Dropped
@@ -30,6 +33,7 @@ mod Patterns
 mod Pieces
 mod Planned
 mod Results
+mod Skipped
 mod Sorting
 mod Steps
 mod Takings

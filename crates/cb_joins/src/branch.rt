@@ -15,7 +15,7 @@ use crate::nodes::change_nodes;
 use crate::planning::plan_nodes;
 use crate::telling::{tell_list, tell_moved};
 use cb_fit::Meter;
-use cb_fit::laws::the_ways_rise_by_their_cuts;
+use cb_fit::laws::{no_shape_gives_no_ways, the_ways_rise_by_their_cuts};
 use cb_forms::{History, NoMemory};
 use cb_matches::{Delta, Key};
 use cb_partials::{Partial, Setting};
@@ -101,8 +101,9 @@ pub(crate) fn change_branch<T>(
         (facts_before change.now setting.now.facts.now) setting.now.facts.now
         (branch_elements branch.old)) }
 {
+    no_shape_gives_no_ways();
     the_ways_rise_by_their_cuts();
-    if !nodes_ask_for(branch.nodes.as_slice(), change.relation()) {
+    if !nodes_ask_for(branch.nodes.as_slice(), change.fact().relation()) {
         return Ok(());
     }
     let moved = change_nodes(

@@ -2,36 +2,38 @@
 ghost use Rattle.std.specs.Prelude.{◌≡◌, ◌≤◌, ◌+◌, ◌++◌, ◌∷◌, [], All, None, Some, IfOk, IsSome, OnOk, nat_eq, not};
 ghost use Rattle.std.specs.List.{filter};
 ghost use Rattle.cb_facts.specs.FactLists.{IsAbsent, IsFactBase, fact_at, with_fact, without_fact};
+ghost use Rattle.cb_joins.specs.Internal.Asked.{AreEntered};
 ghost use Rattle.cb_joins.specs.Internal.Changes.{IsMade, fact_added, facts_before};
 ghost use Rattle.cb_joins.specs.Internal.Keys.{rule_keys};
-ghost use Rattle.cb_joins.specs.Internal.Rules.{CanBeFilled, HaveOwnNumbers, IsKeeping, kept_rules};
+ghost use Rattle.cb_joins.specs.Internal.Rules.{CanBeFilled, HaveOwnNumbers, IsKeeping, kept_rule, kept_rules};
 ghost use Rattle.cb_matches.specs.Changes.{IsAbove, IsDelta};
 ghost use Rattle.cb_partials.specs.Probes.{rules_probes};
-ghost use Rattle.cb_rules.specs.Elements.{branches_of};
 
-use crate::branch::plan_branches;
+use crate::asked::Asked;
 use crate::fact_change::FactChange;
 use crate::indexed::Indexed;
 use crate::rules::{Rule, change_rules, drop_numbered, fill_rule, fill_rules};
 use cb_facts::FactList;
 use cb_fit::Meter;
+use cb_fit::laws::a_fact_with_the_shape_has_the_constants;
 use cb_forms::NoMemory;
 use cb_functions::Constants;
 use cb_matches::{Delta, Key};
 use cb_partials::{Setting, made};
-use cb_rules::Ce;
 use std::alloc::Global;
 
 /// Adds a fact.
 pub(crate) fn assert_fact<T>(
     alloc: Global,
     constants: &mut Option<Constants>,
+    asked: &Asked,
     rules: &mut Vec<Rule<T>>,
     facts: &mut FactList,
     one: Indexed,
     meter: &mut Meter<T>,
 ) -> Result<Delta, NoMemory>
     requires keeping { IsKeeping facts.old rules.old.items }
+    requires asked { AreEntered asked.now (kept_rules rules.old.items) }
     requires free { fact_at facts.old one.0 ≡ None }
     requires absent { IsAbsent facts.old one.1 }
     ensures facts { OnOk result (facts.new ≡ with_fact facts.old one.0 one.1) }
@@ -50,6 +52,7 @@ pub(crate) fn assert_fact<T>(
     change_facts(
         alloc,
         constants,
+        asked,
         rules.as_mut_slice(),
         facts,
         &change,
@@ -72,12 +75,14 @@ fn add_fact(facts: &mut FactList, one: &Indexed) -> Result<(), NoMemory>
 pub(crate) fn retract_fact<T>(
     alloc: Global,
     constants: &mut Option<Constants>,
+    asked: &Asked,
     rules: &mut Vec<Rule<T>>,
     facts: &mut FactList,
     ix: u64,
     meter: &mut Meter<T>,
 ) -> Result<Delta, NoMemory>
     requires keeping { IsKeeping facts.old rules.old.items }
+    requires asked { AreEntered asked.now (kept_rules rules.old.items) }
     requires there { IsSome (fact_at facts.old ix) }
     ensures facts { OnOk result (facts.new ≡ without_fact facts.old ix) }
     ensures rules { OnOk result (kept_rules rules.new.items ≡ kept_rules rules.old.items) }
@@ -95,6 +100,7 @@ pub(crate) fn retract_fact<T>(
     change_facts(
         alloc,
         constants,
+        asked,
         rules.as_mut_slice(),
         facts,
         &change,
@@ -119,10 +125,11 @@ fn take_fact(facts: &mut FactList, ix: u64) -> Result<Indexed, NoMemory>
     Ok(Indexed { ix, fact })
 }
 
-/// Changes the facts of rules. The facts are those after the change.
+/// Changes the facts of the rules that ask for the fact. The facts are those after the change.
 fn change_facts<T>(
     alloc: Global,
     constants: &mut Option<Constants>,
+    asked: &Asked,
     rules: &mut [Rule<T>],
     facts: &FactList,
     change: &FactChange,
@@ -131,6 +138,7 @@ fn change_facts<T>(
     requires base { IsFactBase facts.now }
     requires made { IsMade change.now facts.now }
     requires keeping { IsKeeping (facts_before change.now facts.now) rules.old }
+    requires asked { AreEntered asked.now (kept_rules rules.old) }
     ensures rules { OnOk result (kept_rules rules.new ≡ kept_rules rules.old) }
     ensures keeping { OnOk result (IsKeeping facts.now rules.new) }
     ensures delta { IfOk result (IsDelta
@@ -140,13 +148,15 @@ fn change_facts<T>(
         (meter.new ≤ meter.old + rules_probes (fact_added change.now)
         (facts_before change.now facts.now) facts.now (kept_rules rules.old)) }
 {
+    a_fact_with_the_shape_has_the_constants();
     let setting = Setting {
         alloc,
         constants: made(alloc, constants)?,
         facts,
     };
+    let found = asked.rules_for(alloc, change.fact())?;
     let mut delta = no_delta(alloc);
-    change_rules(&setting, rules, change, &mut delta, meter)?;
+    change_rules(&setting, rules, &found, change, &mut delta, meter)?;
     Ok(delta)
 }
 
@@ -161,26 +171,25 @@ fn no_delta(alloc: Global) -> Delta
     }
 }
 
-/// Adds a rule. The answer is the keys of its matches.
-pub(crate) fn add_numbered<T>(
+/// Adds a rule, before anything is found for it. The answer is the keys of its matches.
+pub(crate) fn add_planned<T>(
     alloc: Global,
     constants: &mut Option<Constants>,
     rules: &mut Vec<Rule<T>>,
     facts: &FactList,
-    id: u64,
-    branches: Vec<Vec<Ce<T>>>,
+    mut rule: Rule<T>,
     meter: &mut Meter<T>,
 ) -> Result<Delta, NoMemory>
     requires keeping { IsKeeping facts.now rules.old.items }
-    requires above { IsAbove id (kept_rules rules.old.items) }
+    requires above { IsAbove rule.id (kept_rules rules.old.items) }
+    requires plans { All CanBeFilled rule.branches.items }
     ensures rules { OnOk result (kept_rules rules.new.items
-        ≡ kept_rules rules.old.items ++ (id, branches_of branches.items) ∷ []) }
+        ≡ kept_rules rules.old.items ++ kept_rule rule ∷ []) }
     ensures keeping { OnOk result (IsKeeping facts.now rules.new.items) }
     ensures delta { IfOk result (IsDelta
         (record { rules = kept_rules rules.old.items; facts = facts.now })
         (record {
-          rules = kept_rules rules.old.items ++
-              (id, branches_of branches.items) ∷ [];
+          rules = kept_rules rules.old.items ++ kept_rule rule ∷ [];
           facts = facts.now;
         })) }
 {
@@ -190,8 +199,6 @@ pub(crate) fn add_numbered<T>(
         facts,
     };
     let mut delta = no_delta(alloc);
-    let branches = plan_branches(alloc, branches)?;
-    let mut rule = Rule { id, branches };
     fill_rule(&setting, &mut rule, &mut delta.come, meter)?;
     rules.push(rule)?;
     Ok(delta)

@@ -3,6 +3,7 @@ ghost use Rattle.std.specs.Prelude.{◌≡◌};
 ghost use Rattle.cb_joins.specs.Internal.Changes.{fact_changed};
 
 use crate::indexed::Indexed;
+use cb_facts::Fact;
 
 /// A change of the facts.
 #[derive(Drop)]
@@ -14,12 +15,12 @@ pub(crate) enum FactChange {
 }
 
 impl FactChange {
-    /// The relation of the fact.
-    pub(crate) fn relation(&self) -> &[u8]
-        ensures { result.now ≡ (fact_changed self.now).1.relation }
+    /// The fact.
+    pub(crate) fn fact(&self) -> &Fact
+        ensures { result.now ≡ (fact_changed self.now).1 }
     {
         match self {
-            FactChange::Assert(one) | FactChange::Retract(one) => one.fact.relation(),
+            FactChange::Assert(one) | FactChange::Retract(one) => &one.fact,
         }
     }
 }

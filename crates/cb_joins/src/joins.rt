@@ -8,10 +8,12 @@ ghost use Rattle.cb_matches.specs.Networks.{bindings_of, with_one, with_rule, wi
 ghost use Rattle.cb_partials.specs.Probes.{rules_probes};
 ghost use Rattle.cb_rules.specs.Elements.{branches_of};
 
-use crate::changes::{add_numbered, assert_fact, drop_rule, fill_anew, retract_fact};
+use crate::asked::Asked;
+use crate::asking::{enter_rule, leave_rule};
+use crate::changes::{add_planned, assert_fact, drop_rule, fill_anew, retract_fact};
 use crate::finding::find_env;
 use crate::indexed::Indexed;
-use crate::rules::Rule;
+use crate::rules::{Rule, plan_rule};
 use cb_exprs::Env;
 use cb_facts::{Fact, FactList};
 use cb_fit::Meter;
@@ -30,6 +32,8 @@ pub struct Joins<T> {
     /// The symbols that functions return, made when the first is wanted.
     constants: Option<Constants>,
     rules: Vec<Rule<T>>,
+    /// What the rules ask for.
+    asked: Asked,
     facts: FactList,
     failed: bool,
 }
@@ -37,6 +41,7 @@ pub struct Joins<T> {
 impl<T> Model for Joins<T> {
     ghost use Rattle.std.specs.Prelude.{◌≡◌, false};
     ghost use Rattle.std.specs.Coded.{codes};
+    ghost use Rattle.cb_joins.specs.Internal.Asked.{AreEntered};
     ghost use Rattle.cb_joins.specs.Internal.Rules.{IsKeeping, kept_rules};
     ghost use Rattle.cb_matches.specs.Internal.{matcher_code};
     ghost use Rattle.cb_matches.specs.Matchers.{MatcherValue};
@@ -47,7 +52,8 @@ impl<T> Model for Joins<T> {
 
     ghost view = { λ m. record { network = record { rules = kept_rules m.rules.items; facts = m.facts }; is_failed = m.failed } };
 
-    ghost invariant = { λ m. m.failed ≡ false → IsKeeping m.facts m.rules.items };
+    ghost invariant = { λ m. m.failed ≡ false
+        → IsKeeping m.facts m.rules.items × AreEntered m.asked (kept_rules m.rules.items) };
 }
 
 impl<T> Joins<T> {
@@ -59,6 +65,7 @@ impl<T> Joins<T> {
             alloc,
             constants: None,
             rules: Vec::new(alloc),
+            asked: Asked::new(alloc),
             facts: FactList::new(alloc),
             failed: false,
         }
@@ -88,13 +95,14 @@ impl<T> Matcher<T> for Joins<T> {
             return Err(NoMemory);
         }
         self.failed = true;
-        let delta = add_numbered(
+        let rule = plan_rule(self.alloc, id, branches)?;
+        enter_rule(self.alloc, &mut self.asked, &rule)?;
+        let delta = add_planned(
             self.alloc,
             &mut self.constants,
             &mut self.rules,
             &self.facts,
-            id,
-            branches,
+            rule,
             meter,
         )?;
         self.failed = false;
@@ -106,6 +114,7 @@ impl<T> Matcher<T> for Joins<T> {
             return Err(NoMemory);
         }
         self.failed = true;
+        leave_rule(self.alloc, &mut self.asked, self.rules.as_slice(), id)?;
         let delta = drop_rule(
             self.alloc,
             &mut self.constants,
@@ -136,6 +145,7 @@ impl<T> Matcher<T> for Joins<T> {
         let delta = assert_fact(
             self.alloc,
             &mut self.constants,
+            &self.asked,
             &mut self.rules,
             &mut self.facts,
             Indexed { ix, fact },
@@ -163,6 +173,7 @@ impl<T> Matcher<T> for Joins<T> {
         let delta = retract_fact(
             self.alloc,
             &mut self.constants,
+            &self.asked,
             &mut self.rules,
             &mut self.facts,
             ix,

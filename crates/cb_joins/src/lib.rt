@@ -16,6 +16,7 @@
 //! `docs/ARCHITECTURE.md` says where it belongs.
 #![tactic(auto)]
 
+mod asked; // the rules that ask for a fact, looked up
 mod asking; // which facts the nodes of a branch ask for
 mod branch; // a branch, and what a change does to it
 mod changes; // what each call of the matcher does to its rules and facts

@@ -1,18 +1,24 @@
 //! Rules, and what a change does to them.
-ghost use Rattle.std.specs.Prelude.{◌≡◌, ◌≤◌, ◌+◌, ◌++◌, [], All, OnOk, if◌then◌else◌, nat_eq, not};
+ghost use Rattle.std.specs.Prelude.{◌≡◌, ◌≤◌, ◌+◌, ◌++◌, [], All, IfOk, OnOk, if◌then◌else◌, length, nat_eq, not};
 ghost use Rattle.std.specs.List.{filter, flat_map};
 ghost use Rattle.cb_facts.specs.FactLists.{IsFactBase};
-ghost use Rattle.cb_joins.specs.Internal.Changes.{IsMade, fact_added, facts_before};
+ghost use Rattle.cb_joins.specs.Internal.Asked.{AreAllFound, ArePassed};
+ghost use Rattle.cb_joins.specs.Internal.Changes.{IsMade, fact_added, fact_changed, facts_before};
 ghost use Rattle.cb_joins.specs.Internal.Keys.{Tells, branch_keys, rule_keys};
 ghost use Rattle.cb_joins.specs.Internal.Rules.{CanBeFilled, HaveOwnNumbers, IsBranch, IsRule, kept_branches, kept_rule, kept_rules};
 ghost use Rattle.cb_partials.specs.Probes.{branches_probes, rules_probes};
+ghost use Rattle.cb_rules.specs.Elements.{branches_of};
 
-use crate::branch::{Branch, change_branch, fill_branch, tell_branch};
+use crate::branch::{Branch, change_branch, fill_branch, plan_branches, tell_branch};
 use crate::fact_change::FactChange;
 use cb_fit::Meter;
+use cb_fit::laws::{no_shape_gives_no_ways, the_ways_rise_by_their_cuts};
 use cb_forms::NoMemory;
 use cb_matches::{Delta, Key};
 use cb_partials::Setting;
+use cb_rules::Ce;
+use std::alloc::Global;
+use std::collections::BTreeSet;
 use std::mem;
 
 /// A rule's number and its branches.
@@ -22,17 +28,32 @@ pub(crate) struct Rule<T> {
     pub(crate) branches: Vec<Branch<T>>,
 }
 
-/// Changes the facts of rules. The keys of the matches that go and come stand behind those that are told of before, in their order.
-/// The facts are those after the change.
+/// What is to be kept for a rule with this number, before anything is found.
+pub(crate) fn plan_rule<T>(
+    alloc: Global,
+    id: u64,
+    branches: Vec<Vec<Ce<T>>>,
+) -> Result<Rule<T>, NoMemory>
+    ensures rule { IfOk result (λ rule. kept_rule rule ≡ (id, branches_of branches.items)) }
+    ensures plans { IfOk result (λ rule. All CanBeFilled rule.branches.items) }
+{
+    let branches = plan_branches(alloc, branches)?;
+    Ok(Rule { id, branches })
+}
+
+/// Changes the facts of rules, of which each that asks for the fact is among those that are found. The keys of the matches that go
+/// and come stand behind those that are told of before, in their order. The facts are those after the change.
 pub(crate) fn change_rules<T>(
     setting: &Setting<'_>,
     rules: &mut [Rule<T>],
+    found: &BTreeSet<u64>,
     change: &FactChange,
     delta: &mut Delta,
     meter: &mut Meter<T>,
 ) -> Result<(), NoMemory>
     requires base { IsFactBase setting.now.facts.now }
     requires made { IsMade change.now setting.now.facts.now }
+    requires found { AreAllFound (fact_changed change.now) found.now.keys (kept_rules rules.old) }
     requires numbers { HaveOwnNumbers (kept_rules rules.old) }
     requires rules { All (IsRule (facts_before change.now setting.now.facts.now)) rules.old }
     ensures stay { OnOk result (kept_rules rules.new ≡ kept_rules rules.old) }
@@ -45,10 +66,31 @@ pub(crate) fn change_rules<T>(
         (facts_before change.now setting.now.facts.now) setting.now.facts.now
         (kept_rules rules.old)) }
 {
-    for rule in rules.iter_mut() {
-        change_rule(setting, rule, change, delta, meter)?;
+    no_shape_gives_no_ways();
+    the_ways_rise_by_their_cuts();
+    let mut at = next_found(rules, 0, found);
+    while at < rules.len() {
+        change_rule(setting, &mut rules[at], change, delta, meter)?;
+        at = next_found(rules, at + 1, found);
     }
     Ok(())
+}
+
+/// The place of the first rule that is found, from this place on, or the number of rules.
+fn next_found<T>(rules: &[Rule<T>], from: usize, found: &BTreeSet<u64>) -> usize
+    requires { from ≤ length rules.now }
+    ensures from { from ≤ result }
+    ensures within { result ≤ length rules.now }
+    ensures passed { ArePassed rules.now from result found.now.keys }
+{
+    let mut at = from;
+    while at < rules.len() {
+        if found.contains(&rules[at].id) {
+            return at;
+        }
+        at += 1;
+    }
+    at
 }
 
 /// The same of one rule.

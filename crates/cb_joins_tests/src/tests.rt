@@ -3,3 +3,4 @@ mod changing;
 mod drawn;
 mod probes;
 mod rows;
+mod several;

@@ -5,7 +5,7 @@ use Rattle.std.specs.declared.cmp.Ordering.TheVariants.{Less}
 use Rattle.cb_fit.specs.Ways.{WayValue, ways}
 use Rattle.cb_facts.specs.FactLists.{IndexedFacts}
 use Rattle.cb_joins.proofs.Facts.{indices_before, indices_of, rising_base, rising_before}
-use Rattle.cb_joins.proofs.Unasked.{branch_unasked, keys_unasked}
+use Rattle.cb_joins.proofs.Unasked.{branch_unasked, keys_unasked, none_for_relation, nothing_told}
 use Rattle.cb_joins.specs.Internal.Asked.{ask_for}
 use Rattle.cb_joins.specs.Internal.Changes.{fact_added, fact_changed, facts_before}
 use Rattle.cb_joins.specs.Internal.Flat.{FlatNode, flat_nodes, flat_probes}
@@ -15,6 +15,7 @@ use Rattle.std.proofs.lemmas.Result.{on_ok_weaker}
 use Rattle.std.specs.Vec.{vec_len}
 use Rattle.cb_joins.proofs.Ends.{end_moved, last_within, probes_are, whole_of}
 use Rattle.cb_joins.proofs.Ordered.{sorted_matches}
+use Rattle.cb_joins.specs.Internal.Keys.{keys_in_branch}
 use Rattle.cb_joins.specs.Internal.Nodes.{AreMoved, AreWhole, branch_lists}
 use Rattle.cb_joins.specs.Internal.Rules.{branch_elements}
 use Rattle.cb_matches.specs.Matches.{matches_of}
@@ -24,17 +25,21 @@ use Rattle.cb_joins.proofs.branch.change_branch.Goals as goal
 pub returns-then-not-nodes_ask_for-clause-branch : goal.returns-then-not-nodes_ask_for-clause-branch
 returns-then-not-nodes_ask_for-clause-branch g c =
     let b = c.args.branch.now in
-    let other : ask_for (fact_changed c.args.change.now).1.relation (flat_nodes b.nodes.items) ≡ false = search rules in
-    branch_unasked c.args.change.now c.args.setting.now.facts.now c.requires.made b other c.requires.branch
+    let change = c.args.change.now in
+    let other : ask_for (fact_changed change).1.relation (flat_nodes b.nodes.items) ≡ false = search rules in
+    branch_unasked c.no_shape_gives_no_ways.ensures change c.args.setting.now.facts.now c.requires.made b (none_for_relation (fact_changed change) (flat_nodes b.nodes.items) other) c.requires.branch
 
 pub returns-then-not-nodes_ask_for-clause-delta : goal.returns-then-not-nodes_ask_for-clause-delta
 returns-then-not-nodes_ask_for-clause-delta g c =
     let fs : IndexedFacts = c.args.setting.now.facts.now in
     let b = c.args.branch.now in
+    let change = c.args.change.now in
     let rise : WaysRise = λ p f b. chain_from_pairs (λ (v : WayValue) (w : WayValue). slice_cmp nat_cmp v.cuts w.cuts ≡ Less) (ways p f b) (c.the_ways_rise_by_their_cuts.ensures p f b) in
     let rising : IsRising fs = rising_base fs c.requires.base in
-    let other : ask_for (fact_changed c.args.change.now).1.relation (flat_nodes b.nodes.items) ≡ false = search rules in
-    keys_unasked c.args.change.now fs c.requires.made b other rise (indices_before c.args.change.now fs rising c.requires.made) (indices_of fs rising) c.requires.branch.planned c.args.rule c.args.number c.args.delta.now
+    let other : ask_for (fact_changed change).1.relation (flat_nodes b.nodes.items) ≡ false = search rules in
+    nothing_told c.args.delta.now (keys_in_branch c.args.rule c.args.number (branch_elements b) (facts_before change fs)) (keys_in_branch c.args.rule c.args.number (branch_elements b) fs)
+    (keys_unasked c.no_shape_gives_no_ways.ensures change fs c.requires.made b (none_for_relation (fact_changed change) (flat_nodes b.nodes.items) other)
+    rise (indices_before change fs rising c.requires.made) (indices_of fs rising) c.requires.branch.planned c.args.rule c.args.number)
 
 pub change_nodes-requires-clause-whole : goal.change_nodes-requires-clause-whole
 change_nodes-requires-clause-whole g c = subst (λ it. AreWhole (flat_nodes it)) (sym c.as_mut_slice.ensures.value) (whole_of c.args.branch.now c.requires.branch.planned)

@@ -5,6 +5,7 @@ use Rattle.cb_facts.specs.Facts.{FactValue}
 use Rattle.cb_joins.proofs.Answered.{in_place, over}
 use Rattle.cb_joins.proofs.Facts.{before_taken, rising_base}
 use Rattle.cb_joins.proofs.changes.retract_fact.Goals as goal
+use Rattle.cb_joins.specs.Internal.Asked.{AreEntered}
 use Rattle.cb_joins.specs.Internal.Rules.{IsKeeping, kept_rules}
 use Rattle.cb_joins.specs.declared.rules.Rule.{Rule}
 use Rattle.cb_matches.specs.Changes.{IsDelta}
@@ -20,6 +21,10 @@ change_facts-requires-clause-keeping g c =
     let now = c.in_ok-one.ensures in
     let old = before c.args.ix c.in_ok-one.one.0 c.in_ok-one.one.1 c.args.facts.now c.take_fact.new.facts c.len-count.ensures.base now.index now.fact now.facts now.gone in
     in_place (λ (fs : IndexedFacts) (xs : List (Rule g.row.T.Denot)) (ys : List (Rule g.row.T.Denot)). IsKeeping fs xs) (sym old) (sym c.as_mut_slice.ensures.value) (sym c.as_mut_slice.ensures.value) c.requires.keeping
+
+pub change_facts-requires-clause-asked : goal.change_facts-requires-clause-asked
+change_facts-requires-clause-asked g c =
+    subst (λ (xs : List (Rule g.row.T.Denot)). AreEntered c.args.asked.now (kept_rules xs)) (sym c.as_mut_slice.ensures.value) c.requires.asked
 
 pub returns-clause-delta : goal.returns-clause-delta
 returns-clause-delta g c =

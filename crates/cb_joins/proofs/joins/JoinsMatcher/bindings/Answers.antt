@@ -24,7 +24,7 @@ returns g c =
     let rules = c.self.inside.rules.items in
     let rise : WaysRise = λ p f b. chain_from_pairs (λ (v : WayValue) (w : WayValue). slice_cmp nat_cmp v.cuts w.cuts ≡ Less) (ways p f b) (c.the_ways_rise_by_their_cuts.ensures p f b) in
     let works : c.self.inside.failed ≡ false = ap (λ v. v.is_failed) c.self.view_is ∙ c.requires in
-    let keeping : IsKeeping fs rules = c.self.invariant works in
+    let keeping : IsKeeping fs rules = (c.self.invariant works).0 in
     let is = ap (λ xs. option_map_or (λ env. env) (lookup (key_eq key) (kept_matches key.rule key.branch xs)) no_bindings) c.as_slice.ensures.value
     ∙ (bindings_kept rise fs (rising_base fs c.len-facts.ensures.base) key rules keeping ∙ ap (λ v. bindings_of v.network key) c.self.view_is) in
     subst (λ it. IfOk c.find_env.result (λ env. env ≡ it)) is c.find_env.ensures
@@ -36,6 +36,6 @@ find_env-requires g c =
     let rules = c.self.inside.rules.items in
     let rise : WaysRise = λ p f b. chain_from_pairs (λ (v : WayValue) (w : WayValue). slice_cmp nat_cmp v.cuts w.cuts ≡ Less) (ways p f b) (c.the_ways_rise_by_their_cuts.ensures p f b) in
     let works : c.self.inside.failed ≡ false = ap (λ v. v.is_failed) c.self.view_is ∙ c.requires in
-    let keeping : IsKeeping fs rules = c.self.invariant works in
+    let keeping : IsKeeping fs rules = (c.self.invariant works).0 in
     subst (λ xs. HaveOwnKeys (kept_matches key.rule key.branch xs)) (sym c.as_slice.ensures.value)
     (kept_once rise fs (rising_base fs c.len-facts.ensures.base) key rules keeping.kept)

@@ -1,0 +1,25 @@
+use Rattle.std.proofs.Common.{ℕ, ◌<◌, arith, get_or, length}
+use Rattle.cb_joins.proofs.Concerned.{all_mapped, entered_still, one_more}
+use Rattle.cb_joins.proofs.asking.enter_nodes.Goals as goal
+use Rattle.cb_joins.specs.Internal.Asked.{IsNodeEntered}
+use Rattle.cb_joins.specs.Internal.Flat.{flat_node}
+use Rattle.cb_joins.specs.declared.node.Node.{Node}
+
+pub loop-node-preserved : goal.loop-node-preserved
+loop-node-preserved g c =
+    let inv = c.loop-node.invariant in
+    let now = c.in_ok-enter_node.ensures in
+    let table = c.enter_node.new.asked in
+    let nodes = c.args.nodes.now in
+    let i : ℕ = c.loop-node.node-index in
+    let rule = c.args.rule in
+    let l : i < length nodes = omega arith in
+    record {
+      entered = one_more (λ (n : Node g.row.T.Denot). IsNodeEntered table rule (flat_node n)) nodes i c.node-item.result l c.node-item.is
+          (λ k d h. entered_still c.loop-node.asked table now.stay rule (flat_node (get_or nodes k d)) (inv.entered k d h)) now.entered;
+      stay = λ other was. now.stay other (inv.stay other was);
+    }
+
+pub returns-clause-entered : goal.returns-clause-entered
+returns-clause-entered g c =
+    all_mapped flat_node (IsNodeEntered c.loop-node.asked c.args.rule) c.args.nodes.now (λ k d h. c.loop-node.invariant.entered k d (omega (arith, h)))
