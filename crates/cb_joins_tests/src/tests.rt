@@ -3,4 +3,3 @@ mod changing;
 mod drawn;
 mod probes;
 mod rows;
-mod several;

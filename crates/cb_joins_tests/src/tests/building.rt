@@ -1,5 +1,5 @@
 //! Elements and facts by rows.
-use cb_constraints::{Check, Constraint, Demand, Parts, Row, SlotRow, Test};
+use cb_constraints::{Check, Constraint, Demand, Parts, Row, Test};
 use cb_exprs::Expr;
 use cb_facts::{Fact, Multifield, Name, Single, Value};
 use cb_fit::Pattern;
@@ -28,12 +28,6 @@ pub(crate) enum Field {
     NotNumber(i64),
 }
 
-/// The letters of the slots of a template.
-const SLOTS: [u8; 3] = [b'k', b'l', b'm'];
-
-/// The relation of a template. Each field of its facts and patterns stands in a slot of its own.
-const TEMPLATE: u8 = b't';
-
 /// A pattern: the letter of its relation, and what it asks of the fields.
 pub(crate) struct Asked {
     pub(crate) relation: u8,
@@ -60,23 +54,12 @@ pub(crate) fn letter(alloc: Global, letter: u8) -> Result<Name, NoMemory> {
 }
 
 pub(crate) fn fact(alloc: Global, relation: u8, numbers: &[i64]) -> Result<Fact, NoMemory> {
-    if relation == TEMPLATE {
-        return Fact::with_slots(alloc, letter(alloc, relation)?, slots(alloc, numbers)?);
-    }
     let mut fields = Vec::new(alloc);
     for number in numbers {
         fields.push(Single::Int(*number))?;
     }
     let fields = Multifield::from_vec(fields)?;
     Fact::ordered(alloc, letter(alloc, relation)?, fields)
-}
-
-fn slots(alloc: Global, numbers: &[i64]) -> Result<Vec<(Name, Value)>, NoMemory> {
-    let mut slots = Vec::new(alloc);
-    for (name, number) in SLOTS.iter().zip(numbers.iter()) {
-        slots.push((letter(alloc, *name)?, Value::Int(*number)))?;
-    }
-    Ok(slots)
 }
 
 fn test(alloc: Global, field: &Field) -> Result<Option<Check>, NoMemory> {
@@ -121,28 +104,9 @@ fn row(alloc: Global, fields: &[Field]) -> Result<Row, NoMemory> {
     Ok(Row::new(constraints))
 }
 
-fn slot_rows(alloc: Global, fields: &'static [Field]) -> Result<Vec<SlotRow>, NoMemory> {
-    let mut rows = Vec::new(alloc);
-    for (place, (name, field)) in SLOTS.iter().zip(fields.chunks(1)).enumerate() {
-        rows.push(SlotRow {
-            name: letter(alloc, *name)?,
-            place,
-            row: row(alloc, field)?,
-        })?;
-    }
-    Ok(rows)
-}
-
-fn parts(alloc: Global, asked: &Asked) -> Result<Parts, NoMemory> {
-    if asked.relation == TEMPLATE {
-        return Ok(Parts::Slots(slot_rows(alloc, asked.fields)?));
-    }
-    Ok(Parts::Fields(row(alloc, asked.fields)?))
-}
-
 fn pattern(alloc: Global, asked: &Asked) -> Result<Pattern<Mark>, NoMemory> {
-    let parts = parts(alloc, asked)?;
-    Pattern::new(alloc, letter(alloc, asked.relation)?, parts)
+    let row = row(alloc, asked.fields)?;
+    Pattern::new(alloc, letter(alloc, asked.relation)?, Parts::Fields(row))
 }
 
 fn pattern_element(

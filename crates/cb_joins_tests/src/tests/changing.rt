@@ -1,6 +1,5 @@
 //! The same changes made to two matchers.
-ghost use Rattle.std.specs.Prelude.{◌≡◌, ◌+◌, ℕ, [], OnOk};
-ghost use Rattle.cb_matches.specs.Changes.{IsAbove};
+ghost use Rattle.std.specs.Prelude.{◌≡◌, [], OnOk};
 
 use crate::tests::building::{Element, Mark, branches, fact, letter};
 use cb_exprs::Env;
@@ -41,9 +40,7 @@ fn assert_fact<M: Matcher<Mark>>(
     numbers: &[i64],
     meter: &mut Meter<Mark>,
 ) -> Result<Delta, NoMemory>
-    ensures empty { (M.network matcher.old).rules ≡ [] → OnOk result ((M.network matcher.new).rules ≡ []) }
-    ensures above { (n : ℕ) → IsAbove n (M.network matcher.old).rules
-        → OnOk result (IsAbove n (M.network matcher.new).rules) }
+    ensures { (M.network matcher.old).rules ≡ [] → OnOk result ((M.network matcher.new).rules ≡ []) }
 {
     let fact = fact(alloc, relation, numbers)?;
     if matcher.facts().get(ix).is_some() || matcher.facts().find(&fact).is_some() {
@@ -58,9 +55,7 @@ fn retract_fact<M: Matcher<Mark>>(
     ix: u64,
     meter: &mut Meter<Mark>,
 ) -> Result<Delta, NoMemory>
-    ensures empty { (M.network matcher.old).rules ≡ [] → OnOk result ((M.network matcher.new).rules ≡ []) }
-    ensures above { (n : ℕ) → IsAbove n (M.network matcher.old).rules
-        → OnOk result (IsAbove n (M.network matcher.new).rules) }
+    ensures { (M.network matcher.old).rules ≡ [] → OnOk result ((M.network matcher.new).rules ≡ []) }
 {
     if matcher.facts().get(ix).is_none() {
         return Ok(nothing(alloc));
@@ -74,9 +69,7 @@ pub(crate) fn carry_out<M: Matcher<Mark>>(
     change: &Change,
     meter: &mut Meter<Mark>,
 ) -> Result<Delta, NoMemory>
-    ensures empty { (M.network matcher.old).rules ≡ [] → OnOk result ((M.network matcher.new).rules ≡ []) }
-    ensures above { (n : ℕ) → IsAbove n (M.network matcher.old).rules
-        → OnOk result (IsAbove n (M.network matcher.new).rules) }
+    ensures { (M.network matcher.old).rules ≡ [] → OnOk result ((M.network matcher.new).rules ≡ []) }
 {
     match change {
         Change::Assert(ix, relation, numbers) => {
@@ -136,10 +129,6 @@ pub(crate) fn changed_alike<M: Matcher<Mark>, N: Matcher<Mark>>(
 ) -> Result<Option<usize>, NoMemory>
     ensures one { (M.network one.old).rules ≡ [] → OnOk result ((M.network one.new).rules ≡ []) }
     ensures other { (N.network other.old).rules ≡ [] → OnOk result ((N.network other.new).rules ≡ []) }
-    ensures one_above { (n : ℕ) → IsAbove n (M.network one.old).rules
-        → OnOk result (IsAbove n (M.network one.new).rules) }
-    ensures other_above { (n : ℕ) → IsAbove n (N.network other.old).rules
-        → OnOk result (IsAbove n (N.network other.new).rules) }
 {
     let told = carry_out(alloc, one, change, meter)?;
     let also = carry_out(alloc, other, change, meter)?;
@@ -179,25 +168,6 @@ fn all_alike<M: Matcher<Mark>, N: Matcher<Mark>>(
 
 pub(crate) fn sum(one: Option<usize>, other: Option<usize>) -> Option<usize> {
     Some(one?.saturating_add(other?))
-}
-
-/// How many keys went and came where a rule with this number was added, or nothing where the two answered differently.
-pub(crate) fn numbered_alike<M: Matcher<Mark>, N: Matcher<Mark>>(
-    alloc: Global,
-    one: &mut M,
-    other: &mut N,
-    number: u64,
-    rows: &[&'static [Element]],
-    meter: &mut Meter<Mark>,
-) -> Result<Option<usize>, NoMemory>
-    requires one { IsAbove number (M.network one.old).rules }
-    requires other { IsAbove number (N.network other.old).rules }
-    ensures one { OnOk result (IsAbove (number + 1) (M.network one.new).rules) }
-    ensures other { OnOk result (IsAbove (number + 1) (N.network other.new).rules) }
-{
-    let told = one.add_rule(number, branches(alloc, rows)?, meter)?;
-    let also = other.add_rule(number, branches(alloc, rows)?, meter)?;
-    compared(alloc, one, other, &told, &also)
 }
 
 /// How many keys went and came where a rule was added, or nothing where the two answered differently.

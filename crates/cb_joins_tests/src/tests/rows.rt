@@ -83,7 +83,32 @@ const A_Z: Asked = Asked {
     fields: &[Field::Is(b'z')],
 };
 
-pub(crate) const ROWS: [Row; 18] = [
+const A_1: Asked = Asked {
+    relation: b'a',
+    fields: &[Field::Number(1), Field::Is(b'x')],
+};
+
+const A_2: Asked = Asked {
+    relation: b'a',
+    fields: &[Field::Number(2), Field::Is(b'x')],
+};
+
+const A_X_2: Asked = Asked {
+    relation: b'a',
+    fields: &[Field::Is(b'x'), Field::Number(2)],
+};
+
+const A_NOT_1: Asked = Asked {
+    relation: b'a',
+    fields: &[Field::NotNumber(1), Field::Is(b'x')],
+};
+
+const A_REST_2: Asked = Asked {
+    relation: b'a',
+    fields: &[Field::Rest, Field::Number(2)],
+};
+
+pub(crate) const ROWS: [Row; 22] = [
     // (a ?x) (b ?x): the second pattern first, and then a fact that nothing goes with
     Row {
         story: Story {
@@ -393,6 +418,75 @@ pub(crate) const ROWS: [Row; 18] = [
                 Change::Retract(3),
                 Change::Retract(4),
                 Change::Assert(5, b'a', &[3]),
+            ],
+        },
+        keys: 3,
+    },
+    // (a 1 ?x), (a 2 ?x) or (a ?x 2): constants in the same field and in another, and a fact that has none of them
+    Row {
+        story: Story {
+            first: &[],
+            branches: &[
+                &[Element::Pattern(A_1)],
+                &[Element::Pattern(A_2)],
+                &[Element::Pattern(A_X_2)],
+            ],
+            then: &[
+                Change::Assert(1, b'a', &[1, 2]),
+                Change::Assert(2, b'a', &[2, 1]),
+                Change::Assert(3, b'a', &[3, 3]),
+                Change::Assert(4, b'b', &[1, 2]),
+                Change::Retract(1),
+                Change::Retract(3),
+            ],
+        },
+        keys: 5,
+    },
+    // (a ~1 ?x) or (a $? 2): a constant with `~`, and one behind a segment
+    Row {
+        story: Story {
+            first: &[],
+            branches: &[&[Element::Pattern(A_NOT_1)], &[Element::Pattern(A_REST_2)]],
+            then: &[
+                Change::Assert(1, b'a', &[1, 2]),
+                Change::Assert(2, b'a', &[2, 2]),
+                Change::Assert(3, b'a', &[2]),
+                Change::Retract(2),
+                Change::Retract(3),
+            ],
+        },
+        keys: 7,
+    },
+    // (b ?x) (not (a 1 ?x)), or (b ?x) (exists (a 2 ?x)): constants in groups
+    Row {
+        story: Story {
+            first: &[],
+            branches: &[
+                &[Element::Pattern(B_X), Element::Group(false, &[A_1])],
+                &[Element::Pattern(B_X), Element::Group(true, &[A_2])],
+            ],
+            then: &[
+                Change::Assert(1, b'b', &[7]),
+                Change::Assert(2, b'a', &[1, 7]),
+                Change::Assert(3, b'a', &[2, 7]),
+                Change::Retract(2),
+                Change::Retract(3),
+            ],
+        },
+        keys: 5,
+    },
+    // (a 1 ?x) (a ?x 2): two patterns with constants, of which one fact has both
+    Row {
+        story: Story {
+            first: &[],
+            branches: &[&[Element::Pattern(A_1), Element::Pattern(A_X_2)]],
+            then: &[
+                Change::Assert(1, b'a', &[2, 2]),
+                Change::Assert(2, b'a', &[1, 2]),
+                Change::Retract(1),
+                Change::Restart,
+                Change::Assert(3, b'a', &[1, 2]),
+                Change::Assert(4, b'a', &[2, 2]),
             ],
         },
         keys: 3,
