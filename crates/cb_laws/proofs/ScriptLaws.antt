@@ -273,10 +273,10 @@ script_within setup s = script_always (HasAtMost setup.max_firings) (firings_kep
 
 -- the agenda
 pub so_far_proper : (setup : Setup) (p : List ℕ) → IsProper (so_far setup p).state.world.agenda
-so_far_proper setup p = so_far_always HasProperAgenda agenda_kept (λ s r template e h. h) setup (none_due setup.stamp Depth) p
+so_far_proper setup p = so_far_always HasProperAgenda agenda_kept (λ s r template e h. h) setup (none_due setup.stamp Depth false) p
 
 pub script_proper : (setup : Setup) (s : List ℕ) → IsProper (complete setup s).state.world.agenda
-script_proper setup s = script_always HasProperAgenda agenda_kept (λ s r template e h. h) setup (none_due setup.stamp Depth) s
+script_proper setup s = script_always HasProperAgenda agenda_kept (λ s r template e h. h) setup (none_due setup.stamp Depth false) s
 
 -- what is due
 pub so_far_matches : (setup : Setup) (p : List ℕ) → (so_far setup p).status ≡ None → AreMatches (so_far setup p).state.world

@@ -248,9 +248,9 @@ firings_kept n = record {
 abbrev pub HasProperAgenda : World → Type 0
 HasProperAgenda s = IsProper s.agenda
 
-pub none_due : (last : ℕ) (strategy : Strategy) → IsProper (record { entries = []; last = last; strategy = strategy; failed = false })
+pub none_due : (last : ℕ) (strategy : Strategy) (failed : Bool) → IsProper (record { entries = []; last = last; strategy = strategy; failed = failed })
 unfolding IsStrictlySortedBy
-none_due last strategy = record { rising = tt; once = tt }
+none_due last strategy failed = record { rising = tt; once = tt }
 
 acts_proper : IsKept HasProperAgenda HasProperAgenda
 acts_proper = record {
@@ -273,8 +273,8 @@ agenda_kept = record {
   ruled = λ s rules h. h;
   moves = λ s rules last_rule h. proper_moved s (with_rules rules last_rule s.memory) h;
   restarts = λ s h. agenda_only HasProperAgenda HasProperAgenda [] (all_keys (restarted s.memory).network) (λ t ss k. changed_proper t.agenda [] (all_keys (restarted s.memory).network) ss k) (λ t k. k)
-      (without_facts s) (none_due s.agenda.last s.agenda.strategy);
-  clears = λ s h. none_due s.agenda.last s.agenda.strategy;
+      (without_facts s) (none_due s.agenda.last s.agenda.strategy s.agenda.failed);
+  clears = λ s h. none_due s.agenda.last s.agenda.strategy s.agenda.failed;
   runs = runs_keep HasProperAgenda HasProperAgenda acts_proper (λ s n h. h) (λ s h. popped_proper s.agenda h);
   watches = λ s w h. h;
   orders = λ s strategy h. record { rising = h.rising; once = h.once };
