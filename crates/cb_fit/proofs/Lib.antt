@@ -5,6 +5,7 @@ mod Choices
 mod Constants
 mod CutsFix
 mod CutsInOrder
+mod Enough
 mod Examples
 mod Givings
 mod Groups
@@ -22,6 +23,7 @@ mod Segments
 mod ShapeTested
 mod Splits
 mod Standing
+mod StandsAlone
 mod Takes
 mod Trailing
 mod Tries

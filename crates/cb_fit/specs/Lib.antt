@@ -6,5 +6,6 @@ pub mod Laws
 pub mod Meters
 pub mod Related
 pub mod Shapes
+pub mod StandsAlone
 pub mod WayValues
 pub mod Ways

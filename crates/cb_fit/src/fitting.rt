@@ -4,8 +4,9 @@ ghost use Rattle.cb_constraints.specs.PartValues.{asked_parts, asked_slot};
 ghost use Rattle.cb_constraints.specs.PatternValues.{fields as fields_parts, slots as slots_parts};
 ghost use Rattle.cb_facts.specs.Facts.{content_of};
 ghost use Rattle.cb_facts.specs.Facts as fact;
-ghost use Rattle.cb_fit.specs.Internal.Choices.{as_ways};
+ghost use Rattle.cb_fit.specs.Internal.Choices.{AreEnough, as_ways};
 ghost use Rattle.cb_fit.specs.Meters.{one_test_more};
+ghost use Rattle.cb_fit.specs.Shapes.{has_way};
 ghost use Rattle.cb_fit.specs.WayValues.{way_of};
 ghost use Rattle.cb_fit.specs.Ways.{way_with, ways, ways_of_parts, ways_of_row, ways_of_slots};
 
@@ -35,7 +36,6 @@ use std::alloc::Global;
 /// template is to be of that one.
 ///
 /// Growth is refused as `NoMemory`, and so is a count of sharers that is full; the meter has gone up then too.
-#[tactic(auto, using(crate::proofs::Looked::lengths_never_fit))]
 pub fn fit<T>(
     alloc: Global,
     constants: &Constants,
@@ -47,6 +47,40 @@ pub fn fit<T>(
     ensures ways { IfOk result (λ all. map way_of all.items ≡ ways pattern.now fact.now env.now) }
     ensures counted { meter.new ≡ one_test_more meter.old }
 {
+    find_ways(alloc, constants, pattern, fact, env, false, meter)
+}
+
+/// Whether a pattern fits a fact in any way. It tests the pattern as `fit` does, but ends at the first way.
+pub fn fits<T>(
+    alloc: Global,
+    constants: &Constants,
+    pattern: &Pattern<T>,
+    fact: &Fact,
+    env: &Env,
+    meter: &mut Meter<T>,
+) -> Result<bool, NoMemory>
+    ensures fits { IfOk result (λ fits. fits ≡ has_way (ways pattern.now fact.now env.now)) }
+    ensures counted { meter.new ≡ one_test_more meter.old }
+{
+    let found = find_ways(alloc, constants, pattern, fact, env, true, meter)?;
+    Ok(!found.is_empty())
+}
+
+/// All ways, or where one is enough the first ones: some, if there are any.
+#[tactic(auto, using(crate::proofs::Looked::lengths_never_fit, crate::proofs::Enough::all_are_enough))]
+fn find_ways<T>(
+    alloc: Global,
+    constants: &Constants,
+    pattern: &Pattern<T>,
+    fact: &Fact,
+    env: &Env,
+    is_one_enough: bool,
+    meter: &mut Meter<T>,
+) -> Result<Vec<Way>, NoMemory>
+    ensures ways { IfOk result (λ found. AreEnough is_one_enough (map way_of found.items)
+        (ways pattern.now fact.now env.now)) }
+    ensures counted { meter.new ≡ one_test_more meter.old }
+{
     let body = pattern.open(meter);
     if !take_lengths(body.parts(), fact.content()) {
         return Ok(Vec::new(alloc));
@@ -54,20 +88,22 @@ pub fn fit<T>(
     if pattern.relation().as_slice() != fact.relation() {
         return Ok(Vec::new(alloc));
     }
-    search_body(alloc, constants, body, fact.content(), env)
+    search_body(alloc, constants, body, fact.content(), env, is_one_enough)
 }
 
-/// All ways to take what a pattern asks of the content of a fact.
+/// The ways to take what a pattern asks of the content of a fact, so many as are enough.
+#[tactic(auto, using(crate::proofs::Enough::all_are_enough))]
 fn search_body(
     alloc: Global,
     constants: &Constants,
     body: &Body,
     content: &Content,
     env: &Env,
+    is_one_enough: bool,
 ) -> Result<Vec<Way>, NoMemory>
-    ensures { IfOk result (λ all. map way_of all.items
-        ≡ map (way_with body.now env.now)
-        (ways_of_parts body.now (content_of content.now) env.now)) }
+    ensures { IfOk result (λ found. AreEnough is_one_enough (map way_of found.items)
+        (map (way_with body.now env.now)
+        (ways_of_parts body.now (content_of content.now) env.now))) }
 {
     match (body.parts(), content) {
         (Parts::Fields(row), Content::Fields(fields)) => {
@@ -79,7 +115,7 @@ fn search_body(
                 slots: &[],
                 before: env,
             };
-            search_fields(search, row, fields)
+            search_fields(search, row, fields, is_one_enough)
         }
         (Parts::Slots(rows), Content::Slots(slots)) => {
             let search = Search {
@@ -90,7 +126,7 @@ fn search_body(
                 slots,
                 before: env,
             };
-            search_slots(search, rows)
+            search_slots(search, rows, is_one_enough)
         }
         _ => Ok(Vec::new(alloc)),
     }
@@ -102,11 +138,12 @@ fn search_fields<'a>(
     search: Search<'a>,
     row: &'a Row,
     fields: &'a Multifield,
+    is_one_enough: bool,
 ) -> Result<Vec<Way>, NoMemory>
     requires row { search.body.now ≡ fields_parts row.now }
     requires content { content_of search.content.now ≡ fact.fields fields.now }
-    ensures { IfOk result (λ all. map way_of all.items
-        ≡ as_ways search.entry (ways_of_row row.now fields.now search.entry.before.now)) }
+    ensures { IfOk result (λ found. AreEnough is_one_enough (map way_of found.items)
+        (as_ways search.entry (ways_of_row row.now fields.now search.entry.before.now))) }
 {
     let mut all = Vec::new(search.alloc);
     if !may_take_row(Fields::All(fields), row) {
@@ -114,18 +151,22 @@ fn search_fields<'a>(
     }
     let mut cuts = Cuts::new(search.alloc);
     let next = search.begin_fields(row, Fields::All(fields), &mut cuts, &mut all)?;
-    search.run(next, &mut cuts, &mut all)?;
+    search.run(next, is_one_enough, &mut cuts, &mut all)?;
     Ok(all)
 }
 
 /// The same of the slots of a template's fact.
 #[tactic(auto, using(crate::proofs::Looked::slots_never_taken))]
-fn search_slots<'a>(search: Search<'a>, rows: &'a [SlotRow]) -> Result<Vec<Way>, NoMemory>
+fn search_slots<'a>(
+    search: Search<'a>,
+    rows: &'a [SlotRow],
+    is_one_enough: bool,
+) -> Result<Vec<Way>, NoMemory>
     requires rows { search.body.now ≡ slots_parts (map asked_slot rows.now) }
     requires content { content_of search.content.now ≡ fact.slots search.slots.now }
-    ensures { IfOk result (λ all. map way_of all.items
-        ≡ as_ways search.entry (ways_of_slots (map asked_slot rows.now)
-        search.entry.slots.now search.entry.before.now)) }
+    ensures { IfOk result (λ found. AreEnough is_one_enough (map way_of found.items)
+        (as_ways search.entry (ways_of_slots (map asked_slot rows.now)
+        search.entry.slots.now search.entry.before.now))) }
 {
     let mut all = Vec::new(search.alloc);
     if !may_take_slots(rows, search.slots) {
@@ -133,6 +174,6 @@ fn search_slots<'a>(search: Search<'a>, rows: &'a [SlotRow]) -> Result<Vec<Way>,
     }
     let mut cuts = Cuts::new(search.alloc);
     let next = search.begin_rows(rows, &mut cuts, &mut all)?;
-    search.run(next, &mut cuts, &mut all)?;
+    search.run(next, is_one_enough, &mut cuts, &mut all)?;
     Ok(all)
 }

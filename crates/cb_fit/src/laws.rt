@@ -17,6 +17,7 @@ ghost use Rattle.cb_fit.specs.JoinFields.{join_fields, value_in};
 ghost use Rattle.cb_fit.specs.Laws.{any_fields, of_length, of_one, one_field};
 ghost use Rattle.cb_fit.specs.Related.{Fits};
 ghost use Rattle.cb_fit.specs.Shapes.{HasShape, has_shape, loose, loose_demand};
+ghost use Rattle.cb_fit.specs.StandsAlone.{stands_alone};
 ghost use Rattle.cb_fit.specs.Ways.{WayValue, taken_way, ways};
 ghost use Rattle.cb_fit.specs.declared.constant_fields.ConstantField.{ConstantField};
 ghost use Rattle.cb_fit.specs.declared.join_fields.JoinField.{JoinField};
@@ -119,4 +120,10 @@ pub fn a_fact_with_the_shape_has_the_constants()
     ensures { (p : PatternValue) (f : FactValue) → has_shape p f ≡ true
         → (c : ConstantField) → Contains (constant_fields p.parts) c
         → field_value c.place.slot c.place.field f.content ≡ Some c.value }
+{}
+
+/// A pattern that stands alone is the same without its variables and expressions, as it has none: it fits just the facts that have
+/// its shape.
+pub fn a_pattern_that_stands_alone_is_its_shape()
+    ensures { (p : PatternValue) → stands_alone p ≡ true → loose p ≡ p }
 {}

@@ -23,12 +23,13 @@ mod placed; // what a pattern asks of each field that it takes alone
 mod rest; // how a row begins: the constraints before the first segment, and what is left after them
 mod search; // the search for all ways, which takes up one choice at a time
 mod slots; // whether the rows of all slots may take what a fact has
+mod standing_alone; // whether a pattern asks by constants and lengths alone
 mod taking; // whether the constraint that comes next holds; constraints that take fields, from a place on
 mod way; // a way
 
 pub use constant_fields::ConstantField;
 pub use field_place::FieldPlace;
-pub use fitting::fit;
+pub use fitting::{fit, fits};
 pub use join_fields::JoinField;
 pub use meter::Meter;
 pub use pattern::Pattern;

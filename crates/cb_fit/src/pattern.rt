@@ -5,11 +5,13 @@ ghost use Rattle.cb_fit.specs.ConstantFields.{constant_fields};
 ghost use Rattle.cb_fit.specs.JoinFields.{join_fields};
 ghost use Rattle.cb_fit.specs.Meters.{one_test_more};
 ghost use Rattle.cb_fit.specs.Shapes.{loose};
+ghost use Rattle.cb_fit.specs.StandsAlone.{stands_alone};
 
 use crate::constant_fields::{ConstantField, constants_of_parts};
 use crate::join_fields::{JoinField, fields_of_parts};
 use crate::loose::loose_parts;
 use crate::meter::Meter;
+use crate::standing_alone::parts_alone;
 use cb_constraints::{Body, Parts};
 use cb_facts::Name;
 use cb_forms::NoMemory;
@@ -61,6 +63,14 @@ impl<T> Pattern<T> {
     {
         let parts = loose_parts(alloc, self.body.parts())?;
         Pattern::new(alloc, self.relation.clone()?, parts)
+    }
+
+    /// Whether it asks by constants and lengths alone: no constraint has a variable or an expression. Then whether it fits a fact doesn't
+    /// depend on what variables have, and it gives none a value.
+    pub fn stands_alone(&self) -> bool
+        ensures { result ≡ stands_alone self.now }
+    {
+        parts_alone(self.body.parts())
     }
 
     /// The fields of a fact that have to be equal to variables, whatever else the pattern asks: where one of these variables has a

@@ -1,7 +1,7 @@
-//! The search for all ways. It keeps the lengths of the segments that were taken so far, and the choices that are open: at most
+//! The search for ways. It keeps the lengths of the segments that were taken so far, and the choices that are open: at most
 //! one for each segment. It takes up the choice that was opened last, so that shorter segments come first.
 ghost use Rattle.std.specs.Prelude.{◌≡◌, ◌++◌, ◌+◌, ◌<◌, List, true, IfSome, IsSomeAnd, OnOk, map};
-ghost use Rattle.cb_fit.specs.Internal.Choices.{AreOpen, AreUpTo, IsOpen, KeepsFirst, as_ways, kept_with, constraint_number, tries_if, tries_left, ways_if, ways_left};
+ghost use Rattle.cb_fit.specs.Internal.Choices.{AreEnough, AreOpen, AreUpTo, IsOpen, KeepsFirst, as_ways, kept_with, constraint_number, tries_if, tries_left, ways_if, ways_left};
 ghost use Rattle.cb_fit.specs.WayValues.{way_of};
 
 use crate::choice::Choice;
@@ -32,38 +32,44 @@ pub(crate) struct Search<'a> {
 }
 
 impl<'a> Search<'a> {
-    /// Keeps all ways that a choice becomes, if there is one.
+    /// Keeps the ways that a choice becomes, if there is one: all, or where one is enough the first ones.
+    #[tactic(auto, using(crate::proofs::Enough::all_are_enough))]
     pub(crate) fn run(
         self,
         first: Option<Choice<'a>>,
+        is_one_enough: bool,
         cuts: &mut Cuts,
         kept: &mut Vec<Way>,
     ) -> Result<(), NoMemory>
         requires { IfSome first (IsOpen self cuts.old) }
-        ensures { OnOk result (map way_of kept.new.items
-            ≡ kept_with self.entry cuts.old kept.old.items first.entry) }
+        ensures { OnOk result (AreEnough is_one_enough (map way_of kept.new.items)
+            (kept_with self.entry cuts.old kept.old.items first.entry)) }
     {
         match first {
-            Some(choice) => self.run_from(choice, cuts, kept),
+            Some(choice) => self.run_from(choice, is_one_enough, cuts, kept),
             None => Ok(()),
         }
     }
 
-    /// Keeps all ways that this choice becomes.
+    /// Keeps the ways that this choice becomes.
     fn run_from(
         self,
         first: Choice<'a>,
+        is_one_enough: bool,
         cuts: &mut Cuts,
         kept: &mut Vec<Way>,
     ) -> Result<(), NoMemory>
         requires { IsOpen self cuts.old first }
-        ensures { OnOk result (map way_of kept.new.items
-            ≡ kept_with self.entry cuts.old kept.old.items (Some first.entry)) }
+        ensures { OnOk result (AreEnough is_one_enough (map way_of kept.new.items)
+            (kept_with self.entry cuts.old kept.old.items (Some first.entry))) }
     {
         let mut choices = OpenChoices::new(self.alloc);
         choices.push(Some(first))?;
         while let Some(next) = choices.pop() {
             self.step(next, &mut choices, cuts, kept)?;
+            if is_one_enough && !kept.is_empty() {
+                return Ok(());
+            }
         }
         Ok(())
     }

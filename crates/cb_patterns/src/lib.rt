@@ -5,6 +5,6 @@
 #![tactic(auto)]
 
 pub use cb_constraints::laws as constraint_laws;
-pub use cb_fit::{Meter, Pattern, Way, fit, laws as fit_laws};
+pub use cb_fit::{Meter, Pattern, Way, fit, fits, laws as fit_laws};
 pub use cb_rule_forms::{laws as rule_laws, read_rule};
 pub use cb_rules::{Ce, Layout, Rule};

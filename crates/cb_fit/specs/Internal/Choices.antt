@@ -1,5 +1,5 @@
 -- What a search for ways still has to try.
-use Rattle.std.specs.Prelude.{◌≡◌, ◌<◌, ◌≤◌, ◌+◌, ◌-◌, ◌*◌, ◌^◌, ℕ, zero, suc, IsSomeAnd, true, List, [], ◌∷◌, ◌++◌, Option, Some, None, flat_map, length, map, take}
+use Rattle.std.specs.Prelude.{◌≡◌, ◌<◌, ◌≤◌, ◌+◌, ◌-◌, ◌*◌, ◌^◌, ℕ, zero, suc, IsSomeAnd, Bool, true, false, List, [], ◌∷◌, ◌++◌, Option, Some, None, flat_map, length, map, take}
 use Rattle.cb_constraints.specs.Constraints.{Constraint, constraint_of}
 use Rattle.cb_constraints.specs.PartValues.{asked_slot}
 use Rattle.cb_constraints.specs.PatternValues.{SlotValue}
@@ -8,6 +8,7 @@ use Rattle.cb_cuts.specs.Internal.{row_fields}
 use Rattle.cb_facts.specs.declared.value.Value.{Value}
 use Rattle.cb_fit.specs.Internal.{Begun, begun_at, endings, may_take_slots, with_group}
 use Rattle.cb_fit.specs.Internal.Standing.{AreNext, IsAt}
+use Rattle.cb_fit.specs.Shapes.{has_way}
 use Rattle.cb_fit.specs.WayValues.{way_of}
 use Rattle.cb_fit.specs.Ways.{Taken, WayValue, each_followed_by, numbers, way_with, ways_of_slots}
 use Rattle.cb_fit.specs.declared.choice.Choice as program
@@ -56,6 +57,11 @@ ways_if s cuts (Some c) = choice_ways s (cuts_before c cuts) c
 -- the ways that are kept, and those that a choice becomes, if there is one
 abbrev pub kept_with : program_search.Search → List ℕ → List program_way.Way → Option program.Choice → List WayValue
 kept_with s cuts kept next = map way_of kept ++ as_ways s (ways_if s cuts next)
+
+-- the ways that are found are all, or where one is enough some if there are any
+abbrev pub AreEnough : Bool → List WayValue → List WayValue → Type 0
+AreEnough false found all = found ≡ all
+AreEnough true found all = has_way found ≡ has_way all
 
 -- all that becomes of a choice where its segment ends after a place
 abbrev pub ways_after : program_search.Search → List ℕ → program.Choice → ℕ → List Taken

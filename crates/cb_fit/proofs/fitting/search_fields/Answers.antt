@@ -1,4 +1,5 @@
 use Rattle.std.proofs.Common.{◌≡◌, ◌∙◌, ◌++◌, ◌+◌, arith, ap, length, map, subst, sym}
+use Rattle.cb_fit.proofs.Enough.{enough_of}
 use Rattle.cb_fit.proofs.InTurn.{from_start}
 use Rattle.cb_fit.proofs.Standing.{env-first, row-ends, row-starts}
 use Rattle.cb_fit.specs.Internal.{env_after}
@@ -19,8 +20,9 @@ begin_fields-requires-clause-next c =
 
 pub returns : goal.returns
 returns c =
-    c.in_ok-run.ensures
-    ∙ (c.in_ok-next.ensures.ways
+    enough_of c.args.is_one_enough _ _ _
+    (c.in_ok-next.ensures.ways
     ∙ (ap (λ xs. map way_of xs ++ as_ways c.args.search (map (after_cuts c.new-cuts.result) (ways_of_row c.args.row.now c.args.fields.now (env_after c.args.search c.new-cuts.result)))) c.new-all.ensures.items
     ∙ ap (as_ways c.args.search) (from_start c.new-cuts.result (ways_of_row c.args.row.now c.args.fields.now (env_after c.args.search c.new-cuts.result)) c.new-cuts.ensures
     ∙ ap (ways_of_row c.args.row.now c.args.fields.now) (env-first c.args.search c.new-cuts.result c.new-cuts.ensures))))
+    c.in_ok-run.ensures

@@ -1,5 +1,6 @@
 use Rattle.std.proofs.Common.{◌∙◌, ◌++◌, ◌∷◌, [], ap, length, map, subst, sym}
 use Rattle.cb_constraints.specs.PartValues.{asked_slot}
+use Rattle.cb_fit.proofs.Enough.{enough_of}
 use Rattle.cb_fit.proofs.InTurn.{from_start_alone}
 use Rattle.cb_fit.proofs.Standing.{env-first, rows-start}
 use Rattle.cb_fit.specs.Internal.{taken_by}
@@ -15,7 +16,8 @@ begin_rows-requires-clause-next c =
 
 pub returns : goal.returns
 returns c =
-    c.in_ok-run.ensures
-    ∙ (c.in_ok-next.ensures.ways
+    enough_of c.args.is_one_enough _ _ _
+    (c.in_ok-next.ensures.ways
     ∙ (ap (λ xs. map way_of xs ++ as_ways c.args.search (followed_by_rows (map asked_slot c.args.rows.now) c.args.search.slots.now (taken_by c.args.search c.new-cuts.result ∷ []))) c.new-all.ensures.items
     ∙ ap (as_ways c.args.search) (from_start_alone (ways_of_slots (map asked_slot c.args.rows.now) c.args.search.slots.now) (taken_by c.args.search c.new-cuts.result) c.args.search.before.now c.new-cuts.ensures (env-first c.args.search c.new-cuts.result c.new-cuts.ensures))))
+    c.in_ok-run.ensures
