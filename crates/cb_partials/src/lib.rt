@@ -8,7 +8,6 @@ mod extending; // a partial match and one fact
 mod join; // partial matches joined with all facts
 mod matching; // the matches of a branch
 mod partial; // a partial match
-mod parts; // the parts of a partial match, which its clones share
 mod satisfy; // elements satisfied, one after another
 mod setting; // what matching needs besides the rules
 
@@ -16,6 +15,5 @@ pub use come::keys_come;
 pub use extending::extend;
 pub use matching::{Match, keyed, match_branch};
 pub use partial::Partial;
-pub use parts::Parts;
 pub use satisfy::satisfy_test;
 pub use setting::{Setting, made};

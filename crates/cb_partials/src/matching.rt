@@ -12,7 +12,6 @@ use cb_fit::Meter;
 use cb_forms::NoMemory;
 use cb_matches::Key;
 use cb_rules::Ce;
-use std::alloc::Global;
 use std::marker::Model;
 
 /// A match.
@@ -49,7 +48,7 @@ pub fn match_branch<T>(
         ++ map (keyed id place) (matches_of (elements (map element_of branch.now)) setting.now.facts.now)) }
 {
     for partial in match_elements(setting, branch, meter)? {
-        all.push(keyed(setting.alloc, id, place, partial)?)?;
+        all.push(keyed(id, place, partial))?;
     }
     Ok(())
 }
@@ -69,12 +68,12 @@ fn match_elements<T>(
     satisfy_all(setting, branch, first, meter)
 }
 
-/// The match that a partial match at the end of a branch is. Growth is refused as `NoMemory`.
-pub fn keyed(alloc: Global, id: u64, place: u64, partial: Partial) -> Result<Match, NoMemory>
-    ensures { IfOk result (λ m. m ≡ keyed id place partial) }
+/// The match that a partial match at the end of a branch is. It takes no memory.
+pub fn keyed(id: u64, place: u64, partial: Partial) -> Match
+    ensures { result ≡ keyed id place partial }
 {
-    Ok(Match {
-        key: Key::new(alloc, id, place, partial.parts.as_slice().to_vec(alloc)?)?,
+    Match {
+        key: Key::of(id, place, partial.parts),
         env: partial.env,
-    })
+    }
 }

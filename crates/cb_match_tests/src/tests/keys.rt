@@ -1,80 +1,173 @@
 //! Keys.
 use cb_forms::NoMemory;
-use cb_match::{Key, Part};
+use cb_match::{Cuts, Key, Part, Parts};
 use std::alloc::Global;
 use std::cmp::Ordering;
 
-/// A key of one part: the rule, the branch, the index of the fact, and the length of its one segment.
+/// The index of a fact, and the lengths of its segments.
+struct Taken {
+    index: u64,
+    cuts: &'static [u64],
+}
+
+/// A key: the rule, the branch, and the parts.
 struct Row {
     rule: u64,
     branch: u64,
-    index: u64,
-    cut: u64,
+    parts: &'static [Taken],
 }
 
+const ONE: Taken = Taken {
+    index: 2,
+    cuts: &[1],
+};
+
+const OTHER: Taken = Taken {
+    index: 1,
+    cuts: &[1, 1],
+};
+
+const THIRD: Taken = Taken {
+    index: 4,
+    cuts: &[0, 3],
+};
+
+const NO_CUTS: Taken = Taken {
+    index: 2,
+    cuts: &[],
+};
+
 /// In the order of keys.
-const ROWS: [Row; 5] = [
+const ROWS: [Row; 12] = [
     Row {
         rule: 1,
         branch: 0,
-        index: 2,
-        cut: 7,
+        parts: &[],
     },
     Row {
         rule: 1,
         branch: 0,
-        index: 2,
-        cut: 8,
+        parts: &[NO_CUTS],
     },
     Row {
         rule: 1,
         branch: 0,
-        index: 3,
-        cut: 1,
+        parts: &[ONE],
+    },
+    Row {
+        rule: 1,
+        branch: 0,
+        parts: &[ONE, OTHER],
+    },
+    Row {
+        rule: 1,
+        branch: 0,
+        parts: &[ONE, OTHER, THIRD],
+    },
+    Row {
+        rule: 1,
+        branch: 0,
+        parts: &[ONE, OTHER, THIRD, ONE],
+    },
+    Row {
+        rule: 1,
+        branch: 0,
+        parts: &[Taken {
+            index: 2,
+            cuts: &[1, 1],
+        }],
+    },
+    Row {
+        rule: 1,
+        branch: 0,
+        parts: &[Taken {
+            index: 2,
+            cuts: &[1, 2],
+        }],
+    },
+    Row {
+        rule: 1,
+        branch: 0,
+        parts: &[Taken {
+            index: 2,
+            cuts: &[2, 0],
+        }],
+    },
+    Row {
+        rule: 1,
+        branch: 0,
+        parts: &[Taken {
+            index: 3,
+            cuts: &[1],
+        }],
     },
     Row {
         rule: 1,
         branch: 1,
-        index: 1,
-        cut: 1,
+        parts: &[OTHER],
     },
     Row {
         rule: 2,
         branch: 0,
-        index: 1,
-        cut: 1,
+        parts: &[OTHER],
     },
 ];
 
-fn key(alloc: Global, row: &Row) -> Result<Key, NoMemory> {
-    let mut cuts = Vec::new(alloc);
-    cuts.push(row.cut)?;
+fn parts(alloc: Global, row: &Row) -> Result<Vec<Part>, NoMemory> {
     let mut parts = Vec::new(alloc);
-    parts.push(Part {
-        index: row.index,
-        cuts,
-    })?;
-    Key::new(alloc, row.rule, row.branch, parts)
+    for taken in row.parts {
+        parts.push(Part {
+            index: taken.index,
+            cuts: Cuts::new(alloc, taken.cuts.to_vec(alloc)?)?,
+        })?;
+    }
+    Ok(parts)
 }
 
-/// Whether a clone of the key and of its parts is as the key.
+fn key(alloc: Global, row: &Row) -> Result<Key, NoMemory> {
+    Key::new(alloc, row.rule, row.branch, parts(alloc, row)?)
+}
+
+/// These parts, one after another.
+fn grown(alloc: Global, parts: &[Part]) -> Result<Parts, NoMemory> {
+    let mut all = Parts::none();
+    for part in parts {
+        all = all.and(alloc, part.clone()?)?;
+    }
+    Ok(all)
+}
+
+/// Whether a clone of the key, a key of its parts, and one of the parts one after another are as the key.
 fn is_cloned(alloc: Global, key: &Key) -> Result<bool, NoMemory> {
-    let parts = key.parts().to_vec(alloc)?;
-    Ok(key.clone()? == *key && parts.as_slice() == key.parts())
+    let copied = Key::of(key.rule(), key.branch(), Parts::of(alloc, key.parts())?);
+    let grown = Key::of(key.rule(), key.branch(), grown(alloc, key.parts())?);
+    Ok(key.clone()? == *key && copied == *key && grown == *key)
+}
+
+/// Whether the parts are as in the row.
+fn has_parts(alloc: Global, row: &Row, key: &Key) -> Result<bool, NoMemory> {
+    for (part, taken) in key.parts().iter().zip(row.parts) {
+        let cuts = part.cuts.to_vec(alloc)?;
+        if part.index != taken.index || cuts.as_slice() != taken.cuts {
+            return Ok(false);
+        }
+    }
+    Ok(key.parts().len() == row.parts.len())
 }
 
 fn order(alloc: Global, row: &Row, other: &Row) -> Result<Ordering, NoMemory> {
     Ok(key(alloc, row)?.cmp(&key(alloc, other)?))
 }
 
-fn is_cloned_row(alloc: Global, row: &Row) -> Result<bool, NoMemory> {
-    is_cloned(alloc, &key(alloc, row)?)
+fn is_kept(alloc: Global, row: &Row) -> Result<bool, NoMemory> {
+    let key = key(alloc, row)?;
+    Ok(has_parts(alloc, row, &key)? && is_cloned(alloc, &key)?)
 }
 
-/// The first key that stands otherwise to another than its place says.
+/// The first key that isn't as its row, or stands otherwise to another than its place says.
 fn wrong_key(alloc: Global) -> Result<Option<usize>, NoMemory> {
     for (i, row) in ROWS.iter().enumerate() {
-        if !is_cloned_row(alloc, row)? || !is_ordered(alloc, i, row)? {
+        if !is_kept(alloc, row)? || !is_ordered(alloc, i, row)? {
             return Ok(Some(i));
         }
     }

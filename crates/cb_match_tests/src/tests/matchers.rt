@@ -125,24 +125,25 @@ fn branches(alloc: Global) -> Result<Vec<Vec<Ce<Mark>>>, NoMemory> {
 }
 
 /// Whether these are keys of the rule and of these facts, each with the one field and no more.
-fn are_keys(keys: &[Key], indices: &[u64]) -> bool {
+fn are_keys(alloc: Global, keys: &[Key], indices: &[u64]) -> Result<bool, NoMemory> {
     if keys.len() != indices.len() {
-        return false;
+        return Ok(false);
     }
     for (key, index) in keys.iter().zip(indices) {
-        if !is_key(key, *index) {
-            return false;
+        if !is_key(alloc, key, *index)? {
+            return Ok(false);
         }
     }
-    true
+    Ok(true)
 }
 
-fn is_key(key: &Key, index: u64) -> bool {
+fn is_key(alloc: Global, key: &Key, index: u64) -> Result<bool, NoMemory> {
     let [part] = key.parts() else {
-        return false;
+        return Ok(false);
     };
     let is_rule = key.rule() == 5 && key.branch() == 0;
-    is_rule && part.index == index && part.cuts.as_slice() == [1, 0].as_slice()
+    let cuts = part.cuts.to_vec(alloc)?;
+    Ok(is_rule && part.index == index && cuts.as_slice() == [1, 0].as_slice())
 }
 
 fn nothing(alloc: Global) -> Delta {
@@ -225,8 +226,8 @@ fn goes_so<M: Matcher<Mark>>(
     let delta = carry_out(alloc, matcher, &turn.change, meter)?;
     let come = delta.come.as_slice();
     Ok(
-        are_keys(delta.gone.as_slice(), turn.gone)
-            && are_keys(come, turn.come)
+        are_keys(alloc, delta.gone.as_slice(), turn.gone)?
+            && are_keys(alloc, come, turn.come)?
             && give_numbers(alloc, matcher, come)?,
     )
 }

@@ -1,0 +1,12 @@
+-- Where parts are. No public clause cites this module.
+use Rattle.std.specs.Prelude.{List, [], Vec}
+use Rattle.std.specs.Rc.{rc_value}
+use Rattle.cb_matches.specs.Keys.{PartValue}
+use Rattle.cb_matches.specs.declared.parts.Held.{Held}
+use Rattle.cb_matches.specs.declared.parts.Held.TheVariants as held
+
+abbrev pub parts_in : Held → List PartValue
+parts_in held.None = []
+parts_in (held.One parts) = parts
+parts_in (held.Two parts) = parts
+parts_in (held.More parts) = (rc_value {X = Vec PartValue _} parts).items
