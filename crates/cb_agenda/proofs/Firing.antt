@@ -47,7 +47,7 @@ rises_from [] h = tt
 rises_from (x ∷ xs) h = (above_all x.0 xs h.0, rises_from xs h.1)
 
 -- of two ranks, under depth the higher one fires first, and under breadth it does where its salience is greater
-depth_fires : (t u : Rank) → rank_cmp t u ≡ Less → fires_before Depth u t ≡ true
+pub depth_fires : (t u : Rank) → rank_cmp t u ≡ Less → fires_before Depth u t ≡ true
 depth_fires t u h = ap is_lt h
 
 breadth_by : (o p q : Ordering) → ordering_then o p ≡ Less → q ≡ ordering_reverse p → is_lt (ordering_then o q) ≡ is_lt o
@@ -57,23 +57,6 @@ breadth_by Greater p q h e = refl
 
 breadth_fires : (t u : Rank) → rank_cmp t u ≡ Less → fires_before Breadth u t ≡ is_lt (int_cmp t.salience u.salience)
 breadth_fires t u h = breadth_by (int_cmp t.salience u.salience) (nat_cmp t.stamp u.stamp) (nat_cmp u.stamp t.stamp) h (nat_cmp_total.antisymm u.stamp t.stamp)
-
-all_at : (P : Activation → Type 0) (xs : Entries) (i : ℕ) (e : Activation) → AllByRecursion P xs → slice_get xs i ≡ Some e → P e
-all_at P [] i e all h = cc
-all_at P (x ∷ xs) zero e all h = let is : x ≡ e = cc in subst P is all.0
-all_at P (x ∷ xs) (suc i) e all h = all_at P xs i e all.1 h
-
--- under depth the last is the top
-pub last_is_top : (es : Entries) (i : ℕ) (e : Activation) → Rises es → i + 1 ≡ length es → slice_get es i ≡ Some e → top_of Depth es ≡ Some e
-last_is_top [] i e rises n h = cc
-last_is_top (x ∷ []) zero e rises n h = h
-last_is_top (x ∷ []) (suc i) e rises n h = cc
-last_is_top (x ∷ y ∷ ys) zero e rises n h = absurd (omega arith)
-last_is_top (x ∷ y ∷ ys) (suc i) e rises n h =
-    let top : top_of Depth (y ∷ ys) ≡ Some e = last_is_top (y ∷ ys) i e rises.1 (omega arith) h in
-    let before : fires_before Depth e.0 x.0 ≡ true = depth_fires x.0 e.0 (all_at (λ (f : Activation). rank_cmp x.0 f.0 ≡ Less) (y ∷ ys) i e rises.0 h) in
-    let is : first_to_fire Depth x (Some e) ≡ e = rw (before) refl in
-    ap (λ o. Some (first_to_fire Depth x o)) top ∙ ap Some is
 
 -- the ranks from the least of a salience on
 zero_least : (n : ℕ) → is_le (nat_cmp 0 n) ≡ true
@@ -192,13 +175,6 @@ oldest_first (x ∷ xs) h =
 
 -- what the two ends of a list of rising rank say of the top, and what a reversal and a sort by salience make of it
 module _ (s : Strategy) (es : Entries) (rising : IsStrictlySortedBy rank_cmp (keys_of es)) where
-  depth_top_of : (es : Entries) (l : Activation) → Rises es → slice_get es (length es - 1) ≡ Some l → top_of Depth es ≡ Some l
-  depth_top_of [] l h e = cc
-  depth_top_of (x ∷ xs) l h e = last_is_top (x ∷ xs) (length (x ∷ xs) - 1) l h (omega arith) e
-
-  pub depth_top : (l : Activation) → s ≡ Depth → slice_get es (length es - 1) ≡ Some l → Some l.0 ≡ option_map (λ (e : Activation). e.0) (top_of s es)
-  depth_top l is e = sym (ap (λ (t : Strategy). option_map (λ (e : Activation). e.0) (top_of t es)) is ∙ ap (option_map (λ (e : Activation). e.0)) (depth_top_of es l (rises_from es rising) e))
-
   breadth_top_of : (es : Entries) (l : Activation) → Rises es → slice_get es (length es - 1) ≡ Some l → slice_get (from_salience l.0.salience es) 0 ≡ top_of Breadth es
   breadth_top_of [] l h e = cc
   breadth_top_of (x ∷ xs) l h e = let top = oldest_is_top (x ∷ xs) (length (x ∷ xs) - 1) l h (omega arith) e in top.found ∙ sym top.is

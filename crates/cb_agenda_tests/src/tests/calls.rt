@@ -1,5 +1,5 @@
 //! The calls of an agenda, step by step.
-use super::steps::{Call, LAST_STAMPS, STEPS, Step};
+use super::steps::{Call, GONE, LAST_STAMPS, STEPS, Step};
 use cb_agenda::{Agenda, ApplyFault, Strategy};
 use cb_forms::NoMemory;
 use cb_matches::{Delta, Key};
@@ -126,6 +126,14 @@ fn wrong_step(
 fn goes_step_by_step(rt: HostRuntime) -> Result<(), NoMemory> {
     let mut agenda = Agenda::new(rt.alloc());
     let wrong = wrong_step(rt.alloc(), &mut agenda, &STEPS)?;
+    assert!(rt; wrong.is_none(), "{wrong:?}");
+    Ok(())
+}
+
+#[test]
+fn takes_out_what_is_gone(rt: HostRuntime) -> Result<(), NoMemory> {
+    let mut agenda = Agenda::new(rt.alloc());
+    let wrong = wrong_step(rt.alloc(), &mut agenda, &GONE)?;
     assert!(rt; wrong.is_none(), "{wrong:?}");
     Ok(())
 }

@@ -122,6 +122,65 @@ pub const STEPS: [Step; 20] = [
     },
 ];
 
+/// Changes by which other matches go than are due, as many of them, then all but one, and then all.
+pub const GONE: [Step; 11] = [
+    Step {
+        call: Call::Change(&[], &[1, 2, 3], &[0, 5, 0]),
+        answer: "done",
+        list: "2:5 3:0 1:0 ",
+    },
+    Step {
+        call: Call::Change(&[4, 5, 6], &[], &[]),
+        answer: "done",
+        list: "2:5 3:0 1:0 ",
+    },
+    Step {
+        call: Call::Change(&[1, 2, 4], &[], &[]),
+        answer: "done",
+        list: "3:0 ",
+    },
+    Step {
+        call: Call::Change(&[], &[1, 2], &[4, 0]),
+        answer: "done",
+        list: "1:4 2:0 3:0 ",
+    },
+    Step {
+        call: Call::Change(&[1, 3], &[], &[]),
+        answer: "done",
+        list: "2:0 ",
+    },
+    Step {
+        call: Call::Change(&[], &[1, 3], &[]),
+        answer: "done",
+        list: "3:0 1:0 2:0 ",
+    },
+    Step {
+        call: Call::Change(&[1, 2, 3], &[2, 4], &[1, 0]),
+        answer: "done",
+        list: "2:1 4:0 ",
+    },
+    Step {
+        call: Call::Has(1),
+        answer: "no",
+        list: "2:1 4:0 ",
+    },
+    Step {
+        call: Call::Change(&[2, 4], &[], &[]),
+        answer: "done",
+        list: "",
+    },
+    Step {
+        call: Call::Pop,
+        answer: "none",
+        list: "",
+    },
+    Step {
+        call: Call::Change(&[], &[4], &[2]),
+        answer: "done",
+        list: "4:2 ",
+    },
+];
+
 /// More than a sort puts in order without memory.
 const MANY: [u64; 24] = [
     1, 2, 3, 4, 5, 6, 7, 8, 9, 10, 11, 12, 13, 14, 15, 16, 17, 18, 19, 20, 21, 22, 23, 24,
