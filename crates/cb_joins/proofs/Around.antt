@@ -7,8 +7,9 @@ use Rattle.cb_facts.specs.FactLists.{IndexedFacts}
 use Rattle.cb_joins.specs.Internal.Changes.{Holds, IsMoved}
 use Rattle.cb_joins.specs.Internal.Flat.{Lists, flat_node}
 use Rattle.cb_joins.specs.Internal.Nodes.{HaveParts}
-use Rattle.cb_joins.specs.Internal.Steps.{AreAround, IsBefore, NamesListsBelow, group_with}
+use Rattle.cb_joins.specs.Internal.Steps.{AreAround, IsBefore, IsLoneBefore, NamesListsBelow, group_with}
 use Rattle.cb_joins.specs.declared.moved.Moved.{Moved}
+use Rattle.cb_joins.specs.declared.node.Lone.{Lone}
 use Rattle.cb_joins.specs.declared.node.Node.{Node}
 use Rattle.cb_joins.specs.declared.node.Node.TheVariants as node
 use Rattle.cb_joins.specs.declared.node.Place.{Place}
@@ -75,5 +76,20 @@ module _ {T : Type 0} (ws : ℕ → ℕ) (fs : IndexedFacts) (old new : Lists) (
         inner_moved = moved_at inner b.1 mi mi_is;
         is_before = list_at from b.0 list list_is;
         is_complete = list_at inner b.1 complete complete_is;
+        is_own = around.is_own;
+      }
+
+  -- and of a pattern that stands alone
+  pub before_lone : (from : ℕ) (lone : Lone T) → n ≡ node.Alone from lone → (list : BTreeSet Partial) → list ≡ get_or lists from list → (m : Moved) → m ≡ get_or moved from m
+      → IsLoneBefore (ws from) fs (old from) (new from) lone list.keys own m
+  before_lone from lone is list list_is m m_is =
+      let b = subst (λ it. NamesListsBelow (length moved) (flat_node it)) is below in
+      let around = subst (λ it. AreAround ws fs old new lists moved it own) is a in
+      record {
+        long = (a.wide from b).0;
+        long_now = (a.wide from b).1;
+        is_lone = around.ready;
+        is_moved = moved_at from b m m_is;
+        is_before = list_at from b list list_is;
         is_own = around.is_own;
       }

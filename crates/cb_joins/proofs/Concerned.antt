@@ -1,5 +1,5 @@
 -- Each rule that a fact can concern is found, and the table has what rules ask for.
-use Rattle.std.proofs.Common.{◌≡◌, ◌≢◌, ◌∙◌, ◌+◌, ◌<◌, ℕ, Bool, true, false, not, List, [], ◌∷◌, Contains, Option, Some, None, ap, ap₂, arith, cond, filter, get_or, inl, inr, length, map, nat_cmp, nat_eq, refl, subst, sym}
+use Rattle.std.proofs.Common.{◌≡◌, ◌≢◌, ◌∙◌, ◌+◌, ◌<◌, ℕ, Bool, true, false, not, List, [], ◌∷◌, Contains, Option, Some, None, ap, ap₂, arith, filter, get_or, inl, inr, length, map, nat_cmp, nat_eq, refl, subst, sym}
 use Rattle.std.proofs.lemmas.Bool.Decides.{Decides-eqb}
 use Rattle.std.proofs.lemmas.Bool.{cases_eq}
 use Rattle.std.proofs.lemmas.List.{get_or-map, get_or_default, length-map}
@@ -16,7 +16,7 @@ use Rattle.cb_fit.specs.Shapes.{has_shape}
 use Rattle.cb_joins.proofs.IndexLists.{none_any}
 use Rattle.cb_joins.proofs.Unasked.{no_shape}
 use Rattle.cb_joins.specs.Internal.Asked.{AreAllFound, AreEntered, AreNodesEntered, IsEntered, IsNodeEntered, IsRuleEntered, IsUnconcerned, KeepsEntered, LosesOnly, NoneTakes, asked_at, asked_by, asked_of, takes}
-use Rattle.cb_joins.specs.Internal.Flat.{FlatNode, branch_nodes, flat_nodes, grouping, joining, testing}
+use Rattle.cb_joins.specs.Internal.Flat.{FlatNode, alone, branch_nodes, flat_nodes, grouping, joining, testing}
 use Rattle.cb_joins.specs.Internal.Rules.{CanBeFilled, IsPlanned, branch_elements, kept_branches}
 use Rattle.cb_fit.specs.ConstantFields.{constant_fields}
 use Rattle.cb_joins.specs.declared.asked.Asked.{Asked}
@@ -59,13 +59,17 @@ module _ (law : HasConstants) (table : Asked) (f : Fact) (numbers : List ℕ) (f
       same = by_test (bytes_eq p.relation f.1.relation) (λ e. (bytes_decides p.relation f.1.relation).0 e)
           (λ e. let no : true ≡ false = sym t ∙ no_shape p f e in cc)
 
-  untaken : (n : FlatNode) (rule : ℕ) → IsNodeEntered table rule n → (In rule numbers → ⊥) → takes f n ≡ false
-  untaken (joining from x p ts) rule entered absent =
+  not_taken : (p : PatternValue) (rule : ℕ) → IsEntered table (asked_by p rule) → (In rule numbers → ⊥) → is_candidate p f ≡ false
+  not_taken p rule entered absent =
       by_test (is_candidate p f)
       (λ t. absurd (absent (found (first_place (constant_fields p.parts)) rule (subst (IsEntered table) (asks p t rule) entered))))
       (λ t. t)
+
+  untaken : (n : FlatNode) (rule : ℕ) → IsNodeEntered table rule n → (In rule numbers → ⊥) → takes f n ≡ false
+  untaken (joining from x p ts) rule entered absent = not_taken p rule entered absent
   untaken (testing from t) rule entered absent = refl
   untaken (grouping from inner positive width) rule entered absent = refl
+  untaken (alone from p positive) rule entered absent = not_taken p rule entered absent
 
   -- so the rules that are not found stay as they are
   pub all_found : (rules : Conditions) → AreEntered table rules → AreAllFound f numbers rules
@@ -78,6 +82,7 @@ pub entered_still : (old new : Asked) → KeepsEntered old new → (rule : ℕ) 
 entered_still old new keeps rule (joining from x p ts) was = keeps (asked_by p rule) was
 entered_still old new keeps rule (testing from t) was = tt
 entered_still old new keeps rule (grouping from inner positive width) was = tt
+entered_still old new keeps rule (alone from p positive) was = keeps (asked_by p rule) was
 
 pub nodes_still : (old new : Asked) → KeepsEntered old new → (rule : ℕ) (ns : List FlatNode) → AreNodesEntered old rule ns → AreNodesEntered new rule ns
 nodes_still old new keeps rule ns was k d h = entered_still old new keeps rule (get_or ns k d) (was k d h)
@@ -113,10 +118,14 @@ asked_rule r [] rule = refl
 asked_rule r (c ∷ cs) rule = refl
 
 module _ (id : ℕ) (old new : Asked) (loses : LosesOnly id old new) where
+  asked_left : (rule : ℕ) → rule ≢ id → (p : PatternValue) → IsEntered old (asked_by p rule) → IsEntered new (asked_by p rule)
+  asked_left rule apart p was = loses (asked_by p rule) (λ e. apart (sym (asked_rule p.relation (constant_fields p.parts) rule) ∙ e)) was
+
   node_left : (rule : ℕ) → rule ≢ id → (n : FlatNode) → IsNodeEntered old rule n → IsNodeEntered new rule n
-  node_left rule apart (joining from x p ts) was = loses (asked_by p rule) (λ e. apart (sym (asked_rule p.relation (constant_fields p.parts) rule) ∙ e)) was
+  node_left rule apart (joining from x p ts) was = asked_left rule apart p was
   node_left rule apart (testing from t) was = tt
   node_left rule apart (grouping from inner positive width) was = tt
+  node_left rule apart (alone from p positive) was = asked_left rule apart p was
 
   rule_left : (r : ℕ × List Elements) → r.0 ≢ id → IsRuleEntered old r → IsRuleEntered new r
   rule_left r apart was j es i m n l = node_left r.0 apart (get_or (branch_nodes (get_or r.1 j es)) m n) (was j es i m n l)

@@ -1,12 +1,12 @@
 -- The last list that is kept for a branch has its matches.
-use Rattle.std.proofs.Common.{◌≡◌, ℕ, zero, suc, ◌<◌, List, [], ◌∷◌, ◌++◌, Option, length, get_or, refl, sym, ◌∙◌, ap, false, subst, arith}
+use Rattle.std.proofs.Common.{◌≡◌, ◌≤◌, ℕ, zero, suc, ◌<◌, List, [], ◌∷◌, ◌++◌, Option, length, get_or, refl, sym, ◌∙◌, ap, false, subst, arith}
 use Rattle.std.specs.BTreeSet.{BTreeSet}
 use Rattle.std.specs.List.Sorted.{IsStrictlySortedBy}
 use Rattle.cb_facts.specs.FactLists.{IndexedFacts}
 use Rattle.cb_facts.specs.Facts.{FactValue}
 use Rattle.cb_joins.proofs.Facts.{indices_of}
 use Rattle.cb_joins.proofs.Flat.{branch_lists as lists_made}
-use Rattle.cb_joins.proofs.FlatProbes.{branch_probes_are}
+use Rattle.cb_joins.proofs.FlatProbes.{branch_probes_within}
 use Rattle.cb_joins.proofs.Last.{last_is}
 use Rattle.cb_joins.proofs.Named.{last_below, long_flat_all}
 use Rattle.cb_joins.proofs.Ordered.{in_one_order, sorted_matches}
@@ -77,8 +77,9 @@ module _ (rise : WaysRise) (es : Elements) (fs fs' : IndexedFacts) (ns : List Fl
       (subst (λ it. IsMoved it (matches_of es fs') (get_or moved last m)) (end_is rise es fs ns last indices are l)
       (subst (λ it. IsMoved (branch_lists ns fs last) it (get_or moved last m)) (end_is rise es fs' ns last indices' are l) (all.each last m (omega (arith, within, long)))))
 
-  pub probes_are : (added : Option FactValue) → flat_probes added fs' (branch_lists ns fs) (branch_lists ns fs') ns ≡ branch_probes added fs fs' es
-  probes_are added = ap (λ it. flat_probes added fs' (branch_lists it fs) (branch_lists it fs') it) are ∙ branch_probes_are rise added es fs fs' indices indices'
+  pub probes_within : (added : Option FactValue) → flat_probes added fs' (branch_lists ns fs) (branch_lists ns fs') ns ≤ branch_probes added fs fs' es
+  probes_within added =
+      subst (λ it. flat_probes added fs' (branch_lists it fs) (branch_lists it fs') it ≤ branch_probes added fs fs' es) (sym are) (branch_probes_within rise added es fs fs' indices indices')
 
 module _ {T : Type 0} where
   pub whole_of : (b : Branch T) → IsPlanned b → AreWhole (flat_nodes b.nodes.items)

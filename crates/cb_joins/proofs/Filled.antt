@@ -18,7 +18,7 @@ use Rattle.cb_joins.proofs.Flat.{list_local}
 use Rattle.cb_joins.proofs.Named.{IsBelow, at_each}
 use Rattle.cb_joins.proofs.Ordered.{lists_are_sorted, once_of_sorted, start_is_sorted}
 use Rattle.cb_joins.proofs.Widths.{below_by_widths}
-use Rattle.cb_joins.specs.Internal.Flat.{FlatNode, Lists, flat_node, flat_nodes, grouping, joining, node_list, testing}
+use Rattle.cb_joins.specs.Internal.Flat.{FlatNode, Lists, alone, flat_node, flat_nodes, grouping, joining, node_list, testing}
 use Rattle.cb_joins.specs.Internal.Nodes.{AreKept, AreWhole, IsPlace, IsReady, Shapeless, branch_lists}
 use Rattle.cb_joins.specs.Internal.Rules.{keys_at}
 use Rattle.cb_joins.specs.Internal.Steps.{NamesListsBelow}
@@ -36,11 +36,13 @@ pub ready_for : {T : Type 0} (fs : IndexedFacts) (ls ls' : Lists) (k : ℕ) → 
 ready_for fs ls ls' k same (node.Pattern from place) below is = subst (IsPlace place fs) (same from below) is
 ready_for fs ls ls' k same (node.Test from e) below is = tt
 ready_for fs ls ls' k same (node.Group from inner positive width) below is = tt
+ready_for fs ls ls' k same (node.Alone from lone) below is = is
 
 names_below : (k : ℕ) (n : FlatNode) → IsBelow k n → NamesListsBelow k n
 names_below k (joining from x p ts) h = h
 names_below k (testing from t) h = h
 names_below k (grouping from inner positive width) h = h
+names_below k (alone from p positive) h = h
 
 -- one node more
 module _ {T : Type 0} (rise : WaysRise) (fs : IndexedFacts) (rising : IsRising fs) (ns : List FlatNode) (whole : AreWhole ns)

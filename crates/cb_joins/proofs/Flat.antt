@@ -3,7 +3,7 @@ use Rattle.std.proofs.Common.{◌≡◌, ℕ, zero, suc, ◌+◌, ◌<◌, List,
 use Rattle.std.specs.List.{list_any}
 use Rattle.std.specs.Prelude.{slice_index_or}
 use Rattle.cb_facts.specs.FactLists.{IndexedFacts}
-use Rattle.cb_joins.specs.Internal.Flat.{AreLists, FlatNode, Lists, begins, branch_nodes, grouping, holds_by, joining, lists_from, lists_of, next_where, node_list, testing}
+use Rattle.cb_joins.specs.Internal.Flat.{AreLists, FlatNode, Lists, alone, begins, branch_nodes, grouping, holds_alone, holds_by, joining, lists_from, lists_of, next_where, node_list, testing}
 use Rattle.cb_joins.proofs.Named.{AllAt, IsBelow, at_each, below_all, from_each}
 use Rattle.cb_matches.specs.Matches.{Partial, test_holds}
 use Rattle.cb_rules.specs.Elements.{Elements}
@@ -62,6 +62,7 @@ list_local fs (joining from x p ts) k f g l h = ap (λ it. next_where x p ts fs 
 list_local fs (testing from t) k f g l h = ap (λ it. filter (λ m. test_holds t m.env) it) (h from l)
 list_local fs (grouping from inner positive width) k f g l h =
     ap₂ (λ (is : List Partial) (it : List Partial). filter (λ m. holds_by positive (list_any (begins m.parts) is)) it) (h inner l.1) (h from l.0)
+list_local fs (alone from p positive) k f g l h = ap (λ it. filter (holds_alone positive p fs) it) (h from l)
 
 pub all_lists : (ns : List FlatNode) (fs : IndexedFacts) (first : List Partial) → AllAt IsBelow 1 ns → AllAt (MakeLists fs (lists_of ns fs first)) 1 ns
 all_lists ns fs first h =

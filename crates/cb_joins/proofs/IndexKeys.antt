@@ -112,50 +112,50 @@ least_partial q m e = subst (λ it. is_le (slice_cmp part_cmp it m.parts) ≡ tr
 abbrev pub key_cmp : FactKey → FactKey → Ordering
 key_cmp = fact_key_ord.ghosts.cmp
 
-pub key_level : (a b : FactKey) → key_cmp a b ≡ Equal → (a.values.items ≡ b.values.items) × (a.ix ≡ b.ix)
+pub key_level : (a b : FactKey) → key_cmp a b ≡ Equal → (a.values ≡ b.values) × (a.ix ≡ b.ix)
 key_level a b h =
-    let both = then_equal (values_cmp a.values.items b.values.items) (nat_cmp a.ix b.ix) h in
-    (values_exact a.values.items b.values.items both.0, exact_unsigned a.ix b.ix both.1)
+    let both = then_equal (values_cmp a.values b.values) (nat_cmp a.ix b.ix) h in
+    (values_exact a.values b.values both.0, exact_unsigned a.ix b.ix both.1)
 
-pub level_key : (a b : FactKey) → a.values.items ≡ b.values.items → a.ix ≡ b.ix → key_cmp a b ≡ Equal
+pub level_key : (a b : FactKey) → a.values ≡ b.values → a.ix ≡ b.ix → key_cmp a b ≡ Equal
 level_key a b e f =
-    subst (λ it. ordering_then it (nat_cmp a.ix b.ix) ≡ Equal) (sym (values_level a.values.items b.values.items e))
+    subst (λ it. ordering_then it (nat_cmp a.ix b.ix) ≡ Equal) (sym (values_level a.values b.values e))
     (subst (λ it. nat_cmp a.ix it ≡ Equal) f (tied_itself nat_cmp_total a.ix))
 
-pub key_begins : (q z : FactKey) → q.ix ≡ 0 → z.values.items ≡ q.values.items → is_le (key_cmp q z) ≡ true
-key_begins q z zero_is e = values_begin q.values.items z.values.items (nat_cmp q.ix z.ix) e (subst (λ it. is_le (nat_cmp it z.ix) ≡ true) (sym zero_is) (least_index z.ix))
+pub key_begins : (q z : FactKey) → q.ix ≡ 0 → z.values ≡ q.values → is_le (key_cmp q z) ≡ true
+key_begins q z zero_is e = values_begin q.values z.values (nat_cmp q.ix z.ix) e (subst (λ it. is_le (nat_cmp it z.ix) ≡ true) (sym zero_is) (least_index z.ix))
 
-pub key_between : (q y z : FactKey) → is_le (key_cmp q y) ≡ true → key_cmp y z ≡ Less → z.values.items ≡ q.values.items
-    → y.values.items ≡ q.values.items
-key_between q y z low high e = values_between q.values.items y.values.items z.values.items (nat_cmp q.ix y.ix) (nat_cmp y.ix z.ix) low high e
+pub key_between : (q y z : FactKey) → is_le (key_cmp q y) ≡ true → key_cmp y z ≡ Less → z.values ≡ q.values
+    → y.values ≡ q.values
+key_between q y z low high e = values_between q.values y.values z.values (nat_cmp q.ix y.ix) (nat_cmp y.ix z.ix) low high e
 
 -- of two keys with the same values the first has the lower index
-pub key_rises : (a b : FactKey) → a.values.items ≡ b.values.items → key_cmp a b ≡ Less → a.ix < b.ix
-key_rises a b e h = below_less a.ix b.ix (then_rest (values_cmp a.values.items b.values.items) (nat_cmp a.ix b.ix) Less (values_level a.values.items b.values.items e) h)
+pub key_rises : (a b : FactKey) → a.values ≡ b.values → key_cmp a b ≡ Less → a.ix < b.ix
+key_rises a b e h = below_less a.ix b.ix (then_rest (values_cmp a.values b.values) (nat_cmp a.ix b.ix) Less (values_level a.values b.values e) h)
 
 -- ---- filed partial matches
 
 abbrev pub filed_cmp : Filed → Filed → Ordering
 filed_cmp = filed_ord.ghosts.cmp
 
-pub filed_level : (a b : Filed) → filed_cmp a b ≡ Equal → (a.values.items ≡ b.values.items) × (a.partial.parts ≡ b.partial.parts)
+pub filed_level : (a b : Filed) → filed_cmp a b ≡ Equal → (a.values ≡ b.values) × (a.partial.parts ≡ b.partial.parts)
 filed_level a b h =
-    let both = then_equal (values_cmp a.values.items b.values.items) (partial_cmp a.partial b.partial) h in
-    (values_exact a.values.items b.values.items both.0, parts_level a.partial b.partial both.1)
+    let both = then_equal (values_cmp a.values b.values) (partial_cmp a.partial b.partial) h in
+    (values_exact a.values b.values both.0, parts_level a.partial b.partial both.1)
 
-pub level_filed : (a b : Filed) → a.values.items ≡ b.values.items → a.partial.parts ≡ b.partial.parts → filed_cmp a b ≡ Equal
+pub level_filed : (a b : Filed) → a.values ≡ b.values → a.partial.parts ≡ b.partial.parts → filed_cmp a b ≡ Equal
 level_filed a b e f =
-    subst (λ it. ordering_then it (partial_cmp a.partial b.partial) ≡ Equal) (sym (values_level a.values.items b.values.items e)) (level_parts a.partial b.partial f)
+    subst (λ it. ordering_then it (partial_cmp a.partial b.partial) ≡ Equal) (sym (values_level a.values b.values e)) (level_parts a.partial b.partial f)
 
-pub filed_begins : (q z : Filed) → q.partial.parts ≡ [] → z.values.items ≡ q.values.items → is_le (filed_cmp q z) ≡ true
-filed_begins q z none_is e = values_begin q.values.items z.values.items (partial_cmp q.partial z.partial) e (least_partial q.partial z.partial none_is)
+pub filed_begins : (q z : Filed) → q.partial.parts ≡ [] → z.values ≡ q.values → is_le (filed_cmp q z) ≡ true
+filed_begins q z none_is e = values_begin q.values z.values (partial_cmp q.partial z.partial) e (least_partial q.partial z.partial none_is)
 
-pub filed_between : (q y z : Filed) → is_le (filed_cmp q y) ≡ true → filed_cmp y z ≡ Less → z.values.items ≡ q.values.items
-    → y.values.items ≡ q.values.items
+pub filed_between : (q y z : Filed) → is_le (filed_cmp q y) ≡ true → filed_cmp y z ≡ Less → z.values ≡ q.values
+    → y.values ≡ q.values
 filed_between q y z low high e =
-    values_between q.values.items y.values.items z.values.items (partial_cmp q.partial y.partial) (partial_cmp y.partial z.partial) low high e
+    values_between q.values y.values z.values (partial_cmp q.partial y.partial) (partial_cmp y.partial z.partial) low high e
 
 -- of two with the same values the first is the lower partial match
-pub filed_rises : (a b : Filed) → a.values.items ≡ b.values.items → filed_cmp a b ≡ Less → partial_cmp a.partial b.partial ≡ Less
+pub filed_rises : (a b : Filed) → a.values ≡ b.values → filed_cmp a b ≡ Less → partial_cmp a.partial b.partial ≡ Less
 filed_rises a b e h =
-    then_rest (values_cmp a.values.items b.values.items) (partial_cmp a.partial b.partial) Less (values_level a.values.items b.values.items e) h
+    then_rest (values_cmp a.values b.values) (partial_cmp a.partial b.partial) Less (values_level a.values b.values e) h

@@ -49,10 +49,10 @@ partial_of z = z.partial
 
 -- the key has these values
 abbrev pub entry_has : List Value → Entry → Bool
-entry_has vs e = pointwise same e.0.values.items vs
+entry_has vs e = pointwise same e.0.values vs
 
 abbrev pub filed_has : List Value → Filed → Bool
-filed_has vs z = pointwise same z.values.items vs
+filed_has vs z = pointwise same z.values vs
 
 and_true : (a : Bool) → (a && true) ≡ a
 and_true true = refl
@@ -75,7 +75,7 @@ there_are vs found h = ap (are_values vs) h ∙ same_are vs vs refl
 -- ---- what is found
 
 -- from a probe on: the facts with its values
-pub facts_found : (i : Index) (cs : IndexedFacts) (ms : List Partial) (vs : List Value) (q : FactKey) → q.values.items ≡ vs
+pub facts_found : (i : Index) (cs : IndexedFacts) (ms : List Partial) (vs : List Value) (q : FactKey) → q.values ≡ vs
     → q.ix ≡ 0
     → IsStrictlySortedBy key_cmp (keys_of i.facts.entries) → IsRising cs → IsIndex i cs ms
     → map fact_of (run (entry_has vs) (entries_between key_cmp (Included q) Unbounded i.facts.entries)) ≡ filter (has_values i.fields.items vs) cs
@@ -108,15 +108,15 @@ facts_found i cs ms vs q q_is zero_is sorted rising has =
     chain : Chain ahead entries
     chain = chain_of_entries key_cmp entries sorted
 
-    has_is : (e : Entry) → entry_has vs e ≡ true → e.0.values.items ≡ vs
-    has_is e t = are_same e.0.values.items vs t
+    has_is : (e : Entry) → entry_has vs e ≡ true → e.0.values ≡ vs
+    has_is e t = are_same e.0.values vs t
 
     begins : (e : Entry) → entry_has vs e ≡ true → from e ≡ true
     begins e t = and_true (is_le (key_cmp q e.0)) ∙ key_begins q e.0 zero_is (has_is e t ∙ sym q_is)
 
     between : (e f : Entry) → from e ≡ true → ahead e f → entry_has vs f ≡ true → entry_has vs e ≡ true
     between e f h k t =
-        same_are e.0.values.items vs (key_between q e.0 f.0 (sym (and_true (is_le (key_cmp q e.0))) ∙ h) k (has_is f t ∙ sym q_is) ∙ q_is)
+        same_are e.0.values vs (key_between q e.0 f.0 (sym (and_true (is_le (key_cmp q e.0))) ∙ h) k (has_is f t ∙ sym q_is) ∙ q_is)
 
     rises : Chain held_lower held
     rises =
@@ -138,10 +138,10 @@ facts_found i cs ms vs q q_is zero_is sorted rising has =
         let there = has.in_facts z vs inside.0 (are_there vs (field_values js z.1.content) inside.1) in
         let e = there.0 in
         subst (λ it. In it (map fact_of held)) (ap₂ (λ (n : ℕ) (f : FactValue). (n, f)) there.3 there.4)
-        (map_in fact_of held e (filter_in (entry_has vs) e entries there.1 (same_are e.0.values.items vs there.2)))
+        (map_in fact_of held e (filter_in (entry_has vs) e entries there.1 (same_are e.0.values vs there.2)))
 
 -- the same of partial matches
-pub partials_found : (i : Index) (cs : IndexedFacts) (ms : List Partial) (vs : List Value) (q : Filed) → q.values.items ≡ vs
+pub partials_found : (i : Index) (cs : IndexedFacts) (ms : List Partial) (vs : List Value) (q : Filed) → q.values ≡ vs
     → q.partial.parts ≡ []
     → IsStrictlySortedBy filed_cmp i.partials.keys → IsStrictlySortedBy partial_cmp ms → IsIndex i cs ms
     → map partial_of (run (filed_has vs) (filter (range_contains filed_cmp (Included q) Unbounded) i.partials.keys)) ≡ filter (binds_values i.fields.items vs) ms
@@ -177,15 +177,15 @@ partials_found i cs ms vs q q_is none_is sorted in_order has =
     irreflexive : (m : Partial) → lower m m → ⊥
     irreflexive m h = let level = tied_itself partial_total m in let e : Less ≡ Equal = sym h ∙ level in cc
 
-    has_is : (z : Filed) → filed_has vs z ≡ true → z.values.items ≡ vs
-    has_is z t = are_same z.values.items vs t
+    has_is : (z : Filed) → filed_has vs z ≡ true → z.values ≡ vs
+    has_is z t = are_same z.values vs t
 
     begins : (z : Filed) → filed_has vs z ≡ true → from z ≡ true
     begins z t = and_true (is_le (filed_cmp q z)) ∙ filed_begins q z none_is (has_is z t ∙ sym q_is)
 
     between : (y z : Filed) → from y ≡ true → ahead y z → filed_has vs z ≡ true → filed_has vs y ≡ true
     between y z h k t =
-        same_are y.values.items vs (filed_between q y z (sym (and_true (is_le (filed_cmp q y))) ∙ h) k (has_is z t ∙ sym q_is) ∙ q_is)
+        same_are y.values vs (filed_between q y z (sym (and_true (is_le (filed_cmp q y))) ∙ h) k (has_is z t ∙ sym q_is) ∙ q_is)
 
     rises : Chain held_lower held
     rises =
@@ -206,31 +206,31 @@ partials_found i cs ms vs q q_is none_is sorted in_order has =
         let inside = in_filter (binds_values js vs) m ms h in
         let there = has.in_partials m inside.0 in
         let z = there.0 in
-        let own : variable_values js z.partial.env ≡ Some z.values.items = (has.partials_in z there.1).1 in
+        let own : variable_values js z.partial.env ≡ Some z.values = (has.partials_in z there.1).1 in
         let wanted : variable_values js m.env ≡ Some vs = are_there vs (variable_values js m.env) inside.1 in
-        let its : z.values.items ≡ vs = some_is z.values.items vs (sym own ∙ (ap (λ (it : Partial). variable_values js it.env) there.2 ∙ wanted)) in
-        subst (λ it. In it (map partial_of held)) there.2 (map_in partial_of held z (filter_in (filed_has vs) z keys there.1 (same_are z.values.items vs its)))
+        let its : z.values ≡ vs = some_is z.values vs (sym own ∙ (ap (λ (it : Partial). variable_values js it.env) there.2 ∙ wanted)) in
+        subst (λ it. In it (map partial_of held)) there.2 (map_in partial_of held z (filter_in (filed_has vs) z keys there.1 (same_are z.values vs its)))
 
 -- what was found before the rest, of which nothing more has the values, is all
-pub facts_are : (i : Index) (cs : IndexedFacts) (ms : List Partial) (vs : List Value) (q : FactKey) (all : IndexedFacts) (rest : List Entry) → q.values.items ≡ vs → q.ix ≡ 0
+pub facts_are : (i : Index) (cs : IndexedFacts) (ms : List Partial) (vs : List Value) (q : FactKey) (all : IndexedFacts) (rest : List Entry) → q.values ≡ vs → q.ix ≡ 0
     → IsStrictlySortedBy key_cmp (keys_of i.facts.entries) → IsRising cs → IsIndex i cs ms
-    → run (entry_has q.values.items) rest ≡ []
-    → all ++ map fact_of (run (entry_has q.values.items) rest)
-    ≡ map fact_of (run (entry_has q.values.items) (entries_between key_cmp (Included q) Unbounded i.facts.entries)) → all ≡ filter (has_values i.fields.items vs) cs
+    → run (entry_has q.values) rest ≡ []
+    → all ++ map fact_of (run (entry_has q.values) rest)
+    ≡ map fact_of (run (entry_has q.values) (entries_between key_cmp (Included q) Unbounded i.facts.entries)) → all ≡ filter (has_values i.fields.items vs) cs
 facts_are i cs ms vs q all rest q_is zero_is sorted rising has left found =
     sym (append-nil all)
     ∙ (ap (λ (it : List Entry). all ++ map fact_of it) (sym left)
-    ∙ (found ∙ (facts_found i cs ms q.values.items q refl zero_is sorted rising has ∙ ap (λ it. filter (has_values i.fields.items it) cs) q_is)))
+    ∙ (found ∙ (facts_found i cs ms q.values q refl zero_is sorted rising has ∙ ap (λ it. filter (has_values i.fields.items it) cs) q_is)))
 
-pub partials_are : (i : Index) (cs : IndexedFacts) (ms : List Partial) (vs : List Value) (q : Filed) (all : List Partial) (rest : List Filed) → q.values.items ≡ vs → q.partial.parts ≡ []
+pub partials_are : (i : Index) (cs : IndexedFacts) (ms : List Partial) (vs : List Value) (q : Filed) (all : List Partial) (rest : List Filed) → q.values ≡ vs → q.partial.parts ≡ []
     → IsStrictlySortedBy filed_cmp i.partials.keys → IsStrictlySortedBy partial_cmp ms → IsIndex i cs ms
-    → run (filed_has q.values.items) rest ≡ []
-    → all ++ map partial_of (run (filed_has q.values.items) rest)
-    ≡ map partial_of (run (filed_has q.values.items) (keys_between filed_cmp (Included q) Unbounded i.partials)) → all ≡ filter (binds_values i.fields.items vs) ms
+    → run (filed_has q.values) rest ≡ []
+    → all ++ map partial_of (run (filed_has q.values) rest)
+    ≡ map partial_of (run (filed_has q.values) (keys_between filed_cmp (Included q) Unbounded i.partials)) → all ≡ filter (binds_values i.fields.items vs) ms
 partials_are i cs ms vs q all rest q_is none_is sorted in_order has left found =
     sym (append-nil all)
     ∙ (ap (λ (it : List Filed). all ++ map partial_of it) (sym left)
-    ∙ (found ∙ (partials_found i cs ms q.values.items q refl none_is sorted in_order has ∙ ap (λ it. filter (binds_values i.fields.items it) ms) q_is)))
+    ∙ (found ∙ (partials_found i cs ms q.values q refl none_is sorted in_order has ∙ ap (λ it. filter (binds_values i.fields.items it) ms) q_is)))
 
 -- ---- one fact more or less
 
@@ -250,10 +250,10 @@ all_same xs = (λ z h. h, λ z h. h)
 -- the partial matches of an index with the same fields and keys
 partials_stay : (i j : Index) (cs : IndexedFacts) (ms : List Partial) → IsIndex i cs ms → j.fields.items ≡ i.fields.items
     → j.partials.keys ≡ i.partials.keys → (z : Filed) → In z j.partials.keys
-    → In z.partial ms × (variable_values j.fields.items z.partial.env ≡ Some z.values.items)
+    → In z.partial ms × (variable_values j.fields.items z.partial.env ≡ Some z.values)
 partials_stay i j cs ms has fields_are keys_are z h =
     let there = has.partials_in z (subst (λ it. In z it) keys_are h) in
-    (there.0, subst (λ it. variable_values it z.partial.env ≡ Some z.values.items) (sym fields_are) there.1)
+    (there.0, subst (λ it. variable_values it z.partial.env ≡ Some z.values) (sym fields_are) there.1)
 
 partials_still : (i j : Index) (cs : IndexedFacts) (ms : List Partial) → IsIndex i cs ms → j.partials.keys ≡ i.partials.keys
     → (m : Partial) → In m ms → (z : Filed) × In z j.partials.keys × (z.partial ≡ m)
@@ -264,14 +264,14 @@ partials_still i j cs ms has keys_are m h =
 -- the facts of an index with the same fields and entries
 facts_stay : (i j : Index) (cs : IndexedFacts) (ms : List Partial) → IsIndex i cs ms → j.fields.items ≡ i.fields.items
     → j.facts.entries ≡ i.facts.entries → (e : Entry) → In e j.facts.entries
-    → In (e.0.ix, e.1) cs × (field_values j.fields.items e.1.content ≡ Some e.0.values.items)
+    → In (e.0.ix, e.1) cs × (field_values j.fields.items e.1.content ≡ Some e.0.values)
 facts_stay i j cs ms has fields_are entries_are e h =
     let there = has.facts_in e (subst (λ it. In e it) entries_are h) in
-    (there.0, subst (λ it. field_values it e.1.content ≡ Some e.0.values.items) (sym fields_are) there.1)
+    (there.0, subst (λ it. field_values it e.1.content ≡ Some e.0.values) (sym fields_are) there.1)
 
 facts_still : (i j : Index) (cs : IndexedFacts) (ms : List Partial) → IsIndex i cs ms → j.fields.items ≡ i.fields.items
     → j.facts.entries ≡ i.facts.entries → (f : Fact) (vs : List Value) → In f cs → field_values j.fields.items f.1.content ≡ Some vs
-    → (e : Entry) × In e j.facts.entries × (e.0.values.items ≡ vs) × (e.0.ix ≡ f.0) × (e.1 ≡ f.1)
+    → (e : Entry) × In e j.facts.entries × (e.0.values ≡ vs) × (e.0.ix ≡ f.0) × (e.1 ≡ f.1)
 facts_still i j cs ms has fields_are entries_are f vs h k =
     let there = has.in_facts f vs h (subst (λ it. field_values it f.1.content ≡ Some vs) fields_are k) in
     (there.0, subst (λ it. In there.0 it) (sym entries_are) there.1, there.2, there.3, there.4)
@@ -289,24 +289,24 @@ swapped xs ys h = (h.1, h.0)
 -- a fact with all fields is filed
 pub fact_filed : (i j : Index) (cs : IndexedFacts) (ms : List Partial) (f : Fact) (key : FactKey) → IsIndex i cs ms
     → fact_at cs f.0 ≡ None
-    → field_values i.fields.items f.1.content ≡ Some key.values.items → key.ix ≡ f.0 → j.fields.items ≡ i.fields.items
+    → field_values i.fields.items f.1.content ≡ Some key.values → key.ix ≡ f.0 → j.fields.items ≡ i.fields.items
     → j.facts.entries ≡ insert_entry key_cmp i.facts.entries key f.1 → j.partials.keys ≡ i.partials.keys
     → IsIndex j (with_fact cs f.0 f.1) ms
 fact_filed i j cs ms f key has free values_are index_is fields_are entries_are keys_are =
     same_index j ((f.0, f.1) ∷ cs) (with_fact cs f.0 f.1) ms ms (swapped (with_fact cs f.0 f.1) ((f.0, f.1) ∷ cs) (one_more cs f.0 f.1 free)) (all_same ms) (record {
-      facts_in = λ e h. elim (more.0 e (subst (λ it. In e it) entries_are h)) as (λ _. In (e.0.ix, e.1) ((f.0, f.1) ∷ cs) × (field_values j.fields.items e.1.content ≡ Some e.0.values.items)) [
+      facts_in = λ e h. elim (more.0 e (subst (λ it. In e it) entries_are h)) as (λ _. In (e.0.ix, e.1) ((f.0, f.1) ∷ cs) × (field_values j.fields.items e.1.content ≡ Some e.0.values)) [
         | inl is ↦ (
           inl (ap₂ (λ (n : ℕ) (v : FactValue). (n, v)) (ap (λ (it : Entry). it.0.ix) is ∙ index_is) (ap (λ (it : Entry). it.1) is)),
-          subst (λ (it : Entry). field_values j.fields.items it.1.content ≡ Some it.0.values.items) (sym is)
-              (subst (λ it. field_values it f.1.content ≡ Some key.values.items) (sym fields_are) values_are),
+          subst (λ (it : Entry). field_values j.fields.items it.1.content ≡ Some it.0.values) (sym is)
+              (subst (λ it. field_values it f.1.content ≡ Some key.values) (sym fields_are) values_are),
         )
-        | inr old ↦ let there = has.facts_in e old in (inr there.0, subst (λ it. field_values it e.1.content ≡ Some e.0.values.items) (sym fields_are) there.1)
+        | inr old ↦ let there = has.facts_in e old in (inr there.0, subst (λ it. field_values it e.1.content ≡ Some e.0.values) (sym fields_are) there.1)
       ];
-      in_facts = λ g vs h k. elim h as (λ _. (e : Entry) × In e j.facts.entries × (e.0.values.items ≡ vs) × (e.0.ix ≡ g.0) × (e.1 ≡ g.1)) [
+      in_facts = λ g vs h k. elim h as (λ _. (e : Entry) × In e j.facts.entries × (e.0.values ≡ vs) × (e.0.ix ≡ g.0) × (e.1 ≡ g.1)) [
         | inl is ↦ (
           (key, f.1),
           subst (λ it. In (key, f.1) it) (sym entries_are) (more.1 (key, f.1) (inl refl)),
-          some_is key.values.items vs (sym values_are ∙ (sym (ap (λ (it : Fact). field_values i.fields.items it.1.content) is) ∙ old_values g vs k)),
+          some_is key.values vs (sym values_are ∙ (sym (ap (λ (it : Fact). field_values i.fields.items it.1.content) is) ∙ old_values g vs k)),
           index_is ∙ sym (ap (λ (it : Fact). it.0) is),
           sym (ap (λ (it : Fact). it.1) is),
         )
@@ -365,7 +365,7 @@ pub fact_not_filed : (i : Index) (cs : IndexedFacts) (ms : List Partial) (f : Fa
 fact_not_filed i cs ms f has free lacks =
     same_index i ((f.0, f.1) ∷ cs) (with_fact cs f.0 f.1) ms ms (swapped (with_fact cs f.0 f.1) ((f.0, f.1) ∷ cs) (one_more cs f.0 f.1 free)) (all_same ms) (record {
       facts_in = λ e h. let there = has.facts_in e h in (inr there.0, there.1);
-      in_facts = λ g vs h k. elim h as (λ _. (e : Entry) × In e i.facts.entries × (e.0.values.items ≡ vs) × (e.0.ix ≡ g.0) × (e.1 ≡ g.1)) [
+      in_facts = λ g vs h k. elim h as (λ _. (e : Entry) × In e i.facts.entries × (e.0.values ≡ vs) × (e.0.ix ≡ g.0) × (e.1 ≡ g.1)) [
         | inl is ↦ absurd (none_some (field_values i.fields.items g.1.content) vs (ap (λ (it : Fact). field_values i.fields.items it.1.content) is ∙ lacks) k)
         | inr old ↦ has.in_facts g vs old k
       ];
@@ -394,7 +394,7 @@ stays_there cs ix z h apart = entry_stays (is_at (nat_cmp ix)) cs z h (not_equal
 -- a fact with all fields is taken out
 pub fact_unfiled : (i j : Index) (cs : IndexedFacts) (ms : List Partial) (f : Fact) (key : FactKey) → IsIndex i cs ms
     → IsRising cs
-    → ((g : Fact) → In g cs → g.0 ≡ f.0 → g ≡ f) → field_values i.fields.items f.1.content ≡ Some key.values.items
+    → ((g : Fact) → In g cs → g.0 ≡ f.0 → g ≡ f) → field_values i.fields.items f.1.content ≡ Some key.values
     → key.ix ≡ f.0 → j.fields.items ≡ i.fields.items
     → j.facts.entries ≡ remove_entry (is_at (key_cmp key)) i.facts.entries → lookup (is_at (key_cmp key)) j.facts.entries ≡ None
     → j.partials.keys ≡ i.partials.keys → IsIndex j (without_fact cs f.0) ms
@@ -404,10 +404,10 @@ fact_unfiled i j cs ms f key has rising only values_are index_is fields_are entr
       let there = has.facts_in e old in (
         stays_there cs f.0 (e.0.ix, e.1) there.0
             (λ same_ix. let is = only (e.0.ix, e.1) there.0 same_ix in
-            let own : field_values i.fields.items e.1.content ≡ Some key.values.items = ap (λ (it : Fact). field_values i.fields.items it.1.content) is ∙ values_are in
-            let its : key.values.items ≡ e.0.values.items = some_is key.values.items e.0.values.items (sym own ∙ there.1) in
+            let own : field_values i.fields.items e.1.content ≡ Some key.values = ap (λ (it : Fact). field_values i.fields.items it.1.content) is ∙ values_are in
+            let its : key.values ≡ e.0.values = some_is key.values e.0.values (sym own ∙ there.1) in
             none_found (is_at (key_cmp key)) j.facts.entries e gone h (ap is_eq (level_key key e.0 its (index_is ∙ sym same_ix)))),
-        subst (λ it. field_values it e.1.content ≡ Some e.0.values.items) (sym fields_are) there.1,
+        subst (λ it. field_values it e.1.content ≡ Some e.0.values) (sym fields_are) there.1,
       );
   in_facts = λ g vs h k.
       let there = has.in_facts g vs (entry_left (is_at (nat_cmp f.0)) cs g h) (subst (λ it. field_values it g.1.content ≡ Some vs) fields_are k) in
@@ -432,7 +432,7 @@ fact_not_unfiled i cs ms f has only lacks = record {
       let there = has.facts_in e h in (
         stays_there cs f.0 (e.0.ix, e.1) there.0
             (λ same_ix. let is = only (e.0.ix, e.1) there.0 same_ix in
-            none_some (field_values i.fields.items e.1.content) e.0.values.items (ap (λ (it : Fact). field_values i.fields.items it.1.content) is ∙ lacks) there.1),
+            none_some (field_values i.fields.items e.1.content) e.0.values (ap (λ (it : Fact). field_values i.fields.items it.1.content) is ∙ lacks) there.1),
         there.1,
       );
   in_facts = λ g vs h k. has.in_facts g vs (entry_left (is_at (nat_cmp f.0)) cs g h) k;
@@ -460,7 +460,7 @@ left_without m gone ms i =
 
 -- a partial match is taken out
 pub partial_unfiled : (i j : Index) (cs : IndexedFacts) (ms : List Partial) (m : Partial) (filed : Filed) → IsIndex i cs ms
-    → ((n : Partial) → In n ms → n.parts ≡ m.parts → n ≡ m) → variable_values i.fields.items m.env ≡ Some filed.values.items
+    → ((n : Partial) → In n ms → n.parts ≡ m.parts → n ≡ m) → variable_values i.fields.items m.env ≡ Some filed.values
     → filed.partial ≡ m
     → j.fields.items ≡ i.fields.items → j.partials.keys ≡ remove_key (is_at (filed_cmp filed)) i.partials.keys
     → list_any (is_at (filed_cmp filed)) j.partials.keys ≡ false
@@ -475,13 +475,13 @@ partial_unfiled i j cs ms m filed has only values_are partial_is fields_are keys
           | inl g_is ↦
               let parts_are : z.partial.parts ≡ m.parts = e ∙ ap (λ (it : Partial). it.parts) g_is in
               let is : z.partial ≡ m = only z.partial there.0 parts_are in
-              let own : variable_values i.fields.items z.partial.env ≡ Some filed.values.items = ap (λ (it : Partial). variable_values i.fields.items it.env) is ∙ values_are in
-              let its : filed.values.items ≡ z.values.items = some_is filed.values.items z.values.items (sym own ∙ there.1) in
+              let own : variable_values i.fields.items z.partial.env ≡ Some filed.values = ap (λ (it : Partial). variable_values i.fields.items it.env) is ∙ values_are in
+              let its : filed.values ≡ z.values = some_is filed.values z.values (sym own ∙ there.1) in
               none_any (is_at (filed_cmp filed)) j.partials.keys z gone h
               (ap is_eq (level_filed filed z its (ap (λ (it : Partial). it.parts) partial_is ∙ sym parts_are)))
           | inr none ↦ none
         ]),
-        subst (λ it. variable_values it z.partial.env ≡ Some z.values.items) (sym fields_are) there.1,
+        subst (λ it. variable_values it z.partial.env ≡ Some z.values) (sym fields_are) there.1,
       );
   in_partials = λ n h.
       let inside = left_without n (m ∷ []) ms h in
@@ -507,7 +507,7 @@ partial_not_unfiled i cs ms m has only lacks = record {
         stays_without z.partial (m ∷ []) ms there.0 (λ g k e. elim k as (λ _. ⊥) [
           | inl g_is ↦
               let is : z.partial ≡ m = only z.partial there.0 (e ∙ ap (λ (it : Partial). it.parts) g_is) in
-              none_some (variable_values i.fields.items z.partial.env) z.values.items (ap (λ (it : Partial). variable_values i.fields.items it.env) is ∙ lacks) there.1
+              none_some (variable_values i.fields.items z.partial.env) z.values (ap (λ (it : Partial). variable_values i.fields.items it.env) is ∙ lacks) there.1
           | inr none ↦ none
         ]),
         there.1,
@@ -517,23 +517,23 @@ partial_not_unfiled i cs ms m has only lacks = record {
 
 -- a partial match is filed, behind the others
 pub partial_filed : (i j : Index) (cs : IndexedFacts) (ms : List Partial) (m : Partial) (filed : Filed) → IsIndex i cs ms
-    → ((n : Partial) → In n ms → m.parts ≡ n.parts → ⊥) → variable_values i.fields.items m.env ≡ Some filed.values.items
+    → ((n : Partial) → In n ms → m.parts ≡ n.parts → ⊥) → variable_values i.fields.items m.env ≡ Some filed.values
     → filed.partial ≡ m
     → j.fields.items ≡ i.fields.items → j.partials.keys ≡ insert_key filed_cmp i.partials.keys filed
     → j.facts.entries ≡ i.facts.entries → IsIndex j cs (ms ++ m ∷ [])
 partial_filed i j cs ms m filed has apart values_are partial_is fields_are keys_are entries_are = record {
   facts_in = facts_stay i j cs ms has fields_are entries_are;
   in_facts = facts_still i j cs ms has fields_are entries_are;
-  partials_in = λ z h. elim (more.0 z (subst (λ it. In z it) keys_are h)) as (λ _. In z.partial (ms ++ m ∷ []) × (variable_values j.fields.items z.partial.env ≡ Some z.values.items)) [
+  partials_in = λ z h. elim (more.0 z (subst (λ it. In z it) keys_are h)) as (λ _. In z.partial (ms ++ m ∷ []) × (variable_values j.fields.items z.partial.env ≡ Some z.values)) [
     | inl is ↦ (
       in_right z.partial ms (m ∷ []) (inl (ap partial_of is ∙ partial_is)),
-      subst (λ it. variable_values it z.partial.env ≡ Some z.values.items) (sym fields_are)
-          (subst (λ (it : Filed). variable_values i.fields.items it.partial.env ≡ Some it.values.items) (sym is)
-          (subst (λ (it : Partial). variable_values i.fields.items it.env ≡ Some filed.values.items) (sym partial_is) values_are)),
+      subst (λ it. variable_values it z.partial.env ≡ Some z.values) (sym fields_are)
+          (subst (λ (it : Filed). variable_values i.fields.items it.partial.env ≡ Some it.values) (sym is)
+          (subst (λ (it : Partial). variable_values i.fields.items it.env ≡ Some filed.values) (sym partial_is) values_are)),
     )
     | inr old ↦
         let there = has.partials_in z old in
-        (in_left z.partial ms (m ∷ []) there.0, subst (λ it. variable_values it z.partial.env ≡ Some z.values.items) (sym fields_are) there.1)
+        (in_left z.partial ms (m ∷ []) there.0, subst (λ it. variable_values it z.partial.env ≡ Some z.values) (sym fields_are) there.1)
   ];
   in_partials = λ n h. elim (in_either n ms (m ∷ []) h) as (λ _. (z : Filed) × In z j.partials.keys × (z.partial ≡ n)) [
     | inl old ↦ let there = has.in_partials n old in (there.0, subst (λ it. In there.0 it) (sym keys_are) (more.1 there.0 (inr there.1)), there.2)

@@ -159,7 +159,7 @@ still_join_fields x p js (Some i) keeps fields = subst (λ it. AreJoinFields it 
 pub have_all : (i : Index) (cs : IndexedFacts) (ms : List Partial) → IsIndex i cs ms → HaveAll i.fields.items ms
 have_all i cs ms is m h =
     let z = is.in_partials m h in
-    (z.0.values.items, ap (λ (it : Partial). variable_values i.fields.items it.env) (sym z.2) ∙ (is.partials_in z.0 z.1).1)
+    (z.0.values, ap (λ (it : Partial). variable_values i.fields.items it.env) (sym z.2) ∙ (is.partials_in z.0 z.1).1)
 
 -- what the index finds at a pattern
 module _ {T : Type 0} (agree : FieldsAgree) (place : Place T) (ms : List Partial) (joined : IsJoined place ms) (i : Index) (is : place.index ≡ Some i) where

@@ -1,15 +1,16 @@
 -- The last list of the nodes of a branch is its matches, with groups within groups.
-use Rattle.std.proofs.Common.{◌≡◌, ℕ, zero, suc, ◌+◌, ◌&&◌, Bool, true, false, List, [], ◌∷◌, ◌++◌, Option, cond, filter, inl, inr, length, refl, sym, ◌∙◌, ap, subst}
+use Rattle.std.proofs.Common.{◌≡◌, ℕ, zero, suc, ◌+◌, ◌&&◌, Bool, true, false, List, [], ◌∷◌, ◌++◌, Option, Some, None, cond, filter, inl, inr, length, refl, sym, ◌∙◌, ap, subst}
 use Rattle.std.specs.List.{list_any}
 use Rattle.std.specs.Prelude.{slice_index_or}
 use Rattle.cb_constraints.specs.PatternValues.{PatternValue}
 use Rattle.cb_exprs.specs.Terms.{Term}
 use Rattle.cb_facts.specs.FactLists.{IndexedFacts}
-use Rattle.cb_joins.specs.Internal.Flat.{AreLists, FlatNode, Lists, all_hold, begins, branch_last, branch_nodes, flat_all, grouping, holds_by, joining, last_list, lists_from, lists_of, next_where, node_count, node_list, testing, tests_first}
+use Rattle.cb_joins.specs.Internal.Flat.{AreLists, FlatNode, Lists, all_hold, alone, begins, branch_last, branch_nodes, count_inside, flat_all, group_node, grouping, holds_alone, holds_by, joining, last_list, lists_from, lists_of, lone_pattern, next_where, node_count, node_list, nodes_inside, testing, tests_first}
 use Rattle.cb_joins.specs.Internal.Nodes.{HaveIndices, HaveParts}
 use Rattle.cb_joins.proofs.Begun.{group_by_any}
 use Rattle.cb_joins.proofs.Deltas.{same_test}
 use Rattle.cb_joins.proofs.InOrder.{once_one}
+use Rattle.cb_joins.proofs.Lone.{lone_elements}
 use Rattle.cb_joins.proofs.Origins.{long_filter, long_pattern}
 use Rattle.cb_joins.proofs.Named.{AllAt, all_first, all_second, place_behind}
 use Rattle.cb_joins.proofs.Flat.{MakeLists, branch_lists, each_made}
@@ -98,6 +99,26 @@ module _ (rise : WaysRise) (fs : IndexedFacts) (indices : HaveIndices fs) (ls : 
         ∙ group_made positive inner fs ms (ls last) n h.long h.once complete);
   }
 
+  -- one of a pattern that stands alone is found by the pattern itself
+  behind_alone : (behind positive : Bool) (inner es : Elements) (p : PatternValue) (from k n : ℕ) (ms : List Partial)
+      → GoOn ls behind (element (group positive inner) es) from n ms → inner ≡ element (pattern None p) no_elements → MakeLists fs ls k (alone from p positive)
+      → GoOn ls false es k n (after (group positive inner) fs ms)
+  behind_alone behind positive inner es p from k n ms h is made = record {
+    long = long_filter (λ m. group_holds positive (after_all inner fs (m ∷ []))) n ms h.long;
+    once = once_one rise (group positive inner) fs ms indices h.once;
+    is = made
+        ∙ (ap (λ it. filter (holds_alone positive p fs) it) (starts_from ls behind (element (group positive inner) es) from n ms h refl)
+        ∙ ap (λ it. after (group positive it) fs ms) (sym is));
+  }
+
+  -- whichever it is
+  pub behind_node : (behind positive : Bool) (inner es : Elements) (from last j k n : ℕ) (ms : List Partial) (inside : List FlatNode) (o : Option PatternValue) → lone_pattern inner ≡ o
+      → GoOn ls behind (element (group positive inner) es) from n ms → (AllAt (MakeLists fs ls) k inside → ls last ≡ after_all inner fs ms)
+      → AllAt (MakeLists fs ls) k (nodes_inside o inside) → MakeLists fs ls j (group_node o from last positive n)
+      → GoOn ls false es j n (after (group positive inner) fs ms)
+  behind_node behind positive inner es from last j k n ms inside (Some p) is h complete within made = behind_alone behind positive inner es p from j n ms h (lone_elements inner p is) made
+  behind_node behind positive inner es from last j k n ms inside None is h complete within made = behind_group behind positive inner es from last j n ms h (complete within) made
+
   -- so the last one is what the elements leave of the first
   pub last_of_all : (behind : Bool) (es : Elements) (from k n : ℕ) (ms : List Partial) → GoOn ls behind es from n ms → AllAt (MakeLists fs ls) k (flat_all behind es from k n)
       → ls (last_list behind es from k) ≡ after_all es fs ms
@@ -108,13 +129,17 @@ module _ (rise : WaysRise) (fs : IndexedFacts) (indices : HaveIndices fs) (ls : 
   last_of_all false (element (test t) es) from k n ms h made =
       last_of_all false es k (suc k) n (filter (λ m. test_holds t m.env) ms) (behind_test t es from k n ms h made.0) made.1
   last_of_all behind (element (group positive inner) es) from k n ms h made =
-      let j : ℕ = k + node_count false inner in
+      let o = lone_pattern inner in
+      let j : ℕ = k + count_inside o (node_count false inner) in
       let last = last_list false inner from k in
       let inside = flat_all false inner from k n in
-      let rest = grouping from last positive n ∷ flat_all false es j (suc j) n in
-      let complete = last_of_all false inner from k n ms (inside_group behind positive inner es from n ms h) (all_first (MakeLists fs ls) k inside rest made) in
-      let more = all_second (MakeLists fs ls) k j inside rest (place_behind inner from k n) made in
-      last_of_all false es j (suc j) n (after (group positive inner) fs ms) (behind_group behind positive inner es from last j n ms h complete more.0) more.1
+      let rest = group_node o from last positive n ∷ flat_all false es j (suc j) n in
+      let more = all_second (MakeLists fs ls) k j (nodes_inside o inside) rest (place_behind inner from k n) made in
+      last_of_all false es j (suc j) n (after (group positive inner) fs ms)
+      (behind_node behind positive inner es from last j k n ms inside o refl h
+      (λ within. last_of_all false inner from k n ms (inside_group behind positive inner es from n ms h) within)
+      (all_first (MakeLists fs ls) k (nodes_inside o inside) rest made) more.0)
+      more.1
 
 -- the last of any lists of the nodes of a branch
 pub last_of_lists : WaysRise → (es : Elements) (fs : IndexedFacts) (first : List Partial) (ls : Lists) → HaveIndices fs → HaveParts 0 first → IsOnce first → AreLists (branch_nodes es) fs first ls
@@ -142,6 +167,7 @@ empty_node : (n : FlatNode) (fs : IndexedFacts) (ls : Lists) → ((k : ℕ) → 
 empty_node (joining from x p ts) fs ls h = ap (λ it. next_where x p ts fs it) (h from)
 empty_node (testing from t) fs ls h = ap (λ it. filter (λ m. test_holds t m.env) it) (h from)
 empty_node (grouping from inner positive width) fs ls h = ap (λ it. filter (λ m. holds_by positive (list_any (begins m.parts) (ls inner))) it) (h from)
+empty_node (alone from p positive) fs ls h = ap (λ it. filter (holds_alone positive p fs) it) (h from)
 
 empty_more : (ls : List (List Partial)) (l : List Partial) → l ≡ [] → ((k : ℕ) → slice_index_or ls k [] ≡ []) → (k : ℕ) → slice_index_or (ls ++ l ∷ []) k [] ≡ []
 empty_more [] l e h zero = e

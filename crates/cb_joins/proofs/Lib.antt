@@ -1,7 +1,9 @@
+mod AllOrNone
 mod Answered
 mod Around
 mod AskedFound
 mod AskedOrder
+mod AtOnce
 mod Beginnings
 mod Begun
 mod Concerned
@@ -22,6 +24,7 @@ mod IndexValues
 mod Indexes
 mod Joined
 mod Last
+mod Lone
 mod Memories
 mod Moves
 mod Named
@@ -37,6 +40,7 @@ mod Skipped
 mod Sorting
 mod Steps
 mod Takings
+mod TakenOut
 mod Tested
 mod Turns
 mod Unasked

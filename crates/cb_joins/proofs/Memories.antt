@@ -1,5 +1,5 @@
 -- Sets of partial matches in the order of their parts.
-use Rattle.std.proofs.Common.{◌≡◌, ◌≢◌, ◌<◌, ◌⊎◌, ◌∙◌, ℕ, Bool, true, false, not, cond, ◌&&◌, ◌||◌, List, [], ◌∷◌, ◌++◌, Option, Some, None, Ordering, Less, Equal, Greater, ap, ap₂, arith, filter, find, inl, inr, is_eq, is_le, length, nat_cmp, nat_eq, refl, slice_get, subst, sym, take}
+use Rattle.std.proofs.Common.{◌≡◌, ◌≢◌, ◌⊎◌, ◌∙◌, ℕ, Bool, true, false, cond, ◌&&◌, ◌||◌, List, [], ◌∷◌, ◌++◌, Option, Some, None, Ordering, Less, Equal, Greater, ap, ap₂, arith, filter, find, inl, inr, is_eq, is_le, length, nat_cmp, nat_eq, refl, slice_get, subst, sym, take}
 use Rattle.std.proofs.lemmas.Map.Keys.{sorted_head, sorted_tail}
 use Rattle.std.proofs.lemmas.Map.Lookups.{CmpEqualImpliesEq, exact_bytes, exact_pairs, exact_unsigned}
 use Rattle.std.specs.BTreeMap.{is_at}
@@ -10,11 +10,10 @@ use Rattle.std.specs.List.{list_any}
 use Rattle.std.specs.List.Sorted.{IsStrictlySortedBy}
 use Rattle.std.specs.Option.{option_map_or}
 use Rattle.std.specs.Ordering.{match_ordering, ordering_reverse, ordering_then}
-use Rattle.std.specs.Set.{remove_key}
-use Rattle.cb_joins.proofs.Pieces.{IsPiece, false_true, first_out, first_passing, less_in, passing}
+use Rattle.cb_joins.proofs.Pieces.{IsPiece, false_true, first_passing, less_in, passing}
 use Rattle.cb_joins.specs.Internal.Flat.{begins}
 use Rattle.cb_matches.specs.Internal.KeyLaws.{part_equiv, part_tied, part_total}
-use Rattle.cb_joins.specs.Internal.Memories.{IsAdded, IsFirstTaken, IsFound, begins_as, first_part}
+use Rattle.cb_joins.specs.Internal.Memories.{IsAdded, IsFound, begins_as, first_part}
 use Rattle.cb_partials.specs.Internal.PartialLaws.{partial_tied, partial_total}
 use Rattle.cb_partials.specs.Probes.{has_parts}
 use Rattle.cb_matches.specs.Keys.{PartValue, part_cmp, part_eq}
@@ -49,7 +48,7 @@ le_both Less h k = cc
 le_both Equal h k = refl
 le_both Greater h k = cc
 
-equal_is : (r : Ordering) → is_eq r ≡ true → r ≡ Equal
+pub equal_is : (r : Ordering) → is_eq r ≡ true → r ≡ Equal
 equal_is Less h = cc
 equal_is Equal h = refl
 equal_is Greater h = cc
@@ -158,7 +157,7 @@ goes_between (p ∷ ps) ix (y ∷ ys) (z ∷ zs) g h t =
 
 -- ---- partial matches
 
-exact_apart : (m n : Partial) → partial_cmp m n ≡ Equal → m.parts ≡ n.parts
+pub exact_apart : (m n : Partial) → partial_cmp m n ≡ Equal → m.parts ≡ n.parts
 exact_apart m n h = exact_parts m.parts n.parts h
 
 -- those that go on so stand in one piece
@@ -173,25 +172,6 @@ piece ps ix q is = record {
 pub first_begun_is : (ps : List PartValue) (ix : Option ℕ) (q : Partial) → q.parts ≡ ps ++ first_part ix → (ms : List Partial) → IsStrictlySortedBy partial_cmp ms
     → slice_get (filter (begins_as ps ix) ms) 0 ≡ passing (begins_as ps ix) (slice_get (filter (λ z. is_le (partial_cmp q z)) ms) 0)
 first_begun_is ps ix q is ms s = first_passing partial_cmp q (begins_as ps ix) (piece ps ix q is) ms s
-
-pub taken_first : (test : Partial → Bool) (old new : List Partial) (m : Partial) (found : Option Partial) → IsStrictlySortedBy partial_cmp old → slice_get (filter test old) 0 ≡ Some m
-    → found ≡ find (is_at (partial_cmp m)) old → new ≡ remove_key (is_at (partial_cmp m)) old → IsFirstTaken test old found new
-taken_first test old new m found s h is left =
-    let out = first_out partial_cmp partial_total test old m s h in
-    subst (λ it. IsFirstTaken test old it new) (sym (is ∙ out.is))
-    (record {
-      taken = out.taken ∙ ap (λ ys. m ∷ filter test ys) (sym left);
-      others = ap (filter (λ z. not (test z))) left ∙ out.others;
-      fewer = subst (λ ys. length ys < length old) (sym left) out.fewer;
-    })
-
--- where none passes
-pub taken_none : (test : Partial → Bool) (old : List Partial) → slice_get (filter test old) 0 ≡ None → filter test old ≡ []
-taken_none test old h = by_list (filter test old) h
-  where
-    by_list : (ms : List Partial) → slice_get ms 0 ≡ None → ms ≡ []
-    by_list [] k = refl
-    by_list (m ∷ ms) k = cc
 
 pub begins_not : (ps : List PartValue) (ix : Option ℕ) (z : Partial) → begins ps z ≡ false → begins_as ps ix z ≡ false
 begins_not ps None z h = h

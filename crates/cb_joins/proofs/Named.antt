@@ -1,8 +1,10 @@
 -- The nodes of a branch by their places: how many there are, and that each names lists before its own.
-use Rattle.std.proofs.Common.{◌≡◌, ℕ, zero, suc, ◌+◌, ◌<◌, Bool, true, false, List, [], ◌∷◌, ◌++◌, length, refl, ◌∙◌, ap, ap₂, subst, arith}
+use Rattle.std.proofs.Common.{◌≡◌, ℕ, zero, suc, ◌+◌, ◌<◌, Bool, true, false, List, [], ◌∷◌, ◌++◌, Option, Some, None, length, refl, ◌∙◌, ap, ap₂, subst, arith}
 use Rattle.std.proofs.lemmas.List.{length-append}
 use Rattle.std.specs.Prelude.{slice_index_or}
-use Rattle.cb_joins.specs.Internal.Flat.{FlatNode, branch_last, branch_nodes, flat_all, grouping, joining, last_list, node_count, testing}
+use Rattle.cb_joins.specs.Internal.Flat.{FlatNode, alone, branch_last, branch_nodes, count_inside, flat_all, group_node, grouping, joining, last_list, lone_pattern, node_count, nodes_inside, testing}
+use Rattle.cb_joins.proofs.Lone.{long_inside}
+use Rattle.cb_constraints.specs.PatternValues.{PatternValue}
 use Rattle.cb_rules.specs.Elements.{pattern, test, group, Elements, no_elements, element}
 
 -- each of these nodes, of which the first has the place k, is so at its place
@@ -47,13 +49,25 @@ long_flat_all behind (element (pattern x p) es) from k n = ap suc (long_flat_all
 long_flat_all true (element (test t) es) from k n = long_flat_all true es from k n
 long_flat_all false (element (test t) es) from k n = ap suc (long_flat_all false es k (suc k) n)
 long_flat_all behind (element (group positive inner) es) from k n =
-    let j = k + node_count false inner in
-    length-append (flat_all false inner from k n) (grouping from (last_list false inner from k) positive n ∷ flat_all false es j (suc j) n)
-    ∙ ap₂ (λ a b. a + suc b) (long_flat_all false inner from k n) (long_flat_all false es j (suc j) n)
+    let o = lone_pattern inner in
+    let inside = flat_all false inner from k n in
+    let j = k + count_inside o (node_count false inner) in
+    length-append (nodes_inside o inside) (group_node o from (last_list false inner from k) positive n ∷ flat_all false es j (suc j) n)
+    ∙ ap₂ (λ a b. a + suc b) (long_inside o inside (node_count false inner) (long_flat_all false inner from k n)) (long_flat_all false es j (suc j) n)
 
 -- a group stands behind the nodes inside it
-pub place_behind : (inner : Elements) (from k n : ℕ) → k + node_count false inner ≡ k + length (flat_all false inner from k n)
-place_behind inner from k n = let e = long_flat_all false inner from k n in omega (arith, e)
+pub place_behind : (inner : Elements) (from k n : ℕ) → k + count_inside (lone_pattern inner) (node_count false inner) ≡ k + length (nodes_inside (lone_pattern inner) (flat_all false inner from k n))
+place_behind inner from k n =
+    let e = long_inside (lone_pattern inner) (flat_all false inner from k n) (node_count false inner) (long_flat_all false inner from k n) in omega (arith, e)
+
+-- what holds of the nodes of the elements inside a group
+pub all_inside : (P : ℕ → FlatNode → Type 0) (o : Option PatternValue) (k : ℕ) (ns : List FlatNode) → AllAt P k ns → AllAt P k (nodes_inside o ns)
+all_inside P (Some p) k ns h = tt
+all_inside P None k ns h = h
+
+pub from_inside : (P Q : ℕ → FlatNode → Type 0) (o : Option PatternValue) (k : ℕ) (ns : List FlatNode) → (AllAt P k ns → AllAt Q k ns) → AllAt P k (nodes_inside o ns) → AllAt Q k (nodes_inside o ns)
+from_inside P Q (Some p) k ns f h = tt
+from_inside P Q None k ns f h = f h
 
 -- the last list is one of those that there are
 pub last_below : (behind : Bool) (es : Elements) (from k : ℕ) → from < k → last_list behind es from k < k + node_count behind es
@@ -62,7 +76,7 @@ last_below behind (element (pattern x p) es) from k l = let more = last_below tr
 last_below true (element (test t) es) from k l = last_below true es from k l
 last_below false (element (test t) es) from k l = let more = last_below false es k (suc k) (omega (arith)) in omega (arith, more)
 last_below behind (element (group positive inner) es) from k l =
-    let j = k + node_count false inner in
+    let j = k + count_inside (lone_pattern inner) (node_count false inner) in
     let more = last_below false es j (suc j) (omega (arith)) in omega (arith, more)
 
 pub branch_last_is_there : (es : Elements) → branch_last es < suc (length (branch_nodes es))
@@ -73,6 +87,11 @@ abbrev pub IsBelow : ℕ → FlatNode → Type 0
 IsBelow k (joining from x p ts) = from < k
 IsBelow k (testing from t) = from < k
 IsBelow k (grouping from inner positive width) = (from < k) × (inner < k)
+IsBelow k (alone from p positive) = from < k
+
+group_below : (o : Option PatternValue) (from last k n : ℕ) (positive : Bool) (width : ℕ) → from < k → last < k + n → IsBelow (k + count_inside o n) (group_node o from last positive width)
+group_below (Some p) from last k n positive width l m = omega (arith, l)
+group_below None from last k n positive width l m = (omega (arith, l), m)
 
 pub below_all : (behind : Bool) (es : Elements) (from k n : ℕ) → from < k → AllAt IsBelow k (flat_all behind es from k n)
 below_all behind no_elements from k n l = tt
@@ -80,7 +99,10 @@ below_all behind (element (pattern x p) es) from k n l = (l, below_all true es k
 below_all true (element (test t) es) from k n l = below_all true es from k n l
 below_all false (element (test t) es) from k n l = (l, below_all false es k (suc k) n (omega (arith)))
 below_all behind (element (group positive inner) es) from k n l =
-    let j : ℕ = k + node_count false inner in
-    all_both IsBelow k j (flat_all false inner from k n) (grouping from (last_list false inner from k) positive n ∷ flat_all false es j (suc j) n) (place_behind inner from k n)
-    (below_all false inner from k n l)
-    ((omega (arith, l), last_below false inner from k l), below_all false es j (suc j) n (omega (arith)))
+    let o = lone_pattern inner in
+    let inside = flat_all false inner from k n in
+    let last = last_list false inner from k in
+    let j : ℕ = k + count_inside o (node_count false inner) in
+    all_both IsBelow k j (nodes_inside o inside) (group_node o from last positive n ∷ flat_all false es j (suc j) n) (place_behind inner from k n)
+    (all_inside IsBelow o k inside (below_all false inner from k n l))
+    (group_below o from last k (node_count false inner) positive n l (last_below false inner from k l), below_all false es j (suc j) n (omega (arith)))

@@ -10,7 +10,7 @@ use Rattle.cb_facts.specs.FactLists.{IndexedFacts}
 use Rattle.cb_joins.proofs.InOrder.{sorted_all}
 use Rattle.cb_joins.proofs.Pieces.{less_in}
 use Rattle.cb_joins.proofs.Widths.{up_to}
-use Rattle.cb_joins.specs.Internal.Flat.{AreLists, AreWidths, FlatNode, IsWell, Lists, all_hold, begins, grouping, holds_by, joining, node_list, testing}
+use Rattle.cb_joins.specs.Internal.Flat.{AreLists, AreWidths, FlatNode, IsWell, Lists, all_hold, alone, begins, grouping, holds_alone, holds_by, joining, node_list, testing}
 use Rattle.cb_joins.specs.Internal.Steps.{IsWith}
 use Rattle.cb_matches.specs.Lemmas.Growth.{sorted_next}
 use Rattle.cb_matches.specs.Lemmas.Lists.{chain_filter, chain_weaker, one_chain}
@@ -54,6 +54,7 @@ list_is_sorted rise (joining from x p ts) k fs ls ws rising l h = chain_filter I
 list_is_sorted rise (testing from t) k fs ls ws rising l h = chain_filter IsAhead (λ m. test_holds t m.env) (ls from) (h from l)
 list_is_sorted rise (grouping from inner positive width) k fs ls ws rising l h =
     chain_filter IsAhead (λ m. holds_by positive (list_any (begins m.parts) (ls inner))) (ls from) (h from l.0)
+list_is_sorted rise (alone from p positive) k fs ls ws rising l h = chain_filter IsAhead (holds_alone positive p fs) (ls from) (h from l)
 
 any_node : FlatNode
 any_node = grouping 0 0 true 0

@@ -6,7 +6,7 @@ use Rattle.std.specs.BTreeMap.{is_at}
 use Rattle.std.specs.Cmp.{nat_cmp_is, unsigned_tied}
 use Rattle.std.specs.declared.cmp.Ordering.TheVariants.{Less, Equal, Greater}
 use Rattle.std.proofs.lemmas.Bool.Decides.{Decides-eqb}
-use Rattle.std.proofs.lemmas.List.{append-nil, length-append}
+use Rattle.std.proofs.lemmas.List.{length-append}
 use Rattle.std.proofs.lemmas.List.Elements.{filter-append}
 use Rattle.std.specs.List.{list_any}
 use Rattle.std.specs.Option.{option_map_or}
@@ -18,6 +18,7 @@ use Rattle.cb_facts.specs.FactLists.{IndexedFacts, fact_at, with_fact, without_f
 use Rattle.cb_facts.specs.Facts.{FactValue}
 use Rattle.cb_fit.specs.Shapes.{has_way, loose}
 use Rattle.cb_fit.specs.Ways.{WayValue, ways}
+use Rattle.cb_joins.proofs.AtOnce.{all_lost}
 use Rattle.cb_joins.proofs.Beginnings.{begins_to, in_some, some_in, to_begins, true_false}
 use Rattle.cb_joins.proofs.Origins.{same_begin}
 use Rattle.cb_joins.proofs.Counts.{as_long, same_length}
@@ -71,14 +72,14 @@ at_it ix e h = eqb-true ix e.0 (sym (unsigned_tied ix e.0) ∙ h)
 abbrev left_of : ℕ → Fact → IndexedFacts → Bool → IndexedFacts
 left_of ix e es b = cond b es (e ∷ without_fact es ix)
 
-without_other : (es : IndexedFacts) (ix : ℕ) (z : Fact) → IsRising es → In z (without_fact es ix) → z.0 ≡ ix → ⊥
+pub without_other : (es : IndexedFacts) (ix : ℕ) (z : Fact) → IsRising es → In z (without_fact es ix) → z.0 ≡ ix → ⊥
 without_other [] ix z rising h d = absurd h
 without_other (e ∷ es) ix z rising h d =
     by_test (is_at (nat_cmp ix) e.0)
     (λ t. let i : In z es = subst (λ b. In z (left_of ix e es b)) t h in let l : e.0 < z.0 = rising.0 z i in let m = at_it ix e t in absurd (omega (arith, l, m, d)))
     (λ t. elim (subst (λ b. In z (left_of ix e es b)) t h) as (λ _. ⊥) [ inl c ↦ not_at ix e t (ap (λ it. it.0) (sym c) ∙ d) | inr j ↦ without_other es ix z rising.1 j d ])
 
-other_without : (es : IndexedFacts) (ix : ℕ) (z : Fact) → In z es → (z.0 ≡ ix → ⊥) → In z (without_fact es ix)
+pub other_without : (es : IndexedFacts) (ix : ℕ) (z : Fact) → In z es → (z.0 ≡ ix → ⊥) → In z (without_fact es ix)
 other_without [] ix z h d = absurd h
 other_without (e ∷ es) ix z h d =
     by_test (is_at (nat_cmp ix) e.0)
@@ -205,6 +206,13 @@ module _ {T : Type 0} (rise : WaysRise) (shapeless : Shapeless) (place : Place T
         in_own z (moved_in x p fs fs m.gone.items old (λ g i. i) c.gone_old z h) t,
         in_some (λ g. begins g.parts z) k.parent m.gone.items k.parent_in (to_begins k.parent.parts z (part k.fact.0 k.way.cuts ∷ [], ap (λ it. it.parts) k.is)),
       )
+
+  -- where nothing is left before the pattern, all that is behind it does
+  pub all_behind_gone : before ≡ [] → (z : Partial) → In z own → behind_gone z ≡ true
+  all_behind_gone none z h =
+      let k = is_grown x p fs old z (own_in z h).0 in
+      in_some (λ g. begins g.parts z) k.parent m.gone.items (all_lost before old new m.gone.items m.come.items none b.is_before c k.parent k.parent_in)
+      (to_begins k.parent.parts z (part k.fact.0 k.way.cuts ∷ [], ap (λ it. it.parts) k.is))
 
   -- the lengths that the bound speaks of
   come_long : length m.come.items ≡ length (partials_come old new)
@@ -481,31 +489,20 @@ module _ {T : Type 0} (rise : WaysRise) (shapeless : Shapeless) (place : Place T
         ]
 
     -- or those whose last fact it is
-    abbrev ended : List Partial → Partial → Bool
-    ended first z = list_any (λ l. begins l.parts z) (filter (ends_with f.0) first)
-
-    ended_to : (first : List Partial) → ((z : Partial) → In z first → In z own) → (z : Partial) → In z first → ended first z ≡ true → In z (next x p (f ∷ []) old)
+    ended_to : (first : List Partial) → ((z : Partial) → In z first → In z own) → (z : Partial) → In z first → ends_with f.0 z ≡ true → In z (next x p (f ∷ []) old)
     ended_to first among z h t =
         let k = is_grown x p fs old z (own_in z (among z h)).0 in
-        let l = some_in (λ l. begins l.parts z) (filter (ends_with f.0) first) t in
-        let i = in_filter (ends_with f.0) l.0 first l.1 in
-        let j = is_grown x p fs old l.0 (own_in l.0 (among l.0 i.0)).0 in
-        let long : length l.0.parts ≡ length z.parts =
-        ap (λ it. length it.parts) j.is ∙ (length-append j.parent.parts (part j.fact.0 j.way.cuts ∷ []) ∙ (ap (λ it. it + 1) (b.long j.parent j.parent_in ∙ sym (b.long k.parent k.parent_in)) ∙ (sym (length-append k.parent.parts (part k.fact.0 k.way.cuts ∷ [])) ∙ sym (ap (λ it. length it.parts) k.is)))) in
-        let same : l.0.parts ≡ z.parts = same_begin l.0.parts z.parts z.parts long (begins_to l.0.parts z l.2) ([], sym (append-nil z.parts)) in
-        let index : f.0 ≡ k.fact.0 = last_index f.0 l.0 k.parent.parts (part k.fact.0 k.way.cuts) (same ∙ ap (λ it. it.parts) k.is) i.1 in
+        let index : f.0 ≡ k.fact.0 = last_index f.0 z k.parent.parts (part k.fact.0 k.way.cuts) (ap (λ it. it.parts) k.is) t in
         elim (added.is k.fact k.fact_in) as (λ _. In z (next x p (f ∷ []) old)) [
           | inl i ↦ absurd (added.absent k.fact i (sym index))
           | inr e ↦ regrown x p fs (f ∷ []) old old z k k.parent_in (inl e)
         ]
 
-    ended_from : (first : List Partial) (z : Partial) → In z (next x p (f ∷ []) old) → In z first → ended first z ≡ true
-    ended_from first z h i =
+    ended_from : (z : Partial) → In z (next x p (f ∷ []) old) → ends_with f.0 z ≡ true
+    ended_from z h =
         let k = is_grown x p (f ∷ []) old z h in
         let e = only_one k.fact f k.fact_in in
-        in_some (λ l. begins l.parts z) z (filter (ends_with f.0) first)
-        (filter_in (ends_with f.0) z first i (index_last f.0 z k.parent.parts (part k.fact.0 k.way.cuts) (ap (λ it. it.parts) k.is) (ap (λ it. it.0) (sym e))))
-        (to_begins z.parts z ([], sym (append-nil z.parts)))
+        index_last f.0 z k.parent.parts (part k.fact.0 k.way.cuts) (ap (λ it. it.parts) k.is) (ap (λ it. it.0) (sym e))
 
     -- afterwards
     module _ (q : Place T) (address : q.address ≡ x) (pattern : q.pattern ≡ p) (tests : tests_of q ≡ ts)
@@ -582,8 +579,8 @@ module _ {T : Type 0} (rise : WaysRise) (shapeless : Shapeless) (place : Place T
         elim taken as (λ _. IsAfter fs fs' old new q own' r) [
           | inl t ↦ taken_now q address pattern tests is_loose candidates joined r first left own' gone1 taken1 (took_it t.0) t.2
               (λ z h. took_to t.0 t.1 z (among z h)) (λ z h _. took_from t.0 t.1 z h) came more
-          | inr t ↦ taken_now q address pattern tests is_loose candidates joined r first left own' gone1 taken1 (ended first) t
-              (ended_to first among) (λ z h i. inr (ended_from first z h i)) came more
+          | inr t ↦ taken_now q address pattern tests is_loose candidates joined r first left own' gone1 taken1 (ends_with f.0) t
+              (ended_to first among) (λ z h i. inr (ended_from z h)) came more
         ]
 
     -- the bound

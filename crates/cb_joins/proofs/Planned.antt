@@ -1,15 +1,15 @@
 -- The nodes of elements, made one element after another.
-use Rattle.std.proofs.Common.{◌≡◌, ℕ, zero, suc, ◌+◌, Bool, true, false, List, [], ◌∷◌, ◌++◌, Option, Global, Vec, length, map, set, refl, sym, ◌∙◌, ap, ap₂, subst, arith, cond, get_or}
+use Rattle.std.proofs.Common.{◌≡◌, ℕ, zero, suc, ◌+◌, Bool, true, false, List, [], ◌∷◌, ◌++◌, Option, Some, None, Global, Vec, length, map, set, refl, sym, ◌∙◌, ap, ap₂, subst, arith, cond, get_or}
 use Rattle.std.proofs.lemmas.List.{append-nil, append_assoc, length-append, map-append}
 use Rattle.cb_constraints.specs.PatternValues.{PatternValue}
 use Rattle.cb_exprs.specs.Terms.{Term, term_of}
 use Rattle.cb_exprs.specs.declared.expr.Expr.{Expr}
 use Rattle.cb_joins.proofs.Named.{long_flat_all}
-use Rattle.cb_joins.specs.Internal.Flat.{FlatNode, flat_all, flat_node, flat_nodes, grouping, joining, last_list, node_count, testing, tests_first}
+use Rattle.cb_joins.specs.Internal.Flat.{FlatNode, alone, count_inside, flat_all, flat_node, flat_nodes, group_node, grouping, joining, last_list, lone_pattern, node_count, nodes_inside, testing, tests_first}
 use Rattle.cb_joins.specs.Internal.Plans.{IsFurther, last_tested, last_with, node_with, nodes_with}
 use Rattle.cb_joins.specs.declared.node.Node.{Node}
 use Rattle.cb_joins.specs.declared.planning.End.{End}
-use Rattle.cb_rules.specs.Elements.{Element, pattern, test, group, Elements, no_elements, element_of, element_step, elements}
+use Rattle.cb_rules.specs.Elements.{Element, pattern, test, group, Elements, no_elements, element, element_of, element_step, elements}
 use Rattle.cb_rules.specs.declared.ce.Ce.TheFolds.{fold-roll-Ce}
 use Rattle.cb_rules.specs.declared.ce.Ce.TheOpen as program
 use Rattle.cb_rules.specs.declared.ce.Ce.TheVariants as is
@@ -21,11 +21,13 @@ none_more : (n : FlatNode) → node_with [] n ≡ n
 none_more (joining from x p ts) = ap (joining from x p) (append-nil ts)
 none_more (testing from t) = refl
 none_more (grouping from inner positive width) = refl
+none_more (alone from p positive) = refl
 
 more_twice : (us ts : List Term) (n : FlatNode) → node_with ts (node_with us n) ≡ node_with (us ++ ts) n
 more_twice us ts (joining from x p ss) = ap (joining from x p) (append_assoc ss us ts)
 more_twice us ts (testing from t) = refl
 more_twice us ts (grouping from inner positive width) = refl
+more_twice us ts (alone from p positive) = refl
 
 -- and to the last one
 none_last : (ns : List FlatNode) → last_tested [] ns ≡ ns
@@ -129,13 +131,30 @@ test_further ns ns' end list t is l behind =
     subst (λ (it : Bool). IsFurther ns ns' (record { list = end.list; width = end.width; is_pattern = it }) (record { list = list; width = end.width; is_pattern = false }) (test t)) (sym behind)
     (own ns ns' end.list end.width list t is l)
 
+-- the nodes of a group and of what follows, by whether it is of a lone pattern
+abbrev group_all : Option PatternValue → (positive : Bool) (inner es : Elements) (from k n : ℕ) → List FlatNode
+group_all o positive inner es from k n =
+    let j = k + count_inside o (node_count false inner) in
+    nodes_inside o (flat_all false inner from k n) ++ group_node o from (last_list false inner from k) positive n ∷ flat_all false es j (suc j) n
+
+abbrev group_last : Option PatternValue → (inner es : Elements) (k : ℕ) → ℕ
+group_last o inner es k = let j = k + count_inside o (node_count false inner) in last_list false es j (suc j)
+
+group_all_is : (b : Bool) (o : Option PatternValue) (positive : Bool) (inner es : Elements) (from k n : ℕ) → lone_pattern inner ≡ o
+    → group_all o positive inner es from k n ≡ flat_all b (element (group positive inner) es) from k n
+group_all_is b o positive inner es from k n e = ap (λ it. group_all it positive inner es from k n) (sym e)
+
+group_last_is : (b : Bool) (o : Option PatternValue) (positive : Bool) (inner es : Elements) (from k : ℕ) → lone_pattern inner ≡ o
+    → group_last o inner es k ≡ last_list b (element (group positive inner) es) from k
+group_last_is b o positive inner es from k e = ap (λ it. group_last it inner es k) (sym e)
+
 -- a group further
-pub group_further : (ns mid ns' : List FlatNode) (end : End) (list last : ℕ) (positive : Bool) (inner : Elements)
+pub group_further : (ns mid ns' : List FlatNode) (end : End) (list last : ℕ) (positive : Bool) (inner : Elements) → lone_pattern inner ≡ None
     → mid ≡ nodes_with ns (record { list = end.list; width = end.width; is_pattern = false }) inner
     → last ≡ last_with ns (record { list = end.list; width = end.width; is_pattern = false }) inner
     → ns' ≡ mid ++ grouping end.list last positive end.width ∷ [] → list ≡ length ns'
     → IsFurther ns ns' end (record { list = list; width = end.width; is_pattern = false }) (group positive inner)
-group_further ns mid ns' end list last positive inner within ends is l =
+group_further ns mid ns' end list last positive inner none within ends is l =
     let k : ℕ = length ns + 1 in
     let inside = flat_all false inner end.list k end.width in
     let n : FlatNode = grouping end.list (last_list false inner end.list k) positive end.width in
@@ -151,8 +170,29 @@ group_further ns mid ns' end list last positive inner within ends is l =
           ap₂ (λ (a b : List FlatNode). a ++ b) (is ∙ ap₂ (λ (a : List FlatNode) (b : ℕ). a ++ grouping end.list b positive end.width ∷ []) within ends)
           (placed false es list j (length ns' + 1) (suc j) end.width end.width at next_at refl)
           ∙ (append_assoc (ns ++ inside) (n ∷ []) rest
-          ∙ (append_assoc ns inside (n ∷ rest) ∙ ap (λ it. it ++ (inside ++ n ∷ rest)) (sym (stay end.is_pattern ns))));
-      last = λ es. placed_last false es list j (length ns' + 1) (suc j) at next_at;
+          ∙ (append_assoc ns inside (n ∷ rest)
+          ∙ ap₂ (λ (a b : List FlatNode). a ++ b) (sym (stay end.is_pattern ns)) (group_all_is end.is_pattern None positive inner es end.list k end.width none)));
+      last = λ es. placed_last false es list j (length ns' + 1) (suc j) at next_at ∙ group_last_is end.is_pattern None positive inner es end.list k none;
+    }
+
+-- one of a pattern that stands alone
+pub alone_further : (ns ns' : List FlatNode) (end : End) (list : ℕ) (positive : Bool) (inner : Elements) (p : PatternValue) → lone_pattern inner ≡ Some p
+    → ns' ≡ ns ++ alone end.list p positive ∷ [] → list ≡ length ns'
+    → IsFurther ns ns' end (record { list = list; width = end.width; is_pattern = false }) (group positive inner)
+alone_further ns ns' end list positive inner p lone is l =
+    let k : ℕ = length ns + 1 in
+    let j : ℕ = k + 0 in
+    let n : FlatNode = alone end.list p positive in
+    let long : length ns' ≡ length ns + 1 = ap length is ∙ length-append ns (n ∷ []) in
+    let at : list ≡ j = omega (arith, l, long) in
+    let next_at : length ns' + 1 ≡ suc j = omega (arith, long) in
+    record {
+      nodes = λ es.
+          let rest = flat_all false es j (suc j) end.width in
+          ap₂ (λ (a b : List FlatNode). a ++ b) is (placed false es list j (length ns' + 1) (suc j) end.width end.width at next_at refl)
+          ∙ (append_assoc ns (n ∷ []) rest
+          ∙ ap₂ (λ (a b : List FlatNode). a ++ b) (sym (stay end.is_pattern ns)) (group_all_is end.is_pattern (Some p) positive inner es end.list k end.width lone));
+      last = λ es. placed_last false es list j (length ns' + 1) (suc j) at next_at ∙ group_last_is end.is_pattern (Some p) positive inner es end.list k lone;
     }
 
 -- what the elements of the program are

@@ -12,6 +12,11 @@ pub if_ok : {X E : Type 0} {P Q : X → Type 0} (r : Result X E) → IfOk r P �
 if_ok (Ok x) p f = f x p
 if_ok (Err e) p f = tt
 
+-- what always holds
+pub always : {X E P : Type 0} (r : Result X E) → P → OnOk r P
+always (Ok x) p = p
+always (Err e) p = tt
+
 -- and of one that is something
 pub if_some : {X : Type 0} (P : X → Type 0) (o : Option X) (x : X) → o ≡ Some x → IfSome o P → P x
 if_some P o x is h = subst (λ it. IfSome it P) is h

@@ -11,7 +11,7 @@ use Rattle.cb_joins.proofs.Flat.{at_end, in_front}
 use Rattle.cb_joins.proofs.Widths.{lists_are_once, lists_are_wide}
 use Rattle.cb_joins.proofs.Moves.{none_moves}
 use Rattle.cb_joins.specs.Internal.Changes.{Holds, IsMoved, PartialMoves, parts_of_partial}
-use Rattle.cb_joins.specs.Internal.Flat.{AreWidths, FlatNode, IsWell, flat_node, flat_nodes, flat_probes, flat_probes_of, grouping, joining, node_list, testing}
+use Rattle.cb_joins.specs.Internal.Flat.{AreWidths, FlatNode, IsWell, alone, flat_node, flat_nodes, flat_probes, flat_probes_of, grouping, joining, node_list, testing}
 use Rattle.cb_joins.specs.Internal.Nodes.{AreWhole, HaveIndices, HaveParts, IsReady, branch_lists}
 use Rattle.cb_joins.specs.Internal.Steps.{AreAround, HasWidth, IsStep, NamesListsBelow}
 use Rattle.cb_joins.specs.declared.moved.Moved.{Moved}
@@ -23,11 +23,13 @@ pub names_below : (k : ℕ) (n : FlatNode) (ws : ℕ → ℕ) → IsWell k n ws 
 names_below k (joining from x p ts) ws h = h
 names_below k (testing from t) ws h = h
 names_below k (grouping from inner positive width) ws h = (h.0, h.1)
+names_below k (alone from p positive) ws h = h
 
 has_width : (k : ℕ) (n : FlatNode) (ws : ℕ → ℕ) → IsWell k n ws → HasWidth ws n
 has_width k (joining from x p ts) ws h = tt
 has_width k (testing from t) ws h = tt
 has_width k (grouping from inner positive width) ws h = h.2
+has_width k (alone from p positive) ws h = tt
 
 -- nothing goes or comes
 pub nothing_moves : (ms : List Partial) (m : Moved) → m.gone.items ≡ [] → m.come.items ≡ [] → IsMoved ms ms m

@@ -1,5 +1,5 @@
 -- A change of a fact that no pattern of a branch takes leaves its matches as they are.
-use Rattle.std.proofs.Common.{◌≡◌, ◌∙◌, ◌+◌, ◌<◌, ◌++◌, ◌||◌, ℕ, zero, suc, Bool, true, false, List, [], ◌∷◌, Option, ap, ap₂, arith, cond, filter, flat_map, get_or, inl, inr, length, map, not, refl, subst, sym, if◌then◌else◌}
+use Rattle.std.proofs.Common.{◌≡◌, ◌∙◌, ◌+◌, ◌<◌, ◌++◌, ◌||◌, ℕ, zero, suc, Bool, true, false, List, [], ◌∷◌, Option, None, ap, ap₂, arith, cond, filter, flat_map, get_or, inl, inr, length, map, not, refl, subst, sym, if◌then◌else◌}
 use Rattle.std.proofs.lemmas.List.{append-nil, get_or-map, length-map}
 use Rattle.std.specs.List.{All}
 use Rattle.std.specs.BTreeSet.{BTreeSet}
@@ -10,14 +10,14 @@ use Rattle.cb_exprs.specs.Bindings.{no_bindings}
 use Rattle.cb_facts.specs.FactLists.{IndexedFacts}
 use Rattle.cb_fit.specs.Shapes.{has_way, loose}
 use Rattle.cb_fit.specs.Ways.{WayValue, way_with, ways, ways_of_parts}
-use Rattle.cb_joins.proofs.Deltas.{in_any, key_Decides}
+use Rattle.cb_joins.proofs.Deltas.{in_any, key_Decides, same_test}
 use Rattle.cb_joins.proofs.Facts.{flat_with, flat_without}
 use Rattle.cb_joins.proofs.Ends.{end_is}
 use Rattle.cb_joins.proofs.Networks.{branch_keys_more}
 use Rattle.cb_joins.proofs.OneMore.{first_of, others_of}
 use Rattle.cb_joins.specs.Internal.Asked.{NoneTakes, ask_for, asks_for, takes}
 use Rattle.cb_joins.specs.Internal.Changes.{Holds, IsMade, fact_changed, facts_before}
-use Rattle.cb_joins.specs.Internal.Flat.{FlatNode, Lists, all_hold, flat_node, flat_nodes, grouping, joining, lists_from, node_list, testing}
+use Rattle.cb_joins.specs.Internal.Flat.{FlatNode, Lists, all_hold, alone, flat_node, flat_nodes, grouping, holds_alone, joining, lists_from, node_list, testing}
 use Rattle.cb_joins.specs.Internal.Keys.{Tells, branch_keys, key_of, keys_in_branch}
 use Rattle.cb_joins.specs.Internal.Nodes.{AreKept, AreReady, HaveIndices, IsJoined, IsReady, Shapeless, branch_lists}
 use Rattle.cb_joins.specs.Internal.Rules.{IsBranch, IsPlanned, branch_elements, kept_branches}
@@ -31,7 +31,7 @@ use Rattle.cb_matches.specs.Keys.{KeyValue, key_eq}
 use Rattle.cb_matches.specs.Lemmas.Growth.{Fact}
 use Rattle.cb_matches.specs.Lemmas.Members.{AreSame, In}
 use Rattle.cb_matches.specs.Lemmas.Order.{WaysRise}
-use Rattle.cb_matches.specs.Matches.{Partial, extended, grown, matches_of, no_parts, with_address}
+use Rattle.cb_matches.specs.Matches.{Partial, extended, group_holds, grown, matches_of, next, no_parts, with_address}
 use Rattle.cb_matches.specs.declared.delta.Delta.{Delta}
 use Rattle.cb_partials.specs.Probes.{is_candidate}
 
@@ -56,6 +56,7 @@ none_for_relation f (n ∷ ns) other zero d h = not_for n (first_false (asks_for
     not_for (joining from x p ts) apart = no_shape p f apart
     not_for (testing from t) apart = refl
     not_for (grouping from inner positive width) apart = refl
+    not_for (alone from p positive) apart = no_shape p f apart
 none_for_relation f (n ∷ ns) other (suc k) d h = none_for_relation f ns (second_false (asks_for f.1.relation n) (ask_for f.1.relation ns) other) k d (omega (arith, h))
 
 -- a pattern whose shape a fact hasn't has no way
@@ -77,13 +78,19 @@ given_alike : {A : Type 0} (c : FactChange) (fs : IndexedFacts) → IsMade c fs 
 given_alike (change.Assert f) fs made g none = flat_without g f.0 f.1 none fs made
 given_alike (change.Retract f) fs made g none = flat_with g f.0 f.1 none fs made
 
+-- so are those that a pattern gives
+next_alike : Shapeless → (x : Option (List ℕ)) (p : PatternValue) (c : FactChange) (fs : IndexedFacts) → IsMade c fs → is_candidate p (fact_changed c) ≡ false → (ms : List Partial)
+    → next x p (facts_before c fs) ms ≡ next x p fs ms
+next_alike shapeless x p c fs made none ms =
+    flat_same (λ m. flat_map (extended x p m) (facts_before c fs)) (λ m. flat_map (extended x p m) fs)
+    (λ m. given_alike c fs made (extended x p m) (no_way shapeless x p (fact_changed c) m none)) ms
+
 one_unasked : Shapeless → (n : FlatNode) (c : FactChange) (fs : IndexedFacts) → IsMade c fs → takes (fact_changed c) n ≡ false → (ls : Lists) → node_list n (facts_before c fs) ls ≡ node_list n fs ls
-one_unasked shapeless (joining from x p ts) c fs made none ls =
-    ap (filter (all_hold ts))
-    (flat_same (λ m. flat_map (extended x p m) (facts_before c fs)) (λ m. flat_map (extended x p m) fs)
-    (λ m. given_alike c fs made (extended x p m) (no_way shapeless x p (fact_changed c) m none)) (ls from))
+one_unasked shapeless (joining from x p ts) c fs made none ls = ap (filter (all_hold ts)) (next_alike shapeless x p c fs made none (ls from))
 one_unasked shapeless (testing from t) c fs made none ls = refl
 one_unasked shapeless (grouping from inner positive width) c fs made none ls = refl
+one_unasked shapeless (alone from p positive) c fs made none ls =
+    same_test (holds_alone positive p (facts_before c fs)) (holds_alone positive p fs) (ls from) (λ m h. ap (group_holds positive) (next_alike shapeless None p c fs made none (m ∷ [])))
 
 all_unasked : Shapeless → (ns : List FlatNode) (c : FactChange) (fs : IndexedFacts) → IsMade c fs → NoneTakes (fact_changed c) ns → (ls : List (List Partial))
     → lists_from ns (facts_before c fs) ls ≡ lists_from ns fs ls
@@ -138,6 +145,11 @@ module _ {T : Type 0} where
   node_alike : (c : FactChange) (fs : IndexedFacts) → IsMade c fs → (n : Node T) → takes (fact_changed c) (flat_node n) ≡ false → (ls ls' : Lists) → ((k : ℕ) → ls k ≡ ls' k) → IsReady (facts_before c fs) ls n → IsReady fs ls' n
   node_alike c fs made (node.Test from e) none ls ls' same was = tt
   node_alike c fs made (node.Group from inner positive width) none ls ls' same was = tt
+  node_alike c fs made (node.Alone from lone) none ls ls' same was = record {
+    is_loose = was.is_loose;
+    rising = was.rising;
+    candidates = subst (AreSame lone.candidates.entries) (kept_alike c fs made (is_candidate lone.pattern) none) was.candidates;
+  }
   node_alike c fs made (node.Pattern from place) none ls ls' same was = record {
     is_loose = was.is_loose;
     candidates = subst (AreSame place.candidates.entries) (kept_alike c fs made (is_candidate place.pattern) none) was.candidates;

@@ -1,12 +1,14 @@
 -- How many parts the partial matches of each list have, and that none is there twice.
-use Rattle.std.proofs.Common.{◌≡◌, ℕ, zero, suc, ◌+◌, ◌<◌, Bool, true, false, List, [], ◌∷◌, ◌++◌, ◌⊎◌, inl, inr, length, refl, sym, ◌∙◌, ap, subst, arith}
+use Rattle.std.proofs.Common.{◌≡◌, ℕ, zero, suc, ◌+◌, ◌<◌, Bool, true, false, List, [], ◌∷◌, ◌++◌, ◌⊎◌, Option, Some, None, inl, inr, length, refl, sym, ◌∙◌, ap, subst, arith}
 use Rattle.std.specs.List.{list_any}
 use Rattle.std.specs.Prelude.{slice_index_or}
+use Rattle.cb_constraints.specs.PatternValues.{PatternValue}
 use Rattle.cb_facts.specs.FactLists.{IndexedFacts}
-use Rattle.cb_joins.specs.Internal.Flat.{AreLists, AreWidths, FlatNode, IsWell, Lists, all_hold, begins, branch_nodes, flat_all, grouping, holds_by, joining, last_list, lists_of, node_count, node_list, node_width, testing, widths_from, widths_of}
+use Rattle.cb_joins.specs.Internal.Flat.{AreLists, AreWidths, FlatNode, IsWell, Lists, all_hold, alone, begins, branch_nodes, count_inside, flat_all, group_node, grouping, holds_alone, holds_by, joining, last_list, lists_of, lone_pattern, node_count, node_list, node_width, nodes_inside, testing, widths_from, widths_of}
 use Rattle.cb_joins.specs.Internal.Nodes.{HaveIndices, HaveParts}
 use Rattle.cb_joins.proofs.Origins.{long_filter, long_pattern}
-use Rattle.cb_joins.proofs.Named.{AllAt, IsBelow, all_both, all_first, all_second, at_each, below_all, from_each, place_behind}
+use Rattle.cb_joins.proofs.Named.{AllAt, IsBelow, all_both, all_first, all_second, at_each, below_all, from_each, from_inside, place_behind}
+use Rattle.cb_joins.proofs.Lone.{group_width}
 use Rattle.cb_joins.proofs.Flat.{are_lists, gathered, gathered_front, gathered_is, list_local}
 use Rattle.cb_matches.specs.Lemmas.Growth.{once_next}
 use Rattle.cb_matches.specs.Lemmas.Lists.{chain_filter}
@@ -26,12 +28,18 @@ width_local : (n : FlatNode) (k : ℕ) (f g : ℕ → ℕ) → IsBelow k n → (
 width_local (joining from x p ts) k f g l h = ap suc (h from l)
 width_local (testing from t) k f g l h = h from l
 width_local (grouping from inner positive width) k f g l h = h from l.0
+width_local (alone from p positive) k f g l h = h from l
 
 -- a group has the width of the list before it
 abbrev pub IsWide : (ℕ → ℕ) → ℕ → FlatNode → Type 0
 IsWide ws k (joining from x p ts) = Unit {0}
 IsWide ws k (testing from t) = Unit {0}
 IsWide ws k (grouping from inner positive width) = width ≡ ws from
+IsWide ws k (alone from p positive) = Unit {0}
+
+group_wide : (o : Option PatternValue) (from last : ℕ) (positive : Bool) (n k : ℕ) (ws : ℕ → ℕ) → n ≡ ws from → IsWide ws k (group_node o from last positive n)
+group_wide (Some p) from last positive n k ws e = tt
+group_wide None from last positive n k ws e = e
 
 wide_all : (behind : Bool) (es : Elements) (from k n : ℕ) (ws : ℕ → ℕ) → ws from ≡ n → AllAt (MakeWidths ws) k (flat_all behind es from k n) → AllAt (IsWide ws) k (flat_all behind es from k n)
 wide_all behind no_elements from k n ws e h = tt
@@ -39,17 +47,21 @@ wide_all behind (element (pattern x p) es) from k n ws e h = (tt, wide_all true 
 wide_all true (element (test t) es) from k n ws e h = wide_all true es from k n ws e h
 wide_all false (element (test t) es) from k n ws e h = (tt, wide_all false es k (suc k) n ws (h.0 ∙ e) h.1)
 wide_all behind (element (group positive inner) es) from k n ws e h =
-    let j : ℕ = k + node_count false inner in
+    let o = lone_pattern inner in
+    let last = last_list false inner from k in
+    let j : ℕ = k + count_inside o (node_count false inner) in
     let inside = flat_all false inner from k n in
-    let rest = grouping from (last_list false inner from k) positive n ∷ flat_all false es j (suc j) n in
-    let more = all_second (MakeWidths ws) k j inside rest (place_behind inner from k n) h in
-    all_both (IsWide ws) k j inside rest (place_behind inner from k n) (wide_all false inner from k n ws e (all_first (MakeWidths ws) k inside rest h))
-    (sym e, wide_all false es j (suc j) n ws (more.0 ∙ e) more.1)
+    let rest = group_node o from last positive n ∷ flat_all false es j (suc j) n in
+    let more = all_second (MakeWidths ws) k j (nodes_inside o inside) rest (place_behind inner from k n) h in
+    all_both (IsWide ws) k j (nodes_inside o inside) rest (place_behind inner from k n)
+    (from_inside (MakeWidths ws) (IsWide ws) o k inside (λ made. wide_all false inner from k n ws e made) (all_first (MakeWidths ws) k (nodes_inside o inside) rest h))
+    (group_wide o from last positive n j ws (sym e), wide_all false es j (suc j) n ws (more.0 ∙ (group_width o from last positive n ws ∙ e)) more.1)
 
 well_of : (k : ℕ) (n : FlatNode) (ws : ℕ → ℕ) → IsBelow (k + 1) n → IsWide ws (k + 1) n → IsWell k n ws
 well_of k (joining from x p ts) ws l w = omega (arith, l)
 well_of k (testing from t) ws l w = omega (arith, l)
 well_of k (grouping from inner positive width) ws l w = let a = l.0 in let b = l.1 in (omega (arith, a), omega (arith, b), w)
+well_of k (alone from p positive) ws l w = omega (arith, l)
 
 pub branch_widths : (es : Elements) → AreWidths (branch_nodes es) (widths_of (branch_nodes es))
 branch_widths es =
@@ -76,12 +88,14 @@ list_is_wide (joining from x p ts) k fs ls ws l h = long_filter (all_hold ts) (s
 list_is_wide (testing from t) k fs ls ws l h = long_filter (λ m. test_holds t m.env) (ws from) (ls from) (h from l)
 list_is_wide (grouping from inner positive width) k fs ls ws l h =
     long_filter (λ m. holds_by positive (list_any (begins m.parts) (ls inner))) (ws from) (ls from) (h from l.0)
+list_is_wide (alone from p positive) k fs ls ws l h = long_filter (holds_alone positive p fs) (ws from) (ls from) (h from l)
 
 list_is_once : WaysRise → (n : FlatNode) (k : ℕ) (fs : IndexedFacts) (ls : Lists) (ws : ℕ → ℕ) → HaveIndices fs → IsWell k n ws → ((j : ℕ) → j < suc k → IsOnce (ls j)) → IsOnce (node_list n fs ls)
 list_is_once rise (joining from x p ts) k fs ls ws indices l h = chain_filter IsApart (all_hold ts) (next x p fs (ls from)) (once_next rise x p fs (ls from) indices (h from l))
 list_is_once rise (testing from t) k fs ls ws indices l h = chain_filter IsApart (λ m. test_holds t m.env) (ls from) (h from l)
 list_is_once rise (grouping from inner positive width) k fs ls ws indices l h =
     chain_filter IsApart (λ m. holds_by positive (list_any (begins m.parts) (ls inner))) (ls from) (h from l.0)
+list_is_once rise (alone from p positive) k fs ls ws indices l h = chain_filter IsApart (holds_alone positive p fs) (ls from) (h from l)
 
 nat_split : (k most : ℕ) → k < suc (suc most) → (k < suc most) ⊎ (k ≡ suc most)
 nat_split zero most l = inl (omega (arith))
@@ -120,6 +134,7 @@ below_of : (k : ℕ) (n : FlatNode) (ws : ℕ → ℕ) → IsWell k n ws → IsB
 below_of k (joining from x p ts) ws h = omega (arith, h)
 below_of k (testing from t) ws h = omega (arith, h)
 below_of k (grouping from inner positive width) ws h = let a = h.0 in let b = h.1 in (omega (arith, a), omega (arith, b))
+below_of k (alone from p positive) ws h = omega (arith, h)
 
 pub below_by_widths : (ns : List FlatNode) (ws : ℕ → ℕ) → AreWidths ns ws → AllAt IsBelow 1 ns
 below_by_widths ns ws w = from_each IsBelow 1 ns (λ i d l. below_of i (slice_index_or ns i d) ws (w.well i d l))

@@ -31,6 +31,7 @@ fn node_asks_for<T>(node: &Node<T>, relation: &[u8]) -> bool
 {
     match node {
         Node::Pattern { place, .. } => place.pattern.relation().as_slice() == relation,
+        Node::Alone { lone, .. } => lone.pattern.relation().as_slice() == relation,
         Node::Test { .. } | Node::Group { .. } => false,
     }
 }
@@ -92,6 +93,7 @@ fn enter_node<T>(
 {
     match node {
         Node::Pattern { place, .. } => asked.add(asked_by(alloc, &place.pattern, rule)?),
+        Node::Alone { lone, .. } => asked.add(asked_by(alloc, &lone.pattern, rule)?),
         Node::Test { .. } | Node::Group { .. } => Ok(()),
     }
 }
@@ -155,6 +157,7 @@ fn leave_node<T>(
 {
     match node {
         Node::Pattern { place, .. } => asked.remove(&asked_by(alloc, &place.pattern, rule)?),
+        Node::Alone { lone, .. } => asked.remove(&asked_by(alloc, &lone.pattern, rule)?),
         Node::Test { .. } | Node::Group { .. } => Ok(()),
     }
 }

@@ -135,13 +135,7 @@ pub(crate) fn fill_branch<T>(
     the_ways_rise_by_their_cuts();
     let _facts = setting.facts.len();
     branch.lists = fill_nodes(setting, branch.nodes.as_mut_slice(), meter)?;
-    tell_list(
-        setting.alloc,
-        rule,
-        number,
-        &branch.lists[branch.last],
-        come,
-    )
+    tell_list(rule, number, &branch.lists[branch.last], come)
 }
 
 /// Tells the keys of the matches of a branch, in their order, behind those that are told of before.
@@ -158,11 +152,5 @@ pub(crate) fn tell_branch<T>(
         ++ keys_in_branch rule number (branch_elements branch.now) setting.now.facts.now) }
 {
     the_ways_rise_by_their_cuts();
-    tell_list(
-        setting.alloc,
-        rule,
-        number,
-        &branch.lists[branch.last],
-        keys,
-    )
+    tell_list(rule, number, &branch.lists[branch.last], keys)
 }

@@ -5,18 +5,19 @@ ghost use Rattle.cb_exprs.specs.Bindings.{no_bindings};
 ghost use Rattle.cb_facts.specs.FactLists.{IsFactBase};
 ghost use Rattle.cb_fit.specs.Shapes.{has_way, loose};
 ghost use Rattle.cb_fit.specs.Ways.{ways};
-ghost use Rattle.cb_joins.specs.Internal.Flat.{flat_node, flat_nodes, next_where, node_list, tests_of};
+ghost use Rattle.cb_joins.specs.Internal.Flat.{flat_node, flat_nodes, holds_alone, next_where, node_list, tests_of};
 ghost use Rattle.cb_joins.specs.Internal.Indexes.{index_fields};
-ghost use Rattle.cb_joins.specs.Internal.Nodes.{AreJoinFields, AreKept, AreReady, AreWhole, IsPlace, IsPrepared, IsReady};
+ghost use Rattle.cb_joins.specs.Internal.Nodes.{AreJoinFields, AreKept, AreReady, AreWhole, IsLone, IsPlace, IsPrepared, IsReady};
 ghost use Rattle.cb_joins.specs.Internal.Rules.{keys_at};
 ghost use Rattle.cb_joins.specs.Internal.Steps.{NamesListsBelow, group_with};
 ghost use Rattle.cb_matches.specs.Lemmas.Order.{IsOnce, IsSorted};
 ghost use Rattle.cb_matches.specs.Matches.{no_parts};
 
+use crate::alone::holds;
 use crate::index::fill_index;
 use crate::joining::{fits_loosely, join};
 use crate::memory::{copy_list, has_begun};
-use crate::node::{Node, Place};
+use crate::node::{Lone, Node, Place};
 use crate::taking::add_all;
 use cb_facts::Fact;
 use cb_fit::laws::{no_shape_gives_no_ways, the_ways_rise_by_their_cuts};
@@ -102,6 +103,10 @@ fn fill_node<T>(
             let partials = copy_list(setting.alloc, &lists[*from])?;
             fill_group(setting.alloc, *positive, partials, &lists[*inner])
         }
+        Node::Alone { from, lone } => {
+            let partials = copy_list(setting.alloc, &lists[*from])?;
+            fill_lone(setting, lone, partials, meter)
+        }
     }
 }
 
@@ -156,7 +161,7 @@ fn find_candidates<T>(
 }
 
 /// Those of these partial matches for which a group holds, where these are the partial matches of the last list inside it.
-fn fill_group(
+pub(crate) fn fill_group(
     alloc: Global,
     positive: bool,
     partials: Vec<Partial>,
@@ -172,4 +177,28 @@ fn fill_group(
         }
     }
     Ok(all)
+}
+
+/// Finds the facts of a pattern that stands alone in a group. The answer is those of these partial matches for which the group holds:
+/// all or none.
+fn fill_lone<T>(
+    setting: &Setting<'_>,
+    lone: &mut Lone<T>,
+    partials: Vec<Partial>,
+    meter: &mut Meter<T>,
+) -> Result<Vec<Partial>, NoMemory>
+    requires base { IsFactBase setting.now.facts.now }
+    requires loose { loose lone.old.pattern ≡ lone.old.pattern }
+    ensures pattern { OnOk result (lone.new.pattern ≡ lone.old.pattern) }
+    ensures positive { OnOk result (lone.new.positive ≡ lone.old.positive) }
+    ensures lone { OnOk result (IsLone lone.new setting.now.facts.now) }
+    ensures found { IfOk result (λ all. all.items
+        ≡ filter (holds_alone lone.old.positive lone.old.pattern setting.now.facts.now) partials.items) }
+{
+    no_shape_gives_no_ways();
+    lone.candidates = find_candidates(setting, &lone.pattern, meter)?;
+    if holds(lone) {
+        return Ok(partials);
+    }
+    Ok(Vec::new(setting.alloc))
 }

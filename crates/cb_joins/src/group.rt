@@ -1,16 +1,19 @@
 //! A test or a group of a branch, and what a change does behind it.
 ghost use Rattle.std.specs.Prelude.{◌≡◌, ◌++◌, ◌∷◌, [], ℕ, IfOk, List, OnOk, length, take};
-ghost use Rattle.std.specs.List.{filter};
+ghost use Rattle.std.specs.List.{filter, list_any};
 ghost use Rattle.cb_exprs.specs.Terms.{term_of};
 ghost use Rattle.cb_joins.specs.Internal.Changes.{Holds, IsMoved};
+ghost use Rattle.cb_joins.specs.Internal.Flat.{begins};
 ghost use Rattle.cb_joins.specs.Internal.Nodes.{HaveParts};
-ghost use Rattle.cb_joins.specs.Internal.Steps.{IsSettled, beginnings, group_with};
+ghost use Rattle.cb_joins.specs.Internal.Steps.{IsSettled, IsTaken, beginnings, group_with};
 ghost use Rattle.cb_matches.specs.Keys.{PartValue};
+ghost use Rattle.cb_matches.specs.Lemmas.Members.{In};
 ghost use Rattle.cb_matches.specs.Matches.{Partial, test_holds};
 
-use crate::memory::{add, find, has, has_begun, probe, take_begun};
+use crate::filling::fill_group;
+use crate::memory::{add, find, has_begun, probe, take_same, take_whole};
 use crate::moved::Moved;
-use crate::taking::{add_all, take_behind};
+use crate::taking::{add_all, take_these};
 use cb_exprs::Expr;
 use cb_forms::NoMemory;
 use cb_partials::{Partial, Setting, satisfy_test};
@@ -30,7 +33,7 @@ pub(crate) fn change_test(
         × IsMoved (filter (λ m. test_holds (term_of test.now) m.env) old) (filter (λ m. test_holds (term_of test.now) m.env) new) r) }
 {
     let mut gone = Vec::new(setting.alloc);
-    take_behind(own, moved.gone.as_slice(), &mut gone)?;
+    take_these(own, moved.gone.as_slice(), &mut gone)?;
     let come = satisfy_test(setting, test, moved.come.clone()?)?;
     add_all(own, come.as_slice())?;
     Ok(Moved { gone, come })
@@ -55,19 +58,9 @@ pub(crate) fn change_group(
         × IsMoved (filter (group_with positive was) old) (filter (group_with positive is) new) r) }
 {
     let mut gone = Vec::new(alloc);
-    take_behind(own, moved.gone.as_slice(), &mut gone)?;
-    let mut come = Vec::new(alloc);
-    settle_all(
-        alloc,
-        positive,
-        width,
-        before,
-        complete,
-        moved.come.as_slice(),
-        own,
-        &mut gone,
-        &mut come,
-    )?;
+    take_gone(alloc, before, moved, own, &mut gone)?;
+    let mut come = fill_group(alloc, positive, moved.come.clone()?, complete)?;
+    add_all(own, come.as_slice())?;
     settle_all(
         alloc,
         positive,
@@ -93,7 +86,26 @@ pub(crate) fn change_group(
     Ok(Moved { gone, come })
 }
 
-/// Settles those before the group that these go on from.
+/// Takes what went before a group out of the list behind it. Where nothing is left before it, all goes.
+fn take_gone(
+    alloc: Global,
+    before: &BTreeSet<Partial>,
+    moved: &Moved,
+    own: &mut BTreeSet<Partial>,
+    gone: &mut Vec<Partial>,
+) -> Result<(), NoMemory>
+    ensures { OnOk result ((n : ℕ) (old new : List Partial) → HaveParts n old → IsMoved old new moved.now → Holds before.now.keys new
+        → ((z : Partial) → In z own.old.keys → In z old)
+        → IsTaken (λ z. list_any (λ m. begins m.parts z) moved.now.gone.items)
+        own.old.keys own.new.keys gone.old.items gone.new.items) }
+{
+    if before.is_empty() {
+        return take_whole(alloc, own, gone);
+    }
+    take_these(own, moved.gone.as_slice(), gone)
+}
+
+/// Settles those before the group that these go on from, if any are before it.
 fn settle_all(
     alloc: Global,
     positive: bool,
@@ -111,6 +123,9 @@ fn settle_all(
         → IsSettled (group_with positive complete.now.keys) old new lost (settled ++ beginnings width partials.now)
         own.new.keys gone.new.items come.new.items) }
 {
+    if before.is_empty() {
+        return Ok(());
+    }
     for partial in partials {
         settle_one(
             alloc, positive, width, before, complete, partial, own, gone, come,
@@ -162,14 +177,13 @@ fn settle(
         own.new.keys gone.new.items come.new.items) }
 {
     if has_begun(complete, outer) != positive {
-        return take_begun(own, outer, gone);
+        return take_same(own, outer, gone);
     }
     let Some(partial) = find(before, outer)? else {
         return Ok(());
     };
-    if has(own, &partial) {
-        return Ok(());
+    if add(own, partial.clone()?)? {
+        come.push(partial)?;
     }
-    come.push(partial.clone()?)?;
-    add(own, partial)
+    Ok(())
 }

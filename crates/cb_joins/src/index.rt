@@ -2,7 +2,7 @@
 //!
 //! Facts and partial matches with the same values stand next to each other, so that those that can meet are looked up and no
 //! others are walked over.
-ghost use Rattle.std.specs.Prelude.{◌≡◌, ◌≢◌, ◌++◌, ◌∷◌, ℕ, [], IfOk, List, None, OnOk, filter, option_map, true};
+ghost use Rattle.std.specs.Prelude.{◌≡◌, ◌≢◌, ◌++◌, ◌∷◌, ℕ, [], IfOk, List, None, OnOk, filter, true};
 ghost use Rattle.std.specs.BTreeSet.{IsOrdered};
 ghost use Rattle.std.specs.List.Sorted.{IsStrictlySortedBy};
 ghost use Rattle.cb_facts.specs.FactLists.{IndexedFacts, fact_at, with_fact, without_fact};
@@ -15,8 +15,9 @@ ghost use Rattle.cb_matches.specs.Matches.{Partial};
 ghost use Rattle.cb_partials.specs.Partials.{partial_cmp};
 
 use crate::indexed::Indexed;
+use crate::join_values::JoinValues;
 use crate::moved::Moved;
-use cb_facts::{Fact, Value};
+use cb_facts::Fact;
 use cb_fit::JoinField;
 use cb_forms::NoMemory;
 use cb_partials::Partial;
@@ -27,14 +28,14 @@ use std::ops::Bound;
 /// Where a fact stands: by the values of the fields, and then by its index.
 #[derive(PartialEq, Eq, PartialOrd, Ord, Drop)]
 pub(crate) struct FactKey {
-    pub(crate) values: Vec<Value>,
+    pub(crate) values: JoinValues,
     pub(crate) ix: u64,
 }
 
 /// A partial match by the values of the variables, and then by its parts.
 #[derive(PartialEq, Eq, PartialOrd, Ord, Drop)]
 pub(crate) struct Filed {
-    pub(crate) values: Vec<Value>,
+    pub(crate) values: JoinValues,
     pub(crate) partial: Partial,
 }
 
@@ -66,10 +67,12 @@ pub(crate) fn values_of_fact(
     alloc: Global,
     fields: &[JoinField],
     fact: &Fact,
-) -> Result<Option<Vec<Value>>, NoMemory>
-    ensures { IfOk result
-        (λ found. option_map (λ vs. vs.items) found ≡ field_values fields.now fact.now.content) }
+) -> Result<Option<JoinValues>, NoMemory>
+    ensures { IfOk result (λ found. found ≡ field_values fields.now fact.now.content) }
 {
+    if fields.len() == 1 {
+        return value_of_fact(&fields[0], fact);
+    }
     let mut values = Vec::new(alloc);
     for field in fields {
         match field.value_in(fact)? {
@@ -77,7 +80,17 @@ pub(crate) fn values_of_fact(
             None => return Ok(None),
         }
     }
-    Ok(Some(values))
+    Ok(Some(JoinValues::many(values)))
+}
+
+/// The same of one field.
+fn value_of_fact(field: &JoinField, fact: &Fact) -> Result<Option<JoinValues>, NoMemory>
+    ensures { IfOk result (λ found. found ≡ field_values (field.now ∷ []) fact.now.content) }
+{
+    match field.value_in(fact)? {
+        Some(value) => Ok(Some(JoinValues::one(value))),
+        None => Ok(None),
+    }
 }
 
 /// The values of their variables in a partial match, or `None` where one has none.
@@ -85,10 +98,12 @@ pub(crate) fn values_of_partial(
     alloc: Global,
     fields: &[JoinField],
     partial: &Partial,
-) -> Result<Option<Vec<Value>>, NoMemory>
-    ensures { IfOk result
-        (λ found. option_map (λ vs. vs.items) found ≡ variable_values fields.now partial.now.env) }
+) -> Result<Option<JoinValues>, NoMemory>
+    ensures { IfOk result (λ found. found ≡ variable_values fields.now partial.now.env) }
 {
+    if fields.len() == 1 {
+        return value_of_partial(&fields[0], partial);
+    }
     let mut values = Vec::new(alloc);
     for field in fields {
         match partial.env.get(&field.variable) {
@@ -96,22 +111,29 @@ pub(crate) fn values_of_partial(
             None => return Ok(None),
         }
     }
-    Ok(Some(values))
+    Ok(Some(JoinValues::many(values)))
+}
+
+/// The same of one field.
+fn value_of_partial(field: &JoinField, partial: &Partial) -> Result<Option<JoinValues>, NoMemory>
+    ensures { IfOk result (λ found. found ≡ variable_values (field.now ∷ []) partial.now.env) }
+{
+    match partial.env.get(&field.variable) {
+        Some(value) => Ok(Some(JoinValues::one(value.clone()?))),
+        None => Ok(None),
+    }
 }
 
 /// The facts with these values, in the order of their indices.
 pub(crate) fn facts_with(
     alloc: Global,
     index: &Index,
-    values: &[Value],
+    values: JoinValues,
 ) -> Result<Vec<Indexed>, NoMemory>
     ensures { IfOk result (λ all. (cs : IndexedFacts) (ms : List Partial) → IsRising cs → IsIndex index.now cs ms
-        → all.items ≡ filter (has_values index.now.fields.items values.now) cs) }
+        → all.items ≡ filter (has_values index.now.fields.items values) cs) }
 {
-    let probe = FactKey {
-        values: copy_values(alloc, values)?,
-        ix: 0,
-    };
+    let probe = FactKey { values, ix: 0 };
     let mut all = Vec::new(alloc);
     for (key, fact) in index
         .facts
@@ -132,14 +154,14 @@ pub(crate) fn facts_with(
 pub(crate) fn partials_with(
     alloc: Global,
     index: &Index,
-    values: &[Value],
+    values: JoinValues,
 ) -> Result<Vec<Partial>, NoMemory>
     ensures { IfOk result (λ all. (cs : IndexedFacts) (ms : List Partial)
         → IsStrictlySortedBy partial_cmp ms → IsIndex index.now cs ms
-        → all.items ≡ filter (binds_values index.now.fields.items values.now) ms) }
+        → all.items ≡ filter (binds_values index.now.fields.items values) ms) }
 {
     let probe = Filed {
-        values: copy_values(alloc, values)?,
+        values,
         partial: Partial::new(alloc),
     };
     let mut all = Vec::new(alloc);
@@ -153,17 +175,6 @@ pub(crate) fn partials_with(
         all.push(filed.partial.clone()?)?;
     }
     Ok(all)
-}
-
-/// A copy of values.
-fn copy_values(alloc: Global, values: &[Value]) -> Result<Vec<Value>, NoMemory>
-    ensures { IfOk result (λ copy. copy.items ≡ values.now) }
-{
-    let mut copy = Vec::new(alloc);
-    for value in values {
-        copy.push(value.clone()?)?;
-    }
-    Ok(copy)
 }
 
 /// Adds a fact, if there is an index and the fact has its fields.

@@ -15,7 +15,7 @@ use crate::node::Place;
 use cb_exprs::{Env, Expr};
 use cb_facts::Fact;
 use cb_fit::laws::a_fact_that_fits_has_the_values_of_variables;
-use cb_fit::{Meter, Pattern, fit};
+use cb_fit::{Meter, Pattern, fits};
 use cb_forms::NoMemory;
 use cb_partials::{Partial, Setting, extend, satisfy_test};
 use std::alloc::Global;
@@ -53,7 +53,7 @@ fn facts_for<T>(
     a_fact_that_fits_has_the_values_of_variables();
     if let Some(index) = &place.index {
         if let Some(values) = values_of_partial(alloc, index.fields.as_slice(), partial)? {
-            return facts_with(alloc, index, values.as_slice());
+            return facts_with(alloc, index, values);
         }
     }
     all_facts(alloc, &place.candidates)
@@ -157,7 +157,7 @@ pub(crate) fn partials_for<T>(
         return Ok(None);
     };
     match values_of_fact(alloc, index.fields.as_slice(), &one.fact)? {
-        Some(values) => Ok(Some(partials_with(alloc, index, values.as_slice())?)),
+        Some(values) => Ok(Some(partials_with(alloc, index, values)?)),
         None => Ok(None),
     }
 }
@@ -175,6 +175,9 @@ pub(crate) fn join_fact<T>(
         ++ next_where place.now.address place.now.pattern (tests_of place.now) (one.now ∷ []) before.now.keys) }
     ensures probes { OnOk result (IsJoined place.now before.now.keys → meter.new ≤ meter.old + length before.now.keys) }
 {
+    if before.is_empty() {
+        return Ok(());
+    }
     match partials_for(setting.alloc, place, before, one)? {
         Some(partials) => join_each(setting, place, one, partials.as_slice(), found, meter),
         None => join_all(setting, place, one, before, found, meter),
@@ -230,6 +233,5 @@ pub(crate) fn fits_loosely<T>(
     ensures probes { meter.new ≤ meter.old + 1 }
 {
     let env = Env::new(setting.alloc);
-    let ways = fit(setting.alloc, setting.constants, pattern, fact, &env, meter)?;
-    Ok(!ways.is_empty())
+    fits(setting.alloc, setting.constants, pattern, fact, &env, meter)
 }

@@ -11,11 +11,13 @@
 //! goes; a partial match that came is joined with the facts, and what was there with the new fact. Where a fact is only taken out,
 //! a pattern is tested for what came before it alone, as where a negated group holds again. A group holds for a partial match by
 //! whether one of those at the end of the group goes on from it, so that it is looked at again for those alone that something went
-//! on from, or did before. A branch of which no pattern is for the changed fact stays as it is.
+//! on from, or did before. A group of one pattern without variables and expressions holds for all partial matches or for none, so that
+//! it is one node and joins nothing (`alone.rt`). A branch of which no pattern is for the changed fact stays as it is.
 //!
 //! `docs/ARCHITECTURE.md` says where it belongs.
 #![tactic(auto)]
 
+mod alone; // a group of one pattern that stands alone, and what a change does behind it
 mod asked; // the rules that ask for a fact, looked up
 mod asking; // which facts the nodes of a branch ask for
 mod branch; // a branch, and what a change does to it
@@ -26,6 +28,7 @@ mod finding; // the match with a key
 mod group; // a test or a group, and what a change does behind it
 mod index; // facts and partial matches by the values of variables
 mod indexed; // a fact and its index
+mod join_values; // the values that these are joined on
 mod joining; // partial matches joined with facts
 mod joins; // the matcher
 mod memory; // lists of partial matches, kept in the order of their parts

@@ -1,41 +1,39 @@
 //! Lists of partial matches, kept in the order of their parts.
 //!
-//! Those that go on from given parts stand next to each other in this order. The first of them is looked up, so that a call takes
-//! some steps for each that it takes out, and no step for the others.
-ghost use Rattle.std.specs.Prelude.{◌≡◌, ◌++◌, IfOk, OnOk, false, nat_eq, not, slice_get};
+//! Those that go on from given parts stand next to each other in this order. The first of them is looked up, and the list is walked
+//! over from there as far as it goes on so. So a call takes some steps for each that it takes out, and no step for the others.
+ghost use Rattle.std.specs.Prelude.{◌≡◌, ◌++◌, [], Bool, IfOk, OnOk, false, length, nat_eq, not, slice_get};
+ghost use Rattle.std.specs.Bool.{OnFalse};
 ghost use Rattle.std.specs.BTreeSet.{IsOrdered};
 ghost use Rattle.std.specs.List.{filter, list_any};
 ghost use Rattle.std.specs.Option.{option_copied, option_map_or};
 ghost use Rattle.std.specs.Ordering.{is_le};
 ghost use Rattle.cb_joins.specs.Internal.Flat.{begins};
-ghost use Rattle.cb_joins.specs.Internal.Memories.{IsAdded, IsFirstTaken, IsFound, begins_as, begins_with, ends_with, first_part};
+ghost use Rattle.cb_joins.specs.Internal.Memories.{IsAdded, IsFound, begins_as, begins_with, ends_with, first_part};
+ghost use Rattle.cb_joins.specs.Internal.Nodes.{HaveParts};
 ghost use Rattle.cb_matches.specs.Keys.{PartValue};
 ghost use Rattle.cb_matches.specs.Lemmas.Order.{IsOnce};
+ghost use Rattle.cb_matches.specs.Matches.{Partial};
 ghost use Rattle.cb_partials.specs.Partials.{partial_cmp};
 ghost use Rattle.cb_partials.specs.Probes.{has_parts};
 
 use cb_exprs::Env;
 use cb_forms::NoMemory;
-use cb_matches::Part;
-use cb_partials::{Partial, Parts};
+use cb_matches::{Cuts, Part, Parts};
+use cb_partials::Partial;
 use std::alloc::Global;
 use std::collections::BTreeSet;
+use std::mem;
 use std::ops::Bound;
 
-/// Adds a partial match, unless one with its parts is there. Growth is refused as `NoMemory`.
-pub(crate) fn add(list: &mut BTreeSet<Partial>, partial: Partial) -> Result<(), NoMemory>
+/// Adds a partial match, unless one with its parts is there. The answer is whether it was added. Growth is refused as `NoMemory`.
+pub(crate) fn add(list: &mut BTreeSet<Partial>, partial: Partial) -> Result<bool, NoMemory>
+    ensures new { IfOk result (λ new. new ≡ not (has_parts list.old.keys partial)) }
+    ensures same { IfOk result (λ new. OnFalse new (list.new.keys ≡ list.old.keys)) }
     ensures added { OnOk result (IsAdded list.old.keys partial list.new.keys) }
     ensures once { OnOk result (IsOnce list.new.keys) }
 {
-    list.insert(partial)?;
-    Ok(())
-}
-
-/// Whether one has the parts of this one.
-pub(crate) fn has(list: &BTreeSet<Partial>, partial: &Partial) -> bool
-    ensures { result ≡ has_parts list.now.keys partial.now }
-{
-    list.contains(partial)
+    Ok(list.insert(partial)?)
 }
 
 /// Moves those that go on from a partial match to `gone`. Growth is refused as `NoMemory`, and so is a count of sharers that is full.
@@ -68,6 +66,40 @@ pub(crate) fn take_with_fact(
 {
     let probe = probe(alloc, from.parts.as_slice(), Some(ix))?;
     take_all(list, &probe, from.parts.as_slice(), Some(ix), gone)
+}
+
+/// Moves the one with the parts of this one to `gone`, if it is there. In a list in which all have as many parts, no other goes on
+/// from it. Growth is refused as `NoMemory`.
+pub(crate) fn take_same(
+    list: &mut BTreeSet<Partial>,
+    like: &Partial,
+    gone: &mut Vec<Partial>,
+) -> Result<(), NoMemory>
+    ensures list { OnOk result (HaveParts (length like.now.parts) list.old.keys
+        → list.new.keys ≡ filter (λ z. not (begins like.now.parts z)) list.old.keys) }
+    ensures gone { OnOk result (HaveParts (length like.now.parts) list.old.keys
+        → gone.new.items ≡ gone.old.items ++ filter (begins like.now.parts) list.old.keys) }
+{
+    let _count = list.len(); // says that the list is in order
+    if let Some(partial) = list.take(like) {
+        gone.push(partial)?;
+    }
+    Ok(())
+}
+
+/// Moves all of a list to `gone`. Growth is refused as `NoMemory`.
+pub(crate) fn take_whole(
+    alloc: Global,
+    list: &mut BTreeSet<Partial>,
+    gone: &mut Vec<Partial>,
+) -> Result<(), NoMemory>
+    ensures list { OnOk result (list.new.keys ≡ []) }
+    ensures gone { OnOk result (gone.new.items ≡ gone.old.items ++ list.old.keys) }
+{
+    for partial in mem::replace(list, BTreeSet::new(alloc)) {
+        gone.push(partial)?;
+    }
+    Ok(())
 }
 
 /// Whether one goes on from a partial match.
@@ -114,28 +146,46 @@ fn take_all(
     ensures gone { OnOk result (gone.new.items
         ≡ gone.old.items ++ filter (begins_as parts.now ix) list.old.keys) }
 {
-    while let Some(partial) = take_first(list, probe, parts, ix)? {
-        gone.push(partial)?;
+    let start = gone.len();
+    copy_begun(list, probe, parts, ix, gone)?;
+    take_out(list, &gone.as_slice()[start..]);
+    Ok(())
+}
+
+/// Copies those that go on so to the end of `gone`.
+fn copy_begun(
+    list: &BTreeSet<Partial>,
+    probe: &Partial,
+    parts: &[Part],
+    ix: Option<u64>,
+    gone: &mut Vec<Partial>,
+) -> Result<(), NoMemory>
+    requires { probe.now.parts ≡ parts.now ++ first_part ix }
+    ensures { OnOk result (gone.new.items
+        ≡ gone.old.items ++ filter (begins_as parts.now ix) list.now.keys) }
+{
+    for partial in list.range((Bound::Included(probe), Bound::Unbounded)) {
+        if !goes_on(partial, parts, ix) {
+            return Ok(());
+        }
+        gone.push(partial.clone()?)?;
     }
     Ok(())
 }
 
-/// Takes the first one out that goes on so, if one does.
-fn take_first(
-    list: &mut BTreeSet<Partial>,
-    probe: &Partial,
-    parts: &[Part],
-    ix: Option<u64>,
-) -> Result<Option<Partial>, NoMemory>
-    requires { probe.now.parts ≡ parts.now ++ first_part ix }
-    ensures { IfOk result
-        (λ taken. IsFirstTaken (begins_as parts.now ix) list.old.keys taken list.new.keys) }
+/// Takes these out of a list, where they are those of it that pass a test. Where they are the whole list it is emptied at once, and
+/// else each is looked up.
+pub(crate) fn take_out(list: &mut BTreeSet<Partial>, partials: &[Partial])
+    ensures { (test : Partial → Bool) → partials.now ≡ filter test list.old.keys
+        → list.new.keys ≡ filter (λ z. not (test z)) list.old.keys }
 {
-    let key = match first_begun(list, probe, parts, ix) {
-        Some(found) => found.clone()?,
-        None => return Ok(None),
-    };
-    Ok(list.take(&key))
+    if partials.len() == list.len() {
+        list.clear();
+        return;
+    }
+    for partial in partials {
+        list.remove(partial);
+    }
 }
 
 /// The first one that goes on so.
@@ -203,18 +253,23 @@ pub(crate) fn ends_with(partial: &Partial, ix: u64) -> bool
 pub(crate) fn probe(alloc: Global, parts: &[Part], ix: Option<u64>) -> Result<Partial, NoMemory>
     ensures { IfOk result (λ m. m.parts ≡ parts.now ++ first_part ix) }
 {
-    let mut all = Vec::new(alloc);
-    for part in parts {
-        all.push(part.clone()?)?;
-    }
-    if let Some(index) = ix {
-        all.push(Part {
-            index,
-            cuts: Vec::new(alloc),
-        })?;
-    }
+    let before = Parts::of(alloc, parts)?;
+    let parts = match ix {
+        Some(index) => before.and(alloc, first_part(index))?,
+        None => before,
+    };
     Ok(Partial {
-        parts: Parts::new(alloc, all)?,
+        parts,
         env: Env::new(alloc),
     })
+}
+
+/// The first part with this index in the order of parts.
+fn first_part(index: u64) -> Part
+    ensures { result ≡ record { index = index; cuts = [] } }
+{
+    Part {
+        index,
+        cuts: Cuts::none(),
+    }
 }

@@ -22,6 +22,15 @@ pub(crate) struct Place<T> {
     pub(crate) index: Option<Index>,
 }
 
+/// A group of one pattern that stands alone, so that it holds for all partial matches before it or for none.
+#[derive(Drop)]
+pub(crate) struct Lone<T> {
+    pub(crate) positive: bool,
+    pub(crate) pattern: Pattern<T>,
+    /// The facts that have the pattern's shape, by their indices: those that it fits, as it has no variables and no expressions.
+    pub(crate) candidates: BTreeMap<u64, Fact>,
+}
+
 /// An element of a branch, and with a pattern the tests directly behind it. List 0 is before the first element; the node at place k makes
 /// list k + 1 of the lists before it.
 #[derive(Drop)]
@@ -42,5 +51,10 @@ pub(crate) enum Node<T> {
         inner: usize,
         positive: bool,
         width: usize,
+    },
+    /// A group of one pattern that stands alone, behind the partial matches of list `from`.
+    Alone {
+        from: usize,
+        lone: Lone<T>,
     },
 }

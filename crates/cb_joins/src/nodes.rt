@@ -6,6 +6,7 @@ ghost use Rattle.cb_joins.specs.Internal.Flat.{flat_node, flat_nodes, flat_probe
 ghost use Rattle.cb_joins.specs.Internal.Nodes.{AreKept, AreMoved, AreReady, AreWhole, branch_lists};
 ghost use Rattle.cb_joins.specs.Internal.Steps.{AreAround, IsStep, NamesListsBelow};
 
+use crate::alone::change_lone;
 use crate::fact_change::FactChange;
 use crate::group::{change_group, change_test};
 use crate::moved::Moved;
@@ -122,6 +123,15 @@ fn change_node<T>(
             &moved[*from],
             &moved[*inner],
             own,
+        ),
+        Node::Alone { from, lone } => change_lone(
+            setting,
+            lone,
+            &lists[*from],
+            &moved[*from],
+            own,
+            change,
+            meter,
         ),
     }
 }

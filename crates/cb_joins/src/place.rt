@@ -1,12 +1,14 @@
 //! A pattern of a branch, and what a change does at it.
-ghost use Rattle.std.specs.Prelude.{◌≡◌, ◌≤◌, ◌+◌, ◌*◌, IfOk, List, OnOk, None, Some, length};
+ghost use Rattle.std.specs.Prelude.{◌≡◌, ◌≤◌, ◌+◌, ◌*◌, [], IfOk, List, OnOk, None, Some, length, true};
+ghost use Rattle.std.specs.List.{list_any};
 ghost use Rattle.cb_facts.specs.FactLists.{IsFactBase, fact_at, with_fact, without_fact};
 ghost use Rattle.cb_fit.specs.Shapes.{loose};
 ghost use Rattle.cb_joins.specs.Internal.Changes.{IsMade, fact_added, facts_before};
-ghost use Rattle.cb_joins.specs.Internal.Flat.{tests_of};
+ghost use Rattle.cb_joins.specs.Internal.Flat.{begins, tests_of};
 ghost use Rattle.cb_joins.specs.Internal.Indexes.{HasIndex, KeepsFields, index_fields};
 ghost use Rattle.cb_joins.specs.Internal.Nodes.{IsJoined, candidates_with, found_with};
-ghost use Rattle.cb_joins.specs.Internal.Steps.{IsChanged, IsTakenWith, IsWithinProbes};
+ghost use Rattle.cb_joins.specs.Internal.Steps.{IsChanged, IsTaken, IsTakenWith, IsWithinProbes};
+ghost use Rattle.cb_matches.specs.Lemmas.Members.{In};
 ghost use Rattle.cb_matches.specs.Matches.{Partial};
 ghost use Rattle.cb_partials.specs.Probes.{added_probes};
 
@@ -14,9 +16,10 @@ use crate::fact_change::FactChange;
 use crate::index::{file_fact, file_moved, unfile_fact};
 use crate::indexed::Indexed;
 use crate::joining::{fits_loosely, join, join_fact, partials_for};
+use crate::memory::take_whole;
 use crate::moved::Moved;
 use crate::node::Place;
-use crate::taking::{add_all, take_behind, take_fact, take_with};
+use crate::taking::{add_all, take_behind, take_ending, take_fact, take_with};
 use cb_fit::Meter;
 use cb_fit::laws::{no_shape_gives_no_ways, the_ways_rise_by_their_cuts};
 use cb_forms::NoMemory;
@@ -76,10 +79,29 @@ fn assert_place<T>(
     the_ways_rise_by_their_cuts();
     file_moved(setting.alloc, &mut place.index, moved)?;
     let mut gone = Vec::new(setting.alloc);
-    take_behind(own, moved.gone.as_slice(), &mut gone)?;
+    take_gone(setting.alloc, before, moved, own, &mut gone)?;
     let come = find_with(setting, place, before, moved.come.as_slice(), one, meter)?;
     add_all(own, come.as_slice())?;
     Ok(Moved { gone, come })
+}
+
+/// Takes what goes on from what went before a pattern out of the list behind it. Where nothing is left before it, all goes.
+fn take_gone(
+    alloc: Global,
+    before: &BTreeSet<Partial>,
+    moved: &Moved,
+    own: &mut BTreeSet<Partial>,
+    gone: &mut Vec<Partial>,
+) -> Result<(), NoMemory>
+    ensures { OnOk result ((before.now.keys ≡ []
+        → (z : Partial) → In z own.old.keys → list_any (λ m. begins m.parts z) moved.now.gone.items ≡ true)
+        → IsTaken (λ z. list_any (λ m. begins m.parts z) moved.now.gone.items)
+        own.old.keys own.new.keys gone.old.items gone.new.items) }
+{
+    if before.is_empty() {
+        return take_whole(alloc, own, gone);
+    }
+    take_behind(own, moved.gone.as_slice(), gone)
 }
 
 /// Finds what comes behind a pattern where a fact is added, and keeps the fact if it has the shape.
@@ -142,7 +164,7 @@ fn retract_place<T>(
     the_ways_rise_by_their_cuts();
     file_moved(setting.alloc, &mut place.index, moved)?;
     let mut gone = Vec::new(setting.alloc);
-    take_behind(own, moved.gone.as_slice(), &mut gone)?;
+    take_gone(setting.alloc, before, moved, own, &mut gone)?;
     take_joined(setting.alloc, place, before, one, own, &mut gone)?;
     unfile_fact(setting.alloc, &mut place.index, one)?;
     place.candidates.remove(&one.ix);
@@ -152,7 +174,8 @@ fn retract_place<T>(
     Ok(Moved { gone, come })
 }
 
-/// Takes what goes on with a fact out of the list behind a pattern.
+/// Takes what goes on with a fact out of the list behind a pattern. A short list is looked through; for a longer one the partial
+/// matches that the fact can be joined with are looked up, if there is an index.
 fn take_joined<T>(
     alloc: Global,
     place: &Place<T>,
@@ -165,6 +188,9 @@ fn take_joined<T>(
         → IsTakenWith place.now.address place.now.pattern one.now before.now.keys
         own.old.keys own.new.keys gone.old.items gone.new.items) }
 {
+    if own.len() < 32 {
+        return take_ending(own, one.ix, gone);
+    }
     match partials_for(alloc, place, before, one)? {
         Some(partials) => take_with(alloc, own, partials.as_slice(), one.ix, gone),
         None => take_fact(alloc, own, before, one.ix, gone),

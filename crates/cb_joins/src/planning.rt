@@ -1,17 +1,19 @@
 //! What is to be kept for a branch, by its elements.
-ghost use Rattle.std.specs.Prelude.{◌≡◌, ◌≢◌, ◌≤◌, [], ◌∷◌, All, IfOk, OnOk, Some, length, map, true};
+ghost use Rattle.std.specs.Prelude.{◌≡◌, ◌≢◌, ◌≤◌, [], ◌∷◌, All, IfOk, OnOk, Some, is_some, length, map, true};
+ghost use Rattle.cb_constraints.specs.PatternValues.{PatternValue};
 ghost use Rattle.cb_exprs.specs.Terms.{term_of};
-ghost use Rattle.cb_joins.specs.Internal.Flat.{branch_last, branch_nodes, flat_node, flat_nodes, joining};
+ghost use Rattle.cb_joins.specs.Internal.Flat.{alone, branch_last, branch_nodes, flat_node, flat_nodes, joining, lone_pattern};
 ghost use Rattle.cb_joins.specs.Internal.Indexes.{index_fields};
 ghost use Rattle.cb_joins.specs.Internal.Nodes.{AreJoinFields, IsPrepared};
 ghost use Rattle.cb_joins.specs.Internal.Plans.{IsFurther, last_tested, last_with, node_with, nodes_with};
-ghost use Rattle.cb_rules.specs.Elements.{element_of, elements, test};
+ghost use Rattle.cb_rules.specs.Elements.{element_of, elements, group, test};
 
 use crate::index::{Index, new_index};
-use crate::node::{Node, Place};
+use crate::node::{Lone, Node, Place};
 use cb_exprs::Expr;
 use cb_facts::Name;
 use cb_fit::Pattern;
+use cb_fit::laws::a_pattern_that_stands_alone_is_its_shape;
 use cb_forms::NoMemory;
 use cb_rules::Ce;
 use std::alloc::Global;
@@ -113,24 +115,84 @@ fn add_node<T>(
             })
         }
         Ce::Test(condition) => add_test(condition, end, nodes),
-        Ce::Group { positive, inner } => {
-            let mut within = bound.clone()?;
-            let start = End {
-                is_pattern: false,
-                ..end
-            };
-            let last = add_nodes(alloc, inner, start, &mut within, nodes)?;
-            nodes.push(Node::Group {
-                from: end.list,
-                inner: last,
+        Ce::Group { positive, inner } => add_group(alloc, positive, inner, end, bound, nodes),
+    }
+}
+
+/// The same of a group. One of a pattern that stands alone is a node without others before it.
+#[cycle(planning)]
+fn add_group<T>(
+    alloc: Global,
+    positive: bool,
+    inner: Vec<Ce<T>>,
+    end: End,
+    bound: &BTreeSet<Name>,
+    nodes: &mut Vec<Node<T>>,
+) -> Result<End, NoMemory>
+    requires width { end.width ≤ length nodes.old.items }
+    requires before { All IsPrepared nodes.old.items }
+    ensures further { IfOk result (λ behind. IsFurther (flat_nodes nodes.old.items)
+        (flat_nodes nodes.new.items) end behind (group positive (elements (map element_of inner.items)))) }
+    ensures width { IfOk result (λ behind. behind.width ≤ length nodes.new.items) }
+    ensures longer { OnOk result (length nodes.old.items ≤ length nodes.new.items) }
+    ensures prepared { OnOk result (All IsPrepared nodes.new.items) }
+{
+    let start = End {
+        is_pattern: false,
+        ..end
+    };
+    if is_lone(inner.as_slice()) {
+        nodes.push(lone_node(alloc, end.list, positive, inner))?;
+        return Ok(End {
+            list: nodes.len(),
+            ..start
+        });
+    }
+    let mut within = bound.clone()?;
+    let last = add_nodes(alloc, inner, start, &mut within, nodes)?;
+    nodes.push(Node::Group {
+        from: end.list,
+        inner: last,
+        positive,
+        width: end.width,
+    })?;
+    Ok(End {
+        list: nodes.len(),
+        ..start
+    })
+}
+
+/// Whether a group of these elements is of one pattern that stands alone.
+fn is_lone<T>(inner: &[Ce<T>]) -> bool
+    ensures { result ≡ is_some (lone_pattern (elements (map element_of inner.now))) }
+{
+    if inner.len() != 1 {
+        return false;
+    }
+    match &inner[0] {
+        Ce::Pattern { address, pattern } => address.is_none() && pattern.stands_alone(),
+        Ce::Test(_) | Ce::Group { .. } => false,
+    }
+}
+
+/// The node of such a group, without candidates.
+fn lone_node<T>(alloc: Global, from: usize, positive: bool, inner: Vec<Ce<T>>) -> Node<T>
+    requires { is_some (lone_pattern (elements (map element_of inner.items))) ≡ true }
+    ensures node { (p : PatternValue) → lone_pattern (elements (map element_of inner.items)) ≡ Some p
+        → flat_node result ≡ alone from p positive }
+    ensures prepared { IsPrepared result }
+{
+    a_pattern_that_stands_alone_is_its_shape();
+    match inner.into_iter().next() {
+        Some(Ce::Pattern { pattern, .. }) => Node::Alone {
+            from,
+            lone: Lone {
                 positive,
-                width: end.width,
-            })?;
-            Ok(End {
-                list: nodes.len(),
-                ..start
-            })
-        }
+                pattern,
+                candidates: BTreeMap::new(alloc),
+            },
+        },
+        _ => unreachable!(),
     }
 }
 

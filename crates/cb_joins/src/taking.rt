@@ -1,11 +1,12 @@
 //! What is taken out of a list of partial matches, and what is added to it.
-ghost use Rattle.std.specs.Prelude.{◌≡◌, ◌⊎◌, IfOk, OnOk};
+ghost use Rattle.std.specs.Prelude.{◌≡◌, ◌++◌, ◌⊎◌, ℕ, OnOk};
 ghost use Rattle.std.specs.List.{filter, list_any};
 ghost use Rattle.cb_joins.specs.Internal.Flat.{begins};
 ghost use Rattle.cb_joins.specs.Internal.Memories.{begins_with, ends_with};
+ghost use Rattle.cb_joins.specs.Internal.Nodes.{HaveParts};
 ghost use Rattle.cb_joins.specs.Internal.Steps.{IsTaken, IsWith};
 
-use crate::memory::{add, copy_list, ends_with, take_begun, take_with_fact};
+use crate::memory::{add, copy_list, ends_with, take_begun, take_out, take_same, take_with_fact};
 use cb_forms::NoMemory;
 use cb_partials::Partial;
 use std::alloc::Global;
@@ -26,6 +27,23 @@ pub(crate) fn take_behind(
     Ok(())
 }
 
+/// Moves those with the parts of one of these out of a list, behind what is gone before. Where all have as many parts, no others go
+/// on from these.
+pub(crate) fn take_these(
+    list: &mut BTreeSet<Partial>,
+    partials: &[Partial],
+    gone: &mut Vec<Partial>,
+) -> Result<(), NoMemory>
+    ensures { OnOk result ((n : ℕ) → HaveParts n list.old.keys → HaveParts n partials.now
+        → IsTaken (λ z. list_any (λ m. begins m.parts z) partials.now)
+        list.old.keys list.new.keys gone.old.items gone.new.items) }
+{
+    for partial in partials {
+        take_same(list, partial, gone)?;
+    }
+    Ok(())
+}
+
 /// Moves what goes on with the fact of this index from the partial matches of the list before it out of a list. Where that is far
 /// shorter, what goes on from each of its partial matches is looked up; else the list is looked through for what ends with the fact.
 pub(crate) fn take_fact(
@@ -37,14 +55,13 @@ pub(crate) fn take_fact(
 ) -> Result<(), NoMemory>
     ensures { OnOk result (IsTaken (λ z. list_any (λ m. begins_with m.parts ix z) before.now.keys)
         list.old.keys list.new.keys gone.old.items gone.new.items
-        ⊎ IsTaken (λ z. list_any (λ m. begins m.parts z) (filter (ends_with ix) list.old.keys))
-        list.old.keys list.new.keys gone.old.items gone.new.items) }
+        ⊎ IsTaken (ends_with ix) list.old.keys list.new.keys gone.old.items gone.new.items) }
 {
     if before.len() < list.len() / 32 {
         let partials = copy_list(alloc, before)?;
         return take_from_each(alloc, list, partials.as_slice(), ix, gone);
     }
-    take_ending(alloc, list, ix, gone)
+    take_ending(list, ix, gone)
 }
 
 /// The same, where it goes on from these partial matches alone.
@@ -57,40 +74,38 @@ pub(crate) fn take_with(
 ) -> Result<(), NoMemory>
     ensures { OnOk result (IsTaken (λ z. list_any (λ m. begins_with m.parts ix z) partials.now)
         list.old.keys list.new.keys gone.old.items gone.new.items
-        ⊎ IsTaken (λ z. list_any (λ m. begins m.parts z) (filter (ends_with ix) list.old.keys))
-        list.old.keys list.new.keys gone.old.items gone.new.items) }
+        ⊎ IsTaken (ends_with ix) list.old.keys list.new.keys gone.old.items gone.new.items) }
 {
     if partials.len() < list.len() / 32 {
         return take_from_each(alloc, list, partials, ix, gone);
     }
-    take_ending(alloc, list, ix, gone)
+    take_ending(list, ix, gone)
 }
 
-/// Moves what goes on from those of a list whose last fact has this index out of it.
-fn take_ending(
-    alloc: Global,
+/// Moves those whose last fact has this index out of a list.
+pub(crate) fn take_ending(
     list: &mut BTreeSet<Partial>,
     ix: u64,
     gone: &mut Vec<Partial>,
 ) -> Result<(), NoMemory>
-    ensures { OnOk result (IsTaken (λ z. list_any (λ m. begins m.parts z) (filter (ends_with ix) list.old.keys))
-        list.old.keys list.new.keys gone.old.items gone.new.items) }
+    ensures { OnOk result (IsTaken (ends_with ix) list.old.keys list.new.keys gone.old.items gone.new.items) }
 {
-    let found = ending_with(alloc, list, ix)?;
-    take_behind(list, found.as_slice(), gone)
+    let start = gone.len();
+    copy_ending(list, ix, gone)?;
+    take_out(list, &gone.as_slice()[start..]);
+    Ok(())
 }
 
-/// The partial matches of a list whose last fact has this index.
-fn ending_with(alloc: Global, list: &BTreeSet<Partial>, ix: u64) -> Result<Vec<Partial>, NoMemory>
-    ensures { IfOk result (λ found. found.items ≡ filter (ends_with ix) list.now.keys) }
+/// Copies those whose last fact has this index to the end of `gone`.
+fn copy_ending(list: &BTreeSet<Partial>, ix: u64, gone: &mut Vec<Partial>) -> Result<(), NoMemory>
+    ensures { OnOk result (gone.new.items ≡ gone.old.items ++ filter (ends_with ix) list.now.keys) }
 {
-    let mut found = Vec::new(alloc);
     for partial in list.iter() {
         if ends_with(partial, ix) {
-            found.push(partial.clone()?)?;
+            gone.push(partial.clone()?)?;
         }
     }
-    Ok(found)
+    Ok(())
 }
 
 /// Moves what goes on from one of these partial matches with the fact of this index out of a list.

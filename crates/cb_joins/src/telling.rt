@@ -18,7 +18,6 @@ use std::collections::BTreeSet;
 
 /// Tells the keys of the partial matches of a list, in its order, behind those that are told of before.
 pub(crate) fn tell_list(
-    alloc: Global,
     rule: u64,
     number: u64,
     list: &BTreeSet<Partial>,
@@ -29,7 +28,7 @@ pub(crate) fn tell_list(
     ensures ordered { IsOrdered partial_cmp list.now }
 {
     for partial in list.iter() {
-        keys.push(key_of(alloc, rule, number, partial)?)?;
+        keys.push(key_of(rule, number, partial)?)?;
     }
     Ok(())
 }
@@ -80,15 +79,14 @@ fn keys_of(
 {
     let mut keys = Vec::new(alloc);
     for partial in partials {
-        keys.push(key_of(alloc, rule, number, partial)?)?;
+        keys.push(key_of(rule, number, partial)?)?;
     }
     Ok(keys)
 }
 
-/// The key of a partial match of a branch.
-fn key_of(alloc: Global, rule: u64, number: u64, partial: &Partial) -> Result<Key, NoMemory>
+/// The key of a partial match of a branch. It is refused as `NoMemory` only where a count of sharers is full.
+fn key_of(rule: u64, number: u64, partial: &Partial) -> Result<Key, NoMemory>
     ensures { IfOk result (λ key. key ≡ key_of rule number partial.now) }
 {
-    let parts = partial.parts.as_slice().to_vec(alloc)?;
-    Key::new(alloc, rule, number, parts)
+    Ok(Key::of(rule, number, partial.parts.clone()?))
 }

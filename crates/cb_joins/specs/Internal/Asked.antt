@@ -5,7 +5,7 @@ use Rattle.cb_constraints.specs.PatternValues.{PatternValue}
 use Rattle.cb_facts.specs.Facts.{FactValue}
 use Rattle.cb_facts.specs.declared.value.Value.{Value}
 use Rattle.cb_fit.specs.FieldPlaces.{field_value}
-use Rattle.cb_joins.specs.Internal.Flat.{FlatNode, joining, testing, grouping, branch_nodes}
+use Rattle.cb_joins.specs.Internal.Flat.{FlatNode, joining, testing, grouping, alone, branch_nodes}
 use Rattle.cb_fit.specs.ConstantFields.{constant_fields}
 use Rattle.cb_joins.specs.declared.asked.Asked.{Asked}
 use Rattle.cb_joins.specs.declared.asked.AskedBy.{AskedBy}
@@ -24,6 +24,7 @@ abbrev pub asks_for : List ℕ → FlatNode → Bool
 asks_for relation (joining from x p ts) = bytes_eq p.relation relation
 asks_for relation (testing from t) = false
 asks_for relation (grouping from inner positive width) = false
+asks_for relation (alone from p positive) = bytes_eq p.relation relation
 
 -- one of several is
 abbrev pub ask_for : List ℕ → List FlatNode → Bool
@@ -35,6 +36,7 @@ abbrev pub takes : ℕ × FactValue → FlatNode → Bool
 takes f (joining from x p ts) = is_candidate p f
 takes f (testing from t) = false
 takes f (grouping from inner positive width) = false
+takes f (alone from p positive) = is_candidate p f
 
 -- none of several is
 abbrev pub NoneTakes : ℕ × FactValue → List FlatNode → Type 0
@@ -83,6 +85,7 @@ abbrev pub IsNodeEntered : Asked → ℕ → FlatNode → Type 0
 IsNodeEntered table rule (joining from x p ts) = IsEntered table (asked_by p rule)
 IsNodeEntered table rule (testing from t) = Unit {0}
 IsNodeEntered table rule (grouping from inner positive width) = Unit {0}
+IsNodeEntered table rule (alone from p positive) = IsEntered table (asked_by p rule)
 
 -- by several, and by those of a rule and of rules
 abbrev pub AreNodesEntered : Asked → ℕ → List FlatNode → Type 0

@@ -46,11 +46,11 @@ binds_values js vs m = are_values vs (variable_values js m.env)
 -- the index has these facts, those without the fields aside, and these partial matches
 pub record IsIndex (i : Index) (cs : IndexedFacts) (ms : List Partial) : Type 0 where
   pub facts_in : (e : FactKey × FactValue) → In e i.facts.entries
-      → In (e.0.ix, e.1) cs × (field_values i.fields.items e.1.content ≡ Some e.0.values.items)
+      → In (e.0.ix, e.1) cs × (field_values i.fields.items e.1.content ≡ Some e.0.values)
   pub in_facts : (f : ℕ × FactValue) (vs : List Value) → In f cs → field_values i.fields.items f.1.content ≡ Some vs
-      → (e : FactKey × FactValue) × In e i.facts.entries × (e.0.values.items ≡ vs) × (e.0.ix ≡ f.0) × (e.1 ≡ f.1)
+      → (e : FactKey × FactValue) × In e i.facts.entries × (e.0.values ≡ vs) × (e.0.ix ≡ f.0) × (e.1 ≡ f.1)
   pub partials_in : (z : Filed) → In z i.partials.keys
-      → In z.partial ms × (variable_values i.fields.items z.partial.env ≡ Some z.values.items)
+      → In z.partial ms × (variable_values i.fields.items z.partial.env ≡ Some z.values)
   pub in_partials : (m : Partial) → In m ms → (z : Filed) × In z i.partials.keys × (z.partial ≡ m)
 
 -- the same, if there is an index

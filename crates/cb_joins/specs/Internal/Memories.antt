@@ -1,6 +1,5 @@
 -- Sets of partial matches in the order of their parts.
-use Rattle.std.specs.Prelude.{◌≡◌, ◌≢◌, ◌⊎◌, ◌<◌, ◌-◌, ℕ, Bool, false, not, ◌&&◌, List, [], ◌∷◌, Option, Some, None, length, nat_eq, slice_get}
-use Rattle.std.specs.List.{filter}
+use Rattle.std.specs.Prelude.{◌≡◌, ◌≢◌, ◌⊎◌, ◌-◌, ℕ, Bool, false, ◌&&◌, List, [], ◌∷◌, Option, Some, None, length, nat_eq, slice_get}
 use Rattle.std.specs.Option.{option_map_or}
 use Rattle.cb_joins.specs.Internal.Flat.{begins}
 use Rattle.cb_matches.specs.Keys.{PartValue}
@@ -30,16 +29,6 @@ pub record IsAdded (old : List Partial) (m : Partial) (new : List Partial) : Typ
   pub stays : (z : Partial) → In z old → In z new
   pub only : (z : Partial) → In z new → In z old ⊎ (z ≡ m)
   pub added : ((z : Partial) → In z old → z.parts ≢ m.parts) → In m new
-
--- the first that passes the test was taken out, if one did
-pub record IsFirstOf (test : Partial → Bool) (old : List Partial) (m : Partial) (new : List Partial) : Type 0 where
-  pub taken : filter test old ≡ m ∷ filter test new
-  pub others : filter (λ z. not (test z)) new ≡ filter (λ z. not (test z)) old
-  pub fewer : length new < length old
-
-abbrev pub IsFirstTaken : (Partial → Bool) → List Partial → Option Partial → List Partial → Type 0
-IsFirstTaken test old None new = (filter test old ≡ []) × (new ≡ old)
-IsFirstTaken test old (Some m) new = IsFirstOf test old m new
 
 -- the one of these with these parts
 abbrev pub IsFound : List PartValue → List Partial → Option Partial → Type 0

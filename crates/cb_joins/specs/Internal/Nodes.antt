@@ -1,5 +1,5 @@
 -- What is kept for each node of a branch.
-use Rattle.std.specs.Prelude.{◌≡◌, ◌≢◌, ◌<◌, ◌≤◌, ◌++◌, ℕ, suc, Contains, List, [], ◌∷◌, Option, Some, filter, flat_map, length, slice_index_or, if◌then◌else◌}
+use Rattle.std.specs.Prelude.{◌≡◌, ◌≢◌, ◌<◌, ◌≤◌, ◌++◌, ℕ, suc, Bool, true, false, Contains, List, [], ◌∷◌, Option, Some, filter, flat_map, length, slice_index_or, if◌then◌else◌}
 use Rattle.std.specs.BTreeSet.{BTreeSet}
 use Rattle.cb_constraints.specs.PatternValues.{PatternValue}
 use Rattle.cb_exprs.specs.Bindings.{Bindings, value_at}
@@ -14,6 +14,7 @@ use Rattle.cb_joins.specs.Internal.Changes.{Holds, IsMoved}
 use Rattle.cb_joins.specs.Internal.Flat.{FlatNode, AreLists, AreWidths, Lists, flat_nodes, lists_of, next_where, tests_of}
 use Rattle.cb_joins.specs.Internal.Indexes.{HasIndex, index_fields}
 use Rattle.cb_joins.specs.declared.moved.Moved.{Moved}
+use Rattle.cb_joins.specs.declared.node.Lone.{Lone}
 use Rattle.cb_joins.specs.declared.node.Node.{Node}
 use Rattle.cb_joins.specs.declared.node.Node.TheVariants as node
 use Rattle.cb_joins.specs.declared.node.Place.{Place}
@@ -50,6 +51,11 @@ pub record AreEnough (x : Option (List ℕ)) (p : PatternValue) (f : ℕ × Fact
   pub among : (m : Partial) → In m found → In m ms
   pub each : (m : Partial) (w : WayValue) → In m ms → In w (ways p f.1 (with_address x f.0 m.env)) → In m found
 
+-- there is one of these
+abbrev pub any_there : IndexedFacts → Bool
+any_there [] = false
+any_there (f ∷ fs) = true
+
 -- the lists of partial matches of a branch
 abbrev pub branch_lists : List FlatNode → IndexedFacts → Lists
 branch_lists ns fs = lists_of ns fs (no_parts ∷ [])
@@ -67,11 +73,18 @@ module _ {T : Type 0} where
     pub candidates : AreSame place.candidates.entries (filter (is_candidate place.pattern) fs)
     pub joined : IsJoined place ms
 
+  -- a pattern that stands alone, and the facts that have its shape
+  pub record IsLone (lone : Lone T) (fs : IndexedFacts) : Type 0 where
+    pub is_loose : loose lone.pattern ≡ lone.pattern
+    pub rising : IsRising lone.candidates.entries
+    pub candidates : AreSame lone.candidates.entries (filter (is_candidate lone.pattern) fs)
+
   -- what is worked out from the pattern of a node is the pattern's
   abbrev pub IsPrepared : Node T → Type 0
   IsPrepared (node.Pattern from place) = (place.loose ≡ loose place.pattern) × AreJoinFields (index_fields place.index) place.address place.pattern
   IsPrepared (node.Test from e) = Unit {0}
   IsPrepared (node.Group from inner positive width) = Unit {0}
+  IsPrepared (node.Alone from lone) = loose lone.pattern ≡ lone.pattern
 
   -- these are facts of the pattern, and those with which the partial match goes on are among them
   pub record AreFound (place : Place T) (m : Partial) (found : IndexedFacts) : Type 0 where
@@ -83,6 +96,7 @@ module _ {T : Type 0} where
   IsReady fs ls (node.Pattern from place) = IsPlace place fs (ls from)
   IsReady fs ls (node.Test from e) = Unit {0}
   IsReady fs ls (node.Group from inner positive width) = Unit {0}
+  IsReady fs ls (node.Alone from lone) = IsLone lone fs
 
   abbrev pub AreReady : IndexedFacts → List (Node T) → Type 0
   AreReady fs nodes = (k : ℕ) (d : Node T) → k < length nodes → IsReady fs (branch_lists (flat_nodes nodes) fs) (slice_index_or nodes k d)

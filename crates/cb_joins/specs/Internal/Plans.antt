@@ -1,7 +1,7 @@
 -- The nodes of elements, while they are made one element after another.
 use Rattle.std.specs.Prelude.{◌≡◌, ◌+◌, ℕ, List, [], ◌∷◌, ◌++◌, length, if◌then◌else◌}
 use Rattle.cb_exprs.specs.Terms.{Term}
-use Rattle.cb_joins.specs.Internal.Flat.{FlatNode, flat_all, grouping, joining, last_list, testing, tests_first}
+use Rattle.cb_joins.specs.Internal.Flat.{FlatNode, alone, flat_all, grouping, joining, last_list, testing, tests_first}
 use Rattle.cb_joins.specs.declared.planning.End.{End}
 use Rattle.cb_rules.specs.Elements.{Element, Elements, element}
 
@@ -10,6 +10,7 @@ abbrev pub node_with : List Term → FlatNode → FlatNode
 node_with ts (joining from x p us) = joining from x p (us ++ ts)
 node_with ts (testing from t) = testing from t
 node_with ts (grouping from inner positive width) = grouping from inner positive width
+node_with ts (alone from p positive) = alone from p positive
 
 -- nodes, where they belong to the last one
 abbrev pub last_tested : List Term → List FlatNode → List FlatNode

@@ -6,10 +6,11 @@ use Rattle.cb_constraints.specs.PatternValues.{PatternValue}
 use Rattle.cb_facts.specs.FactLists.{IndexedFacts}
 use Rattle.cb_facts.specs.Facts.{FactValue}
 use Rattle.cb_joins.specs.Internal.Changes.{Holds, IsMoved}
-use Rattle.cb_joins.specs.Internal.Flat.{FlatNode, joining, testing, grouping, Lists, begins, flat_node, holds_by, next_where, node_list, tests_of}
+use Rattle.cb_joins.specs.Internal.Flat.{FlatNode, joining, testing, grouping, alone, Lists, begins, flat_node, holds_alone, holds_by, next_where, node_list, tests_of}
 use Rattle.cb_joins.specs.Internal.Memories.{begins_with, ends_with}
-use Rattle.cb_joins.specs.Internal.Nodes.{AreEnough, HaveParts, IsPlace, IsReady}
+use Rattle.cb_joins.specs.Internal.Nodes.{AreEnough, HaveParts, IsLone, IsPlace, IsReady}
 use Rattle.cb_joins.specs.declared.moved.Moved.{Moved}
+use Rattle.cb_joins.specs.declared.node.Lone.{Lone}
 use Rattle.cb_joins.specs.declared.node.Node.{Node}
 use Rattle.cb_joins.specs.declared.node.Place.{Place}
 use Rattle.cb_matches.specs.Keys.{PartValue}
@@ -30,7 +31,7 @@ pub record IsTaken (test : Partial → Bool) (list list' gone gone' : List Parti
 abbrev pub IsTakenWith : Option (List ℕ) → PatternValue → ℕ × FactValue → List Partial → List Partial → List Partial → List Partial → List Partial → Type 0
 IsTakenWith x p f before list list' gone gone' =
     ((ms : List Partial) × AreEnough x p f before ms × IsTaken (λ z. list_any (λ m. begins_with m.parts f.0 z) ms) list list' gone gone')
-    ⊎ IsTaken (λ z. list_any (λ m. begins m.parts z) (filter (ends_with f.0) list)) list list' gone gone'
+    ⊎ IsTaken (ends_with f.0) list list' gone gone'
 
 -- these are added to a list, each unless one with its parts is there
 pub record IsWith (list more list' : List Partial) : Type 0 where
@@ -74,6 +75,28 @@ module _ {T : Type 0} where
       (n : ℕ) (old new : List Partial) → IsBefore n fs old new place before own m
       → t' ≤ t + pattern_probes place.pattern added fs' old new
 
+module _ {T : Type 0} where
+  -- a group of one pattern that stands alone, before a change: the list before it has changed already, and its own list not yet
+  pub record IsLoneBefore (n : ℕ) (fs : IndexedFacts) (old new : List Partial) (lone : Lone T) (before own : List Partial) (moved : Moved) : Type 0 where
+    pub long : HaveParts n old
+    pub long_now : HaveParts n new
+    pub is_lone : IsLone lone fs
+    pub is_before : Holds before new
+    pub is_moved : IsMoved old new moved
+    pub is_own : Holds own (filter (holds_alone lone.positive lone.pattern fs) old)
+
+  -- and after it
+  pub record IsLoneAfter (fs fs' : IndexedFacts) (old new : List Partial) (lone : Lone T) (own : List Partial) (moved : Moved) : Type 0 where
+    pub is_lone : IsLone lone fs'
+    pub is_own : Holds own (filter (holds_alone lone.positive lone.pattern fs') new)
+    pub is_moved : IsMoved (filter (holds_alone lone.positive lone.pattern fs) old) (filter (holds_alone lone.positive lone.pattern fs') new) moved
+
+  -- the group and its list become these, and this moves in the list, whatever the list before the group was
+  abbrev pub IsLoneChanged : IndexedFacts → IndexedFacts → Lone T → List Partial → List Partial → Moved
+      → Lone T → List Partial → Moved → Type 0
+  IsLoneChanged fs fs' lone before own m lone' own' m' =
+      (n : ℕ) (old new : List Partial) → IsLoneBefore n fs old new lone before own m → IsLoneAfter fs fs' old new lone' own' m'
+
 -- the group holds for m, where these are complete
 abbrev pub group_with : Bool → List Partial → Partial → Bool
 group_with positive complete m = holds_by positive (list_any (begins m.parts) complete)
@@ -103,12 +126,14 @@ abbrev pub NamesListsBelow : ℕ → FlatNode → Type 0
 NamesListsBelow k (joining from x p ts) = from < k
 NamesListsBelow k (testing from t) = from < k
 NamesListsBelow k (grouping from inner positive width) = (from < k) × (inner < k)
+NamesListsBelow k (alone from p positive) = from < k
 
 -- the group's width is that of the list before it
 abbrev pub HasWidth : (ℕ → ℕ) → FlatNode → Type 0
 HasWidth ws (joining from x p ts) = Unit {0}
 HasWidth ws (testing from t) = Unit {0}
 HasWidth ws (grouping from inner positive width) = width ≡ ws from
+HasWidth ws (alone from p positive) = Unit {0}
 
 module _ {T : Type 0} where
   -- a node before a change, where the lists before it have changed already

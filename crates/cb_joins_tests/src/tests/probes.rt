@@ -34,7 +34,12 @@ const C_X: Asked = Asked {
     fields: &[Field::Is(b'x')],
 };
 
-const ROWS: [Row; 2] = [
+const C_ANY: Asked = Asked {
+    relation: b'c',
+    fields: &[Field::Any],
+};
+
+const ROWS: [Row; 3] = [
     // (a ?x) (b ?x)
     Row {
         branch: &[Element::Pattern(A_X), Element::Pattern(B_X)],
@@ -92,6 +97,28 @@ const ROWS: [Row; 2] = [
             Step {
                 change: Change::Retract(1),
                 at_most: 16,
+            },
+        ],
+    },
+    // (a ?x) (not (c ?)): the pattern in the group is tested once for each fact, however many partial matches are before it
+    Row {
+        branch: &[Element::Pattern(A_X), Element::Group(false, &[C_ANY])],
+        steps: &[
+            Step {
+                change: Change::Assert(1, b'a', &[1]),
+                at_most: 3,
+            },
+            Step {
+                change: Change::Assert(2, b'a', &[2]),
+                at_most: 6,
+            },
+            Step {
+                change: Change::Assert(3, b'c', &[1]),
+                at_most: 8,
+            },
+            Step {
+                change: Change::Retract(3),
+                at_most: 8,
             },
         ],
     },

@@ -48,6 +48,16 @@ const C_ANY: Asked = Asked {
     fields: &[Field::Any],
 };
 
+const C_1: Asked = Asked {
+    relation: b'c',
+    fields: &[Field::Number(1)],
+};
+
+const C_1_ANY: Asked = Asked {
+    relation: b'c',
+    fields: &[Field::Number(1), Field::Any],
+};
+
 const C_Y: Asked = Asked {
     relation: b'c',
     fields: &[Field::Is(b'y')],
@@ -108,7 +118,7 @@ const A_REST_2: Asked = Asked {
     fields: &[Field::Rest, Field::Number(2)],
 };
 
-pub(crate) const ROWS: [Row; 22] = [
+pub(crate) const ROWS: [Row; 29] = [
     // (a ?x) (b ?x): the second pattern first, and then a fact that nothing goes with
     Row {
         story: Story {
@@ -490,6 +500,132 @@ pub(crate) const ROWS: [Row; 22] = [
             ],
         },
         keys: 3,
+    },
+    // (not (c ?)) (a ?x): a pattern that stands alone in a group in front, and two facts that close it
+    Row {
+        story: Story {
+            first: &[],
+            branches: &[&[Element::Group(false, &[C_ANY]), Element::Pattern(A_X)]],
+            then: &[
+                Change::Assert(1, b'a', &[1]),
+                Change::Assert(2, b'c', &[1]),
+                Change::Assert(3, b'c', &[2]),
+                Change::Assert(4, b'a', &[2]),
+                Change::Retract(2),
+                Change::Retract(3),
+            ],
+        },
+        keys: 4,
+    },
+    // (a ?x) (exists (c 1 ?)) (b ?x): one in the middle, and two facts that open it
+    Row {
+        story: Story {
+            first: &[],
+            branches: &[&[
+                Element::Pattern(A_X),
+                Element::Group(true, &[C_1_ANY]),
+                Element::Pattern(B_X),
+            ]],
+            then: &[
+                Change::Assert(1, b'a', &[1]),
+                Change::Assert(2, b'b', &[1]),
+                Change::Assert(3, b'c', &[1, 1]),
+                Change::Assert(4, b'c', &[1, 2]),
+                Change::Assert(5, b'a', &[2]),
+                Change::Assert(6, b'b', &[2]),
+                Change::Retract(3),
+                Change::Retract(4),
+                Change::Assert(7, b'c', &[2, 1]),
+                Change::Assert(8, b'c', &[1, 3]),
+                Change::Retract(1),
+            ],
+        },
+        keys: 7,
+    },
+    // (a ?x) (not (c ?)): one at the end, closed when the rule comes
+    Row {
+        story: Story {
+            first: &[Change::Assert(1, b'c', &[1]), Change::Assert(2, b'a', &[1])],
+            branches: &[&[Element::Pattern(A_X), Element::Group(false, &[C_ANY])]],
+            then: &[
+                Change::Assert(3, b'a', &[2]),
+                Change::Retract(1),
+                Change::Restart,
+                Change::Assert(4, b'a', &[2]),
+            ],
+        },
+        keys: 3,
+    },
+    // (not (c ?)): nothing else
+    Row {
+        story: Story {
+            first: &[],
+            branches: &[&[Element::Group(false, &[C_ANY])]],
+            then: &[
+                Change::Assert(1, b'c', &[1]),
+                Change::Assert(2, b'c', &[2]),
+                Change::Retract(1),
+                Change::Retract(2),
+            ],
+        },
+        keys: 3,
+    },
+    // (a ?x) (not (b ?x) (not (c ?))): one inside another group
+    Row {
+        story: Story {
+            first: &[],
+            branches: &[&[
+                Element::Pattern(A_X),
+                Element::Nested(false, &[B_X], &[C_ANY]),
+            ]],
+            then: &[
+                Change::Assert(1, b'a', &[1]),
+                Change::Assert(2, b'b', &[1]),
+                Change::Assert(3, b'c', &[1]),
+                Change::Assert(4, b'c', &[2]),
+                Change::Retract(3),
+                Change::Retract(4),
+                Change::Retract(2),
+            ],
+        },
+        keys: 5,
+    },
+    // (b ?x ?y) (not (c ?)) (test (> ?x ?y)): a test behind one, which is not a test of the pattern before it
+    Row {
+        story: Story {
+            first: &[],
+            branches: &[&[
+                Element::Pattern(B_X_Y),
+                Element::Group(false, &[C_ANY]),
+                Element::Above(b'x', b'y'),
+            ]],
+            then: &[
+                Change::Assert(1, b'b', &[2, 1]),
+                Change::Assert(2, b'b', &[1, 2]),
+                Change::Assert(3, b'c', &[1]),
+                Change::Retract(3),
+            ],
+        },
+        keys: 3,
+    },
+    // (c ?y) (not (c 1)), or (c ?y) (exists (c ?)): a fact that comes before the group and closes it or opens it
+    Row {
+        story: Story {
+            first: &[],
+            branches: &[
+                &[Element::Pattern(C_Y), Element::Group(false, &[C_1])],
+                &[Element::Pattern(C_Y), Element::Group(true, &[C_ANY])],
+            ],
+            then: &[
+                Change::Assert(1, b'c', &[2]),
+                Change::Assert(2, b'c', &[1]),
+                Change::Assert(3, b'c', &[3]),
+                Change::Retract(2),
+                Change::Retract(3),
+                Change::Retract(1),
+            ],
+        },
+        keys: 12,
     },
 ];
 

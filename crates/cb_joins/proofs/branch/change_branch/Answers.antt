@@ -13,7 +13,7 @@ use Rattle.cb_matches.specs.Lemmas.Lists.{chain_from_pairs}
 use Rattle.cb_matches.specs.Lemmas.Order.{IsRising, WaysRise}
 use Rattle.std.proofs.lemmas.Result.{on_ok_weaker}
 use Rattle.std.specs.Vec.{vec_len}
-use Rattle.cb_joins.proofs.Ends.{end_moved, last_within, probes_are, whole_of}
+use Rattle.cb_joins.proofs.Ends.{end_moved, last_within, probes_within, whole_of}
 use Rattle.cb_joins.proofs.Ordered.{sorted_matches}
 use Rattle.cb_joins.specs.Internal.Keys.{keys_in_branch}
 use Rattle.cb_joins.specs.Internal.Nodes.{AreMoved, AreWhole, branch_lists}
@@ -85,5 +85,5 @@ returns-clause-probes g c =
     let bound : c.change_nodes.new.meter ≤ c.args.meter.now + flat_probes added fs' (branch_lists ns fs) (branch_lists ns fs') ns =
     subst (λ it. c.change_nodes.new.meter ≤ c.args.meter.now + flat_probes added fs' (branch_lists (flat_nodes it) fs) (branch_lists (flat_nodes it) fs') (flat_nodes it)) c.as_mut_slice.ensures.value c.in_ok-moved.ensures.probes in
     on_ok_weaker c.tell_moved.result
-    (λ told. subst (λ it. c.change_nodes.new.meter ≤ c.args.meter.now + it) (probes_are rise es fs fs' ns (indices_of fs rising) (indices_of fs' rising') c.requires.branch.planned.nodes added) bound)
+    (λ told. let most = probes_within rise es fs fs' ns (indices_of fs rising) (indices_of fs' rising') c.requires.branch.planned.nodes added in omega (arith, most, bound))
     c.tell_moved.ensures

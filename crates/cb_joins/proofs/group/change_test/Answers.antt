@@ -5,6 +5,7 @@ use Rattle.cb_joins.proofs.Groups.{gone_out, out_gone, tested_moves}
 use Rattle.cb_joins.proofs.Moves.{Leaves, first_leaves, held_after}
 use Rattle.cb_joins.specs.Internal.Changes.{PartialMoves}
 use Rattle.cb_joins.specs.Internal.Flat.{begins}
+use Rattle.cb_joins.specs.Internal.Nodes.{HaveParts}
 use Rattle.cb_joins.specs.Internal.Steps.{IsTaken, IsWith}
 use Rattle.cb_matches.specs.Lemmas.Lists.{chain_filter, filter_in, in_filter}
 use Rattle.cb_matches.specs.Lemmas.Members.{In}
@@ -22,11 +23,13 @@ returns c n old new long long' m own =
     let s2 : c.as_slice-2.result.now ≡ c.in_ok-come.come.items = search rules in
     let copy : c.in_ok-clone.field-0.items ≡ came = each_same came c.in_ok-clone.field-0.items c.in_ok-clone.ensures.cases.0 in
     let come_is : c.in_ok-come.come.items ≡ filter q came = c.in_ok-come.ensures ∙ ap (filter q) copy in
-    let left = c.take_behind.new.list.keys in
-    let out = c.take_behind.new.gone.items in
+    let left = c.take_these.new.list.keys in
+    let out = c.take_these.new.gone.items in
+    let level : HaveParts n c.as_slice.result.now = subst (HaveParts n) (sym s1) (λ z h. long z (m.moves.gone_old z h)) in
     let taken : IsTaken test c.args.own.now.keys left [] out =
     subst (λ it. IsTaken test c.args.own.now.keys left it out) c.new-gone.ensures.items
-    (subst (λ it. IsTaken (λ z. list_any (λ m. begins m.parts z) it) c.args.own.now.keys left c.new-gone.result.items out) s1 c.in_ok-take_behind.ensures) in
+    (subst (λ it. IsTaken (λ z. list_any (λ m. begins m.parts z) it) c.args.own.now.keys left c.new-gone.result.items out) s1
+    (c.in_ok-take_these.ensures n (λ z h. long z (in_filter q z old (own.same.0 z h)).0) level)) in
     let leaves : Leaves c.args.own.now.keys left out = first_leaves test c.args.own.now.keys left out taken in
     let in_test = λ (z : Partial) (h : In z out). elim (taken.only z h) as (λ _. test z ≡ true) [ inl i ↦ absurd i | inr i ↦ i.1 ] in
     let to : (z : Partial) → In z out → In z (filter q lost) = λ z h.

@@ -8,5 +8,5 @@ use Rattle.cb_joins.proofs.index.facts_with.Given as goal
 
 abbrev pub invariant-loop-key : goal.invariant-loop-key
 invariant-loop-key l =
-    l.all.items ++ map fact_of (run (entry_has l.probe.values.items) l.key-iterator)
-    ≡ map fact_of (run (entry_has l.probe.values.items) (entries_between key_cmp (Included l.probe) Unbounded l.index.facts.entries))
+    l.all.items ++ map fact_of (run (entry_has l.probe.values) l.key-iterator)
+    ≡ map fact_of (run (entry_has l.probe.values) (entries_between key_cmp (Included l.probe) Unbounded l.index.facts.entries))

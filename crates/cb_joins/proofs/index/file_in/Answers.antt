@@ -15,7 +15,7 @@ returns-in_ok-insert-clause-index c =
     let old : Index = c.args.index.now in
     let new : Index = record { fields = old.fields; facts = c.insert.new.self; partials = old.partials } in
     let key : FactKey = record { values = c.in-Some.values; ix = f.0 } in
-    let values_are : field_values old.fields.items f.1.content ≡ Some key.values.items = search rules in
+    let values_are : field_values old.fields.items f.1.content ≡ Some key.values = search rules in
     let entries_are : new.facts.entries ≡ insert_entry key_cmp old.facts.entries key f.1 = search rules in
     fact_filed old new cs ms f key has free values_are refl refl entries_are refl
 

@@ -23,7 +23,7 @@ loop-partial-preserved c = record {
       let filed : Filed = record { values = c.in-Some.values; partial = c.in_ok-clone-in-Some.field-0 } in
       let within : k < length xs = omega arith in
       let m_is : m ≡ get_or xs k m = c.partial-item.is in
-      let values_are : variable_values old.fields.items m.env ≡ Some filed.values.items = search rules in
+      let values_are : variable_values old.fields.items m.env ≡ Some filed.values = search rules in
       let keys_are : new.partials.keys ≡ insert_key filed_cmp old.partials.keys filed = c.in_ok-insert-in-Some.ensures.keys in
       let differ = λ (n : Partial) (i : In n (ms ++ take k xs)) (e : m.parts ≡ n.parts). elim (in_either n ms (take k xs) i) as (λ _. ⊥) [
         | inl before ↦ apart m n (subst (λ it. In it xs) (sym m_is) (in_at xs k m within)) before e

@@ -8,5 +8,5 @@ use Rattle.cb_joins.proofs.index.partials_with.Given as goal
 
 abbrev pub invariant-loop-filed : goal.invariant-loop-filed
 invariant-loop-filed l =
-    l.all.items ++ map partial_of (run (filed_has l.probe.values.items) l.filed-iterator)
-    ≡ map partial_of (run (filed_has l.probe.values.items) (keys_between filed_cmp (Included l.probe) Unbounded l.index.partials))
+    l.all.items ++ map partial_of (run (filed_has l.probe.values) l.filed-iterator)
+    ≡ map partial_of (run (filed_has l.probe.values) (keys_between filed_cmp (Included l.probe) Unbounded l.index.partials))

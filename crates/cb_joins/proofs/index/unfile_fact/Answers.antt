@@ -17,7 +17,7 @@ returns-in-Some-2-clause-index c =
     let new : Index = record { fields = old.fields; facts = c.remove.new.self; partials = old.partials } in
     let key : FactKey = record { values = c.in-Some-2.values; ix = c.one.inside.ix } in
     let index_is : key.ix ≡ f.0 = search rules in
-    let values_are : field_values old.fields.items f.1.content ≡ Some key.values.items = search rules in
+    let values_are : field_values old.fields.items f.1.content ≡ Some key.values = search rules in
     let entries_are : new.facts.entries ≡ remove_entry (is_at (key_cmp key)) old.facts.entries = c.remove.ensures.entries in
     let gone : lookup (is_at (key_cmp key)) new.facts.entries ≡ None = c.remove.ensures.updates.1 in
     fact_unfiled old new cs ms f key (subst (λ it. HasIndex it cs ms) c.in-Some.is has) rising only values_are index_is refl entries_are gone refl

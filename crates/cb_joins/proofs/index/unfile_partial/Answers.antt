@@ -17,7 +17,7 @@ returns-in_ok-clone-clause-index c =
     let old : Index = c.args.index.now in
     let new : Index = record { fields = old.fields; facts = old.facts; partials = c.remove.new.self } in
     let filed : Filed = record { values = c.in-Some.values; partial = c.in_ok-clone.field-0 } in
-    let values_are : variable_values old.fields.items m.env ≡ Some filed.values.items = search rules in
+    let values_are : variable_values old.fields.items m.env ≡ Some filed.values = search rules in
     let keys_are : new.partials.keys ≡ remove_key (is_at (filed_cmp filed)) old.partials.keys = c.remove.ensures.keys in
     let gone : list_any (is_at (filed_cmp filed)) new.partials.keys ≡ false = c.remove.ensures.updates.1 in
     partial_unfiled old new cs ms m filed has only values_are c.in_ok-clone.ensures.cases refl keys_are gone refl

@@ -1,16 +1,14 @@
-use Rattle.std.proofs.Common.{◌≡◌, ◌∙◌, Some, ap, filter, rules}
+use Rattle.std.proofs.Common.{◌≡◌, Some, rules}
 use Rattle.cb_joins.proofs.Joined.{found_for}
 use Rattle.cb_joins.proofs.Results.{if_ok}
-use Rattle.cb_joins.specs.Internal.Indexes.{has_values, variable_values}
+use Rattle.cb_joins.specs.Internal.Indexes.{variable_values}
 use Rattle.cb_joins.proofs.joining.facts_for.Goals as goal
 
 pub returns-in-Some-2 : goal.returns-in-Some-2
 returns-in-Some-2 g c =
     let i = c.in-Some.index in
     let js = i.fields.items in
-    let vs = c.in-Some-2.values.items in
+    let vs = c.in-Some-2.values in
     let values : variable_values js c.args.partial.now.env ≡ Some vs = search rules in
-    let now : c.as_slice-in-Some-2.result.now ≡ vs = search rules in
     if_ok c.facts_with.result c.facts_with.ensures
-    (λ all found ms joined. found_for c.a_fact_that_fits_has_the_values_of_variables.ensures c.args.place.now ms joined i c.in-Some.is c.args.partial.now vs values all.items
-    (λ cs ns rising is. found cs ns rising is ∙ ap (λ it. filter (has_values js it) cs) now))
+    (λ all found ms joined. found_for c.a_fact_that_fits_has_the_values_of_variables.ensures c.args.place.now ms joined i c.in-Some.is c.args.partial.now vs values all.items found)

@@ -1,5 +1,6 @@
-use Rattle.std.proofs.Common.{◌≡◌, ◌≤◌, ◌∙◌, ◌∷◌, ◌++◌, ◌+◌, [], List, ap, arith, filter, length, rules}
+use Rattle.std.proofs.Common.{◌≡◌, ◌≤◌, ◌∙◌, ◌∷◌, ◌++◌, ◌+◌, [], List, ap, append-nil, arith, filter, length, rules, sym}
 use Rattle.cb_joins.proofs.Results.{if_some, on_ok}
+use Rattle.cb_joins.proofs.TakenOut.{none_long}
 use Rattle.cb_joins.specs.Internal.Flat.{all_hold, next_where, tests_of}
 use Rattle.cb_joins.specs.Internal.Nodes.{AreEnough, IsJoined}
 use Rattle.cb_matches.specs.Matches.{Partial}
@@ -24,3 +25,11 @@ returns-in-Some g c =
       probes = on_ok c.join_each.result c.join_each.ensures.found c.join_each.ensures.found
           (λ _ _ joined. let fewer = (enough joined).fewer in let long = ap length now in omega (arith, probes, long, fewer));
     }
+
+pub returns-then-is_empty-clause-found : goal.returns-then-is_empty-clause-found
+returns-then-is_empty-clause-found g c joined =
+    let place = c.args.place.now in
+    let before = c.args.before.now.keys in
+    let old : List Partial = c.args.found.now.items in
+    let empty : length before ≡ 0 = search rules in
+    sym (append-nil old) ∙ ap (λ it. old ++ next_where place.address place.pattern (tests_of place) (c.args.one.now ∷ []) it) (sym (none_long before empty))

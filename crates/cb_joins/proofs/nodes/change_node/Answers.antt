@@ -1,6 +1,6 @@
 use Rattle.std.proofs.Common.{◌≤◌, ◌+◌, subst, sym}
-use Rattle.cb_joins.proofs.Around.{before_group, before_place, before_test}
-use Rattle.cb_joins.proofs.Results.{if_ok, on_ok}
+use Rattle.cb_joins.proofs.Around.{before_group, before_lone, before_place, before_test}
+use Rattle.cb_joins.proofs.Results.{always, if_ok, on_ok}
 use Rattle.cb_joins.specs.Internal.Changes.{fact_added}
 use Rattle.cb_joins.specs.Internal.Flat.{flat_node, flat_probes_of}
 use Rattle.cb_joins.proofs.nodes.change_node.Goals as goal
@@ -44,3 +44,19 @@ returns-in-Group-clause-step g c =
     c.index-lists-from-in-Group.result c.index-lists-inner.result c.index-lists-from-in-Group.is c.index-lists-inner.is c.index-moved-from-in-Group.result c.index-moved-inner.result c.index-moved-from-in-Group.is c.index-moved-inner.is in
     let now = after (old from) (new from) (old inner) (new inner) b.long b.long_now b.is_moved b.inner_moved b.is_before b.is_complete b.is_own in
     record { ready = tt; is_own = now.0; is_moved = now.1 })
+
+pub returns-in-Alone-clause-step : goal.returns-in-Alone-clause-step
+returns-in-Alone-clause-step g c =
+    if_ok c.change_lone.result c.change_lone.ensures.after
+    (λ r after ws old new a.
+    let from = c.in-Alone.from in
+    let b = before_lone ws _ old new c.args.lists.now c.args.moved.now c.args.node.now c.args.own.now.keys a c.requires.below from c.in-Alone.lone c.in-Alone.is
+    c.index-lists-from-in-Alone.result c.index-lists-from-in-Alone.is c.index-moved-from-in-Alone.result c.index-moved-from-in-Alone.is in
+    let now = after (ws from) (old from) (new from) b in
+    record { ready = now.is_lone; is_own = now.is_own; is_moved = now.is_moved })
+
+pub returns-in-Alone-clause-probes : goal.returns-in-Alone-clause-probes
+returns-in-Alone-clause-probes g c =
+    always c.change_lone.result
+    (λ ws old new a.
+    subst (λ it. c.change_lone.new.meter ≤ c.args.meter.now + flat_probes_of (fact_added c.args.change.now) c.args.setting.now.facts.now old new (flat_node it)) (sym c.in-Alone.is) c.change_lone.ensures.probes)

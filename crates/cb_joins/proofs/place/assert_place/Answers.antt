@@ -3,7 +3,7 @@ use Rattle.std.specs.List.{list_any}
 use Rattle.cb_facts.specs.FactLists.{IndexedFacts, fact_at, without_fact}
 use Rattle.cb_joins.proofs.Facts.{rising_base, taken_fact}
 use Rattle.cb_joins.proofs.Joined.{joined_alike, joined_moved, still_join_fields}
-use Rattle.cb_joins.proofs.Patterns.{added_bound, added_now, free}
+use Rattle.cb_joins.proofs.Patterns.{added_bound, added_now, all_behind_gone, free}
 use Rattle.cb_joins.proofs.Steps.{ways_rise}
 use Rattle.cb_joins.specs.Internal.Changes.{Added}
 use Rattle.cb_joins.specs.Internal.Flat.{begins}
@@ -25,15 +25,15 @@ returns-clause-after g c n old new b =
     let rise : WaysRise = ways_rise c.the_ways_rise_by_their_cuts.ensures in
     let lost : List Partial = c.args.moved.now.gone.items in
     let came : List Partial = c.args.moved.now.come.items in
-    let s1 : c.as_slice.result.now ≡ lost = search rules in
-    let s2 : c.as_slice-2.result.now ≡ came = search rules in
-    let s3 : c.as_slice-3.result.now ≡ c.in_ok-come.come.items = search rules in
+    let s2 : c.as_slice.result.now ≡ came = search rules in
+    let s3 : c.as_slice-2.result.now ≡ c.in_ok-come.come.items = search rules in
     let own = c.args.own.now.keys in
-    let left = c.take_behind.new.list.keys in
-    let out = c.take_behind.new.gone.items in
+    let left = c.take_gone.new.own.keys in
+    let out = c.take_gone.new.gone.items in
     let taken : IsTaken (λ z. list_any (λ m. begins m.parts z) lost) own left [] out =
     subst (λ it. IsTaken (λ z. list_any (λ m. begins m.parts z) lost) own left it out) c.new-gone.ensures.items
-    (subst (λ it. IsTaken (λ z. list_any (λ m. begins m.parts z) it) own left c.new-gone.result.items out) s1 c.in_ok-take_behind.ensures) in
+    (c.in_ok-take_gone.ensures
+    (all_behind_gone rise c.no_shape_gives_no_ways.ensures c.args.place.now n (without_fact fs' f.0) old new c.args.before.now.keys own c.args.moved.now b)) in
     let found = c.in_ok-come.ensures in
     let place : Place g.row.T.Denot = record c.args.place.now { index = c.file_moved.new.index } in
     let moved = c.in_ok-file_moved.ensures in
@@ -46,7 +46,7 @@ returns-clause-after g c n old new b =
     c.find_with.new.place found.address found.pattern found.tests found.loose (found.candidates b.is_place.is_loose)
     (still_join_fields place.address place.pattern (index_fields place.index) c.find_with.new.place.index found.fields now.fields)
     (found.index b.is_place.is_loose absent new now.index)
-    (record { gone = c.take_behind.new.gone; come = c.in_ok-come.come }) left c.add_all.new.list.keys taken come_is
+    (record { gone = c.take_gone.new.gone; come = c.in_ok-come.come }) left c.add_all.new.list.keys taken come_is
     (subst (λ it. IsWith left it c.add_all.new.list.keys) s3 c.in_ok-add_all.ensures)
 
 pub returns-clause-probes : goal.returns-clause-probes
@@ -57,7 +57,7 @@ returns-clause-probes g c n old new b =
     let added : Added f (without_fact fs' f.0) fs' = taken_fact f.0 f.1 fs' rising c.requires.there in
     let rise : WaysRise = ways_rise c.the_ways_rise_by_their_cuts.ensures in
     let came : List Partial = c.args.moved.now.come.items in
-    let s2 : c.as_slice-2.result.now ≡ came = search rules in
+    let s2 : c.as_slice.result.now ≡ came = search rules in
     let place : Place g.row.T.Denot = record c.args.place.now { index = c.file_moved.new.index } in
     let moved = c.in_ok-file_moved.ensures in
     let joined : IsJoined place c.args.before.now.keys = joined_alike place new c.args.before.now.keys (b.is_before.same.1, b.is_before.same.0)

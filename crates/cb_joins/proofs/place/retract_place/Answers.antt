@@ -3,7 +3,7 @@ use Rattle.std.specs.List.{list_any}
 use Rattle.cb_facts.specs.FactLists.{IndexedFacts, with_fact, without_fact}
 use Rattle.cb_joins.proofs.Facts.{added_fact, rising_base}
 use Rattle.cb_joins.proofs.Joined.{joined_alike, joined_moved}
-use Rattle.cb_joins.proofs.Patterns.{joined_without, taken_bound, taken_with_now}
+use Rattle.cb_joins.proofs.Patterns.{all_behind_gone, joined_without, taken_bound, taken_with_now}
 use Rattle.cb_joins.proofs.Steps.{ways_rise}
 use Rattle.cb_joins.specs.Internal.Changes.{Added}
 use Rattle.cb_joins.specs.Internal.Flat.{begins, next_where, tests_of}
@@ -31,9 +31,8 @@ returns-clause-after g c n old new b =
     let own = c.args.own.now.keys in
     let lost : List Partial = c.args.moved.now.gone.items in
     let came : List Partial = c.args.moved.now.come.items in
-    let s1 : c.as_slice.result.now ≡ lost = search rules in
-    let s2 : c.as_slice-2.result.now ≡ came = search rules in
-    let s3 : c.as_slice-3.result.now ≡ c.join.new.found.items = search rules in
+    let s2 : c.as_slice.result.now ≡ came = search rules in
+    let s3 : c.as_slice-2.result.now ≡ c.join.new.found.items = search rules in
     let candidates : c.remove.new.self.entries ≡ without_fact cs f.0 =
     c.remove.ensures.entries ∙ ap (λ it. without_fact cs it.0) c.one.view_is in
     let moved = c.in_ok-file_moved.ensures in
@@ -45,18 +44,18 @@ returns-clause-after g c n old new b =
     let joined2 : IsJoined place2 new =
     joined_without rise c.no_shape_gives_no_ways.ensures place n fs old new before own c.args.moved.now b f fs' added rising
     c.file_moved.new.index place2 refl refl candidates moved.fields moved.index unfiled.fields unfiled.index in
-    let first = c.take_behind.new.list.keys in
-    let out1 = c.take_behind.new.gone.items in
+    let first = c.take_gone.new.own.keys in
+    let out1 = c.take_gone.new.gone.items in
     let taken1 : IsTaken (λ z. list_any (λ m. begins m.parts z) lost) own first [] out1 =
     subst (λ it. IsTaken (λ z. list_any (λ m. begins m.parts z) lost) own first it out1) c.new-gone.ensures.items
-    (subst (λ it. IsTaken (λ z. list_any (λ m. begins m.parts z) it) own first c.new-gone.result.items out1) s1 c.in_ok-take_behind.ensures) in
+    (c.in_ok-take_gone.ensures (all_behind_gone rise c.no_shape_gives_no_ways.ensures place n fs old new before own c.args.moved.now b)) in
     let left = c.take_joined.new.own.keys in
     let taken : IsTakenWith x p f before first left out1 c.take_joined.new.gone.items =
     c.in_ok-take_joined.ensures (joined_alike place1 new before (b.is_before.same.1, b.is_before.same.0) joined1) in
     let come_is : c.join.new.found.items ≡ next_where x p ts (without_fact cs f.0) came =
     c.in_ok-join.ensures.found new joined2
-    ∙ (ap (λ it. it ++ next_where x p ts c.remove.new.self.entries c.as_slice-2.result.now) c.new-come.ensures.items
-    ∙ (ap (λ it. next_where x p ts it c.as_slice-2.result.now) candidates
+    ∙ (ap (λ it. it ++ next_where x p ts c.remove.new.self.entries c.as_slice.result.now) c.new-come.ensures.items
+    ∙ (ap (λ it. next_where x p ts it c.as_slice.result.now) candidates
     ∙ ap (λ it. next_where x p ts (without_fact cs f.0) it) s2)) in
     taken_with_now rise c.no_shape_gives_no_ways.ensures place n fs old new before own c.args.moved.now b f fs' added rising
     place2 refl refl refl refl candidates joined2 (record { gone = c.take_joined.new.gone; come = c.join.new.found })
@@ -75,7 +74,7 @@ returns-clause-probes g c n old new b =
     let cs : IndexedFacts = place.candidates.entries in
     let before = c.args.before.now.keys in
     let own = c.args.own.now.keys in
-    let s2 : c.as_slice-2.result.now ≡ c.args.moved.now.come.items = search rules in
+    let s2 : c.as_slice.result.now ≡ c.args.moved.now.come.items = search rules in
     let candidates : c.remove.new.self.entries ≡ without_fact cs f.0 =
     c.remove.ensures.entries ∙ ap (λ it. without_fact cs it.0) c.one.view_is in
     let moved = c.in_ok-file_moved.ensures in
@@ -87,4 +86,4 @@ returns-clause-probes g c n old new b =
     taken_bound rise c.no_shape_gives_no_ways.ensures place n fs old new before own c.args.moved.now b f fs' added rising
     c.args.meter.now c.join.new.meter
     (subst (λ it. c.join.new.meter ≤ c.args.meter.now + length it * length (without_fact cs f.0)) s2
-    (subst (λ it. c.join.new.meter ≤ c.args.meter.now + length c.as_slice-2.result.now * length it) candidates (c.in_ok-join.ensures.probes new joined2)))
+    (subst (λ it. c.join.new.meter ≤ c.args.meter.now + length c.as_slice.result.now * length it) candidates (c.in_ok-join.ensures.probes new joined2)))

@@ -1,8 +1,7 @@
-use Rattle.std.proofs.Common.{◌≡◌, ap, filter, inl, inr, rules, subst}
+use Rattle.std.proofs.Common.{◌≡◌, ap, inl, inr, rules, subst}
 use Rattle.std.specs.List.{list_any}
 use Rattle.cb_joins.proofs.Joined.{all_enough}
 use Rattle.cb_joins.proofs.Results.{if_some, on_ok}
-use Rattle.cb_joins.specs.Internal.Flat.{begins}
 use Rattle.cb_joins.specs.Internal.Memories.{begins_with, ends_with}
 use Rattle.cb_joins.specs.Internal.Nodes.{AreEnough, IsJoined}
 use Rattle.cb_joins.specs.Internal.Steps.{IsTaken, IsTakenWith}
@@ -29,7 +28,7 @@ returns-in-Some g c =
         subst (λ i. IsTaken (λ z. list_any (λ m. begins_with m.parts i z) c.in-Some.partials.items) own own' out out') ix
             (subst (λ it. IsTaken (λ z. list_any (λ m. begins_with m.parts c.one.inside.ix z) it) own own' out out') now t),
       )
-      | inr t ↦ inr (subst (λ i. IsTaken (λ z. list_any (λ m. begins m.parts z) (filter (ends_with i) own)) own own' out out') ix t)
+      | inr t ↦ inr (subst (λ i. IsTaken (ends_with i) own own' out out') ix t)
     ])
 
 pub returns-in-None : goal.returns-in-None
@@ -45,5 +44,13 @@ returns-in-None g c =
     on_ok c.take_fact.result c.take_fact.ensures c.take_fact.ensures
     (λ taken _ joined. elim taken as (λ _. IsTakenWith place.address place.pattern f before own own' out out') [
       | inl t ↦ inl (before, all_enough place.address place.pattern f before, subst (λ i. IsTaken (λ z. list_any (λ m. begins_with m.parts i z) before) own own' out out') ix t)
-      | inr t ↦ inr (subst (λ i. IsTaken (λ z. list_any (λ m. begins m.parts z) (filter (ends_with i) own)) own own' out out') ix t)
+      | inr t ↦ inr (subst (λ i. IsTaken (ends_with i) own own' out out') ix t)
     ])
+
+pub returns-then-len-lt32 : goal.returns-then-len-lt32
+returns-then-len-lt32 g c =
+    let f = c.args.one.now in
+    let own = c.args.own.now.keys in
+    let ix : c.one.inside.ix ≡ f.0 = ap (λ it. it.0) c.one.view_is in
+    on_ok c.take_ending.result c.take_ending.ensures c.take_ending.ensures
+    (λ taken _ joined. inr (subst (λ i. IsTaken (ends_with i) own c.take_ending.new.list.keys c.args.gone.now.items c.take_ending.new.gone.items) ix taken))
