@@ -42,7 +42,7 @@ impl<M: Matcher<Mark>> World<M> {
             }
             left -= 1;
             done += 1;
-            drop(self.spend(left, done, &key, out)?);
+            drop(self.spend(left, done, key, out)?);
             if self.is_halted() {
                 return Ok(());
             }
@@ -93,16 +93,16 @@ impl<M: Matcher<Mark>> World<M> {
         &mut self,
         left: u64,
         number: u64,
-        key: &Key,
+        key: Key,
         out: &mut Out<K>,
     ) -> Result<Option<Value>, Break>
         requires { out.old.fault ≡ false }
         ensures went { Went K.writes out.old out.new self.new result
-            (spent left number key.now self.old) }
+            (spent left number key self.old) }
         ensures fine { OnOk result (out.new.fault ≡ false) }
     {
         self.leave_firings(left);
-        self.fire(number, key, out)
+        self.fire(number, &key, out)
     }
 
     fn leave_firings(&mut self, left: u64)
