@@ -4,7 +4,6 @@ mod ListingLaws
 mod FaultLaws
 mod ItemLaws
 mod StepLaws
-mod GlobalLaws
 mod TurnLaws
 mod WorldLaws
 mod Examples

@@ -15,7 +15,7 @@ use Rattle.cb_forms.specs.declared.fault.Fault.{Fault}
 use Rattle.cb_requests.specs.Requests as request
 use Rattle.cb_requests.specs.Requests.{Request, request_of}
 use Rattle.cb_requests.specs.Uses.{is_in_use}
-use Rattle.cb_session.specs.Globals.{with_initials}
+use Rattle.cb_working_memory.specs.Globals.{with_initials}
 use Rattle.cb_session.specs.Lines.{value_line}
 use Rattle.cb_session.specs.Listings.{agenda_lines, fact_lines, rule_lines}
 use Rattle.cb_session.specs.States.{State}

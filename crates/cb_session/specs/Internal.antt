@@ -1,6 +1,5 @@
 -- What only the code needs.
 pub mod Executing
-pub mod GlobalPlaces
 pub mod Scripts
 use Rattle.std.specs.Prelude.{◌≡◌, ◌++◌, ℕ, List, Result, OnOk, Bool, refl}
 use Rattle.cb_session.specs.Transcripts.{so_far}

@@ -1,5 +1,4 @@
 pub mod Actions
-pub mod Globals
 pub mod Internal
 pub mod Laws
 pub mod Lemmas

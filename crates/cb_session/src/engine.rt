@@ -13,7 +13,6 @@ ghost use Rattle.cb_session.specs.Internal.Scripts.{cut_run};
 ghost use Rattle.cb_session.specs.States.{state_of};
 ghost use Rattle.cb_session.specs.Transcripts.{executed, limit_status};
 
-use crate::globals::GlobalTable;
 use crate::line::{fault_line, limit_line, put_line, value_line};
 use crate::status::Status;
 use cb_actions::{Break, Ended, Numbers, Stop, World, put, put_text};
@@ -21,7 +20,7 @@ use cb_facts::{Names, Value};
 use cb_forms::{Cut, Fault, Item, Out, Sink, Token};
 use cb_matches::Matcher;
 use cb_requests::{Context, Request, read_request};
-use cb_working_memory::{DeffactsTable, Mark};
+use cb_working_memory::{DeffactsTable, GlobalTable, Mark};
 use std::alloc::Global;
 use std::marker::Model;
 

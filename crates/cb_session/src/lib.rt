@@ -3,7 +3,6 @@
 
 pub mod cited; // laws that the proofs of other crates cite
 mod engine; // what is kept from item to item, and executing an item
-mod globals; // the initial expressions that each `defglobal` keeps for `reset`
 pub mod laws; // laws of the transcript and of faults
 mod limits; // how far a script may go
 mod line; // the lines of faults, of values and of limits

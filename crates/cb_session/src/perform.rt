@@ -8,7 +8,6 @@ ghost use Rattle.cb_rules.specs.RuleValues.{rule_value};
 ghost use Rattle.cb_session.specs.Actions.{performed};
 
 use crate::engine::Engine;
-use crate::globals::GlobalTable;
 use crate::listing::{put_agenda_lines, put_fact_lines, put_rule_lines};
 use crate::reset::reset_world;
 use cb_actions::Break;
@@ -21,7 +20,7 @@ use cb_requests::Request;
 use cb_rules::Rule;
 use cb_templates::Template;
 use cb_words::WatchItem;
-use cb_working_memory::{DeffactsTable, Mark};
+use cb_working_memory::{DeffactsTable, GlobalTable, Mark};
 
 impl<M: Matcher<Mark>> Engine<M> {
     /// Does what a request asks for.

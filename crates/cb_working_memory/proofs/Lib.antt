@@ -1,5 +1,6 @@
 mod CountedLaws
 mod Counting
+mod GlobalLaws
 mod GroupCountLaws
 mod GroupLaws
 mod IndexLaws

@@ -1,4 +1,5 @@
 -- What only the code needs.
+pub mod GlobalPlaces
 pub mod GroupCounts
 pub mod Groups
 pub mod Namings

@@ -1,4 +1,5 @@
 pub mod Deffacts
+pub mod Globals
 pub mod Internal
 pub mod Laws
 pub mod Lemmas

@@ -1,9 +1,10 @@
-//! The working memory, which has rules and facts, and the facts that each `deffacts` keeps for it.
+//! The working memory, which has rules and facts, and what `deffacts` and `defglobal` keep for `reset`.
 #![tactic(auto)]
 
 mod asserted; // what comes of the assertion of a fact
 pub mod cited; // laws that the proofs of other crates cite
 mod deffacts; // the facts of each `deffacts`, in the order of their definition
+mod globals; // the initial expressions of globals, in the order of their definition
 mod groups; // groups of facts, each with a name and a number, in the order of the numbers
 pub mod laws; // laws of the index of a fact, and of facts that are added
 mod mark; // the mark of the meters that count the tests of patterns
@@ -11,6 +12,7 @@ mod working_memory; // rules and facts over any matcher, and the numbers given l
 
 pub use asserted::Asserted;
 pub use deffacts::DeffactsTable;
+pub use globals::GlobalTable;
 pub use groups::Deffacts;
 pub use mark::Mark;
 pub use working_memory::WorkingMemory;

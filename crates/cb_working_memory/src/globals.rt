@@ -1,7 +1,7 @@
 //! The initial expressions that `defglobal` keeps for `reset`.
 ghost use Rattle.std.specs.Prelude.{◌≡◌, [], None, OnOk};
-ghost use Rattle.cb_session.specs.Globals.{with_initial, with_initials};
-ghost use Rattle.cb_session.specs.Internal.GlobalPlaces.{place_of_global};
+ghost use Rattle.cb_working_memory.specs.Globals.{with_initial, with_initials};
+ghost use Rattle.cb_working_memory.specs.Internal.GlobalPlaces.{place_of_global};
 
 use cb_exprs::GlobalExpr;
 use cb_facts::Name;
@@ -16,7 +16,7 @@ use std::marker::Model;
 ///
 /// Contracts see the list of the pairs of a name and its expression.
 #[derive(Drop)]
-pub(crate) struct GlobalTable {
+pub struct GlobalTable {
     alloc: Global,
     globals: Vec<GlobalExpr>,
     places: BTreeMap<Name, usize>,
@@ -27,7 +27,7 @@ impl Model for GlobalTable {
     ghost use Rattle.std.specs.Prelude.{List};
     ghost use Rattle.cb_exprs.specs.GlobalTerms.{GlobalTerm};
     ghost use Rattle.cb_exprs.specs.Internal.{global_code};
-    ghost use Rattle.cb_session.specs.Internal.GlobalPlaces.{AreFound};
+    ghost use Rattle.cb_working_memory.specs.Internal.GlobalPlaces.{AreFound};
 
     ghost Value = { List GlobalTerm };
 
@@ -40,7 +40,7 @@ impl Model for GlobalTable {
 
 impl GlobalTable {
     /// No globals. It takes no memory yet.
-    pub(crate) fn new(alloc: Global) -> GlobalTable
+    pub fn new(alloc: Global) -> GlobalTable
         ensures { result ≡ [] }
     {
         GlobalTable {
@@ -51,7 +51,7 @@ impl GlobalTable {
     }
 
     /// The globals, in order.
-    pub(crate) fn as_slice(&self) -> &[GlobalExpr]
+    pub fn as_slice(&self) -> &[GlobalExpr]
         ensures { result.now ≡ self.now }
     {
         self.globals.as_slice()
@@ -59,7 +59,7 @@ impl GlobalTable {
 
     /// Gives globals these initial expressions, one after another: one that is there at its old place, a new one after
     /// all others. Growth is refused as `NoMemory`; then it may have any globals.
-    pub(crate) fn define_all(&mut self, globals: Vec<GlobalExpr>) -> Result<(), NoMemory>
+    pub fn define_all(&mut self, globals: Vec<GlobalExpr>) -> Result<(), NoMemory>
         ensures { OnOk result (self.new ≡ with_initials globals.items self.old) }
     {
         for global in globals {

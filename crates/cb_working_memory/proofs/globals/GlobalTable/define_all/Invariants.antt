@@ -1,7 +1,7 @@
 use Rattle.std.proofs.Common.{◌≡◌, length}
 use Rattle.std.specs.Vec.Iter.{into_iter_items, into_iter_len}
-use Rattle.cb_session.specs.Globals.{with_initials}
-use Rattle.cb_session.proofs.globals.GlobalTable.define_all.Given as goal
+use Rattle.cb_working_memory.specs.Globals.{with_initials}
+use Rattle.cb_working_memory.proofs.globals.GlobalTable.define_all.Given as goal
 
 -- what is left leads from here to where all lead from the start
 abbrev pub invariant-loop-global : goal.invariant-loop-global

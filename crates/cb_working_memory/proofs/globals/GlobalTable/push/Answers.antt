@@ -2,11 +2,11 @@ use Rattle.std.proofs.Common.{◌≡◌, ◌∙◌, ◌∷◌, ◌++◌, [], Non
 use Rattle.std.specs.BTreeMap as tree
 use Rattle.std.specs.Cmp.Lexicographic.{slice_cmp}
 use Rattle.std.specs.Ordering.{nat_cmp}
-use Rattle.cb_session.specs.Internal.GlobalPlaces.{AreFound}
-use Rattle.cb_session.specs.Globals.{with_initial}
-use Rattle.cb_session.specs.Internal.GlobalPlaces.{place_of_global}
-use Rattle.cb_session.proofs.GlobalLaws.{found_pushed, pushed}
-use Rattle.cb_session.proofs.globals.GlobalTable.push.Goals as goal
+use Rattle.cb_working_memory.specs.Internal.GlobalPlaces.{AreFound}
+use Rattle.cb_working_memory.specs.Globals.{with_initial}
+use Rattle.cb_working_memory.specs.Internal.GlobalPlaces.{place_of_global}
+use Rattle.cb_working_memory.proofs.GlobalLaws.{found_pushed, pushed}
+use Rattle.cb_working_memory.proofs.globals.GlobalTable.push.Goals as goal
 
 pub invariant_of-self-in_default : goal.invariant_of-self-in_default
 invariant_of-self-in_default c =

@@ -6,9 +6,9 @@ use Rattle.std.specs.Cmp.Lexicographic.{slice_cmp, texts_ties, bytes_decides}
 use Rattle.std.specs.Ordering.{nat_cmp}
 use Rattle.std.specs.Str.{bytes_eq}
 use Rattle.cb_exprs.specs.GlobalTerms.{GlobalTerm}
-use Rattle.cb_session.specs.Globals.{with_initial}
-use Rattle.cb_session.specs.Internal.GlobalPlaces.{place_of_global}
-use Rattle.cb_session.specs.Internal.GlobalPlaces.{AreFound}
+use Rattle.cb_working_memory.specs.Globals.{with_initial}
+use Rattle.cb_working_memory.specs.Internal.GlobalPlaces.{place_of_global}
+use Rattle.cb_working_memory.specs.Internal.GlobalPlaces.{AreFound}
 
 -- a global that is there
 replaced_first : (g h : GlobalTerm) (hs : List GlobalTerm) (i : ℕ) (t : Bool) (o : Option ℕ) → (if t then Some 0 else option_map suc o) ≡ Some i

@@ -4,11 +4,11 @@ use Rattle.std.specs.BTreeMap.{BTreeMap}
 use Rattle.std.specs.Cmp.Lexicographic.{slice_cmp}
 use Rattle.std.specs.Ordering.{nat_cmp}
 use Rattle.cb_exprs.specs.GlobalTerms.{GlobalTerm}
-use Rattle.cb_session.specs.Internal.GlobalPlaces.{AreFound}
-use Rattle.cb_session.specs.Globals.{with_initial}
-use Rattle.cb_session.specs.Internal.GlobalPlaces.{place_of_global}
-use Rattle.cb_session.proofs.GlobalLaws.{found_replaced, replaced, within}
-use Rattle.cb_session.proofs.globals.GlobalTable.define.Goals as goal
+use Rattle.cb_working_memory.specs.Internal.GlobalPlaces.{AreFound}
+use Rattle.cb_working_memory.specs.Globals.{with_initial}
+use Rattle.cb_working_memory.specs.Internal.GlobalPlaces.{place_of_global}
+use Rattle.cb_working_memory.proofs.GlobalLaws.{found_replaced, replaced, within}
+use Rattle.cb_working_memory.proofs.globals.GlobalTable.define.Goals as goal
 
 found : (places : BTreeMap (List ℕ) ℕ) (g : GlobalTerm) (hs : List GlobalTerm) (name : List ℕ) (i : ℕ) → AreFound places hs → name ≡ g.0 → Some i ≡ tree.get (slice_cmp nat_cmp) places name
     → place_of_global g.0 hs ≡ Some i
