@@ -260,7 +260,7 @@ def module(source, content):
     """A file of rows."""
     text = "".join(f"\npub(super) const {name}: [Example; {len(rows)}] = {list_of(rows)};\n" for name, rows in content.items())
     words = [word for word in ("AT_A_LIMIT", "Example", "WITH_A_FAULT", "WITHOUT_FAULT") if re.search(rf"\b{word}\b", text)]
-    uses = f"use super::rows::{{{', '.join(words)}}};\n" + ("use cb_run::{Cause, Outcome};\n" if "Cause::" in text else "")
+    uses = f"use super::rows::{{{', '.join(words)}}};\n" + ("use cb_command_line::{Cause, Outcome};\n" if "Cause::" in text else "")
     return f"//! The scripts of {source}, made by `docs/examples.py`.\n{uses}{text}"
 
 

@@ -14,7 +14,7 @@ from pathlib import Path
 
 TOP = Path(__file__).resolve().parent.parent
 MAN = "docs/clipsbatch.1"
-README, LANGUAGE, HELP = "README.md", "docs/LANGUAGE.md", "crates/cb_run/src/words.rt"
+README, LANGUAGE, HELP = "README.md", "docs/LANGUAGE.md", "crates/cb_command_line/src/words.rt"
 RANGE = re.compile(r"(\d+) to (\d+)")
 DEFAULT = re.compile(r"default(?: is|:) (\d+)")
 

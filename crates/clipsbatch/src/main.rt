@@ -3,8 +3,8 @@
 //! `README.md` has the options and the exit statuses.
 #![tactic(auto)]
 
+use cb_command_line::{StandardInput, StandardOutput, run_program};
 use cb_forms::Out;
-use cb_run::{StandardInput, StandardOutput, run_program};
 use std::process::ExitCode;
 
 fn main(rt: HostRuntime) -> ExitCode {

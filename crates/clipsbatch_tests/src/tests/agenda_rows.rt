@@ -1,6 +1,6 @@
 //! Commands about rules and the agenda, what is watched, and exits.
 use super::rows::*;
-use cb_run::{Cause, Outcome};
+use cb_command_line::{Cause, Outcome};
 
 static AGENDA_ROWS: [Row; 11] = [
     Row {

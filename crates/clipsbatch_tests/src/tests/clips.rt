@@ -1,6 +1,6 @@
 //! The scripts of `docs/CLIPS.md` on what differs, made by `docs/examples.py`.
 use super::rows::{AT_A_LIMIT, Example, WITH_A_FAULT, WITHOUT_FAULT};
-use cb_run::{Cause, Outcome};
+use cb_command_line::{Cause, Outcome};
 
 pub(super) const CLIPS_TEXT: [Example; 16] = [
     Example {

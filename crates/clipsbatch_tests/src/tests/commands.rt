@@ -1,6 +1,6 @@
 //! The scripts of `docs/LANGUAGE.md` on commands, made by `docs/examples.py`.
 use super::rows::{AT_A_LIMIT, Example, WITH_A_FAULT, WITHOUT_FAULT};
-use cb_run::{Cause, Outcome};
+use cb_command_line::{Cause, Outcome};
 
 pub(super) const COMMANDS: [Example; 6] = [
     Example {

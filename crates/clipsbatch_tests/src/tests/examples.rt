@@ -1,6 +1,6 @@
 //! The scripts of `examples/`, made by `docs/examples.py`.
 use super::rows::{Example, WITHOUT_FAULT};
-use cb_run::{Cause, Outcome};
+use cb_command_line::{Cause, Outcome};
 
 pub(super) const CLUSTER: [Example; 1] = [Example {
     name: "cluster.clp",

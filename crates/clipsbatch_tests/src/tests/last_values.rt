@@ -1,8 +1,8 @@
 //! Limits at their last value. Turns and firings have rows of their own (`calc_rows.rt`, `rule_rows.rt`).
 use super::one_run::{Want, goes_in_blocks};
 use super::rows::{AT_A_LIMIT, CB93, WITH_A_FAULT, WITHOUT_FAULT};
+use cb_command_line::Outcome;
 use cb_forms::NoMemory;
-use cb_run::Outcome;
 use std::alloc::Global;
 
 /// A script, its limits, and how it goes.

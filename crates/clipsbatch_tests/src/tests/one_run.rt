@@ -4,8 +4,8 @@ ghost use Rattle.cb_io.specs.Output.{IsReady};
 
 use super::pieces::Whole;
 use super::rows::Row;
+use cb_command_line::{Outcome, run};
 use cb_forms::{MemSink, MemSource, NoMemory, Out, PlannedSink, Sink, Source, WriteStep};
-use cb_run::{Outcome, run};
 use cb_session::Limits;
 use std::alloc::Global;
 

@@ -3,8 +3,8 @@ use super::one_run::{Want, is_as_wanted, outcome_of, want_of};
 use super::pieces::joined;
 use super::rows::Row;
 use super::runs::{SUBJECTS, rows_about};
+use cb_command_line::{Cause, Outcome};
 use cb_forms::{MemSink, MemSource, NoMemory, Out};
-use cb_run::{Cause, Outcome};
 use std::alloc::Global;
 
 const NO_MEMORY: Outcome = Outcome {

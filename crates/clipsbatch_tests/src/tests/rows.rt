@@ -1,5 +1,5 @@
 //! What a row is: a script in steps, what it writes, and how it ends.
-use cb_run::{Cause, Outcome};
+use cb_command_line::{Cause, Outcome};
 
 /// A piece of a script, and what is written as soon as its last byte has come.
 pub(super) type Step = (&'static [u8], &'static [u8]);

@@ -11,8 +11,8 @@ use super::pieces::{Whole, joined, steps_in, written_by};
 use super::rows::{AT_A_LIMIT, Row};
 use super::rule_rows::{firing_rows, rule_rows};
 use super::template_rows::{fact_rows, template_rows};
+use cb_command_line::{Cause, Outcome};
 use cb_forms::{MemSink, MemSource, NoMemory, PlannedSource, ReadStep, WriteStep};
-use cb_run::{Cause, Outcome};
 use std::alloc::Global;
 
 /// What rows are about.

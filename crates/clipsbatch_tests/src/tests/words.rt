@@ -1,7 +1,7 @@
 //! The program's words: the limits that they set, and what they lead to.
 use super::rows::{AT_A_LIMIT, WITH_A_FAULT};
+use cb_command_line::{Cause, Outcome, read_words, run_words};
 use cb_forms::{MemSink, MemSource, NoMemory, Out};
-use cb_run::{Cause, Outcome, carry_out, read_words};
 use clap::error::ErrorKind;
 use std::alloc::Global;
 
@@ -166,7 +166,7 @@ const REQUESTS: [Request; 14] = [
 fn lead_there(alloc: Global, request: &Request) -> Result<bool, NoMemory> {
     let mut out = Out::new(MemSink::new(alloc, 100, 100, None)?);
     let mut source = MemSource::new(b"(a b)", 1, None);
-    let ends = match carry_out(alloc, request.words, &mut source, &mut out) {
+    let ends = match run_words(alloc, request.words, &mut source, &mut out) {
         Ok(outcome) => Ok(outcome),
         Err(error) => Err(error.kind()),
     };

@@ -25,8 +25,8 @@ use Rattle.clap.proofs.CallerLemmas.{added_plain, entry_by_id, same_rules_by_id}
 use Rattle.clap.specs.Words.{App, fault_of, is_simple_and_free, HasMatchesOf, Text, app_of, is_simple, matches_of, new_app, one_of, rows_of, rule_of, with_rule}
 use Rattle.clap.proofs.OnLiterals.{clap_on_literals}
 use Rattle.clap.proofs.WalkLemmas.{one_text-rows}
-use Rattle.cb_run.specs.Commands.{limit_of, limits_app, number_in, number_rule}
-use Rattle.cb_run.specs.Internal.{IsNumberOption, option_or}
+use Rattle.cb_command_line.specs.Commands.{limit_of, limits_app, number_in, number_rule}
+use Rattle.cb_command_line.specs.Internal.{IsNumberOption, option_or}
 
 -- the numbers that an option's text may be, where it has a text
 first_passes : (P : List ℕ → Type 0) (how : Reading) (vals : List (Bor (List ℕ))) (text : List ℕ) → All (λ v. P v.now) vals

@@ -3,9 +3,9 @@ ghost use Rattle.std.specs.Prelude.{◌≡◌, ◌⊎◌, List, IfOk, IfErr, map
 ghost use Rattle.std.specs.String.{string_bytes};
 ghost use Rattle.clap.specs.Words.{Text};
 ghost use Rattle.cb_io.specs.Output.{IsReady};
-ghost use Rattle.cb_run.specs.Statuses.{EndedBefore, EndedByRun, HadNoWords};
+ghost use Rattle.cb_command_line.specs.Statuses.{EndedBefore, EndedByRun, HadNoWords};
 
-use crate::program::carry_out;
+use crate::program::run_words;
 use crate::reports::{ended, no_memory, not_text, refused};
 use cb_forms::{NoMemory, Out, Sink, Source};
 use std::alloc::Global;
@@ -32,7 +32,7 @@ pub fn run_program<R: AllocGlobal + Env + Print + Eprint, S: Source, K: Sink>(
         (K.writes out.old.sink) (K.writes out.new.sink) }
 {
     match given_words(rt) {
-        Ok(given) => carry_out_words(rt, given.as_slice(), source, out),
+        Ok(given) => run_and_report(rt, given.as_slice(), source, out),
         Err(status) => status,
     }
 }
@@ -53,7 +53,7 @@ fn given_words<R: AllocGlobal + Env + Eprint>(rt: &R) -> Result<Vec<String>, u8>
 }
 
 /// Carries the script out as these words ask, and reports what there is to report; its exit status.
-pub fn carry_out_words<R: AllocGlobal + Print + Eprint, S: Source, K: Sink>(
+pub fn run_and_report<R: AllocGlobal + Print + Eprint, S: Source, K: Sink>(
     rt: &R,
     given: &[String],
     source: &mut S,
@@ -71,7 +71,7 @@ pub fn carry_out_words<R: AllocGlobal + Print + Eprint, S: Source, K: Sink>(
         Ok(words) => words,
         Err(_) => return no_memory(rt),
     };
-    match carry_out(rt.alloc(), words.as_slice(), source, out) {
+    match run_words(rt.alloc(), words.as_slice(), source, out) {
         Ok(outcome) => ended(rt, outcome),
         Err(error) => refused(rt, error),
     }

@@ -1,7 +1,7 @@
 use Rattle.std.proofs.Common.{ap₂, refl, codes, ◌∙◌}
 use Rattle.clap.specs.Words.{takes}
-use Rattle.cb_run.proofs.Options.{from_words, no_fault, has_kind}
-use Rattle.cb_run.proofs.words.read_words.Goals as goal
+use Rattle.cb_command_line.proofs.Options.{from_words, no_fault, has_kind}
+use Rattle.cb_command_line.proofs.words.read_words.Goals as goal
 
 pub found_limits-requires : goal.found_limits-requires
 found_limits-requires c = c.in_ok-command.ensures.numbers _ c.in-Ok.ensures.parsed

@@ -1,7 +1,7 @@
 //! What is reported outside the transcript, and the exit status that goes with it.
 ghost use Rattle.std.specs.Prelude.{◌≡◌, OnErr, OnOk};
 ghost use Rattle.clap.specs.Words.{kind_of};
-ghost use Rattle.cb_run.specs.Statuses.{IsStatusFor};
+ghost use Rattle.cb_command_line.specs.Statuses.{IsStatusFor};
 
 use cb_script::{Cause, Outcome};
 use clap::Error;

@@ -3,8 +3,8 @@ use Rattle.std.proofs.Common.{◌≡◌, ◌⊎◌, ℕ, [], ◌∷◌, codes, r
 use Rattle.clap.proofs.OnLiterals.{clap_on_literals}
 use Rattle.clap.specs.Words.{fault_of}
 use Rattle.clap.specs.declared.error.kind.ErrorKind.TheVariants as kind
-use Rattle.cb_run.specs.Commands.{limits_app}
-use Rattle.cb_run.specs.Statuses.{IsStatusFor}
+use Rattle.cb_command_line.specs.Commands.{limits_app}
+use Rattle.cb_command_line.specs.Statuses.{IsStatusFor}
 
 no_words : fault_of limits_app (codes "clipsbatch" ∷ []) ≡ []
 unfolding clap_on_literals

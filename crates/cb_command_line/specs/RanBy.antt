@@ -2,7 +2,7 @@
 use Rattle.std.specs.Prelude.{◌≡◌, ℕ, List, Option, codes}
 use Rattle.clap.specs.Words.{Text}
 use Rattle.cb_io.specs.Histories.{PastReads, PastWrites}
-use Rattle.cb_run.specs.Commands.{limit_of}
+use Rattle.cb_command_line.specs.Commands.{limit_of}
 use Rattle.cb_script.specs.Ran.{Ran}
 use Rattle.cb_script.specs.declared.outcome.Outcome.{Outcome}
 use Rattle.cb_session.specs.declared.limits.Limits.{Limits}

@@ -5,7 +5,7 @@ use Rattle.clap.specs.Words.{IsUnsignedIn, Text, app_of, found_of, one_text}
 use Rattle.clap.specs.declared.builder.command.Command.{Command}
 use Rattle.clap.specs.declared.parser.matches.ArgMatches.{ArgMatches}
 use Rattle.clap.specs.declared.parser.matches.Found.{Found}
-use Rattle.cb_run.specs.Commands.{limits_app, number_in}
+use Rattle.cb_command_line.specs.Commands.{limits_app, number_in}
 use Rattle.cb_session.specs.declared.limits.Limits.{Limits}
 
 -- where the option has a text, that is a number from `min` to `max`

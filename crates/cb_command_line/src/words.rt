@@ -1,8 +1,8 @@
 //! The limits, read from the program's words.
 ghost use Rattle.std.specs.Prelude.{◌≡◌, ◌≤◌, Some, IfOk, IfErr, map, true, false, codes};
 ghost use Rattle.clap.specs.Words.{FailsBy, IsPlainArg, fault_of, found_of, kind_of, rule_of, takes};
-ghost use Rattle.cb_run.specs.Commands.{limit_of, limits_app, number_rule};
-ghost use Rattle.cb_run.specs.Internal.{AreLimitsIn, HaveNumbers, IsNumberOption, TakesTheLimits, option_or};
+ghost use Rattle.cb_command_line.specs.Commands.{limit_of, limits_app, number_rule};
+ghost use Rattle.cb_command_line.specs.Internal.{AreLimitsIn, HaveNumbers, IsNumberOption, TakesTheLimits, option_or};
 
 use cb_session::Limits;
 use clap::builder::ValueParser;

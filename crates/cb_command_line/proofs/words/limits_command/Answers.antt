@@ -1,6 +1,6 @@
 use Rattle.std.proofs.Common.{rules, ap}
-use Rattle.cb_run.proofs.Options.{made, made_app, number_option, form_option, firings_option, turns_option}
-use Rattle.cb_run.proofs.words.limits_command.Goals as goal
+use Rattle.cb_command_line.proofs.Options.{made, made_app, number_option, form_option, firings_option, turns_option}
+use Rattle.cb_command_line.proofs.words.limits_command.Goals as goal
 
 pub returns : goal.returns
 returns c =

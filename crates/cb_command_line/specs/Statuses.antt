@@ -4,8 +4,8 @@ use Rattle.clap.specs.Words.{IsAmong, Text, fault_of}
 use Rattle.clap.specs.declared.error.kind.ErrorKind.{ErrorKind}
 use Rattle.clap.specs.declared.error.kind.ErrorKind.TheVariants as kind
 use Rattle.cb_io.specs.Histories.{PastReads, PastWrites}
-use Rattle.cb_run.specs.Commands.{limits_app}
-use Rattle.cb_run.specs.RanBy.{RanBy}
+use Rattle.cb_command_line.specs.Commands.{limits_app}
+use Rattle.cb_command_line.specs.RanBy.{RanBy}
 use Rattle.cb_script.specs.declared.outcome.Outcome.{Outcome}
 
 -- The exit status for an error of this kind: memory was refused; help was asked for, and could be written or could not; or the

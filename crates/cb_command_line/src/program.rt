@@ -2,8 +2,8 @@
 ghost use Rattle.std.specs.Prelude.{◌≡◌, IfOk, IfErr, OnErr, map, true};
 ghost use Rattle.clap.specs.Words.{FailsBy, fault_of, kind_of, takes};
 ghost use Rattle.cb_io.specs.Output.{IsReady};
-ghost use Rattle.cb_run.specs.Commands.{limits_app};
-ghost use Rattle.cb_run.specs.RanBy.{RanBy};
+ghost use Rattle.cb_command_line.specs.Commands.{limits_app};
+ghost use Rattle.cb_command_line.specs.RanBy.{RanBy};
 
 use crate::words::read_words;
 use cb_forms::{Out, Sink, Source};
@@ -15,7 +15,7 @@ use std::alloc::Global;
 /// Runs the script with the options on the command line, the program's name first, and returns how the run went.
 ///
 /// An error comes as in `read_words`. Then nothing was read of the script, and nothing written.
-pub fn carry_out<'a, S: Source, K: Sink>(
+pub fn run_words<'a, S: Source, K: Sink>(
     alloc: Global,
     words: &'a [&'a str],
     source: &mut S,
