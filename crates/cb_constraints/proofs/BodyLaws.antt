@@ -6,12 +6,12 @@ use Rattle.cb_constraints.specs.Internal.Places.{places, sites_from, sites_in, s
 use Rattle.cb_constraints.specs.Constraints.{Constraint}
 use Rattle.cb_constraints.specs.Internal.{HasTable}
 use Rattle.cb_constraints.specs.Internal.Tables.{Grows, with_places}
-use Rattle.cb_constraints.specs.PatternValues.{Parts, fields, slots, SlotValue}
+use Rattle.cb_constraints.specs.PatternValues.{PatternParts, fields, slots, SlotValue}
 use Rattle.cb_constraints.specs.declared.place.Place.{Place}
 use Rattle.cb_constraints.specs.declared.site.Site.{Site}
 use Rattle.cb_constraints.specs.declared.table.Table.{Table}
 
-has : (old new : Table) (found : List (List ℕ × Place)) (more : List Site) (parts : Parts) → old.variables.items ≡ [] → old.sites.items ≡ [] → Grows old new found more
+has : (old new : Table) (found : List (List ℕ × Place)) (more : List Site) (parts : PatternParts) → old.variables.items ≡ [] → old.sites.items ≡ [] → Grows old new found more
     → found ≡ places 0 (constraints_in parts) → more ≡ sites_in parts → HasTable new parts
 has old new found more parts v s g f m = (
   g.named,

@@ -12,7 +12,7 @@ use Rattle.cb_constraints.specs.Bound.{each_once, given, given_if, newly_bound}
 use Rattle.cb_constraints.specs.Constraints.{Check, Demand, nothing, each, either, Constraint}
 use Rattle.cb_constraints.specs.Internal.Tables.{first_places}
 use Rattle.cb_constraints.specs.Internal.Known.{given_to_all, bindings_after, bindings_before, taken_if}
-use Rattle.cb_constraints.specs.PatternValues.{Parts}
+use Rattle.cb_constraints.specs.PatternValues.{PatternParts}
 use Rattle.cb_constraints.specs.declared.place.Place.{Place}
 use Rattle.cb_constraints.proofs.KnownLaws.{after-one, found_at_place, if-so, look-both, look-names, next-places}
 use Rattle.cb_constraints.proofs.PlaceLaws.{at_first, names_once}
@@ -124,7 +124,7 @@ names-in n (c ∷ cs) =
     ∙ ap (λ ys. binders c.demand ++ ys) (names-in (suc n) cs))
 
 -- what the variables of a pattern are given is what is newly bound
-pub all_given : (parts : Parts) (before after : Bindings) (es : List (List ℕ × Place)) → es ≡ first_places (places 0 (constraints_in parts))
+pub all_given : (parts : PatternParts) (before after : Bindings) (es : List (List ℕ × Place)) → es ≡ first_places (places 0 (constraints_in parts))
     → flat_map (given before after) (map (λ e. e.0) es) ≡ newly_bound parts before after
 all_given parts before after es e =
     ap (λ fs. flat_map (given before after) (map (λ f. f.0) fs)) e

@@ -13,7 +13,7 @@ use Rattle.cb_constraints.specs.Constraints.{Check, Demand, nothing, each, eithe
 use Rattle.cb_constraints.specs.Internal.Known.{given_to, given_to_all, bindings_before, taken_at, taken_if}
 use Rattle.cb_constraints.specs.declared.place.Place.{Place}
 use Rattle.cb_exprs.specs.Bindings.{Bindings, value_at, with_variable}
-use Rattle.cb_exprs.specs.contracts.cited.LawsCited.TheImpl as exprs_laws
+use Rattle.cb_exprs.proofs.ValueLaws.{value_at-with_value}
 use Rattle.cb_facts.specs.declared.value.Value.{Value}
 
 or-none : {X : Type 0} (o : Option X) → option_or o None ≡ o
@@ -48,7 +48,7 @@ value-given y x v env = by (value_at x env.variables) refl
     same o is t = ap (λ z. value_at z env.variables) ((bytes_decides y x).0 t) ∙ is
 
     by : (o : Option Value) → value_at x env.variables ≡ o → value_at y (option_map_or (λ w. env) o (with_variable x v env)).variables ≡ option_or (value_at y env.variables) (if-so (bytes_eq y x) v)
-    by None is = exprs_laws.ghosts.value_at_with_value env.variables y x v ∙ set (bytes_eq y x) (same None is)
+    by None is = value_at-with_value env.variables y x v ∙ set (bytes_eq y x) (same None is)
     by (Some w) is = kept (bytes_eq y x) w (same (Some w) is)
 
 pub value-all-given : (y : List ℕ) (xs : List (List ℕ)) (v : Value) (env : Bindings)

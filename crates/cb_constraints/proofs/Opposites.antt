@@ -4,7 +4,7 @@ use Rattle.std.specs.Option.{is_some, option_and_then}
 use Rattle.cb_constraints.specs.Constraints.{Test, constant, variable, predicate, return_value}
 use Rattle.cb_constraints.specs.Holding.{after_checks, after_demand, after_test, provided, test_holds}
 use Rattle.cb_constraints.specs.Laws.{only, opposite, plain}
-use Rattle.cb_constraints.specs.Lemmas.{held_if_some}
+use Rattle.cb_constraints.proofs.HoldingLaws.{held_if_some}
 use Rattle.cb_exprs.specs.Bindings.{Bindings}
 use Rattle.cb_facts.specs.declared.value.Value.{Value}
 

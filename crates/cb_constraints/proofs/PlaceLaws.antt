@@ -11,7 +11,7 @@ use Rattle.std.specs.Str.{bytes_eq}
 use Rattle.cb_constraints.specs.Bound.{each_once}
 use Rattle.cb_constraints.specs.Internal.Tables.{first_places, has_variable, with_place, with_places}
 use Rattle.cb_constraints.specs.declared.place.Place.{Place}
-use Rattle.cb_templates.specs.Places.{place_in}
+use Rattle.cb_facts.specs.Places.{place_in}
 
 turned : (x y : List ℕ) → bytes_eq x y ≡ bytes_eq y x
 turned x y = by (bytes_eq x y) (bytes_eq y x) (bytes_decides x y).0 (bytes_decides x y).1 (bytes_decides y x).0 (bytes_decides y x).1

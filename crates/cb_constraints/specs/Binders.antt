@@ -1,7 +1,7 @@
 -- Which variables constraints may give a value.
 use Rattle.std.specs.Prelude.{ℕ, Bool, false, List, [], ◌∷◌, Some, None, flat_map}
 use Rattle.cb_constraints.specs.Constraints.{Test, variable, Check, Demand, nothing, each, either, Constraint}
-use Rattle.cb_constraints.specs.PatternValues.{Parts, fields, slots, SlotValue}
+use Rattle.cb_constraints.specs.PatternValues.{PatternParts, fields, slots, SlotValue}
 
 -- the variable that a check without `~` may give a value
 abbrev pub binder : Bool → Test → List (List ℕ)
@@ -24,6 +24,6 @@ abbrev pub binders_in : List Constraint → List (List ℕ)
 binders_in cs = flat_map (λ c. binders c.demand) cs
 
 -- the constraints of a pattern, in the order in which they are written
-abbrev pub constraints_in : Parts → List Constraint
+abbrev pub constraints_in : PatternParts → List Constraint
 constraints_in (fields row) = row
 constraints_in (slots rows) = flat_map (λ s. s.row) rows

@@ -2,7 +2,7 @@
 use Rattle.std.specs.Prelude.{ℕ, not, List, [], ◌∷◌, Option, Some, None, filter, flat_map}
 use Rattle.std.specs.Str.{bytes_eq}
 use Rattle.cb_constraints.specs.Binders.{binders_in, constraints_in}
-use Rattle.cb_constraints.specs.PatternValues.{Parts}
+use Rattle.cb_constraints.specs.PatternValues.{PatternParts}
 use Rattle.cb_exprs.specs.Bindings.{Bindings, value_at}
 use Rattle.cb_facts.specs.declared.value.Value.{Value}
 
@@ -21,5 +21,5 @@ abbrev pub given : Bindings → Bindings → List ℕ → List (List ℕ × Valu
 given before after x = given_if x (value_at x before.variables) (value_at x after.variables)
 
 -- the variables of a pattern that have no value before and have one after, each once, in the order in which they are written
-abbrev pub newly_bound : Parts → Bindings → Bindings → List (List ℕ × Value)
+abbrev pub newly_bound : PatternParts → Bindings → Bindings → List (List ℕ × Value)
 newly_bound parts before after = flat_map (given before after) (each_once (binders_in (constraints_in parts)))

@@ -1,8 +1,11 @@
 -- What only the code needs: which constants stand among checks, and what the table of a pattern has.
 pub mod Codes
 pub mod Known
+pub mod Lengths
 pub mod Places
+pub mod RowFields
 pub mod Tables
+pub mod Values
 use Rattle.std.specs.Prelude.{◌≡◌, Bool, List}
 use Rattle.std.specs.List.{list_all}
 use Rattle.cb_constraints.specs.Binders.{constraints_in}
@@ -10,7 +13,7 @@ use Rattle.cb_constraints.specs.Internal.Places.{places, sites_in}
 use Rattle.cb_constraints.specs.Constraints.{Check}
 use Rattle.cb_constraints.specs.Holding.{is_constant}
 use Rattle.cb_constraints.specs.Internal.Tables.{IsNamed, first_places}
-use Rattle.cb_constraints.specs.PatternValues.{Parts}
+use Rattle.cb_constraints.specs.PatternValues.{PatternParts}
 use Rattle.cb_constraints.specs.declared.table.Table.{Table}
 
 -- all checks are for constants
@@ -22,5 +25,5 @@ abbrev pub are_of_constants : List (List Check) → Bool
 are_of_constants alternatives = list_all is_of_constants alternatives
 
 -- the table has the variables of a pattern, each once with its first place, and the sites of its constraints
-abbrev pub HasTable : Table → Parts → Type 0
+abbrev pub HasTable : Table → PatternParts → Type 0
 HasTable t parts = IsNamed t × (t.variables.items ≡ first_places (places 0 (constraints_in parts))) × (t.sites.items ≡ sites_in parts)

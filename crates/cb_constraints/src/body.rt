@@ -7,16 +7,15 @@ ghost use Rattle.cb_constraints.specs.Internal.{HasTable};
 ghost use Rattle.cb_constraints.specs.Internal.Tables.{first_places};
 ghost use Rattle.cb_constraints.specs.PartValues.{asked_parts, asked_slot};
 ghost use Rattle.cb_constraints.specs.PatternValues.{fields, slots};
-ghost use Rattle.cb_templates.specs.Places.{place_in};
+ghost use Rattle.cb_facts.specs.Places.{place_in};
 
-use crate::parts::{Parts, SlotRow};
+use crate::pattern_parts::{PatternParts, SlotRow};
 use crate::place::Place;
 use crate::row::Row;
 use crate::site::Site;
 use crate::table::Table;
-use cb_facts::Name;
+use cb_facts::{Name, Places};
 use cb_forms::NoMemory;
-use cb_templates::Places;
 use std::alloc::Global;
 use std::marker::Model;
 
@@ -26,13 +25,13 @@ use std::marker::Model;
 /// Contracts see what it asks.
 #[derive(Drop)]
 pub struct Body {
-    parts: Parts,
+    parts: PatternParts,
     table: Table,
 }
 
 impl Model for Body {
     ghost use Rattle.cb_constraints.specs.Internal.Codes.{parts_code};
-    ghost use Rattle.cb_constraints.specs.PatternValues.{Parts as Asked};
+    ghost use Rattle.cb_constraints.specs.PatternValues.{PatternParts as Asked};
     ghost use Rattle.cb_constraints.specs.PartValues.{asked_parts};
     ghost use Rattle.cb_constraints.specs.Internal.{HasTable};
     ghost use Rattle.std.specs.Coded.{codes};
@@ -48,7 +47,7 @@ impl Model for Body {
 
 impl Body {
     /// A body that asks this. Growth is refused as `NoMemory`.
-    pub fn new(alloc: Global, parts: Parts) -> Result<Body, NoMemory>
+    pub fn new(alloc: Global, parts: PatternParts) -> Result<Body, NoMemory>
         ensures { IfOk result (λ b. b ≡ asked_parts parts) }
     {
         let table = make_table(alloc, &parts)?;
@@ -56,7 +55,7 @@ impl Body {
     }
 
     /// What it asks.
-    pub fn parts(&self) -> &Parts
+    pub fn parts(&self) -> &PatternParts
         ensures { asked_parts result.now ≡ self.now }
     {
         &self.parts
@@ -85,12 +84,12 @@ impl Body {
 }
 
 /// The table of what a pattern asks.
-fn make_table(alloc: Global, parts: &Parts) -> Result<Table, NoMemory>
+fn make_table(alloc: Global, parts: &PatternParts) -> Result<Table, NoMemory>
     ensures { IfOk result (λ t. HasTable t (asked_parts parts.now)) }
 {
     match parts {
-        Parts::Fields(row) => table_of_row(alloc, row),
-        Parts::Slots(rows) => table_of_rows(alloc, rows.as_slice()),
+        PatternParts::Fields(row) => table_of_row(alloc, row),
+        PatternParts::Slots(rows) => table_of_rows(alloc, rows.as_slice()),
     }
 }
 

@@ -3,11 +3,12 @@ ghost use Rattle.std.specs.Prelude.{◌≡◌, ◌<◌, ◌≤◌, ◌++◌, IfO
 ghost use Rattle.cb_constraints.specs.Binders.{constraints_in};
 ghost use Rattle.cb_constraints.specs.Bound.{given_if, newly_bound};
 ghost use Rattle.cb_constraints.specs.Internal.Known.{bindings_after};
+ghost use Rattle.cb_constraints.specs.Internal.Values.{values};
 ghost use Rattle.cb_exprs.specs.Bindings.{value_at};
 
 use crate::body::Body;
-use crate::known::Took;
 use crate::place::Place;
+use crate::taken::Taken;
 use cb_exprs::Env;
 use cb_facts::{Name, Value};
 use cb_forms::NoMemory;
@@ -17,15 +18,15 @@ use std::alloc::Global;
 /// them, with the values that its constraints took.
 ///
 /// Growth is refused as `NoMemory`, and so is a count of sharers that is full.
-pub fn newly_bound<V: Took>(
+pub fn newly_bound(
     alloc: Global,
     body: &Body,
     before: &Env,
-    took: &V,
+    took: Taken<'_>,
 ) -> Result<Vec<(Name, Value)>, NoMemory>
-    requires { length (constraints_in body.now) ≤ length (V.values took.now) }
+    requires { length (constraints_in body.now) ≤ length (values took) }
     ensures { IfOk result (λ bound. bound.items ≡ newly_bound body.now before.now
-        (bindings_after (constraints_in body.now) (V.values took.now) before.now)) }
+        (bindings_after (constraints_in body.now) (values took.entry) before.now)) }
 {
     let variables = body.variables();
     let mut bound = Vec::new(alloc);
@@ -36,17 +37,17 @@ pub fn newly_bound<V: Took>(
 }
 
 /// Adds a variable with the value that was taken at its place, if it had none before.
-fn give<V: Took>(
+fn give(
     bound: &mut Vec<(Name, Value)>,
     name: &Name,
     place: Place,
     before: &Env,
-    took: &V,
+    took: Taken<'_>,
 ) -> Result<(), NoMemory>
-    requires { place.constraint < length (V.values took.now) }
+    requires { place.constraint < length (values took) }
     ensures { OnOk result (bound.new.items ≡ bound.old.items
         ++ given_if name.now (value_at name.now before.now.variables)
-        (slice_get (V.values took.now) place.constraint)) }
+        (slice_get (values took.entry) place.constraint)) }
 {
     if before.get(name).is_some() {
         return Ok(());

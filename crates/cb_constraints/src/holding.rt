@@ -4,11 +4,12 @@ ghost use Rattle.std.specs.List.{list_all, list_any};
 ghost use Rattle.cb_constraints.specs.Constraints.{asked_test, check_of, demand_of, either};
 ghost use Rattle.cb_constraints.specs.Holding.{FollowFrom, Follows, Meets, MeetsIn, after_check, after_checks, after_demand, after_variable, check_holds, constant_holds, constants_hold, is_constant, may_hold, one_holds, test_holds, tested_value, value_if_any};
 ghost use Rattle.cb_constraints.specs.Internal.{are_of_constants, is_of_constants};
+ghost use Rattle.cb_constraints.specs.Internal.Known.{before_check};
 ghost use Rattle.cb_eval.specs.Evaluation.{value_of};
 ghost use Rattle.cb_exprs.specs.Terms.{term_of};
 
-use crate::bound::{AtCheck, Bound};
 use crate::constraint::{Check, Demand, Test};
+use crate::known::{AtCheck, Known};
 use crate::tested::Tested;
 use cb_eval::eval;
 use cb_exprs::Expr;
@@ -20,45 +21,45 @@ use std::alloc::Global;
 /// Whether a constraint holds of the value in its place, where variables have these values (`docs/LANGUAGE.md`, "Patterns").
 ///
 /// An expression that faults doesn't hold. Growth is refused as `NoMemory`.
-#[tactic(auto, using(crate::specs::Lemmas::never_holds))]
-pub fn meets<B: Bound>(
+#[tactic(auto, using(crate::proofs::HoldingLaws::never_holds))]
+pub fn meets(
     alloc: Global,
     constants: &Constants,
     demand: &Demand,
     tested: Tested<'_>,
-    bound: &B,
+    known: Known<'_>,
 ) -> Result<bool, NoMemory>
-    requires { Follows (B.before bound.now) (demand_of demand.now) (tested_value tested) }
-    ensures { IfOk result (λ holds. MeetsIn holds (B.before bound.now) (demand_of demand.now)
+    requires { Follows (before_check known) (demand_of demand.now) (tested_value tested) }
+    ensures { IfOk result (λ holds. MeetsIn holds (before_check known.entry) (demand_of demand.now)
         (tested_value tested.entry)) }
 {
     if !may_hold(demand, tested) {
         return Ok(false);
     }
-    meets_beyond_constants(alloc, constants, demand, tested, bound)
+    meets_beyond_constants(alloc, constants, demand, tested, known)
 }
 
 /// What `meets` returns where `may_hold` has returned `true`: constants aren't compared again, except those of alternatives
 /// that have a variable or an expression among them.
 ///
 /// Growth is refused as `NoMemory`, and so is a count of sharers that is full.
-pub fn meets_beyond_constants<B: Bound>(
+pub fn meets_beyond_constants(
     alloc: Global,
     constants: &Constants,
     demand: &Demand,
     tested: Tested<'_>,
-    bound: &B,
+    known: Known<'_>,
 ) -> Result<bool, NoMemory>
-    requires follows { Follows (B.before bound.now) (demand_of demand.now) (tested_value tested) }
+    requires follows { Follows (before_check known) (demand_of demand.now) (tested_value tested) }
     requires may { may_hold (demand_of demand.now) (tested_value tested) ≡ true }
-    ensures { IfOk result (λ holds. MeetsIn holds (B.before bound.now) (demand_of demand.now)
+    ensures { IfOk result (λ holds. MeetsIn holds (before_check known.entry) (demand_of demand.now)
         (tested_value tested.entry)) }
 {
     match demand {
         Demand::Nothing => Ok(true),
-        Demand::Each(checks) => meets_each(alloc, constants, checks.as_slice(), tested, bound),
+        Demand::Each(checks) => meets_each(alloc, constants, checks.as_slice(), tested, known),
         Demand::Either(None, alternatives) => {
-            one_holds(alloc, constants, alternatives.as_slice(), tested, bound, 0)
+            one_holds(alloc, constants, alternatives.as_slice(), tested, known, 0)
         }
         Demand::Either(Some(first), alternatives) => {
             meets_apart(
@@ -67,55 +68,55 @@ pub fn meets_beyond_constants<B: Bound>(
                 first,
                 alternatives.as_slice(),
                 tested,
-                bound,
+                known,
             )
         }
     }
 }
 
 /// Whether a variable that is set apart agrees, and then one of the alternatives holds, where the constants of one do.
-#[tactic(auto, using(crate::specs::Lemmas::set_apart_meets))]
-fn meets_apart<B: Bound>(
+#[tactic(auto, using(crate::proofs::HoldingLaws::set_apart_meets))]
+fn meets_apart(
     alloc: Global,
     constants: &Constants,
     first: &Name,
     alternatives: &[Vec<Check>],
     tested: Tested<'_>,
-    bound: &B,
+    known: Known<'_>,
 ) -> Result<bool, NoMemory>
     requires follows { IfSome (after_variable first.now (tested_value tested)
-        (B.before bound.now 0)) (λ grown. B.before bound.now 1 ≡ grown) }
+        (before_check known 0)) (λ grown. before_check known 1 ≡ grown) }
     requires may { list_any (constants_hold (tested_value tested))
         (map (λ cs. map check_of cs.items) alternatives.now) ≡ true }
-    ensures { IfOk result (λ holds. Meets holds (B.before bound.now 1)
+    ensures { IfOk result (λ holds. Meets holds (before_check known.entry 1)
         (after_demand (either (Some first.now) (map (λ cs. map check_of cs.items) alternatives.now))
-        (tested_value tested.entry) (B.before bound.now 0))) }
+        (tested_value tested.entry) (before_check known.entry 0))) }
 {
     Ok(
-        agrees(first, tested, bound, 0)?
-            && one_holds(alloc, constants, alternatives, tested, bound, 1)?,
+        agrees(first, tested, known, 0)?
+            && one_holds(alloc, constants, alternatives, tested, known, 1)?,
     )
 }
 
 /// Whether checks joined by `&`, of which those for constants hold, all hold, from left to right.
-#[tactic(auto, using(crate::specs::Lemmas::first_holds, crate::specs::Lemmas::others_hold))]
-fn meets_each<B: Bound>(
+#[tactic(auto, using(crate::proofs::HoldingLaws::first_holds, crate::proofs::HoldingLaws::others_hold))]
+fn meets_each(
     alloc: Global,
     constants: &Constants,
     checks: &[Check],
     tested: Tested<'_>,
-    bound: &B,
+    known: Known<'_>,
 ) -> Result<bool, NoMemory>
-    requires follows { FollowFrom (B.before bound.now) 0 (map check_of checks.now)
+    requires follows { FollowFrom (before_check known) 0 (map check_of checks.now)
         (tested_value tested) }
     requires may { constants_hold (tested_value tested) (map check_of checks.now) ≡ true }
-    ensures { IfOk result (λ holds. Meets holds (B.before bound.now (length checks.now))
+    ensures { IfOk result (λ holds. Meets holds (before_check known.entry (length checks.now))
         (after_checks (map check_of checks.now) (tested_value tested.entry)
-        (B.before bound.now 0))) }
+        (before_check known.entry 0))) }
 {
     let mut at = 0;
     for check in checks {
-        if !meets_one(alloc, constants, check, tested, bound, at)? {
+        if !meets_one(alloc, constants, check, tested, known, at)? {
             return Ok(false);
         }
         at += 1;
@@ -124,57 +125,57 @@ fn meets_each<B: Bound>(
 }
 
 /// Whether the check with this number holds; one for a constant is known to hold.
-#[tactic(auto, using(crate::specs::Lemmas::held_if_some))]
-fn meets_one<B: Bound>(
+#[tactic(auto, using(crate::proofs::HoldingLaws::held_if_some))]
+fn meets_one(
     alloc: Global,
     constants: &Constants,
     check: &Check,
     tested: Tested<'_>,
-    bound: &B,
+    known: Known<'_>,
     at: usize,
 ) -> Result<bool, NoMemory>
     requires { constant_holds (tested_value tested) (check_of check.now).negated
         (check_of check.now).test ≡ true }
     ensures { IfOk result (λ holds. holds ≡ is_some (after_check (check_of check.now)
-        (tested_value tested.entry) (B.before bound.now at))) }
+        (tested_value tested.entry) (before_check known.entry at))) }
 {
     if let Test::Constant(_) = &check.test {
         return Ok(true);
     }
-    check_holds(alloc, constants, check, tested, bound, at)
+    check_holds(alloc, constants, check, tested, known, at)
 }
 
 /// Whether a variable has no value yet, and takes this one, or has this one.
-fn agrees<B: Bound>(name: &Name, tested: Tested<'_>, bound: &B, at: usize) -> Result<bool, NoMemory>
+fn agrees(name: &Name, tested: Tested<'_>, known: Known<'_>, at: usize) -> Result<bool, NoMemory>
     ensures { IfOk result (λ holds. holds ≡ is_some (after_variable name.now
-        (tested_value tested.entry) (B.before bound.now at))) }
+        (tested_value tested.entry) (before_check known.entry at))) }
 {
-    Ok(match bound.variable(name, at)? {
+    Ok(match known.variable(name, at)? {
         Some(value) => tested.is(&value),
         None => true,
     })
 }
 
 /// Whether one of the alternatives holds, where the constants of one do.
-fn one_holds<B: Bound>(
+fn one_holds(
     alloc: Global,
     constants: &Constants,
     alternatives: &[Vec<Check>],
     tested: Tested<'_>,
-    bound: &B,
+    known: Known<'_>,
     at: usize,
 ) -> Result<bool, NoMemory>
     requires { list_any (constants_hold (tested_value tested))
         (map (λ cs. map check_of cs.items) alternatives.now) ≡ true }
     ensures { IfOk result (λ holds. holds ≡ one_holds
         (map (λ cs. map check_of cs.items) alternatives.now) (tested_value tested.entry)
-        (B.before bound.now at)) }
+        (before_check known.entry at)) }
 {
     if are_of_constants(alternatives) {
         return Ok(true);
     }
     for alternative in alternatives {
-        if all_hold(alloc, constants, alternative.as_slice(), tested, bound, at)? {
+        if all_hold(alloc, constants, alternative.as_slice(), tested, known, at)? {
             return Ok(true);
         }
     }
@@ -216,20 +217,20 @@ fn is_constant(test: &Test) -> bool
 }
 
 /// Whether all checks of an alternative hold.
-fn all_hold<B: Bound>(
+fn all_hold(
     alloc: Global,
     constants: &Constants,
     checks: &[Check],
     tested: Tested<'_>,
-    bound: &B,
+    known: Known<'_>,
     at: usize,
 ) -> Result<bool, NoMemory>
     ensures { IfOk result (λ holds. holds
-        ≡ list_all (check_holds (tested_value tested.entry) (B.before bound.now at))
+        ≡ list_all (check_holds (tested_value tested.entry) (before_check known.entry at))
         (map check_of checks.now)) }
 {
     for check in checks {
-        if !check_holds(alloc, constants, check, tested, bound, at)? {
+        if !check_holds(alloc, constants, check, tested, known, at)? {
             return Ok(false);
         }
     }
@@ -237,41 +238,41 @@ fn all_hold<B: Bound>(
 }
 
 /// Whether a check holds.
-fn check_holds<B: Bound>(
+fn check_holds(
     alloc: Global,
     constants: &Constants,
     check: &Check,
     tested: Tested<'_>,
-    bound: &B,
+    known: Known<'_>,
     at: usize,
 ) -> Result<bool, NoMemory>
     ensures { IfOk result (λ holds. holds ≡ check_holds (tested_value tested.entry)
-        (B.before bound.now at) (check_of check.now)) }
+        (before_check known.entry at) (check_of check.now)) }
 {
-    let holds = test_holds(alloc, constants, &check.test, tested, bound, at)?;
+    let holds = test_holds(alloc, constants, &check.test, tested, known, at)?;
     Ok(if check.is_negated { !holds } else { holds })
 }
 
 /// Whether a test holds.
-fn test_holds<B: Bound>(
+fn test_holds(
     alloc: Global,
     constants: &Constants,
     test: &Test,
     tested: Tested<'_>,
-    bound: &B,
+    known: Known<'_>,
     at: usize,
 ) -> Result<bool, NoMemory>
     ensures { IfOk result (λ holds. holds ≡ test_holds (asked_test test.now)
-        (tested_value tested.entry) (B.before bound.now at)) }
+        (tested_value tested.entry) (before_check known.entry at)) }
 {
     match test {
         Test::Constant(value) => Ok(tested.is(value)),
-        Test::Variable(name) => agrees(name, tested, bound, at),
-        Test::Predicate(expr) => Ok(match value_if_any(alloc, constants, expr, bound, at)? {
+        Test::Variable(name) => agrees(name, tested, known, at),
+        Test::Predicate(expr) => Ok(match value_if_any(alloc, constants, expr, known, at)? {
             Some(value) => is_true(&value),
             None => false,
         }),
-        Test::ReturnValue(expr) => Ok(match value_if_any(alloc, constants, expr, bound, at)? {
+        Test::ReturnValue(expr) => Ok(match value_if_any(alloc, constants, expr, known, at)? {
             Some(value) => tested.is(&value),
             None => false,
         }),
@@ -279,17 +280,17 @@ fn test_holds<B: Bound>(
 }
 
 /// The value of an expression, or `None` where it faults.
-fn value_if_any<B: Bound>(
+fn value_if_any(
     alloc: Global,
     constants: &Constants,
     expr: &Expr,
-    bound: &B,
+    known: Known<'_>,
     at: usize,
 ) -> Result<Option<Value>, NoMemory>
     ensures { IfOk result (λ value. value
-        ≡ value_if_any (value_of (term_of expr.now) (B.before bound.now at))) }
+        ≡ value_if_any (value_of (term_of expr.now) (before_check known.entry at))) }
 {
-    match eval(alloc, constants, expr, &AtCheck { bound, check: at }) {
+    match eval(alloc, constants, expr, &AtCheck { known, check: at }) {
         Ok(value) => Ok(Some(value)),
         Err(Refused::Fault(_)) => Ok(None),
         Err(Refused::NoMemory) => Err(NoMemory),

@@ -7,12 +7,11 @@ ghost use Rattle.cb_constraints.specs.Internal.Tables.{Grows, IsNamed};
 ghost use Rattle.cb_constraints.specs.PartValues.{asked_slot};
 
 use crate::constraint::{Check, Constraint, Demand, Test};
-use crate::parts::SlotRow;
+use crate::pattern_parts::SlotRow;
 use crate::place::Place;
 use crate::site::Site;
-use cb_facts::Name;
+use cb_facts::{Name, Places};
 use cb_forms::NoMemory;
-use cb_templates::Places;
 use std::alloc::Global;
 
 /// The variables that constraints may give values, each once with its first place, and the sites of the constraints. The names

@@ -9,9 +9,9 @@ use Rattle.cb_facts.specs.Internal.{IsIndexed}
 use Rattle.cb_facts.specs.Internal.FactLaws.{fact_tied}
 use Rattle.cb_facts.specs.Facts.{FactValue, fact_eq}
 use Rattle.cb_facts.specs.Internal.FactOrder.{fact_cmp}
-use Rattle.cb_facts.specs.Lemmas.FactEquality.{fact-Decides}
-use Rattle.cb_facts.specs.Lemmas.Inverses.{added, removed, taken_back}
-use Rattle.cb_facts.specs.Lemmas.{is_at-Decides}
+use Rattle.cb_facts.proofs.FactEquality.{fact-Decides}
+use Rattle.cb_facts.proofs.Inverses.{added, removed, taken_back}
+use Rattle.cb_facts.proofs.MemberLaws.{is_at-Decides}
 
 is_or_not : (f g : FactValue) (t : Bool) → fact_eq f g ≡ t → (f ≡ g) ⊎ (f ≢ g)
 is_or_not f g true e = inl ((fact-Decides f g).0 e)

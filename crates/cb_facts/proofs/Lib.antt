@@ -1,5 +1,10 @@
 mod CountLaws
+pub mod Equality
+pub mod FactEquality
 mod FactListLaws
+pub mod FirstFaults
 mod Hashes
-mod ListLaws
+pub mod Inverses
+pub mod MemberLaws
 mod PartLaws
+mod PlaceLaws

@@ -2,6 +2,7 @@
 pub mod FactLaws
 pub mod FactOrder
 pub mod Hashes
+pub mod NamePlaces
 use Rattle.std.specs.Prelude.{◌≡◌, ◌++◌, ℕ, List, Option, Some, Result, Ok, Err}
 use Rattle.std.specs.List.Sorted.{IsStrictlySortedBy}
 use Rattle.std.specs.Map.{keys_of}

@@ -1,7 +1,8 @@
 pub mod FactLists
 pub mod Facts
+pub mod FaultLists
 pub mod Internal
-pub mod Lemmas
+pub mod Places
 pub mod RelationCounts
 pub mod Results
 pub mod Texts

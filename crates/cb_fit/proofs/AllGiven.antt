@@ -8,10 +8,10 @@ use Rattle.std.specs.Option.{option_map_or}
 use Rattle.std.specs.Str.{bytes_eq}
 use Rattle.cb_constraints.specs.Constraints.{Test, constant, variable, predicate, return_value, Check, Demand, nothing, each, either, Constraint}
 use Rattle.cb_constraints.specs.Holding.{after_check, after_checks, after_demand, after_test, one_holds, opposite_if, provided, after_variable, test_holds}
-use Rattle.cb_constraints.specs.PatternValues.{Parts, PatternValue, SlotValue}
+use Rattle.cb_constraints.specs.PatternValues.{PatternParts, PatternValue, SlotValue}
 use Rattle.cb_constraints.specs.PatternValues as pattern
 use Rattle.cb_exprs.specs.Bindings.{Bindings, value_at, with_variable, with_variables}
-use Rattle.cb_exprs.specs.contracts.cited.LawsCited.TheImpl as exprs_laws
+use Rattle.cb_exprs.proofs.ValueLaws.{value_at-with_value, value_at_set}
 use Rattle.cb_facts.specs.Facts.{FactContent, FactValue}
 use Rattle.cb_facts.specs.Facts as fact
 use Rattle.cb_facts.specs.declared.single.Single.{Single}
@@ -65,7 +65,7 @@ both xs ys a b c h i = (
 
 -- a variable that had no value
 others-keep : (x : List ℕ) (v : Value) (env : Bindings) → value_at x env.variables ≡ None → Keeps env (with_variable x v env)
-others-keep x v env none y w e = exprs_laws.ghosts.value_at_with_value env.variables y x v ∙ (ap (λ t. cond t (Some v) (value_at y env.variables)) (other (bytes_eq y x) (bytes_decides y x).0) ∙ e)
+others-keep x v env none y w e = value_at-with_value env.variables y x v ∙ (ap (λ t. cond t (Some v) (value_at y env.variables)) (other (bytes_eq y x) (bytes_decides y x).0) ∙ e)
   where
     other : (t : Bool) → (t ≡ true → y ≡ x) → t ≡ false
     other false is = refl
@@ -91,7 +91,7 @@ takes x v env grown e = by (value_at x env.variables) refl e
         subst (Step (x ∷ []) env) (same-one (with_variable x v env) grown d) (
           others-keep x v env is,
           (λ after bound keeps.
-              ((x, v) ∷ [], takes-first x v env (value_at x env.variables) (value_at x after.variables) bound is (keeps x v (exprs_laws.ghosts.value_at_set env.variables x v)), refl)),
+              ((x, v) ∷ [], takes-first x v env (value_at x env.variables) (value_at x after.variables) bound is (keeps x v (value_at_set env.variables x v)), refl)),
         )
     by (Some w) is d =
         subst (Step (x ∷ []) env) (provided-if (same v w) env grown d).1 (
@@ -141,13 +141,13 @@ slots-give (s ∷ ss) slots cuts before after (v, own, others, grown, is, joined
     subst (λ names. Step names before after) (sym (flat_map-append (λ c. binders c.demand) s.row (flat_map (λ t. t.row) ss)))
     (both (binders_in s.row) (binders_in (flat_map (λ t. t.row) ss)) before grown after (turn-gives s.row first.0 before grown first.3) (slots-give ss slots others grown after more))
 
-parts-give : (p : Parts) (f : FactContent) (cuts : List ℕ) (before after : Bindings) → PartsFit p f cuts before after → Step (binders_in (constraints_in p)) before after
+parts-give : (p : PatternParts) (f : FactContent) (cuts : List ℕ) (before after : Bindings) → PartsFit p f cuts before after → Step (binders_in (constraints_in p)) before after
 parts-give (pattern.fields row) (fact.fields fs) cuts before after h = turn-gives row h.0 before after h.3
 parts-give (pattern.fields row) (fact.slots ss) cuts before after h = absurd h
 parts-give (pattern.slots rows) (fact.fields fs) cuts before after h = absurd h
 parts-give (pattern.slots rows) (fact.slots ss) cuts before after h = slots-give rows ss cuts before after h
 
-bound-gives : (p : Parts) (before after : Bindings) → Step (binders_in (constraints_in p)) before after → with_variables (newly_bound p before after) before ≡ after
+bound-gives : (p : PatternParts) (before after : Bindings) → Step (binders_in (constraints_in p)) before after → with_variables (newly_bound p before after) before ≡ after
 bound-gives p before after h =
     let w = h.1 after [] (λ x v e. e) in
     ap (λ bound. with_variables bound before) (sym (given_once (binders_in (constraints_in p)) after (gave [] before))) ∙ ap (λ g. with_variables g.bound before) w.1 ∙ w.2

@@ -7,7 +7,7 @@ use Rattle.std.specs.Option.{option_map_or}
 use Rattle.std.specs.Prelude.{if◌then◌else◌}
 use Rattle.cb_constraints.specs.Constraints.{Demand, Constraint}
 use Rattle.cb_constraints.specs.Holding.{after_demand}
-use Rattle.cb_constraints.specs.PatternValues.{Parts, SlotValue}
+use Rattle.cb_constraints.specs.PatternValues.{PatternParts, SlotValue}
 use Rattle.cb_constraints.specs.PatternValues as pattern
 use Rattle.cb_exprs.specs.Bindings.{Bindings}
 use Rattle.cb_facts.specs.Facts.{FactContent}
@@ -112,7 +112,7 @@ slots_hold (s ∷ rows) slots cuts before after (v, own, others, grown, there, j
           (e.0, e.1, holds_before d.demand e.0 before grown (turn-gives s.row first.0 before grown first.3).0 e.2)
     ]
 
-pub parts_hold : (p : Parts) (f : FactContent) (cuts : List ℕ) (before after : Bindings) → PartsFit p f cuts before after
+pub parts_hold : (p : PatternParts) (f : FactContent) (cuts : List ℕ) (before after : Bindings) → PartsFit p f cuts before after
     → (d : PlacedDemand) → Among d (placed_demands p) → PlaceHolds f d before
 parts_hold (pattern.fields row) (fact.fields fs) cuts before after h d i =
     let e = row_holds None row h.0 before after h.3 [] 0 refl d i in
@@ -145,6 +145,6 @@ slots_loose (s ∷ rows) d i =
     ]
 
 -- the pattern without its variables and expressions takes the same fields alone
-pub parts_loose : (p : Parts) (d : PlacedDemand) → Among d (placed_demands p) → Among (loose_placed d) (placed_demands (loose_parts p))
+pub parts_loose : (p : PatternParts) (d : PlacedDemand) → Among d (placed_demands p) → Among (loose_placed d) (placed_demands (loose_parts p))
 parts_loose (pattern.fields row) d i = row_loose None 0 row d i
 parts_loose (pattern.slots rows) d i = slots_loose rows d i

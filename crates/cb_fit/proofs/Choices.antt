@@ -6,7 +6,7 @@ use Rattle.cb_constraints.specs.Constraints.{constraint_of}
 use Rattle.std.specs.Option.{option_map_or}
 use Rattle.cb_constraints.specs.PartValues.{asked_slot}
 use Rattle.cb_constraints.specs.PatternValues.{SlotValue}
-use Rattle.cb_constraints.specs.declared.parts.SlotRow as program_row
+use Rattle.cb_constraints.specs.declared.pattern_parts.SlotRow as program_row
 use Rattle.cb_exprs.specs.Bindings.{Bindings}
 use Rattle.cb_facts.specs.Values.{fields_in}
 use Rattle.cb_facts.specs.declared.single.Single.{Single}

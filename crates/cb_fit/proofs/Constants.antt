@@ -6,7 +6,7 @@ use Rattle.cb_constraints.specs.Holding.{constant_holds, constants_hold, may_hol
 use Rattle.cb_constraints.specs.PatternValues.{PatternValue}
 use Rattle.cb_exprs.specs.Bindings.{no_bindings}
 use Rattle.cb_facts.specs.Facts.{FactValue}
-use Rattle.cb_facts.specs.contracts.cited.LawsCited.TheImpl as facts_laws
+use Rattle.cb_facts.proofs.Equality.{value-Decides}
 use Rattle.cb_facts.specs.declared.value.Value.{Value}
 use Rattle.cb_fit.proofs.Listed.{Among, among-cases, among-contained, among-flat-back, among-map-back}
 use Rattle.cb_fit.proofs.LooseDemands.{holds-loosely}
@@ -19,7 +19,7 @@ use Rattle.cb_fit.specs.Shapes.{HasShape, has_shape, loose_parts}
 use Rattle.cb_fit.specs.declared.constant_fields.ConstantField.{ConstantField}
 
 test_is : (negated : Bool) (t : Test) (v w : Value) → constant_holds v negated t ≡ true → Among w (plain_constant negated t) → v ≡ w
-test_is false (constant u) v w e (inl i) = (facts_laws.ghosts.value_decides v u).0 e ∙ i
+test_is false (constant u) v w e (inl i) = (value-Decides v u).0 e ∙ i
 test_is false (constant u) v w e (inr i) = absurd i
 test_is false (variable x) v w e i = absurd i
 test_is false (predicate u) v w e i = absurd i

@@ -2,7 +2,7 @@
 use Rattle.std.proofs.Common.{◌≡◌, ◌∙◌, ℕ, List, [], ◌∷◌, ap, length, subst, sym}
 use Rattle.std.proofs.lemmas.List.{length-map}
 use Rattle.cb_constraints.specs.Constraints.{Constraint}
-use Rattle.cb_constraints.specs.PatternValues.{Parts, PatternValue, SlotValue}
+use Rattle.cb_constraints.specs.PatternValues.{PatternParts, PatternValue, SlotValue}
 use Rattle.cb_constraints.specs.PatternValues as pattern
 use Rattle.cb_exprs.specs.Bindings.{Bindings}
 use Rattle.cb_facts.specs.Facts.{FactContent, FactValue}
@@ -42,7 +42,7 @@ slots-fixed (s ∷ ss) slots cuts before one other (v, own, others, grown, is, j
     let grew = row-fixed s.row (fields_in w) own' before grown grown' first''' first' in
     slots-fixed ss slots others' grown' one other (subst (λ x. SlotsFit ss slots x grown' one) backs (subst (λ g. SlotsFit ss slots others g one) grew more)) more'
 
-parts-fixed : (p : Parts) (f : FactContent) (cuts : List ℕ) (before one other : Bindings) → PartsFit p f cuts before one → PartsFit p f cuts before other → one ≡ other
+parts-fixed : (p : PatternParts) (f : FactContent) (cuts : List ℕ) (before one other : Bindings) → PartsFit p f cuts before one → PartsFit p f cuts before other → one ≡ other
 parts-fixed (pattern.fields row) (fact.fields fs) cuts before one other h i = row-fixed row fs cuts before one other h i
 parts-fixed (pattern.fields row) (fact.slots ss) cuts before one other h i = absurd h
 parts-fixed (pattern.slots rows) (fact.fields fs) cuts before one other h i = absurd h

@@ -13,7 +13,7 @@ use Rattle.std.specs.Str.{bytes_eq}
 use Rattle.std.specs.declared.cmp.Ordering.{Ordering}
 use Rattle.std.specs.declared.cmp.Ordering.TheVariants.{Less, Equal, Greater}
 use Rattle.cb_constraints.specs.Constraints.{Constraint}
-use Rattle.cb_constraints.specs.PatternValues.{Parts, PatternValue, SlotValue}
+use Rattle.cb_constraints.specs.PatternValues.{PatternParts, PatternValue, SlotValue}
 use Rattle.cb_constraints.specs.PatternValues as pattern
 use Rattle.cb_exprs.specs.Bindings.{Bindings}
 use Rattle.cb_facts.specs.Facts.{FactContent, FactValue}
@@ -126,7 +126,7 @@ slots-rising (s ∷ ss) slots env =
     (λ t m. let w = slot-fits s env t (slot_at s.place slots) m in cuts-as-many s.row (fields_in w.0) t.cuts env t.env w.2)
     (slot-rising s env (slot_at s.place slots))
 
-parts-rising : (p : Parts) (f : FactContent) (env : Bindings) → Rising (ways_of_parts p f env)
+parts-rising : (p : PatternParts) (f : FactContent) (env : Bindings) → Rising (ways_of_parts p f env)
 parts-rising (pattern.fields row) (fact.fields fs) env = row-rising row fs env
 parts-rising (pattern.fields row) (fact.slots ss) env = tt
 parts-rising (pattern.slots rows) (fact.fields fs) env = tt
@@ -135,7 +135,7 @@ parts-rising (pattern.slots rows) (fact.slots ss) env = slots-rising rows ss env
 abbrev InOrder : WayValue → WayValue → Type 0
 InOrder v w = Before v.cuts w.cuts
 
-all-later : (p : Parts) (before : Bindings) (t : Taken) (ts : List Taken) → ((u : Taken) → Among u ts → Before t.cuts u.cuts) → All (InOrder (way_with p before t)) (map (way_with p before) ts)
+all-later : (p : PatternParts) (before : Bindings) (t : Taken) (ts : List Taken) → ((u : Taken) → Among u ts → Before t.cuts u.cuts) → All (InOrder (way_with p before t)) (map (way_with p before) ts)
 all-later p before t [] h = All-nil (InOrder (way_with p before t))
 all-later p before t (u ∷ us) h =
     All-cons (InOrder (way_with p before t)) (way_with p before u) (map (way_with p before) us) (h u (inl refl)) (all-later p before t us (λ v m. h v (inr m)))
@@ -143,7 +143,7 @@ all-later p before t (u ∷ us) h =
 no-pairs : AllPairs InOrder []
 no-pairs i j d lt below = absurd (omega arith)
 
-in-order : (p : Parts) (before : Bindings) (ts : List Taken) → Rising ts → AllPairs InOrder (map (way_with p before) ts)
+in-order : (p : PatternParts) (before : Bindings) (ts : List Taken) → Rising ts → AllPairs InOrder (map (way_with p before) ts)
 in-order p before [] h = no-pairs
 in-order p before (t ∷ ts) h = AllPairs-cons InOrder (way_with p before t) (map (way_with p before) ts) (all-later p before t ts h.0) (in-order p before ts h.1)
 

@@ -6,7 +6,7 @@ use Rattle.std.specs.Cmp.Lexicographic.{bytes_decides}
 use Rattle.std.specs.List.{flat_map}
 use Rattle.std.specs.Str.{bytes_eq}
 use Rattle.cb_exprs.specs.Bindings.{Bindings, value_at, with_variable}
-use Rattle.cb_exprs.specs.contracts.cited.LawsCited.TheImpl as exprs_laws
+use Rattle.cb_exprs.proofs.ValueLaws.{value_at-with_value, value_at_set}
 use Rattle.cb_facts.specs.declared.value.Value.{Value}
 use Rattle.cb_constraints.specs.Bound.{each_once, given, given_if}
 
@@ -49,10 +49,10 @@ apart_too x y apart = false_from_ne_true (bytes_eq y x) (λ e. let yes : bytes_e
 given-now : (x : List ℕ) (v : Value) (env after : Bindings) (y : List ℕ) → bytes_eq x y ≡ false → given (with_variable x v env) after y ≡ given env after y
 given-now x v env after y apart =
     ap (λ o. given_if y o (value_at y after.variables))
-    (exprs_laws.ghosts.value_at_with_value env.variables y x v ∙ ap (λ t. cond t (Some v) (value_at y env.variables)) (apart_too x y apart))
+    (value_at-with_value env.variables y x v ∙ ap (λ t. cond t (Some v) (value_at y env.variables)) (apart_too x y apart))
 
 given-set : (x : List ℕ) (v : Value) (env after : Bindings) → given (with_variable x v env) after x ≡ []
-given-set x v env after = ap (λ o. given_if x o (value_at x after.variables)) (exprs_laws.ghosts.value_at_set env.variables x v) ∙ settled (value_at x after.variables)
+given-set x v env after = ap (λ o. given_if x o (value_at x after.variables)) (value_at_set env.variables x v) ∙ settled (value_at x after.variables)
   where
     settled : (o : Option Value) → given_if x (Some v) o ≡ []
     settled o = refl

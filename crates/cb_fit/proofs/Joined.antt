@@ -8,7 +8,7 @@ use Rattle.cb_constraints.specs.Holding.{after_check, after_checks, after_demand
 use Rattle.cb_constraints.specs.PatternValues.{PatternValue}
 use Rattle.cb_exprs.specs.Bindings.{Bindings, value_at, with_variable}
 use Rattle.cb_facts.specs.Facts.{FactValue}
-use Rattle.cb_facts.specs.contracts.cited.LawsCited.TheImpl as facts_laws
+use Rattle.cb_facts.proofs.Equality.{value-Decides}
 use Rattle.cb_facts.specs.declared.value.Value.{Value}
 use Rattle.cb_functions.specs.Comparison.{same}
 use Rattle.cb_fit.proofs.AllGiven.{test-gives}
@@ -25,7 +25,7 @@ use Rattle.cb_fit.specs.declared.join_fields.JoinField.{JoinField}
 -- a variable that has a value has this one
 has_it : (x : List ℕ) (v w : Value) (env grown : Bindings) → after_variable x v env ≡ Some grown → value_at x env.variables ≡ Some w → v ≡ w
 has_it x v w env grown e is =
-    (facts_laws.ghosts.value_decides v w).0
+    (value-Decides v w).0
     (provided-if (same v w) env grown (sym (ap (λ o. option_map_or (λ u. provided (same v u) env) o (Some (with_variable x v env))) is) ∙ e)).0
 
 test_has : (negated : Bool) (t : Test) (x : List ℕ) (v w : Value) (env grown : Bindings) → after_test negated t v env ≡ Some grown → Among x (binder negated t) → value_at x env.variables ≡ Some w → v ≡ w

@@ -15,6 +15,7 @@ mod Listed
 mod Looked
 mod LooseDemands
 mod Numbers
+mod Ones
 mod Parted
 mod Places
 mod Related

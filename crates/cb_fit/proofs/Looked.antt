@@ -6,7 +6,7 @@ use Rattle.std.specs.Option.{option_map_or}
 use Rattle.std.specs.Str.{bytes_eq}
 use Rattle.std.specs.Prelude.{if◌then◌else◌}
 use Rattle.cb_constraints.specs.Constraints.{Constraint}
-use Rattle.cb_constraints.specs.PatternValues.{Parts, PatternValue, SlotValue}
+use Rattle.cb_constraints.specs.PatternValues.{PatternParts, PatternValue, SlotValue}
 use Rattle.cb_constraints.specs.PatternValues as pattern
 use Rattle.cb_constraints.specs.Rows.{before_segments, fields_wanted, segments_wanted}
 use Rattle.cb_exprs.specs.Bindings.{Bindings}
@@ -109,7 +109,7 @@ slots-wrong_lengths (s ∷ ss) slots e = by (slot_takes_length s slots) (may_tak
     by false true t m h others = let never : true ≡ false = sym m ∙ slot-wrong_length s (slot_at s.place slots) t in cc
 
 -- a fact with fields too few or too many is taken in no way
-parts-never_taken : (p : Parts) (c : FactContent) (env : Bindings) → take_lengths p c ≡ false → ways_of_parts p c env ≡ []
+parts-never_taken : (p : PatternParts) (c : FactContent) (env : Bindings) → take_lengths p c ≡ false → ways_of_parts p c env ≡ []
 parts-never_taken (pattern.fields row) (fact.fields fs) env e = never_taken row fs env (never_long row fs e)
 parts-never_taken (pattern.fields row) (fact.slots ss) env e = refl
 parts-never_taken (pattern.slots rows) (fact.fields fs) env e = refl

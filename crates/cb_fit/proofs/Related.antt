@@ -8,7 +8,7 @@ use Rattle.std.specs.Option.{option_map_or}
 use Rattle.std.specs.Prelude.{option_map, option_to_list, if◌then◌else◌}
 use Rattle.std.specs.Str.{bytes_eq}
 use Rattle.cb_constraints.specs.Constraints.{Constraint}
-use Rattle.cb_constraints.specs.PatternValues.{Parts, PatternValue, SlotValue}
+use Rattle.cb_constraints.specs.PatternValues.{PatternParts, PatternValue, SlotValue}
 use Rattle.cb_constraints.specs.PatternValues as pattern
 use Rattle.cb_exprs.specs.Bindings.{Bindings}
 use Rattle.cb_facts.specs.Facts.{FactContent, FactValue}
@@ -114,13 +114,13 @@ slots-fit (s ∷ ss) slots before t h =
     subst (λ u. SlotsFit (s ∷ ss) slots u.cuts before u.env) more.1
     (first.0, w.0.cuts, more.0.cuts, w.0.env, first.1, refl, first.2, slots-fit ss slots w.0.env more.0 more.2)
 
-parts-listed : (p : Parts) (f : FactContent) (cuts : List ℕ) (before after : Bindings) → PartsFit p f cuts before after → Among (took cuts after) (ways_of_parts p f before)
+parts-listed : (p : PatternParts) (f : FactContent) (cuts : List ℕ) (before after : Bindings) → PartsFit p f cuts before after → Among (took cuts after) (ways_of_parts p f before)
 parts-listed (pattern.fields row) (fact.fields fs) cuts before after h = row-listed row fs cuts before after h
 parts-listed (pattern.fields row) (fact.slots ss) cuts before after h = absurd h
 parts-listed (pattern.slots rows) (fact.fields fs) cuts before after h = absurd h
 parts-listed (pattern.slots rows) (fact.slots ss) cuts before after h = slots-listed rows ss cuts before after h
 
-parts-fit : (p : Parts) (f : FactContent) (before : Bindings) (t : Taken) → Among t (ways_of_parts p f before) → PartsFit p f t.cuts before t.env
+parts-fit : (p : PatternParts) (f : FactContent) (before : Bindings) (t : Taken) → Among t (ways_of_parts p f before) → PartsFit p f t.cuts before t.env
 parts-fit (pattern.fields row) (fact.fields fs) before t h = row-fits row fs before t h
 parts-fit (pattern.fields row) (fact.slots ss) before t h = absurd h
 parts-fit (pattern.slots rows) (fact.fields fs) before t h = absurd h

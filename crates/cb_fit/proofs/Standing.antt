@@ -10,12 +10,12 @@ use Rattle.cb_constraints.specs.Constraints.{Constraint, Demand, constraint_of, 
 use Rattle.cb_constraints.specs.declared.constraint.Constraint as program
 use Rattle.cb_constraints.specs.Holding.{Meets, after_demand, checks_in}
 use Rattle.cb_constraints.specs.Internal.Known.{bindings_after, bindings_before}
-use Rattle.cb_constraints.specs.PatternValues.{Parts, SlotValue}
+use Rattle.cb_constraints.specs.PatternValues.{PatternParts, SlotValue}
 use Rattle.cb_constraints.specs.PatternValues as pattern
 use Rattle.cb_constraints.specs.declared.site.Site.{Site}
-use Rattle.cb_constraints.specs.contracts.cited.LawsCited.TheImpl as constraints_laws
-use Rattle.cb_cuts.specs.Internal.Values.{fields_of_row, fields_taken, first_fields, first_row_fields, next_value, value_taken, values_taken}
-use Rattle.cb_cuts.specs.contracts.cited.LawsCited.TheImpl as cuts_laws
+use Rattle.cb_constraints.proofs.FollowLaws.{known_first, known_last}
+use Rattle.cb_constraints.specs.Internal.Values.{fields_of_row, fields_taken, first_fields, first_row_fields, next_value, value_taken, values_taken}
+use Rattle.cb_constraints.proofs.TakenValues.{as_many_values, next_is, one_more_value}
 use Rattle.cb_exprs.specs.Bindings.{Bindings}
 use Rattle.cb_facts.specs.Facts.{FactContent, content_of}
 use Rattle.cb_facts.specs.Facts as fact
@@ -23,7 +23,7 @@ use Rattle.cb_facts.specs.Values.{fields_in}
 use Rattle.cb_facts.specs.declared.single.Single.{Single}
 use Rattle.cb_facts.specs.declared.value.Value.{Value}
 use Rattle.cb_facts.specs.declared.value.Value.TheVariants as value
-use Rattle.cb_cuts.specs.Internal.{IsFirst}
+use Rattle.cb_constraints.specs.Internal.RowFields.{IsFirst}
 use Rattle.cb_fit.proofs.Rows.{is-one}
 use Rattle.cb_fit.specs.Internal.{after_ones, env_after}
 use Rattle.cb_fit.specs.Internal.Choices.{KeepsFirst}
@@ -62,7 +62,7 @@ none-after k xs e n is = at-most (length xs) (sym (length-drop k xs) ∙ ap leng
 
 -- the constraint that comes next, by the number of the values that were taken
 pub next-here : (s : Search) (cuts : List ℕ) (c : Constraint) (next : ComesNext s cuts c) → drop (length (values_taken s.body.now (content_of s.content.now) cuts)) (constraints_in s.body.now) ≡ c ∷ next.0
-next-here s cuts c next = ap (λ k. drop k (constraints_in s.body.now)) (cuts_laws.ghosts.as_many_values s.body.now (content_of s.content.now) cuts) ∙ next.1
+next-here s cuts c next = ap (λ k. drop k (constraints_in s.body.now)) (as_many_values s.body.now (content_of s.content.now) cuts) ∙ next.1
 
 -- after one constraint more
 pub next-at : (s : Search) (fields : List Single) (cuts : List ℕ) (at n : ℕ) (c : Constraint) (cs : List Constraint) → IsAt s fields cuts at (c ∷ cs) → IsAt s fields (cuts ++ n ∷ []) (at + n) cs
@@ -123,7 +123,7 @@ first-next s fields cuts at c cs i = (cs ++ i.more, i.next)
 pub value-at : (s : Search) (fields : List Single) (cuts : List ℕ) (at n : ℕ) (c : Constraint) (cs : List Constraint) → IsAt s fields cuts at (c ∷ cs)
     → next_value s.body.now (content_of s.content.now) cuts n ≡ value_taken c.segment (take n (drop at fields))
 value-at s fields cuts at n c cs i =
-    cuts_laws.ghosts.next_is s.body.now (content_of s.content.now) cuts n (record { row = i.row; start = i.start; takes_segment = c.segment }) (sites_of i.row i.start cs ++ i.sites) i.next_sites
+    next_is s.body.now (content_of s.content.now) cuts n (record { row = i.row; start = i.start; takes_segment = c.segment }) (sites_of i.row i.start cs ++ i.sites) i.next_sites
     ∙ (ap (λ k. value_taken c.segment (take n (drop k (fields_of_row i.row s.body.now (content_of s.content.now))))) (left-of (fields_taken cuts) (fields_taken (take i.start cuts)) i.taken)
     ∙ ap (λ fs. value_taken c.segment (take n (drop at fs))) i.fields_are)
   where
@@ -131,7 +131,7 @@ value-at s fields cuts at n c cs i =
     left-of all before e = omega (arith, e)
 
 -- what variables have before its checks, by what a test looks with
-pub known-is : (s : Search) (cuts : List ℕ) (v : Value) (asks took : Parts) (content : FactContent) (lengths : List ℕ) (tested : Value) (before : Bindings)
+pub known-is : (s : Search) (cuts : List ℕ) (v : Value) (asks took : PatternParts) (content : FactContent) (lengths : List ℕ) (tested : Value) (before : Bindings)
     → asks ≡ s.body.now → took ≡ s.body.now → content ≡ content_of s.content.now → lengths ≡ cuts → tested ≡ v → before ≡ s.before.now
     → bindings_before (constraints_in asks) (values_taken took content lengths) tested before ≡ bindings_before (constraints_in s.body.now) (values_taken s.body.now (content_of s.content.now) cuts) v s.before.now
 known-is s cuts v asks took content lengths tested before a t c l w b =
@@ -155,16 +155,16 @@ met-next s cuts n c v holds next is met =
     here = next-here s cuts c next
 
     first : bindings_before (constraints_in s.body.now) (values_taken s.body.now (content_of s.content.now) cuts) v s.before.now 0 ≡ env_after s cuts
-    first = constraints_laws.ghosts.known_first (constraints_in s.body.now) (values_taken s.body.now (content_of s.content.now) cuts) v s.before.now c next.0 here
+    first = known_first (constraints_in s.body.now) (values_taken s.body.now (content_of s.content.now) cuts) v s.before.now c next.0 here
 
     last : bindings_before (constraints_in s.body.now) (values_taken s.body.now (content_of s.content.now) cuts) v s.before.now (checks_in c.demand)
         ≡ bindings_after (constraints_in s.body.now) (values_taken s.body.now (content_of s.content.now) cuts ++ v ∷ []) s.before.now
-    last = constraints_laws.ghosts.known_last (constraints_in s.body.now) (values_taken s.body.now (content_of s.content.now) cuts) v s.before.now c next.0 here
+    last = known_last (constraints_in s.body.now) (values_taken s.body.now (content_of s.content.now) cuts) v s.before.now c next.0 here
 
     after : env_after s (cuts ++ n ∷ []) ≡ bindings_after (constraints_in s.body.now) (values_taken s.body.now (content_of s.content.now) cuts ++ v ∷ []) s.before.now
     after =
         ap (λ vs. bindings_after (constraints_in s.body.now) vs s.before.now)
-        (cuts_laws.ghosts.one_more_value s.body.now (content_of s.content.now) cuts n
+        (one_more_value s.body.now (content_of s.content.now) cuts n
         ∙ ap (λ w. values_taken s.body.now (content_of s.content.now) cuts ++ w ∷ []) is)
 
 -- the value of the constraint for one field that comes next

@@ -3,7 +3,7 @@ use Rattle.std.proofs.Common.{◌≡◌, ◌∷◌, Bool, true, false, List, [],
 use Rattle.std.specs.List.{list_all}
 use Rattle.cb_constraints.specs.Constraints.{Check, Demand, nothing, each, either, Constraint}
 use Rattle.cb_constraints.specs.Holding.{is_constant}
-use Rattle.cb_constraints.specs.PatternValues.{Parts, PatternValue, SlotValue}
+use Rattle.cb_constraints.specs.PatternValues.{PatternParts, PatternValue, SlotValue}
 use Rattle.cb_constraints.specs.PatternValues as pattern
 use Rattle.cb_fit.proofs.WithoutVariables.{both-true}
 use Rattle.cb_fit.specs.Shapes.{constants_in, loose, loose_constraint, loose_demand, loose_parts, loose_row, loose_slot}
@@ -35,7 +35,7 @@ row-stays row e = all_stay loose_constraint (λ c. demand_alone c.demand) constr
 slot-stays : (s : SlotValue) → slot_alone s ≡ true → loose_slot s ≡ s
 slot-stays s e = ap (λ row. record { name = s.name; place = s.place; row = row }) (row-stays s.row e)
 
-parts-stay : (p : Parts) → parts_alone p ≡ true → loose_parts p ≡ p
+parts-stay : (p : PatternParts) → parts_alone p ≡ true → loose_parts p ≡ p
 parts-stay (pattern.fields row) e = ap pattern.fields (row-stays row e)
 parts-stay (pattern.slots rows) e = ap pattern.slots (all_stay loose_slot slot_alone slot-stays rows e)
 

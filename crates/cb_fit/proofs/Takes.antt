@@ -3,12 +3,12 @@ use Rattle.std.proofs.Common.{◌≡◌, ◌∙◌, ◌&&◌, Bool, true, false,
 use Rattle.std.specs.Option.{option_and_then}
 use Rattle.cb_constraints.specs.Constraints.{Constraint}
 use Rattle.cb_constraints.specs.Holding.{Meets, after_demand, may_hold}
-use Rattle.cb_constraints.specs.contracts.cited.LawsCited.TheImpl as constraints_laws
+use Rattle.cb_constraints.proofs.HoldingLaws.{holds-may}
 use Rattle.cb_exprs.specs.Bindings.{Bindings}
 use Rattle.cb_facts.specs.Values.{value_of_field}
 use Rattle.cb_facts.specs.declared.single.Single.{Single}
 use Rattle.cb_facts.specs.declared.value.Value.{Value}
-use Rattle.cb_cuts.specs.Internal.{IsFirst}
+use Rattle.cb_constraints.specs.Internal.RowFields.{IsFirst}
 use Rattle.cb_fit.specs.Internal.{after_ones, may_take}
 
 pub is-met : (b : Bool) (env : Bindings) (after : Option Bindings) → b ≡ true → Meets b env after → after ≡ Some env
@@ -39,7 +39,7 @@ ok-same (Err b) f e h = h
 pub nothing-taken : (cs : List Constraint) (fs : List Single) (env : Bindings) → may_take cs fs ≡ false → after_ones cs fs env ≡ None
 nothing-taken [] fs env e = let never : true ≡ false = e in cc
 nothing-taken (c ∷ cs) [] env e = refl
-nothing-taken (c ∷ cs) (f ∷ fs) env e = by (after_demand c.demand (value_of_field f) env) (λ g. constraints_laws.ghosts.holds_may c.demand (value_of_field f) env g) (λ g. nothing-taken cs fs g)
+nothing-taken (c ∷ cs) (f ∷ fs) env e = by (after_demand c.demand (value_of_field f) env) (λ g. holds-may c.demand (value_of_field f) env g) (λ g. nothing-taken cs fs g)
   where
     others : (a b : Bool) → a ≡ true → a && b ≡ false → b ≡ false
     others true b d h = h

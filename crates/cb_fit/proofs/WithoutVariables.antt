@@ -4,7 +4,7 @@ use Rattle.std.specs.List.{list_all}
 use Rattle.std.specs.Option.{option_and_then}
 use Rattle.cb_constraints.specs.Constraints.{Test, constant, variable, predicate, return_value, Check, Demand, nothing, each, either, Constraint}
 use Rattle.cb_constraints.specs.Holding.{after_check, after_checks, after_demand, after_test, check_holds, one_holds, opposite_if, provided, after_variable, test_holds}
-use Rattle.cb_constraints.specs.PatternValues.{Parts, PatternValue, SlotValue}
+use Rattle.cb_constraints.specs.PatternValues.{PatternParts, PatternValue, SlotValue}
 use Rattle.cb_constraints.specs.PatternValues as pattern
 use Rattle.cb_exprs.specs.Bindings.{Bindings, no_bindings}
 use Rattle.cb_facts.specs.Facts.{FactContent, FactValue}
@@ -97,7 +97,7 @@ slots-kept [] slots cuts before after any h = (h.0, refl)
 slots-kept (s ∷ ss) slots cuts before after any (v, own, others, grown, is, joined, first, more) =
     (v, own, others, any, is, joined, row-kept s.row (fields_in v) own before grown any first, slots-kept ss slots others grown after any more)
 
-parts-kept : (p : Parts) (f : FactContent) (cuts : List ℕ) (before after any : Bindings) → PartsFit p f cuts before after → PartsFit (loose_parts p) f cuts any any
+parts-kept : (p : PatternParts) (f : FactContent) (cuts : List ℕ) (before after any : Bindings) → PartsFit p f cuts before after → PartsFit (loose_parts p) f cuts any any
 parts-kept (pattern.fields row) (fact.fields fs) cuts before after any h = row-kept row fs cuts before after any h
 parts-kept (pattern.fields row) (fact.slots ss) cuts before after any h = absurd h
 parts-kept (pattern.slots rows) (fact.fields fs) cuts before after any h = absurd h
@@ -145,7 +145,7 @@ slots-give : (ss : List SlotValue) (slots : List (List ℕ × Value)) (cuts : Li
 slots-give [] slots cuts before after h = h.1
 slots-give (s ∷ ss) slots cuts before after (v, own, others, grown, is, joined, first, more) = turn-gives s.row first.0 before grown first.3 ∙ slots-give ss slots others grown after more
 
-parts-give : (p : Parts) (f : FactContent) (cuts : List ℕ) (before after : Bindings) → PartsFit (loose_parts p) f cuts before after → before ≡ after
+parts-give : (p : PatternParts) (f : FactContent) (cuts : List ℕ) (before after : Bindings) → PartsFit (loose_parts p) f cuts before after → before ≡ after
 parts-give (pattern.fields row) (fact.fields fs) cuts before after h = turn-gives row h.0 before after h.3
 parts-give (pattern.fields row) (fact.slots ss) cuts before after h = absurd h
 parts-give (pattern.slots rows) (fact.fields fs) cuts before after h = absurd h

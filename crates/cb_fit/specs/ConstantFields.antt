@@ -1,7 +1,7 @@
 -- The fields of a fact that have to be equal to constants, whatever else a pattern asks.
 use Rattle.std.specs.Prelude.{Bool, false, List, [], ◌∷◌, flat_map, map}
 use Rattle.cb_constraints.specs.Constraints.{Test, constant, Check, Demand, nothing, each, either}
-use Rattle.cb_constraints.specs.PatternValues.{Parts}
+use Rattle.cb_constraints.specs.PatternValues.{PatternParts}
 use Rattle.cb_facts.specs.declared.value.Value.{Value}
 use Rattle.cb_fit.specs.FieldPlaces.{PlacedDemand, placed_demands}
 use Rattle.cb_fit.specs.declared.constant_fields.ConstantField.{ConstantField}
@@ -31,5 +31,5 @@ abbrev pub demand_constant_fields : PlacedDemand → List ConstantField
 demand_constant_fields d = constants_at d.place (constants d.demand)
 
 -- those of all fields that a pattern takes alone before the first segment of a row
-abbrev pub constant_fields : Parts → List ConstantField
+abbrev pub constant_fields : PatternParts → List ConstantField
 constant_fields p = flat_map demand_constant_fields (placed_demands p)

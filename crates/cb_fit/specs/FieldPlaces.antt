@@ -2,7 +2,7 @@
 use Rattle.std.specs.Prelude.{◌+◌, ℕ, List, [], ◌∷◌, Option, Some, None, drop, flat_map, if◌then◌else◌}
 use Rattle.std.specs.Option.{option_map_or}
 use Rattle.cb_constraints.specs.Constraints.{Constraint, Demand}
-use Rattle.cb_constraints.specs.PatternValues.{Parts, SlotValue}
+use Rattle.cb_constraints.specs.PatternValues.{PatternParts, SlotValue}
 use Rattle.cb_constraints.specs.PatternValues as pattern
 use Rattle.cb_facts.specs.Facts.{FactContent}
 use Rattle.cb_facts.specs.Facts as fact
@@ -47,6 +47,6 @@ abbrev pub slot_demands : SlotValue → List PlacedDemand
 slot_demands s = row_demands (Some s.place) 0 s.row
 
 -- those of all that a pattern asks
-abbrev pub placed_demands : Parts → List PlacedDemand
+abbrev pub placed_demands : PatternParts → List PlacedDemand
 placed_demands (pattern.fields row) = row_demands None 0 row
 placed_demands (pattern.slots rows) = flat_map slot_demands rows

@@ -1,5 +1,6 @@
 -- What only the code needs. How far a search for ways has got with a row.
 pub mod Choices
+pub mod Lengths
 pub mod Placed
 pub mod Standing
 use Rattle.std.specs.Prelude.{◌==◌, ◌&&◌, ◌||◌, ◌-◌, ℕ, Bool, true, false, List, [], ◌∷◌, ◌++◌, Option, Some, None, map, length, take, drop, nat_le, option_map, option_to_list, replicate, if◌then◌else◌}
@@ -9,10 +10,10 @@ use Rattle.cb_constraints.specs.Binders.{constraints_in}
 use Rattle.cb_constraints.specs.Constraints.{Constraint}
 use Rattle.cb_constraints.specs.Holding.{after_demand, may_hold}
 use Rattle.cb_constraints.specs.Internal.Known.{bindings_after}
-use Rattle.cb_constraints.specs.PatternValues.{Parts, SlotValue}
+use Rattle.cb_constraints.specs.PatternValues.{PatternParts, SlotValue}
 use Rattle.cb_constraints.specs.PatternValues as pattern
 use Rattle.cb_constraints.specs.Rows.{after_segments, before_segments, fields_wanted, segments_wanted}
-use Rattle.cb_cuts.specs.Internal.Values.{values_taken}
+use Rattle.cb_constraints.specs.Internal.Values.{values_taken}
 use Rattle.cb_exprs.specs.Bindings.{Bindings}
 use Rattle.cb_facts.specs.Facts.{FactContent, content_of}
 use Rattle.cb_facts.specs.Facts as fact
@@ -92,7 +93,7 @@ abbrev pub slots_take_lengths : List SlotValue → List (List ℕ × Value) → 
 slots_take_lengths rows slots = list_all (λ s. slot_takes_length s slots) rows
 
 -- a pattern can take as many fields as the content of a fact has
-abbrev pub take_lengths : Parts → FactContent → Bool
+abbrev pub take_lengths : PatternParts → FactContent → Bool
 take_lengths (pattern.fields row) (fact.fields fs) = takes_length row (length fs)
 take_lengths (pattern.slots rows) (fact.slots ss) = slots_take_lengths rows ss
 take_lengths parts content = false

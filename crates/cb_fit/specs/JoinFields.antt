@@ -1,7 +1,7 @@
 -- The fields of a fact that have to be equal to variables, whatever else a pattern asks.
 use Rattle.std.specs.Prelude.{ℕ, List, Option, flat_map, map}
 use Rattle.cb_constraints.specs.Binders.{binders}
-use Rattle.cb_constraints.specs.PatternValues.{Parts}
+use Rattle.cb_constraints.specs.PatternValues.{PatternParts}
 use Rattle.cb_facts.specs.Facts.{FactContent}
 use Rattle.cb_facts.specs.declared.value.Value.{Value}
 use Rattle.cb_fit.specs.FieldPlaces.{PlacedDemand, field_value, placed_demands}
@@ -17,7 +17,7 @@ abbrev pub demand_join_fields : PlacedDemand → List JoinField
 demand_join_fields d = fields_for d.place (binders d.demand)
 
 -- those of all fields that a pattern takes alone before the first segment of a row
-abbrev pub join_fields : Parts → List JoinField
+abbrev pub join_fields : PatternParts → List JoinField
 join_fields p = flat_map demand_join_fields (placed_demands p)
 
 -- the value that a variable has to have for a fact of this content

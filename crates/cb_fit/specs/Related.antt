@@ -1,7 +1,7 @@
 -- When a pattern fits a fact: the condition alone, with no search for the segments.
 use Rattle.std.specs.Prelude.{◌≡◌, ℕ, List, [], ◌∷◌, ◌++◌, Some, map, length, flat_map}
 use Rattle.cb_constraints.specs.Constraints.{Constraint}
-use Rattle.cb_constraints.specs.PatternValues.{Parts, PatternValue, SlotValue}
+use Rattle.cb_constraints.specs.PatternValues.{PatternParts, PatternValue, SlotValue}
 use Rattle.cb_constraints.specs.PatternValues as pattern
 use Rattle.cb_exprs.specs.Bindings.{Bindings}
 use Rattle.cb_facts.specs.Facts.{FactContent, FactValue}
@@ -34,7 +34,7 @@ SlotsFit (s ∷ ss) slots cuts before after =
 
 -- The row or the slots of a pattern fit a fact's content, with segments of these lengths: fields for a row,
 -- slots for slots.
-abbrev pub PartsFit : Parts → FactContent → List ℕ → Bindings → Bindings → Type 0
+abbrev pub PartsFit : PatternParts → FactContent → List ℕ → Bindings → Bindings → Type 0
 PartsFit (pattern.fields row) (fact.fields fs) cuts before after = RowFits row fs cuts before after
 PartsFit (pattern.fields row) (fact.slots ss) cuts before after = ⊥
 PartsFit (pattern.slots rows) (fact.fields fs) cuts before after = ⊥

@@ -2,7 +2,7 @@
 use Rattle.std.specs.Prelude.{ℕ, Bool, true, false, List, [], ◌∷◌, None, filter, map}
 use Rattle.cb_constraints.specs.Constraints.{Check, Demand, nothing, each, either, Constraint}
 use Rattle.cb_constraints.specs.Holding.{is_constant}
-use Rattle.cb_constraints.specs.PatternValues.{Parts, fields, slots, PatternValue, SlotValue}
+use Rattle.cb_constraints.specs.PatternValues.{PatternParts, fields, slots, PatternValue, SlotValue}
 use Rattle.cb_exprs.specs.Bindings.{no_bindings}
 use Rattle.cb_facts.specs.Facts.{FactValue}
 use Rattle.cb_fit.specs.Related.{Fits}
@@ -31,7 +31,7 @@ abbrev pub loose_slot : SlotValue → SlotValue
 loose_slot s = record { name = s.name; place = s.place; row = loose_row s.row }
 
 -- The row or the slots of a pattern, with the checks for constants alone.
-abbrev pub loose_parts : Parts → Parts
+abbrev pub loose_parts : PatternParts → PatternParts
 loose_parts (fields row) = fields (loose_row row)
 loose_parts (slots rows) = slots (map loose_slot rows)
 

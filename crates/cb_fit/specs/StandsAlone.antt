@@ -3,7 +3,7 @@ use Rattle.std.specs.Prelude.{Bool, true, false, List, Some, None}
 use Rattle.std.specs.List.{list_all}
 use Rattle.cb_constraints.specs.Constraints.{Check, Demand, nothing, each, either, Constraint}
 use Rattle.cb_constraints.specs.Holding.{is_constant}
-use Rattle.cb_constraints.specs.PatternValues.{Parts, fields, slots, PatternValue, SlotValue}
+use Rattle.cb_constraints.specs.PatternValues.{PatternParts, fields, slots, PatternValue, SlotValue}
 
 -- checks for constants, each of them
 abbrev pub are_constants : List Check → Bool
@@ -25,7 +25,7 @@ abbrev pub slot_alone : SlotValue → Bool
 slot_alone s = row_alone s.row
 
 -- The same of what a pattern asks.
-abbrev pub parts_alone : Parts → Bool
+abbrev pub parts_alone : PatternParts → Bool
 parts_alone (fields row) = row_alone row
 parts_alone (slots rows) = list_all slot_alone rows
 

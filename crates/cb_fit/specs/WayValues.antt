@@ -4,4 +4,4 @@ use Rattle.cb_fit.specs.declared.way.Way as program
 
 -- The way that a `Way` of the program is.
 abbrev pub way_of : program.Way → WayValue
-way_of w = record { cuts = w.cuts.items; bound = w.bound.items }
+way_of w = record { cuts = w.cuts; bound = w.bound.items }

@@ -4,7 +4,7 @@ use Rattle.std.specs.Option.{option_and_then, option_map_or}
 use Rattle.std.specs.Str.{bytes_eq}
 use Rattle.cb_constraints.specs.Constraints.{Constraint}
 use Rattle.cb_constraints.specs.Holding.{after_demand}
-use Rattle.cb_constraints.specs.PatternValues.{Parts, PatternValue, SlotValue}
+use Rattle.cb_constraints.specs.PatternValues.{PatternParts, PatternValue, SlotValue}
 use Rattle.cb_constraints.specs.PatternValues as pattern
 use Rattle.cb_exprs.specs.Bindings.{Bindings}
 use Rattle.cb_facts.specs.Facts.{FactContent, FactValue}
@@ -79,7 +79,7 @@ ways_of_slots [] slots env = record { cuts = []; env = env } ∷ []
 ways_of_slots (s ∷ ss) slots env = each_followed_by (ways_of_slots ss slots) (ways_of_slot s slots env)
 
 -- all that a pattern asks of the content of a fact
-abbrev pub ways_of_parts : Parts → FactContent → Bindings → List Taken
+abbrev pub ways_of_parts : PatternParts → FactContent → Bindings → List Taken
 ways_of_parts (pattern.fields row) (fact.fields fs) env = ways_of_row row fs env
 ways_of_parts (pattern.slots rows) (fact.slots ss) env = ways_of_slots rows ss env
 ways_of_parts parts content env = []
@@ -91,7 +91,7 @@ pub record WayValue : Type 0 where
   pub bound : List (List ℕ × Value)
 
 -- the way that took this, where variables had these values before
-abbrev pub way_with : Parts → Bindings → Taken → WayValue
+abbrev pub way_with : PatternParts → Bindings → Taken → WayValue
 way_with parts before t = record { cuts = t.cuts; bound = newly_bound parts before t.env }
 
 -- the way with these cuts, where variables had these values before and after

@@ -3,15 +3,14 @@ ghost use Rattle.std.specs.Prelude.{◌≡◌, ◌≢◌, ◌∷◌, ◌++◌, [
 ghost use Rattle.cb_constraints.specs.Constraints.{constraint_of};
 ghost use Rattle.cb_constraints.specs.Rows.{segments_wanted};
 ghost use Rattle.cb_constraints.specs.PartValues.{asked_slot};
-ghost use Rattle.cb_cuts.specs.Internal.{row_fields};
+ghost use Rattle.cb_constraints.specs.Internal.RowFields.{row_fields};
 ghost use Rattle.cb_fit.specs.Internal.{begun_at, begun_if, endings};
 ghost use Rattle.cb_fit.specs.Internal.Choices.{IsChoice, IsIn, IsRest, KeepsFirst, choice_endings, cuts_before, group_from, most_tries, segments_in, tries};
 ghost use Rattle.cb_fit.specs.Internal.Standing.{AreNext, IsAt};
 
 use crate::rest::{Rest, split_ones};
 use crate::search::Search;
-use cb_constraints::{Constraint, SlotRow, count_leading};
-use cb_cuts::{Cuts, Fields};
+use cb_constraints::{Constraint, Fields, Segments, SlotRow, count_leading};
 use cb_forms::NoMemory;
 
 /// A segment that may end at a place, or at each of those after it up to the last. What was taken before it stands in the
@@ -97,7 +96,7 @@ impl<'a> Choice<'a> {
     pub(crate) fn take(
         &self,
         search: Search<'a>,
-        cuts: &mut Cuts,
+        cuts: &mut Segments,
     ) -> Result<Option<usize>, NoMemory>
         requires choice { IsChoice self.now }
         requires inside { IsIn search (cuts_before self.now cuts.old) self.now }
@@ -128,7 +127,12 @@ impl<'a> Choice<'a> {
 
     /// Whether the segment may end at a place so that it and the constraints for one field that follow it hold; then their
     /// lengths come after these.
-    fn take_up_to(&self, search: Search<'a>, to: usize, cuts: &mut Cuts) -> Result<bool, NoMemory>
+    fn take_up_to(
+        &self,
+        search: Search<'a>,
+        to: usize,
+        cuts: &mut Segments,
+    ) -> Result<bool, NoMemory>
         requires choice { IsChoice self.now }
         requires inside { IsIn search cuts.old self.now }
         requires order { self.now.to ≤ to }

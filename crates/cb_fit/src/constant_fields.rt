@@ -6,7 +6,7 @@ ghost use Rattle.cb_fit.specs.ConstantFields.{constant_fields, constants, consta
 
 use crate::field_place::FieldPlace;
 use crate::placed::placed_demands;
-use cb_constraints::{Check, Demand, Parts, Test};
+use cb_constraints::{Check, Demand, PatternParts, Test};
 use cb_facts::Value;
 use cb_forms::NoMemory;
 use std::alloc::Global;
@@ -27,7 +27,7 @@ pub struct ConstantField {
 /// sharers that is full.
 pub(crate) fn constants_of_parts(
     alloc: Global,
-    parts: &Parts,
+    parts: &PatternParts,
 ) -> Result<Vec<ConstantField>, NoMemory>
     ensures { IfOk result (λ all. all.items ≡ constant_fields (asked_parts parts.now)) }
 {

@@ -1,11 +1,11 @@
 //! The places of fields in a fact.
 ghost use Rattle.std.specs.Prelude.{◌≡◌, IfOk};
-ghost use Rattle.cb_cuts.specs.Internal.{row_fields};
+ghost use Rattle.cb_constraints.specs.Internal.RowFields.{row_fields};
 ghost use Rattle.cb_facts.specs.Facts.{content_of};
 ghost use Rattle.cb_fit.specs.FieldPlaces.{field_at, field_value};
 
 use crate::slots::slot_value;
-use cb_cuts::Fields;
+use cb_constraints::Fields;
 use cb_facts::{Content, Fact, Value};
 use cb_forms::NoMemory;
 

@@ -17,8 +17,7 @@ use crate::pattern::Pattern;
 use crate::search::Search;
 use crate::slots::may_take_slots;
 use crate::way::Way;
-use cb_constraints::{Body, Parts, Row, SlotRow};
-use cb_cuts::{Cuts, Fields};
+use cb_constraints::{Body, Fields, PatternParts, Row, Segments, SlotRow};
 use cb_exprs::Env;
 use cb_facts::{Content, Fact, Multifield};
 use cb_forms::NoMemory;
@@ -106,7 +105,7 @@ fn search_body(
         (ways_of_parts body.now (content_of content.now) env.now))) }
 {
     match (body.parts(), content) {
-        (Parts::Fields(row), Content::Fields(fields)) => {
+        (PatternParts::Fields(row), Content::Fields(fields)) => {
             let search = Search {
                 alloc,
                 constants,
@@ -117,7 +116,7 @@ fn search_body(
             };
             search_fields(search, row, fields, is_one_enough)
         }
-        (Parts::Slots(rows), Content::Slots(slots)) => {
+        (PatternParts::Slots(rows), Content::Slots(slots)) => {
             let search = Search {
                 alloc,
                 constants,
@@ -149,7 +148,7 @@ fn search_fields<'a>(
     if !may_take_row(Fields::All(fields), row) {
         return Ok(all);
     }
-    let mut cuts = Cuts::new(search.alloc);
+    let mut cuts = Segments::new(search.alloc);
     let next = search.begin_fields(row, Fields::All(fields), &mut cuts, &mut all)?;
     search.run(next, is_one_enough, &mut cuts, &mut all)?;
     Ok(all)
@@ -172,7 +171,7 @@ fn search_slots<'a>(
     if !may_take_slots(rows, search.slots) {
         return Ok(all);
     }
-    let mut cuts = Cuts::new(search.alloc);
+    let mut cuts = Segments::new(search.alloc);
     let next = search.begin_rows(rows, &mut cuts, &mut all)?;
     search.run(next, is_one_enough, &mut cuts, &mut all)?;
     Ok(all)

@@ -3,7 +3,7 @@ ghost use Rattle.std.specs.Prelude.{◌≡◌, ◌++◌, ◌∷◌, ◌+◌, ◌
 ghost use Rattle.cb_constraints.specs.Constraints.{constraint_of};
 ghost use Rattle.cb_constraints.specs.Rows.{segments_wanted};
 ghost use Rattle.cb_constraints.specs.PartValues.{asked_slot};
-ghost use Rattle.cb_cuts.specs.Internal.{row_fields};
+ghost use Rattle.cb_constraints.specs.Internal.RowFields.{row_fields};
 ghost use Rattle.cb_fit.specs.Internal.{begun_at, endings, env_after, may_take_row, may_take_slots, taken_by};
 ghost use Rattle.cb_fit.specs.Internal.Choices.{IsOpen, IsRest, KeepsFirst, as_ways, followed_by_rows, kept_with, most_tries, segments_in, tries};
 ghost use Rattle.cb_fit.specs.Internal.Standing.{AreNext, IsAt};
@@ -11,12 +11,12 @@ ghost use Rattle.cb_fit.specs.WayValues.{way_of};
 ghost use Rattle.cb_fit.specs.Ways.{after_cuts, ways_of_row};
 
 use crate::choice::Choice;
+use crate::cuts::Cuts;
 use crate::rest::Rest;
 use crate::search::Search;
 use crate::slots::slot_value;
 use crate::way::Way;
-use cb_constraints::{Row, SlotRow, newly_bound};
-use cb_cuts::{Cuts, Fields};
+use cb_constraints::{Fields, Row, Segments, SlotRow, newly_bound};
 use cb_forms::NoMemory;
 
 impl<'a> Search<'a> {
@@ -27,7 +27,7 @@ impl<'a> Search<'a> {
         fields: Fields<'a>,
         rest: Rest<'a>,
         rows: &'a [SlotRow],
-        cuts: &mut Cuts,
+        cuts: &mut Segments,
         kept: &mut Vec<Way>,
     ) -> Result<Option<Choice<'a>>, NoMemory>
         requires rest { IsRest rest }
@@ -61,7 +61,7 @@ impl<'a> Search<'a> {
     pub(crate) fn begin_rows(
         self,
         rows: &'a [SlotRow],
-        cuts: &mut Cuts,
+        cuts: &mut Segments,
         kept: &mut Vec<Way>,
     ) -> Result<Option<Choice<'a>>, NoMemory>
         requires may { may_take_slots (map asked_slot rows.now) self.slots.now ≡ true }
@@ -95,15 +95,15 @@ impl<'a> Search<'a> {
     }
 
     /// Keeps the way of segments with these lengths, one for each constraint of the pattern.
-    fn keep(self, cuts: &Cuts, kept: &mut Vec<Way>) -> Result<(), NoMemory>
+    fn keep(self, cuts: &Segments, kept: &mut Vec<Way>) -> Result<(), NoMemory>
         requires { AreNext self (length cuts.now) [] }
         ensures { OnOk result (map way_of kept.new.items
             ≡ map way_of kept.old.items ++ as_ways self.entry (taken_by self.entry cuts.now ∷ [])) }
     {
         let took = self.taken(cuts);
-        let bound = newly_bound(self.alloc, self.body, self.before, &took)?;
+        let bound = newly_bound(self.alloc, self.body, self.before, took)?;
         kept.push(Way {
-            cuts: cuts.to_vec(self.alloc)?,
+            cuts: Cuts::of(self.alloc, cuts)?,
             bound,
         })?;
         Ok(())
@@ -114,7 +114,7 @@ impl<'a> Search<'a> {
         self,
         row: &'a Row,
         fields: Fields<'a>,
-        cuts: &mut Cuts,
+        cuts: &mut Segments,
         kept: &mut Vec<Way>,
     ) -> Result<Option<Choice<'a>>, NoMemory>
         requires may { may_take_row row.now (row_fields fields) ≡ true }

@@ -8,7 +8,7 @@ ghost use Rattle.cb_fit.specs.JoinFields.{fields_for, join_fields, value_in};
 
 use crate::field_place::FieldPlace;
 use crate::placed::placed_demands;
-use cb_constraints::{Check, Demand, Parts, Test};
+use cb_constraints::{Check, Demand, PatternParts, Test};
 use cb_facts::{Fact, Name, Value};
 use cb_forms::NoMemory;
 use std::alloc::Global;
@@ -42,7 +42,10 @@ impl JoinField {
 
 /// The fields that have to be equal to variables, by what a pattern asks. Growth is refused as `NoMemory`, and so is a count of
 /// sharers that is full.
-pub(crate) fn fields_of_parts(alloc: Global, parts: &Parts) -> Result<Vec<JoinField>, NoMemory>
+pub(crate) fn fields_of_parts(
+    alloc: Global,
+    parts: &PatternParts,
+) -> Result<Vec<JoinField>, NoMemory>
     ensures { IfOk result (λ all. all.items ≡ join_fields (asked_parts parts.now)) }
 {
     let mut all = Vec::new(alloc);

@@ -5,20 +5,19 @@ ghost use Rattle.cb_facts.specs.Facts.{content_of};
 ghost use Rattle.cb_fit.specs.Internal.{slot_takes_length, slots_take_lengths, take_lengths, takes_length};
 
 use crate::slots::slot_value;
-use cb_constraints::{Parts, Row, SlotRow};
-use cb_cuts::Fields;
+use cb_constraints::{Fields, PatternParts, Row, SlotRow};
 use cb_facts::{Content, Name, Value};
 
 /// Whether a pattern can take as many fields as the content of a fact has: those of an ordered fact, or those of each slot
 /// that the pattern writes.
-pub(crate) fn take_lengths(parts: &Parts, content: &Content) -> bool
+pub(crate) fn take_lengths(parts: &PatternParts, content: &Content) -> bool
     ensures { result ≡ take_lengths (asked_parts parts.now) (content_of content.now) }
 {
     match (parts, content) {
-        (Parts::Fields(row), Content::Fields(fields)) => {
+        (PatternParts::Fields(row), Content::Fields(fields)) => {
             takes_length(row, fields.as_slice().len())
         }
-        (Parts::Slots(rows), Content::Slots(slots)) => slots_take_lengths(rows, slots),
+        (PatternParts::Slots(rows), Content::Slots(slots)) => slots_take_lengths(rows, slots),
         _ => false,
     }
 }

@@ -8,6 +8,7 @@
 
 mod choice; // a choice: the places where a segment may end
 mod constant_fields; // the fields of a fact that have to be equal to constants
+mod cuts; // the lengths of the segments into which a pattern cuts a fact
 mod field_place; // the place of a field in a fact
 mod fitting; // `fit`: from the pattern and the fact to the ways
 mod following; // what follows the beginning of a way: the rest of a row, the rows of the slots after it, the way
@@ -28,6 +29,7 @@ mod taking; // whether the constraint that comes next holds; constraints that ta
 mod way; // a way
 
 pub use constant_fields::ConstantField;
+pub use cuts::Cuts;
 pub use field_place::FieldPlace;
 pub use fitting::{fit, fits};
 pub use join_fields::JoinField;

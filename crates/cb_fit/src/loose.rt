@@ -4,18 +4,18 @@ ghost use Rattle.cb_constraints.specs.Constraints.{check_of, constraint_of, dema
 ghost use Rattle.cb_constraints.specs.PartValues.{asked_parts, asked_slot};
 ghost use Rattle.cb_fit.specs.Shapes.{constants_in, loose_constraint, loose_demand, loose_parts, loose_row, loose_slot};
 
-use cb_constraints::{Check, Constraint, Demand, Parts, Row, SlotRow, Test};
+use cb_constraints::{Check, Constraint, Demand, PatternParts, Row, SlotRow, Test};
 use cb_forms::NoMemory;
 use std::alloc::Global;
 
 /// What a pattern asks by constants and lengths alone. The constants share their bytes and fields, and no expression is copied.
 /// Growth is refused as `NoMemory`, and so is a count of sharers that is full.
-pub(crate) fn loose_parts(alloc: Global, parts: &Parts) -> Result<Parts, NoMemory>
+pub(crate) fn loose_parts(alloc: Global, parts: &PatternParts) -> Result<PatternParts, NoMemory>
     ensures { IfOk result (λ loose. asked_parts loose ≡ loose_parts (asked_parts parts.now)) }
 {
     match parts {
-        Parts::Fields(row) => Ok(Parts::Fields(loose_row(alloc, row)?)),
-        Parts::Slots(rows) => Ok(Parts::Slots(loose_slots(alloc, rows.as_slice())?)),
+        PatternParts::Fields(row) => Ok(PatternParts::Fields(loose_row(alloc, row)?)),
+        PatternParts::Slots(rows) => Ok(PatternParts::Slots(loose_slots(alloc, rows.as_slice())?)),
     }
 }
 

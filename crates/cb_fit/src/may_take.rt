@@ -2,13 +2,12 @@
 //! any variable takes a value.
 ghost use Rattle.std.specs.Prelude.{◌≡◌, ◌≤◌, drop, length, map, take, true};
 ghost use Rattle.cb_constraints.specs.Constraints.{constraint_of};
-ghost use Rattle.cb_cuts.specs.Internal.{row_fields};
+ghost use Rattle.cb_constraints.specs.Internal.RowFields.{row_fields};
 ghost use Rattle.cb_fit.specs.Internal.{after_last, may_take, may_take_back, may_take_front, may_take_row, takes_length};
 
 use crate::lengths::takes_length;
 use crate::rest::split_ones;
-use cb_constraints::{Constraint, Row, may_hold};
-use cb_cuts::Fields;
+use cb_constraints::{Constraint, Fields, Row, may_hold};
 
 /// Whether a row may take the fields: as many as these, and by what its constraints before the first segment and those after the
 /// last ask.

@@ -12,7 +12,7 @@ use crate::join_fields::{JoinField, fields_of_parts};
 use crate::loose::loose_parts;
 use crate::meter::Meter;
 use crate::standing_alone::parts_alone;
-use cb_constraints::{Body, Parts};
+use cb_constraints::{Body, PatternParts};
 use cb_facts::Name;
 use cb_forms::NoMemory;
 use std::alloc::Global;
@@ -46,7 +46,7 @@ impl<T> Model for Pattern<T> {
 impl<T> Pattern<T> {
     /// A pattern for the facts of a relation, which asks these parts of their content: a row for the fields of ordered facts,
     /// or rows for slots of the relation's template. Growth is refused as `NoMemory`.
-    pub fn new(alloc: Global, relation: Name, parts: Parts) -> Result<Pattern<T>, NoMemory>
+    pub fn new(alloc: Global, relation: Name, parts: PatternParts) -> Result<Pattern<T>, NoMemory>
         ensures { IfOk result (λ p. p ≡ record { relation = relation; parts = asked_parts parts }) }
     {
         Ok(Pattern {

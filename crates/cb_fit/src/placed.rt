@@ -6,7 +6,7 @@ ghost use Rattle.cb_fit.specs.Internal.Placed.{placed_of};
 ghost use Rattle.std.specs.List.{flat_map};
 
 use crate::field_place::FieldPlace;
-use cb_constraints::{Demand, Parts, Row, SlotRow};
+use cb_constraints::{Demand, PatternParts, Row, SlotRow};
 use cb_forms::NoMemory;
 use std::alloc::Global;
 
@@ -21,15 +21,15 @@ pub(crate) struct Placed<'a> {
 /// refused as `NoMemory`.
 pub(crate) fn placed_demands<'a>(
     alloc: Global,
-    parts: &'a Parts,
+    parts: &'a PatternParts,
 ) -> Result<Vec<Placed<'a>>, NoMemory>
     ensures { IfOk result (λ all. map placed_of all.items
         ≡ placed_demands (asked_parts parts.now)) }
 {
     let mut all = Vec::new(alloc);
     match parts {
-        Parts::Fields(row) => add_row(None, row, &mut all)?,
-        Parts::Slots(rows) => add_slots(rows.as_slice(), &mut all)?,
+        PatternParts::Fields(row) => add_row(None, row, &mut all)?,
+        PatternParts::Slots(rows) => add_slots(rows.as_slice(), &mut all)?,
     }
     Ok(all)
 }

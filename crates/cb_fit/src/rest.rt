@@ -2,15 +2,14 @@
 ghost use Rattle.std.specs.Prelude.{◌≡◌, ◌+◌, ◌++◌, ◌≤◌, [], IfOk, IfSome, MatchOption, OnOk, length, map, take, true};
 ghost use Rattle.cb_constraints.specs.Constraints.{constraint_of};
 ghost use Rattle.cb_constraints.specs.Rows.{before_segments, segments_wanted};
-ghost use Rattle.cb_cuts.specs.Internal.{row_fields};
+ghost use Rattle.cb_constraints.specs.Internal.RowFields.{row_fields};
 ghost use Rattle.cb_fit.specs.Internal.{begun_at, endings, env_after, may_take_row};
 ghost use Rattle.cb_fit.specs.Internal.Choices.{IsRest, KeepsFirst};
 ghost use Rattle.cb_fit.specs.Internal.Standing.{IsAt};
 ghost use Rattle.cb_fit.specs.Ways.{after_cuts, ways_of_row};
 
 use crate::search::Search;
-use cb_constraints::{Constraint, Row};
-use cb_cuts::{Cuts, Fields};
+use cb_constraints::{Constraint, Fields, Row, Segments};
 use cb_forms::NoMemory;
 
 /// The constraints of a row from one for a segment on, or none.
@@ -30,7 +29,7 @@ impl Search<'_> {
         self,
         row: &'r Row,
         fields: Fields<'_>,
-        cuts: &mut Cuts,
+        cuts: &mut Segments,
     ) -> Result<Option<Rest<'r>>, NoMemory>
         requires may { may_take_row row.now (row_fields fields) ≡ true }
         requires place { IsAt self (row_fields fields) cuts.old 0 row.now }

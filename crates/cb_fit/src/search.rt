@@ -8,8 +8,7 @@ use crate::choice::Choice;
 use crate::open_choices::{OpenChoices, open_next, open_others};
 use crate::rest::Rest;
 use crate::way::Way;
-use cb_constraints::Body;
-use cb_cuts::Cuts;
+use cb_constraints::{Body, Segments};
 use cb_exprs::Env;
 use cb_facts::{Content, Name, Value};
 use cb_forms::NoMemory;
@@ -38,7 +37,7 @@ impl<'a> Search<'a> {
         self,
         first: Option<Choice<'a>>,
         is_one_enough: bool,
-        cuts: &mut Cuts,
+        cuts: &mut Segments,
         kept: &mut Vec<Way>,
     ) -> Result<(), NoMemory>
         requires { IfSome first (IsOpen self cuts.old) }
@@ -56,7 +55,7 @@ impl<'a> Search<'a> {
         self,
         first: Choice<'a>,
         is_one_enough: bool,
-        cuts: &mut Cuts,
+        cuts: &mut Segments,
         kept: &mut Vec<Way>,
     ) -> Result<(), NoMemory>
         requires { IsOpen self cuts.old first }
@@ -79,7 +78,7 @@ impl<'a> Search<'a> {
         self,
         next: Option<Choice<'a>>,
         choices: &mut OpenChoices<'a>,
-        cuts: &mut Cuts,
+        cuts: &mut Segments,
         kept: &mut Vec<Way>,
     ) -> Result<(), NoMemory>
         requires choice { IsSomeAnd next (IsOpen self cuts.old) }

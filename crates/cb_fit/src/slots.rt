@@ -5,8 +5,7 @@ ghost use Rattle.cb_fit.specs.Internal.{may_take_slot, may_take_slots};
 ghost use Rattle.cb_fit.specs.Ways.{slot_at};
 
 use crate::may_take::may_take_row;
-use cb_constraints::SlotRow;
-use cb_cuts::Fields;
+use cb_constraints::{Fields, SlotRow};
 use cb_facts::{Name, Value};
 
 /// Whether each row may take the fields of its slot, by their number and by the constants before the first segment and after

@@ -6,15 +6,15 @@ ghost use Rattle.cb_constraints.specs.Holding.{is_constant};
 ghost use Rattle.cb_constraints.specs.PartValues.{asked_parts, asked_slot};
 ghost use Rattle.cb_fit.specs.StandsAlone.{are_constants, demand_alone, parts_alone, row_alone, slot_alone};
 
-use cb_constraints::{Check, Constraint, Demand, Parts, SlotRow, Test};
+use cb_constraints::{Check, Constraint, Demand, PatternParts, SlotRow, Test};
 
 /// Whether what a pattern asks has no variable and no expression.
-pub(crate) fn parts_alone(parts: &Parts) -> bool
+pub(crate) fn parts_alone(parts: &PatternParts) -> bool
     ensures { result ≡ parts_alone (asked_parts parts.now) }
 {
     match parts {
-        Parts::Fields(row) => row_alone(row.constraints()),
-        Parts::Slots(rows) => slots_alone(rows.as_slice()),
+        PatternParts::Fields(row) => row_alone(row.constraints()),
+        PatternParts::Slots(rows) => slots_alone(rows.as_slice()),
     }
 }
 

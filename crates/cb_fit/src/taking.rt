@@ -3,7 +3,7 @@ ghost use Rattle.std.specs.Prelude.{◌≡◌, ◌∷◌, ◌++◌, [], ◌+◌,
 ghost use Rattle.cb_constraints.specs.Constraints.{constraint_of, demand_of};
 ghost use Rattle.cb_constraints.specs.Holding.{Meets, may_hold, tested_value};
 ghost use Rattle.cb_constraints.specs.Rows.{segments_wanted};
-ghost use Rattle.cb_cuts.specs.Internal.{row_fields};
+ghost use Rattle.cb_constraints.specs.Internal.RowFields.{row_fields};
 ghost use Rattle.cb_fit.specs.Internal.{after_ones, begun_at, begun_if, env_after, may_take, with_group};
 ghost use Rattle.cb_fit.specs.Internal.Choices.{KeepsFirst};
 ghost use Rattle.cb_fit.specs.Internal.Standing.{IsAt, ComesNext, TestsNext};
@@ -11,8 +11,9 @@ ghost use Rattle.cb_fit.specs.Ways.{after_segment};
 
 use crate::may_take::may_take;
 use crate::search::Search;
-use cb_constraints::{Constraint, Demand, Known, Tested, meets, meets_beyond_constants};
-use cb_cuts::{Cuts, Fields, Taken};
+use cb_constraints::{
+    Constraint, Demand, Fields, Known, Segments, Taken, Tested, meets, meets_beyond_constants,
+};
 use cb_forms::NoMemory;
 
 impl<'a> Search<'a> {
@@ -23,7 +24,7 @@ impl<'a> Search<'a> {
         fields: Fields<'_>,
         constraints: &[Constraint],
         from: usize,
-        cuts: &mut Cuts,
+        cuts: &mut Segments,
     ) -> Result<bool, NoMemory>
         requires within { from ≤ length (row_fields fields) }
         requires may { may_take (map constraint_of constraints.now) (drop from (row_fields fields))
@@ -59,7 +60,7 @@ impl<'a> Search<'a> {
         self,
         constraint: &Constraint,
         tested: Tested<'_>,
-        cuts: &Cuts,
+        cuts: &Segments,
     ) -> Result<bool, NoMemory>
         requires next { ComesNext self cuts.now (constraint_of constraint.now) }
         requires may { may_hold (demand_of constraint.now.demand) (tested_value tested) ≡ true }
@@ -73,7 +74,7 @@ impl<'a> Search<'a> {
             self.constants,
             &constraint.demand,
             tested,
-            &known,
+            known,
         )
     }
 
@@ -84,7 +85,7 @@ impl<'a> Search<'a> {
         constraint: &Constraint,
         from: usize,
         to: usize,
-        cuts: &mut Cuts,
+        cuts: &mut Segments,
     ) -> Result<bool, NoMemory>
         requires segment { (constraint_of constraint.now).segment ≡ true }
         requires order { from ≤ to }
@@ -114,7 +115,7 @@ impl<'a> Search<'a> {
         constraint: &Constraint,
         from: usize,
         to: usize,
-        cuts: &Cuts,
+        cuts: &Segments,
     ) -> Result<bool, NoMemory>
         requires segment { (constraint_of constraint.now).segment ≡ true }
         requires order { from ≤ to }
@@ -139,7 +140,7 @@ impl<'a> Search<'a> {
             self.constants,
             &constraint.demand,
             tested,
-            &known,
+            known,
         )
     }
 
@@ -152,7 +153,7 @@ impl<'a> Search<'a> {
         ones: &[Constraint],
         from: usize,
         to: usize,
-        cuts: &mut Cuts,
+        cuts: &mut Segments,
     ) -> Result<bool, NoMemory>
         requires segment { (constraint_of constraint.now).segment ≡ true }
         requires ones { segments_wanted (map constraint_of ones.now) ≡ 0 }
@@ -179,7 +180,7 @@ impl<'a> Search<'a> {
     }
 
     /// What the constraints took of the fact, in segments of these lengths.
-    pub(crate) fn taken<'k>(self, cuts: &'k Cuts) -> Taken<'k>
+    pub(crate) fn taken<'k>(self, cuts: &'k Segments) -> Taken<'k>
     where
         'a: 'k,
         ensures body { result.body.now ≡ self.entry.body.now }
@@ -195,7 +196,7 @@ impl<'a> Search<'a> {
     }
 
     /// What variables have where the constraint that comes next is tested for a value.
-    fn known<'k>(self, took: &'k Taken<'k>, tested: Tested<'k>) -> Known<'k, Taken<'k>>
+    fn known<'k>(self, took: &'k Taken<'k>, tested: Tested<'k>) -> Known<'k>
     where
         'a: 'k,
         ensures before { result.before.now ≡ self.entry.before.now }

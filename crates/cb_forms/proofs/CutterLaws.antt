@@ -10,8 +10,8 @@ use Rattle.cb_forms.specs.Internal.OpenParts.{IsKept, Reaches}
 use Rattle.cb_forms.specs.Trees.{Reading}
 use Rattle.cb_forms.specs.declared.cut.Cut.{Cut}
 use Rattle.cb_forms.specs.declared.open_part.OpenPart.{OpenPart}
-use Rattle.cb_forms.specs.Lemmas.OpenPartLaws.{open-no_gap}
-use Rattle.cb_forms.specs.Lemmas.PartLaws.{tail, tail-push, items-split, whole-taken, whole-fresh, over-split, over-push, over-kept}
+use Rattle.cb_forms.proofs.OpenPartLaws.{open-no_gap}
+use Rattle.cb_forms.proofs.PartLaws.{tail, tail-push, items-split, whole-taken, whole-fresh, over-split, over-push, over-kept}
 
 -- what has ended with one more byte
 pub whole-push : (p : List ℕ) (b : ℕ) → whole (p ++ b ∷ []) ≡ whole p ++ (readings_before (tail p) b ++ ended_readings (part_with (tail p) b))

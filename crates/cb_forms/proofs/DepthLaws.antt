@@ -8,7 +8,7 @@ use Rattle.cb_forms.specs.Trees.{Tree, atom, branch, Trees, no_trees, tree}
 use Rattle.cb_forms.specs.declared.fault.Fault.TheVariants.{NestingTooDeep}
 use Rattle.cb_forms.specs.declared.lexeme.Lexeme.{Lexeme}
 use Rattle.cb_forms.specs.declared.lexeme.Lexeme.TheVariants.{Gap, Opening, Closing, Atom}
-use Rattle.cb_forms.specs.Lemmas.{tree-written}
+use Rattle.cb_forms.proofs.ReadingLaws.{tree-written}
 
 -- a list is opened where n are open
 opened : (n : ℕ) (ls : List Lexeme) → n < 200 → first_fault n (Opening ∷ ls) ≡ first_fault (n + 1) ls

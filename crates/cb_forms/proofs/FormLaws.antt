@@ -13,11 +13,11 @@ use Rattle.cb_forms.specs.Trees.{Tree, atom, branch, Trees, no_trees, tree}
 use Rattle.cb_forms.specs.declared.fault.Fault.TheVariants.{FormNotClosed, NestingTooDeep}
 use Rattle.cb_forms.specs.declared.lexeme.Lexeme.{Lexeme}
 use Rattle.cb_forms.specs.declared.lexeme.Lexeme.TheVariants.{Gap, Opening, Closing, Atom}
-use Rattle.cb_forms.specs.Lemmas.CuttingLaws.{are_cut-cut}
+use Rattle.cb_forms.proofs.CuttingLaws.{are_cut-cut}
 use Rattle.cb_forms.proofs.ListLaws.{is_opening, opening-begins, pieces-list}
-use Rattle.cb_forms.specs.Lemmas.ListStackLaws.{first_tree-put_first}
+use Rattle.cb_forms.proofs.ListStackLaws.{first_tree-put_first}
 use Rattle.cb_forms.proofs.DepthLaws.{fine-trees, fault-gaps}
-use Rattle.cb_forms.specs.Lemmas.{levels-written}
+use Rattle.cb_forms.proofs.ReadingLaws.{levels-written}
 use Rattle.cb_forms.proofs.SpellingLaws.{one-piece, list-spelled}
 use Rattle.cb_forms.proofs.TextLaws.{spelled, text-spelled}
 use Rattle.cb_forms.proofs.WritingLaws.{opens, closes, opens-pieces, closes-pieces}

@@ -16,7 +16,7 @@ use Rattle.cb_forms.specs.declared.lexeme.Lexeme.{Lexeme}
 use Rattle.cb_forms.specs.declared.lexeme.Lexeme.TheVariants.{Gap, Opening, Closing, Atom}
 use Rattle.cb_forms.specs.declared.token.Token.{Token}
 use Rattle.cb_forms.specs.declared.token.Token.TheVariants.{And, Or, Not}
-use Rattle.cb_forms.specs.Lemmas.ListStackLaws.{closed_up-open}
+use Rattle.cb_forms.proofs.ListStackLaws.{closed_up-open}
 
 abbrev pub is_opening : Lexeme → Bool
 is_opening Opening = true

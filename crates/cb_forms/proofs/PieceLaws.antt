@@ -9,7 +9,7 @@ use Rattle.cb_forms.specs.Internal.ScanStates.{StaysIn, mode_of, mode_takes, fre
 use Rattle.cb_forms.specs.Strings.{is_unclosed, is_unclosed_escaped}
 use Rattle.cb_forms.specs.declared.lexeme.Lexeme.TheVariants.{Gap}
 use Rattle.cb_forms.specs.declared.lex_mode.LexMode.{LexMode}
-use Rattle.cb_forms.specs.Lemmas.Modes.{piece-takes, mode-push}
+use Rattle.cb_forms.proofs.Modes.{piece-takes, mode-push}
 use Rattle.cb_forms.proofs.Splits.{take-both, split-more, split-all, split-end}
 
 -- the piece at the front of a text, as far as the first i bytes tell

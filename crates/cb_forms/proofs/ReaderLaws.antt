@@ -7,8 +7,8 @@ use Rattle.cb_forms.specs.Items.{part_takes, parts, readings_of, items}
 use Rattle.cb_forms.specs.Internal.ScanStates.{mode_takes, fresh_mode, next_mode, next_depth, fresh_depth, IsStateIn}
 use Rattle.cb_forms.specs.Trees.{Reading}
 use Rattle.cb_forms.specs.declared.lex_mode.LexMode.{LexMode}
-use Rattle.cb_forms.specs.Lemmas.OpenPartLaws.{depth-next}
-use Rattle.cb_forms.specs.Lemmas.ScanStateLaws.{state-takes, state-push, state-fresh}
+use Rattle.cb_forms.proofs.OpenPartLaws.{depth-next}
+use Rattle.cb_forms.proofs.ScanStateLaws.{state-takes, state-push, state-fresh}
 use Rattle.cb_forms.proofs.Splits.{split-more, split-all, split-end}
 
 -- the part at the front of a text, as far as the first i bytes tell

@@ -14,9 +14,9 @@ use Rattle.cb_forms.specs.declared.lex_mode.LexMode.{LexMode}
 use Rattle.cb_forms.specs.declared.lex_mode.LexMode.TheVariants.{Ended, Comment, Word, Quoted, Escaped}
 use Rattle.cb_forms.specs.declared.open_part.OpenPart.{OpenPart}
 use Rattle.cb_forms.proofs.CutterLaws.{whole-push}
-use Rattle.cb_forms.specs.Lemmas.OpenPartLaws.{depth-next, kept-open, open_bytes-open, open-no_gap, reaches-gap, reaches-item, depth-fresh}
-use Rattle.cb_forms.specs.Lemmas.PartLaws.{tail, tail-push, over-push}
-use Rattle.cb_forms.specs.Lemmas.ScanStateLaws.{state-takes, state-open, state-push, state-fresh}
+use Rattle.cb_forms.proofs.OpenPartLaws.{depth-next, kept-open, open_bytes-open, open-no_gap, reaches-gap, reaches-item, depth-fresh}
+use Rattle.cb_forms.proofs.PartLaws.{tail, tail-push, over-push}
+use Rattle.cb_forms.proofs.ScanStateLaws.{state-takes, state-open, state-push, state-fresh}
 use Rattle.cb_forms.proofs.Splits.{take-both}
 use Rattle.cb_forms.proofs.WithinLaws.{begins, ended-open, stays-comment}
 

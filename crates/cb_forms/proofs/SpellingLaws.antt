@@ -12,10 +12,10 @@ use Rattle.cb_forms.specs.declared.fault.Fault.{Fault}
 use Rattle.cb_forms.specs.declared.fault.Fault.TheVariants.{FormNotClosed}
 use Rattle.cb_forms.specs.declared.lexeme.Lexeme.{Lexeme}
 use Rattle.cb_forms.specs.declared.lexeme.Lexeme.TheVariants.{Gap, Opening, Closing, Atom}
-use Rattle.cb_forms.specs.Lemmas.CuttingLaws.{joined-cut, are_cut-cut, cut-joined, are_cut-front, are_cut-back}
+use Rattle.cb_forms.proofs.CuttingLaws.{joined-cut, are_cut-cut, cut-joined, are_cut-front, are_cut-back}
 use Rattle.cb_forms.proofs.ListLaws.{is_opening, opening-begins, pieces-list}
-use Rattle.cb_forms.specs.Lemmas.ListStackLaws.{first_tree-put_first}
-use Rattle.cb_forms.specs.Lemmas.{levels-written, levels-gaps}
+use Rattle.cb_forms.proofs.ListStackLaws.{first_tree-put_first}
+use Rattle.cb_forms.proofs.ReadingLaws.{levels-written, levels-gaps}
 use Rattle.cb_forms.proofs.WritingLaws.{opens, closes, opens-pieces, closes-pieces, written_rest, Closes, closes-run}
 
 pub gaps-append : (ls more : List Lexeme) → without_gaps (ls ++ more) ≡ without_gaps ls ++ without_gaps more

@@ -15,9 +15,9 @@ use Rattle.cb_forms.specs.declared.lexeme.Lexeme.{Lexeme}
 use Rattle.cb_forms.specs.declared.lexeme.Lexeme.TheVariants.{Gap, Opening, Closing, Atom}
 use Rattle.cb_forms.specs.declared.lex_mode.LexMode.{LexMode}
 use Rattle.cb_forms.specs.declared.lex_mode.LexMode.TheVariants.{Ended}
-use Rattle.cb_forms.specs.Lemmas.CuttingLaws.{joined-cut, are_cut-cut}
-use Rattle.cb_forms.specs.Lemmas.Modes.{piece-takes}
-use Rattle.cb_forms.specs.Lemmas.ScanStateLaws.{state-takes, state-push, state-fresh}
+use Rattle.cb_forms.proofs.CuttingLaws.{joined-cut, are_cut-cut}
+use Rattle.cb_forms.proofs.Modes.{piece-takes}
+use Rattle.cb_forms.proofs.ScanStateLaws.{state-takes, state-push, state-fresh}
 use Rattle.cb_forms.proofs.SpellingLaws.{gaps-append, one-piece, SaysPart, says-part}
 
 module _ (takes : List ℕ → ℕ → Bool) where

@@ -9,8 +9,8 @@ use Rattle.cb_forms.specs.Trees.{Reading}
 use Rattle.cb_forms.specs.declared.cut.Cut.TheVariants as cut
 use Rattle.cb_forms.specs.declared.lex_mode.LexMode.{LexMode}
 use Rattle.cb_forms.specs.declared.open_part.OpenPart.{OpenPart}
-use Rattle.cb_forms.specs.Lemmas.OpenPartLaws.{reaches-comment}
-use Rattle.cb_forms.specs.Lemmas.ScanStateLaws.{state-takes}
+use Rattle.cb_forms.proofs.OpenPartLaws.{reaches-comment}
+use Rattle.cb_forms.proofs.ScanStateLaws.{state-takes}
 
 -- the byte goes on with the part
 goes_on : (limit : ℕ) (w : List ℕ) (b : ℕ) (part : OpenPart) → part_takes w b ≡ true → Reaches limit (w ++ b ∷ []) [] cut.More part → Reaches limit (part_with w b) (readings_before w b) cut.More part

@@ -7,7 +7,6 @@ pub mod FirstFaults
 pub mod Internal
 pub mod Items
 pub mod Laws
-pub mod Lemmas
 pub mod Lists
 pub mod Members
 pub mod Pieces

@@ -7,7 +7,6 @@
 
 mod byte_kinds; // blank, line end, single, delimiter
 mod byte_string; // bytes that a script spells, as a value
-pub mod cited; // laws that the proofs of other crates cite
 mod cut; // what a byte gave
 mod cutter; // the cutter: the open part, the limit, and what contracts see
 mod fault; // the faults, each with its number and its text

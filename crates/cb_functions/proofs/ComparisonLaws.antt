@@ -1,15 +1,15 @@
 -- The law of values that are neither all equal nor different from the first.
 use Rattle.std.proofs.Common.{◌≡◌, ◌&&◌, Bool, true, false, not, [], ◌∷◌, Ok, refl, ap}
-use Rattle.cb_facts.specs.contracts.cited.LawsCited.TheImpl as facts_laws
+use Rattle.cb_facts.proofs.Equality.{value-Decides}
 use Rattle.cb_facts.specs.declared.value.Value.{Value}
 use Rattle.cb_functions.specs.Applied.{applied}
 use Rattle.cb_functions.specs.Comparison.{same}
 use Rattle.cb_functions.specs.Constants.{true_symbol, false_symbol, truth}
-use Rattle.cb_words.specs.declared.function.Function.TheVariants as function
+use Rattle.cb_words.specs.declared.words.Function.TheVariants as function
 
 -- a value equals itself
 itself : (v : Value) → same v v ≡ true
-itself v = (facts_laws.ghosts.value_decides v v).1 refl
+itself v = (value-Decides v v).1 refl
 
 -- by the answer of the second value's test, and by that of the first with itself
 by_tests : (other own : Bool) → own ≡ true → truth (not other && true) ≡ true_symbol

@@ -8,7 +8,7 @@ use Rattle.cb_facts.specs.declared.value.Value.{Value}
 use Rattle.cb_facts.specs.declared.value.Value.TheVariants as value
 use Rattle.cb_functions.specs.Applied.{applied}
 use Rattle.cb_functions.specs.Constants.{false_symbol, nil_symbol, true_symbol}
-use Rattle.cb_words.specs.declared.function.Function.TheVariants as function
+use Rattle.cb_words.specs.declared.words.Function.TheVariants as function
 
 -- integers, symbols and strings, as they stand in a script
 abbrev int : ℤ → Value

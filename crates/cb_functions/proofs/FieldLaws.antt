@@ -4,7 +4,7 @@ use Rattle.std.specs.List.{position}
 use Rattle.std.proofs.lemmas.List.Quantifiers.{position-Some}
 use Rattle.std.proofs.lemmas.Option.{slice_get-get_or}
 use Rattle.cb_facts.specs.Values.{value_of_field}
-use Rattle.cb_facts.specs.contracts.cited.LawsCited.TheImpl as facts_laws
+use Rattle.cb_facts.proofs.Equality.{value-Decides}
 use Rattle.cb_facts.specs.declared.single.Single.{Single}
 use Rattle.cb_facts.specs.declared.single.Single.TheVariants as single
 use Rattle.cb_facts.specs.declared.value.Value.{Value}
@@ -12,7 +12,7 @@ use Rattle.cb_facts.specs.declared.value.Value.TheVariants as value
 use Rattle.cb_functions.specs.Applied.{applied}
 use Rattle.cb_functions.specs.Comparison.{same}
 use Rattle.cb_functions.specs.Multifields.{field_at, field_or_nil, place_of, place_or_false}
-use Rattle.cb_words.specs.declared.function.Function.TheVariants as function
+use Rattle.cb_words.specs.declared.words.Function.TheVariants as function
 
 -- whether a field is a value
 abbrev is : Value → Single → Bool
@@ -25,7 +25,7 @@ at_place v fields (Some i) n at found =
     let there = position-Some (is v) fields i d at in
     let n_is : pos (i + 1) ≡ n = (cc) in
     let next : pos (suc i) ≡ n = ap pos (sym (add-one i)) ∙ n_is in
-    let here : field_at (pos (suc i)) fields ≡ v = ap field_or_nil (slice_get-get_or fields i d there.0) ∙ (facts_laws.ghosts.value_decides (value_of_field (get_or fields i d)) v).0 there.1 in
+    let here : field_at (pos (suc i)) fields ≡ v = ap field_or_nil (slice_get-get_or fields i d there.0) ∙ (value-Decides (value_of_field (get_or fields i d)) v).0 there.1 in
     subst (λ (m : ℤ). field_at m fields ≡ v) next here
 
 found_there : (v : Value) (fields : List Single) (n : ℤ) → place_of v fields ≡ value.Int n → field_at n fields ≡ v

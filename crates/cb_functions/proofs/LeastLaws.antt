@@ -6,8 +6,8 @@ use Rattle.std.proofs.lemmas.Int.{fold-int_min_bounds, fold-int_min_reached}
 use Rattle.cb_forms.specs.declared.fault.Fault.TheVariants.{WrongType}
 use Rattle.cb_facts.specs.Results.{and_then, ok_then, with_first}
 use Rattle.cb_facts.specs.declared.value.Value.TheVariants as value
-use Rattle.cb_words.specs.Arities.{arity_of, takes}
-use Rattle.cb_words.specs.declared.function.Function.TheVariants as function
+use Rattle.cb_words.specs.Words.{arity_of, takes}
+use Rattle.cb_words.specs.declared.words.Function.TheVariants as function
 use Rattle.cb_functions.specs.Applied.{applied}
 use Rattle.cb_functions.specs.Arguments.{integers_of}
 use Rattle.cb_functions.specs.Arithmetic.{calculated, least, left_to_right, with_others}

@@ -5,9 +5,9 @@ use Rattle.cb_forms.specs.declared.fault.Fault.{Fault}
 use Rattle.cb_forms.specs.declared.fault.Fault.TheVariants.{WrongType}
 use Rattle.cb_facts.specs.Values.{is_multifield}
 use Rattle.cb_facts.specs.declared.value.Value.{Value}
-use Rattle.cb_words.specs.Arities.{arity_of, takes}
-use Rattle.cb_words.specs.declared.function.Function.{Function}
-use Rattle.cb_words.specs.declared.function.Function.TheVariants as function
+use Rattle.cb_words.specs.Words.{arity_of, takes}
+use Rattle.cb_words.specs.declared.words.Function.{Function}
+use Rattle.cb_words.specs.declared.words.Function.TheVariants as function
 use Rattle.cb_functions.specs.Arithmetic.{calculated, difference, greatest, least, magnitude, product, quotient, remainder, sum}
 use Rattle.cb_functions.specs.Comparison.{all_same, compared, first_differs, greater, greater_or_equal, less, less_or_equal, of_integers}
 use Rattle.cb_functions.specs.Constants.{truth}

@@ -3,8 +3,8 @@ use Rattle.std.specs.Prelude.{Bool, true, false, not, codes}
 use Rattle.std.specs.Str.{bytes_eq}
 use Rattle.cb_facts.specs.declared.value.Value.{Value}
 use Rattle.cb_facts.specs.declared.value.Value.TheVariants as value
-use Rattle.cb_words.specs.declared.function.Function.{Function}
-use Rattle.cb_words.specs.declared.function.Function.TheVariants as function
+use Rattle.cb_words.specs.declared.words.Function.{Function}
+use Rattle.cb_words.specs.declared.words.Function.TheVariants as function
 
 -- every value but the symbol FALSE
 abbrev pub is_true : Value → Bool

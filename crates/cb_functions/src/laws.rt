@@ -7,7 +7,7 @@ ghost use Rattle.cb_functions.specs.Applied.{applied};
 ghost use Rattle.cb_functions.specs.Arithmetic.{quotient, remainder};
 ghost use Rattle.cb_functions.specs.Constants.{true_symbol, false_symbol};
 ghost use Rattle.cb_functions.specs.Logic.{decides};
-ghost use Rattle.cb_words.specs.declared.function.Function.TheVariants as function;
+ghost use Rattle.cb_words.specs.declared.words.Function.TheVariants as function;
 
 use cb_facts::Value;
 use cb_words::Function;

@@ -1,2 +1,4 @@
 mod Examples
+pub mod Passing
+pub mod PutLaws
 mod Walks

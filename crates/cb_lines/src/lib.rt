@@ -1,4 +1,6 @@
 //! The lines of facts, activations, firings and totals.
+//!
+//! A crate of its own, since `cb_actions` writes them as things happen, and `cb_session` where commands list them.
 #![tactic(auto)]
 
 mod lines; // the lines of facts, activations and firings

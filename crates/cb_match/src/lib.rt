@@ -4,5 +4,5 @@
 #![tactic(auto)]
 
 pub use cb_joins::Joins;
-pub use cb_matches::{Cuts, Delta, Key, Matcher, Part, Parts};
+pub use cb_matches::{Cuts, Delta, Key, MatchParts, Matcher, Part};
 pub use cb_rematch::Rematch;

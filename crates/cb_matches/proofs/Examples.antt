@@ -14,7 +14,7 @@ use Rattle.cb_matches.specs.Changes.{keys_come, keys_gone}
 use Rattle.cb_matches.specs.Keys.{KeyValue, PartValue}
 use Rattle.cb_matches.specs.Matches.{matches_of}
 use Rattle.cb_matches.specs.Networks.{Network, all_keys, all_matches, with_one, without_one}
-use Rattle.cb_words.specs.declared.function.Function.TheVariants as function
+use Rattle.cb_words.specs.declared.words.Function.TheVariants as function
 
 abbrev x : List ℕ
 x = codes "x"

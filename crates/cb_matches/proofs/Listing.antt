@@ -6,9 +6,9 @@ use Rattle.cb_facts.specs.FactLists.{IndexedFacts}
 use Rattle.cb_matches.proofs.Satisfying.{Fitting, Giving, Listed, all_is_so}
 use Rattle.cb_matches.specs.Keys.{KeyValue, PartValue}
 use Rattle.cb_matches.specs.Laws.{IsInOrder, IsMatch, Satisfies}
-use Rattle.cb_matches.specs.Lemmas.Indices.{rising_keys}
-use Rattle.cb_matches.specs.Lemmas.Lists.{contains_in, flat_in, in_contains, in_either, in_flat, in_left, in_map, in_right, map_in}
-use Rattle.cb_matches.specs.Lemmas.Members.{In}
+use Rattle.cb_matches.proofs.Indices.{rising_keys}
+use Rattle.cb_matches.proofs.Lists.{contains_in, flat_in, in_contains, in_either, in_flat, in_left, in_map, in_right, map_in}
+use Rattle.cb_matches.specs.Chains.{In}
 use Rattle.cb_matches.specs.Matches.{Partial, matches_of, no_parts}
 use Rattle.cb_matches.specs.Networks.{Network, all_matches, branch_matches, keyed, rule_matches}
 use Rattle.cb_rules.specs.Elements.{Elements}

@@ -11,12 +11,12 @@ use Rattle.cb_facts.specs.FactLists.{IndexedFacts}
 use Rattle.cb_matches.proofs.Listing.{is_listed}
 use Rattle.cb_matches.specs.Keys.{KeyValue, key_cmp, part_cmp}
 use Rattle.cb_matches.specs.Laws.{IsInOrder}
-use Rattle.cb_matches.specs.Lemmas.Growth.{sorted_next}
-use Rattle.cb_matches.specs.Lemmas.Indices.{rising_keys}
-use Rattle.cb_matches.specs.Lemmas.Lists.{chain_append, chain_filter, chain_flat, chain_map, in_map, pairs_from_chain}
-use Rattle.cb_matches.specs.Lemmas.Members.{Chain}
-use Rattle.cb_matches.specs.Lemmas.Order.{IsAhead, IsRising, IsSorted, WaysRise}
-use Rattle.cb_matches.specs.Lemmas.Parts.{earlier_is_less}
+use Rattle.cb_matches.proofs.Growth.{sorted_next}
+use Rattle.cb_matches.proofs.Indices.{rising_keys}
+use Rattle.cb_matches.proofs.Lists.{chain_append, chain_filter, chain_flat, chain_map, in_map, pairs_from_chain}
+use Rattle.cb_matches.specs.Chains.{Chain}
+use Rattle.cb_matches.specs.Order.{IsAhead, IsRising, IsSorted, WaysRise}
+use Rattle.cb_matches.proofs.PartOrder.{earlier_is_less}
 use Rattle.cb_matches.specs.Matches.{Partial, after, after_all, group_holds, matches_of, no_parts, test_holds}
 use Rattle.cb_matches.specs.Networks.{Network, all_keys, all_matches, branch_matches, keyed, rule_matches}
 use Rattle.cb_rules.specs.Elements.{Element, pattern, test, group, Elements, no_elements, element}

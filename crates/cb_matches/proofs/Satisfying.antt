@@ -11,10 +11,10 @@ use Rattle.cb_fit.specs.Related.{Fits}
 use Rattle.cb_fit.specs.Ways.{WayValue, taken_way, ways}
 use Rattle.cb_matches.specs.Keys.{PartValue}
 use Rattle.cb_matches.specs.Laws.{IsAsked, Satisfies, SatisfiesOne, Takes}
-use Rattle.cb_matches.specs.Lemmas.Growth.{in_next, is_grown}
-use Rattle.cb_matches.specs.Lemmas.Indices.{AreRising, in_looked, looked_in}
-use Rattle.cb_matches.specs.Lemmas.Lists.{contains_in, filter_in, in_contains, in_filter}
-use Rattle.cb_matches.specs.Lemmas.Members.{In}
+use Rattle.cb_matches.proofs.Growth.{in_next, is_grown}
+use Rattle.cb_matches.proofs.Indices.{AreRising, in_looked, looked_in}
+use Rattle.cb_matches.proofs.Lists.{contains_in, filter_in, in_contains, in_filter}
+use Rattle.cb_matches.specs.Chains.{In}
 use Rattle.cb_matches.specs.Matches.{Partial, after, after_all, group_holds, grown, next, test_holds, with_address}
 use Rattle.cb_rules.specs.Elements.{Element, pattern, test, group, Elements, no_elements, element}
 

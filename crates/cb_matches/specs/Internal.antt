@@ -1,7 +1,6 @@
 -- What only the code needs.
 pub mod HeldParts
 pub mod KeyLaws
-pub mod Lengths
 use Rattle.std.specs.Prelude.{ℕ, Bool, List, refl}
 use Rattle.std.specs.Coded.{Coded, code_by, coded_bool, coded_list, coded_ℕ, coded×}
 use Rattle.cb_rules.specs.Elements.{Elements}

@@ -5,7 +5,7 @@ ghost use Rattle.std.specs.Ordering.{as_partial_cmp};
 ghost use Rattle.cb_matches.specs.Internal.KeyLaws.{part_equiv, part_tied, part_total};
 ghost use Rattle.cb_matches.specs.Keys.{part_cmp, part_eq};
 
-use crate::cuts::Cuts;
+use cb_fit::Cuts;
 use std::alloc::AllocError;
 use std::cmp::Ordering;
 use std::marker::Model;

@@ -1,7 +1,7 @@
 -- Rows of constraints, and which constraints each is or what is wrong with it.
 use Rattle.std.proofs.Common.{◌≡◌, ℕ, List, [], ◌∷◌, Option, Some, None, codes, true, false, refl}
 use Rattle.cb_constraints.specs.Constraints.{Check, Constraint, Demand, Test, constant, variable, nothing, each, either}
-use Rattle.cb_templates.specs.FaultLists.{first_of}
+use Rattle.cb_facts.specs.FaultLists.{first_of}
 use Rattle.cb_expr_forms.specs.Scopes.{Scope}
 use Rattle.cb_expr_forms.specs.declared.scope.Side.TheVariants.{Left}
 use Rattle.cb_facts.specs.declared.value.Value.TheVariants as value

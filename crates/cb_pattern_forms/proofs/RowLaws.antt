@@ -2,7 +2,7 @@
 use Rattle.std.proofs.Common.{◌≡◌, ◌∙◌, ◌||◌, ◌++◌, Bool, true, false, List, [], ◌∷◌, Some, None, Err, map, refl, sym, ap, ap₂, append_assoc}
 use Rattle.cb_constraints.specs.Constraints.{Check, Demand, check_of}
 use Rattle.cb_constraints.specs.declared.constraint.Check as program
-use Rattle.cb_templates.specs.FaultLists.{ReadsAs, first_of, unless}
+use Rattle.cb_facts.specs.FaultLists.{ReadsAs, first_of, unless}
 use Rattle.cb_expr_forms.specs.Scopes.{Scope}
 use Rattle.cb_facts.specs.Results.{Reports}
 use Rattle.cb_facts.specs.declared.refused.Refused.{Refused}
@@ -16,7 +16,7 @@ use Rattle.cb_pattern_forms.specs.Internal.{StartsWithConstraint, EndsConstraint
 use Rattle.cb_pattern_forms.specs.declared.row.Connective.{Connective}
 use Rattle.cb_pattern_forms.specs.declared.row.Connective.TheVariants as connective
 use Rattle.cb_templates.specs.Templates.{Templates}
-use Rattle.cb_templates.specs.contracts.cited.LawsCited.TheImpl as templates_laws
+use Rattle.cb_facts.proofs.FirstFaults.{first_append}
 
 or_assoc : (a b c : Bool) → (a || (b || c)) ≡ ((a || b) || c)
 or_assoc true b c = refl
@@ -93,7 +93,7 @@ ends_with s all several more alternatives cs grown n w ms here d faults_were wer
 
 -- a check with a fault, and no check where one has to come
 pub check_faulty : (s : Scope) (n : Bool) (w : WrittenCheck) (ms : List Member) (f : Fault) → first_of (written_faults s w) ≡ Some f → first_of (checks_faults s (check n w ∷ ms)) ≡ Some f
-check_faulty s n w ms f h = templates_laws.ghosts.first_append (written_faults s w) (row_faults s true ms) f h
+check_faulty s n w ms f h = first_append (written_faults s w) (row_faults s true ms) f h
 
 pub check_missing : (s : Scope) (ms : List Member) → begins_with_check ms ≡ false → first_of (checks_faults s ms) ≡ Some MalformedForm
 check_missing s ms h = ap (λ b. first_of (unless b MalformedForm ++ row_faults s false ms)) h

@@ -11,7 +11,7 @@ use Rattle.cb_forms.specs.declared.form.Form.{Form}
 use Rattle.cb_forms.specs.declared.token.Token.TheVariants as token
 use Rattle.cb_pattern_forms.specs.PatternFaults.{pattern_slot_faults, pattern_slots_faults}
 use Rattle.cb_pattern_forms.specs.Patterns.{slot_in, slots_in}
-use Rattle.cb_templates.specs.Places.{place_in}
+use Rattle.cb_facts.specs.Places.{place_in}
 use Rattle.cb_templates.specs.Slots.{SlotShape, names, slot_named}
 use Rattle.cb_templates.specs.Templates.{Templates}
 

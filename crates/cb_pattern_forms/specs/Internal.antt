@@ -3,7 +3,7 @@ use Rattle.std.specs.Prelude.{◌≡◌, ◌++◌, false, List, [], ◌∷◌, O
 use Rattle.std.specs.Global.{Global}
 use Rattle.cb_constraints.specs.Constraints.{Check, Constraint, check_of}
 use Rattle.cb_constraints.specs.declared.constraint.Check as program
-use Rattle.cb_templates.specs.FaultLists.{first_of, unless}
+use Rattle.cb_facts.specs.FaultLists.{first_of, unless}
 use Rattle.cb_expr_forms.specs.Scopes.{Scope}
 use Rattle.cb_forms.specs.Trees.{Tree, atom, tree_of}
 use Rattle.cb_forms.specs.declared.fault.Fault.{Fault}

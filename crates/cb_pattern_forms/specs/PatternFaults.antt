@@ -3,7 +3,7 @@ use Rattle.std.specs.Prelude.{◌||◌, ◌++◌, ℕ, Bool, false, not, List, [
 use Rattle.cb_constraints.specs.Constraints.{Constraint}
 use Rattle.cb_expr_forms.specs.ExprFaults.{content_faults}
 use Rattle.cb_expr_forms.specs.ExprForms.{slot_name}
-use Rattle.cb_templates.specs.FaultLists.{unless}
+use Rattle.cb_facts.specs.FaultLists.{unless}
 use Rattle.cb_expr_forms.specs.Scopes.{Scope, is_known}
 use Rattle.cb_forms.specs.Members.{call_of}
 use Rattle.cb_forms.specs.Trees.{Tree, Trees, no_trees, tree}

@@ -2,13 +2,13 @@
 use Rattle.std.specs.Prelude.{ℕ, zero, List, [], ◌∷◌, Option, Some, None}
 use Rattle.std.specs.Option.{unwrap_or}
 use Rattle.cb_constraints.specs.PartValues.{asked_parts}
-use Rattle.cb_constraints.specs.PatternValues.{Parts, fields, slots, PatternValue, SlotValue}
-use Rattle.cb_constraints.specs.declared.parts.Parts as program
+use Rattle.cb_constraints.specs.PatternValues.{PatternParts, fields, slots, PatternValue, SlotValue}
+use Rattle.cb_constraints.specs.declared.pattern_parts.PatternParts as program
 use Rattle.cb_forms.specs.Members.{call_of}
 use Rattle.cb_forms.specs.Trees.{Tree, Trees, no_trees, tree}
 use Rattle.cb_pattern_forms.specs.Members.{members_in}
 use Rattle.cb_pattern_forms.specs.Rows.{row_in}
-use Rattle.cb_templates.specs.Places.{place_in}
+use Rattle.cb_facts.specs.Places.{place_in}
 use Rattle.cb_templates.specs.Slots.{SlotShape, names}
 use Rattle.cb_templates.specs.Templates.{Templates, slots_of}
 
@@ -27,7 +27,7 @@ slots_in templates shapes no_trees = []
 slots_in templates shapes (tree t ts) = slot_in templates shapes t ∷ slots_in templates shapes ts
 
 -- what a pattern asks: of the slots, if its relation has a template with these, and else of the fields
-abbrev pub parts_in : Templates → Option (List SlotShape) → Trees → Parts
+abbrev pub parts_in : Templates → Option (List SlotShape) → Trees → PatternParts
 parts_in templates None ts = fields (row_in templates (members_in ts))
 parts_in templates (Some shapes) ts = slots (slots_in templates shapes ts)
 
@@ -36,5 +36,5 @@ abbrev pub pattern_of : Templates → List ℕ → Trees → PatternValue
 pattern_of templates relation ts = record { relation = relation; parts = parts_in templates (slots_of templates relation) ts }
 
 -- the pattern that a relation and the parts of the program are
-abbrev pub pattern_value : List ℕ × program.Parts → PatternValue
+abbrev pub pattern_value : List ℕ × program.PatternParts → PatternValue
 pattern_value p = record { relation = p.0; parts = asked_parts p.1 }

@@ -1,7 +1,7 @@
 -- What is wrong with a row of constraints, in the order in which it is looked for.
 use Rattle.std.specs.Prelude.{◌&&◌, ◌++◌, Bool, true, false, List, [], ◌∷◌}
 use Rattle.cb_expr_forms.specs.ExprFaults.{faults_of}
-use Rattle.cb_templates.specs.FaultLists.{unless}
+use Rattle.cb_facts.specs.FaultLists.{unless}
 use Rattle.cb_expr_forms.specs.Scopes.{Scope}
 use Rattle.cb_forms.specs.declared.fault.Fault.{Fault}
 use Rattle.cb_forms.specs.declared.fault.Fault.TheVariants.{MalformedForm, FactDoesNotFit, NotOnLeftSide}

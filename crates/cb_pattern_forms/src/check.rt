@@ -1,7 +1,7 @@
 //! The checks of a constraint.
 ghost use Rattle.std.specs.Prelude.{◌≡◌};
 ghost use Rattle.cb_constraints.specs.Constraints.{check_of, asked_test};
-ghost use Rattle.cb_templates.specs.FaultLists.{ReadsAs};
+ghost use Rattle.cb_facts.specs.FaultLists.{ReadsAs};
 ghost use Rattle.cb_pattern_forms.specs.RowFaults.{single_faults, written_faults};
 ghost use Rattle.cb_pattern_forms.specs.Rows.{check_in, single_test, test_in};
 ghost use Rattle.cb_pattern_forms.specs.Internal.{written_of};

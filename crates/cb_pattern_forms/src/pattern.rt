@@ -2,7 +2,7 @@
 ghost use Rattle.std.specs.Prelude.{◌≡◌, [], map};
 ghost use Rattle.cb_constraints.specs.Constraints.{constraint_of};
 ghost use Rattle.cb_constraints.specs.PartValues.{asked_slot};
-ghost use Rattle.cb_templates.specs.FaultLists.{ReadsAs};
+ghost use Rattle.cb_facts.specs.FaultLists.{ReadsAs};
 ghost use Rattle.cb_forms.specs.Members.{members};
 ghost use Rattle.cb_forms.specs.Trees.{tree_of};
 ghost use Rattle.cb_pattern_forms.specs.PatternFaults.{slot_row_faults, pattern_faults, pattern_slot_faults, pattern_slots_faults, take_one};
@@ -11,7 +11,7 @@ ghost use Rattle.cb_pattern_forms.specs.Rows.{row_in};
 ghost use Rattle.cb_pattern_forms.specs.Patterns.{pattern_of, pattern_value, slot_in, slots_in};
 
 use crate::row::read_row;
-use cb_constraints::{Constraint, Parts, Row, SlotRow};
+use cb_constraints::{Constraint, PatternParts, Row, SlotRow};
 use cb_expr_forms::{NameList, Scope};
 use cb_facts::{Name, Names, Refused};
 use cb_forms::{Fault, Form};
@@ -28,7 +28,7 @@ pub fn read_pattern(
     scope: &Scope<'_>,
     relation: &[u8],
     forms: &[Form],
-) -> Result<(Name, Parts), Refused>
+) -> Result<(Name, PatternParts), Refused>
     ensures { ReadsAs pattern_value result
         (pattern_faults scope.now relation.now (members forms.now))
         (pattern_of scope.now.templates relation.now (members forms.now)) }
@@ -37,11 +37,11 @@ pub fn read_pattern(
     match scope.relations.template(&relation) {
         None => {
             let constraints = read_row(names, scope, forms)?;
-            Ok((relation, Parts::Fields(Row::new(constraints))))
+            Ok((relation, PatternParts::Fields(Row::new(constraints))))
         }
         Some(template) => {
             let slots = read_slots(names, scope, template, forms)?;
-            Ok((relation, Parts::Slots(slots)))
+            Ok((relation, PatternParts::Slots(slots)))
         }
     }
 }

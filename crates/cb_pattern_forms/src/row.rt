@@ -1,7 +1,7 @@
 //! Rows of constraints as they are written.
 ghost use Rattle.std.specs.Prelude.{◌≡◌, ◌<◌, ◌∷◌, [], Some, false, IfOk, IfSome, MatchOption, MatchResult, OnOk, length, map};
 ghost use Rattle.cb_constraints.specs.Constraints.{constraint_of, nothing};
-ghost use Rattle.cb_templates.specs.FaultLists.{ReadsAs, first_of};
+ghost use Rattle.cb_facts.specs.FaultLists.{ReadsAs, first_of};
 ghost use Rattle.cb_facts.specs.Results.{Reports};
 ghost use Rattle.cb_forms.specs.Members.{members};
 ghost use Rattle.cb_pattern_forms.specs.Members.{check, members_in};

@@ -1,2 +1,5 @@
 mod PlaceLaws
+pub mod SlotLaws
+pub mod TemplateFaultLaws
 mod TemplateLaws
+pub mod TemplateReads

@@ -1,10 +1,6 @@
 pub mod Building
-pub mod FaultLists
 pub mod Internal
 pub mod Laws
-pub mod Lemmas
-pub mod Places
-pub mod Reserved
 pub mod SlotForms
 pub mod Slots
 pub mod TemplateFaults

@@ -7,8 +7,8 @@ use Rattle.cb_forms.specs.Trees.{Tree, atom, branch, Trees, no_trees, tree}
 use Rattle.cb_forms.specs.declared.fault.Fault.{Fault}
 use Rattle.cb_forms.specs.declared.fault.Fault.TheVariants.{MalformedForm, ValueNotAllowed, NotInProfile, TemplateInUse}
 use Rattle.cb_facts.specs.Values.{constant_of}
-use Rattle.cb_templates.specs.FaultLists.{unless}
-use Rattle.cb_templates.specs.Reserved.{is_reserved}
+use Rattle.cb_facts.specs.FaultLists.{unless}
+use Rattle.cb_words.specs.Reserved.{is_reserved}
 use Rattle.cb_templates.specs.SlotForms.{is_variable, no_call, no_constant, type_named}
 use Rattle.cb_templates.specs.Slots.{Types, allows_all}
 use Rattle.cb_templates.specs.TemplateShapes.{default_in, kind_of, types_in}

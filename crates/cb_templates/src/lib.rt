@@ -5,13 +5,10 @@
 
 mod attribute; // the attributes of a slot as they are written, or the fault there
 mod build; // a fact from the values that it is given, or its fault
-pub mod cited; // laws that the proofs of other crates cite
 mod comment; // what follows the comment of a construct
 pub mod laws; // laws of templates and their facts
 mod parts; // what a fact is given: the values of its fields, or of its slots, each found by its name
-mod places; // the first place of each name in a list, found in logarithmic time
 mod relations; // the relations that have a template; a template as it is written
-mod reserved; // the words that are never the relation of a fact
 mod slot; // a slot: its name, its types, its default
 mod slot_form; // the slots as they are written, or the fault there; the default that follows from the types
 mod slot_type; // the types that a slot may name
@@ -21,9 +18,7 @@ pub use attribute::SlotDefault;
 pub use build::{build_fact, build_slots};
 pub use comment::without_comment;
 pub use parts::{GivenSlot, GivenSlots, Parts, find_given};
-pub use places::Places;
 pub use relations::{Relations, read_template};
-pub use reserved::is_reserved;
 pub use slot::{Slot, find_slot};
 pub use slot_type::SlotType;
 pub use template::Template;

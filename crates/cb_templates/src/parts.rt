@@ -2,8 +2,7 @@
 ghost use Rattle.std.specs.Prelude.{◌≡◌, ◌&&◌, ◌++◌, ◌∷◌, [], None, Some, IfOk, MatchOption, OnOk, OnErr};
 ghost use Rattle.cb_templates.specs.Building.{are_distinct, given_for};
 
-use crate::places::Places;
-use cb_facts::{Name, Value};
+use cb_facts::{Name, Places, Value};
 use cb_forms::NoMemory;
 use std::alloc::Global;
 use std::marker::Model;

@@ -2,19 +2,19 @@
 ghost use Rattle.std.specs.Prelude.{◌≡◌, [], None, Some, MatchOption, OnOk, OnErr};
 ghost use Rattle.cb_forms.specs.Members.{members};
 ghost use Rattle.cb_facts.specs.Results.{Returns};
-ghost use Rattle.cb_templates.specs.FaultLists.{ReadsAs};
+ghost use Rattle.cb_facts.specs.FaultLists.{ReadsAs};
 ghost use Rattle.cb_templates.specs.TemplateFaults.{template_faults};
 ghost use Rattle.cb_templates.specs.TemplateShapes.{template_shape};
 ghost use Rattle.cb_templates.specs.Internal.SlotReads.{slots_after};
 ghost use Rattle.cb_templates.specs.Templates.{slots_of, with_template};
 
 use crate::comment::without_comment;
-use crate::reserved::is_reserved;
 use crate::slot::Slot;
 use crate::slot_form::read_slot;
 use crate::template::Template;
 use cb_facts::{Name, Names, Refused};
 use cb_forms::{Fault, Form, NoMemory, split_head};
+use cb_words::is_reserved;
 use std::alloc::Global;
 use std::collections::BTreeMap;
 use std::marker::Model;
@@ -98,7 +98,7 @@ impl Relations {
 ///
 /// It refuses with the first fault in this order: CB08 where the name is no symbol or a reserved word, CB23 where the
 /// relation is in use, and then those of each slot: CB08, CB14 and, after its last attribute, CB10.
-#[tactic(auto, using(crate::specs::Lemmas::TemplateFaultLaws::slots_as_said))]
+#[tactic(auto, using(crate::proofs::TemplateFaultLaws::slots_as_said))]
 pub fn read_template(
     names: &mut Names,
     forms: &[Form],

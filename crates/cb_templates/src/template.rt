@@ -1,11 +1,10 @@
 //! A template: its slots.
 ghost use Rattle.std.specs.Prelude.{◌≡◌, ◌++◌, ◌∷◌, [], None, Some, MatchOption, OnOk, OnErr};
-ghost use Rattle.cb_templates.specs.Places.{place_in};
+ghost use Rattle.cb_facts.specs.Places.{place_in};
 ghost use Rattle.cb_templates.specs.Slots.{names, slot_named};
 
-use crate::places::Places;
 use crate::slot::Slot;
-use cb_facts::Name;
+use cb_facts::{Name, Places};
 use cb_forms::NoMemory;
 use std::alloc::Global;
 use std::marker::Model;

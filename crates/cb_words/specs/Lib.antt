@@ -1,3 +1,3 @@
-pub mod Arities
+pub mod Reserved
 pub mod WatchItems
 pub mod Words

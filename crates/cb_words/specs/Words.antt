@@ -1,13 +1,16 @@
--- The words of the language, and what each names as the head of a list.
-use Rattle.std.specs.Prelude.{ℕ, List, [], ◌∷◌, ◌++◌, Option, codes, map}
+-- The words of the language, what each names as the head of a list, and how many arguments a function takes.
+use Rattle.std.specs.Prelude.{ℕ, Bool, List, [], ◌∷◌, ◌++◌, Option, codes, map, nat_eq, nat_lt, not}
 use Rattle.std.specs.Map.{lookup}
 use Rattle.std.specs.Str.{bytes_eq}
-use Rattle.cb_words.specs.declared.function.Function.TheVariants as function
-use Rattle.cb_words.specs.declared.head.Action.TheVariants as action
-use Rattle.cb_words.specs.declared.head.Command.TheVariants as command
-use Rattle.cb_words.specs.declared.head.Construct.TheVariants as construct
-use Rattle.cb_words.specs.declared.head.Head.{Head}
-use Rattle.cb_words.specs.declared.head.Head.TheVariants as head
+use Rattle.cb_words.specs.declared.words.Arity.{Arity}
+use Rattle.cb_words.specs.declared.words.Arity.TheVariants.{Exactly, AtLeast}
+use Rattle.cb_words.specs.declared.words.Function.{Function}
+use Rattle.cb_words.specs.declared.words.Function.TheVariants as function
+use Rattle.cb_words.specs.declared.words.Action.TheVariants as action
+use Rattle.cb_words.specs.declared.words.Command.TheVariants as command
+use Rattle.cb_words.specs.declared.words.Construct.TheVariants as construct
+use Rattle.cb_words.specs.declared.words.Head.{Head}
+use Rattle.cb_words.specs.declared.words.Head.TheVariants as head
 
 -- a word and what it names
 abbrev pub Rows : Type 0
@@ -113,3 +116,46 @@ words = constructs ++ (action_words ++ (commands ++ (functions ++ map (λ word. 
 -- what the word names as the head of a list, if it names anything
 unfoldable pub head_of : List ℕ → Option Head
 head_of word = lookup (bytes_eq word) words
+
+-- A function takes this number of arguments.
+abbrev pub takes : Arity → ℕ → Bool
+takes (Exactly n) count = nat_eq count n
+takes (AtLeast n) count = not (nat_lt count n)
+
+-- How many arguments each function takes.
+abbrev pub arity_of : Function → Arity
+arity_of function.Add = AtLeast 2
+arity_of function.Subtract = AtLeast 2
+arity_of function.Multiply = AtLeast 2
+arity_of function.Div = AtLeast 2
+arity_of function.Mod = Exactly 2
+arity_of function.Equal = AtLeast 2
+arity_of function.NotEqual = AtLeast 2
+arity_of function.Less = AtLeast 2
+arity_of function.Greater = AtLeast 2
+arity_of function.LessOrEqual = AtLeast 2
+arity_of function.GreaterOrEqual = AtLeast 2
+arity_of function.Eq = AtLeast 2
+arity_of function.Neq = AtLeast 2
+arity_of function.And = AtLeast 1
+arity_of function.Or = AtLeast 1
+arity_of function.Not = Exactly 1
+arity_of function.Min = AtLeast 1
+arity_of function.Max = AtLeast 1
+arity_of function.Abs = Exactly 1
+arity_of function.Create = AtLeast 0
+arity_of function.Nth = Exactly 2
+arity_of function.Length = Exactly 1
+arity_of function.Member = Exactly 2
+arity_of function.First = Exactly 1
+arity_of function.Rest = Exactly 1
+arity_of function.StrCat = AtLeast 1
+arity_of function.SymCat = AtLeast 1
+arity_of function.Integerp = Exactly 1
+arity_of function.Numberp = Exactly 1
+arity_of function.Symbolp = Exactly 1
+arity_of function.Stringp = Exactly 1
+arity_of function.Lexemep = Exactly 1
+arity_of function.Multifieldp = Exactly 1
+arity_of function.Evenp = Exactly 1
+arity_of function.Oddp = Exactly 1

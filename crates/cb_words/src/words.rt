@@ -1,11 +1,225 @@
-//! The table of words.
+//! The words of the language: what each names, the table of all of them, and how many arguments a function takes.
 ghost use Rattle.std.specs.Prelude.{◌≡◌, map};
 ghost use Rattle.std.specs.Map.{lookup};
 ghost use Rattle.std.specs.Str.{bytes_eq};
-ghost use Rattle.cb_words.specs.Words.{head_of};
+ghost use Rattle.cb_words.specs.Words.{arity_of, head_of, takes};
 
-use crate::function::Function;
-use crate::head::{Action, Command, Construct, Head};
+/// What a word names where a list begins with it.
+#[derive(Clone, Copy, Debug, PartialEq, Eq)]
+pub enum Head {
+    /// A construct, which defines something.
+    Construct(Construct),
+    /// A command, which stands at the top level alone.
+    Command(Command),
+    /// A function with an effect.
+    Action(Action),
+    /// A function without one.
+    Function(Function),
+    /// A construct, command or function of CLIPS that is known and not carried out.
+    Refused,
+}
+
+/// A construct.
+#[derive(Clone, Copy, Debug, PartialEq, Eq)]
+pub enum Construct {
+    /// `deftemplate`
+    Deftemplate,
+    /// `deffacts`
+    Deffacts,
+    /// `defglobal`
+    Defglobal,
+    /// `defrule`
+    Defrule,
+}
+
+/// A command.
+#[derive(Clone, Copy, Debug, PartialEq, Eq)]
+pub enum Command {
+    /// `facts`
+    Facts,
+    /// `reset`
+    Reset,
+    /// `clear`
+    Clear,
+    /// `run`
+    Run,
+    /// `agenda`
+    Agenda,
+    /// `rules`
+    Rules,
+    /// `undefrule`
+    Undefrule,
+    /// `watch`
+    Watch,
+    /// `unwatch`
+    Unwatch,
+    /// `set-strategy`
+    SetStrategy,
+    /// `exit`
+    Exit,
+}
+
+/// A function with an effect.
+#[derive(Clone, Copy, Debug, PartialEq, Eq)]
+pub enum Action {
+    /// `assert`
+    Assert,
+    /// `retract`
+    Retract,
+    /// `bind`
+    Bind,
+    /// `if`
+    If,
+    /// `while`
+    While,
+    /// `printout`
+    Printout,
+    /// `print`
+    Print,
+    /// `println`
+    Println,
+    /// `halt`
+    Halt,
+}
+
+/// A function without an effect (`docs/LANGUAGE.md`, "Functions").
+#[derive(Clone, Copy, Debug, PartialEq, Eq)]
+pub enum Function {
+    /// `+`
+    Add,
+    /// `-`
+    Subtract,
+    /// `*`
+    Multiply,
+    /// `div`
+    Div,
+    /// `mod`
+    Mod,
+    /// `=`
+    Equal,
+    /// `<>`
+    NotEqual,
+    /// `<`
+    Less,
+    /// `>`
+    Greater,
+    /// `<=`
+    LessOrEqual,
+    /// `>=`
+    GreaterOrEqual,
+    /// `eq`
+    Eq,
+    /// `neq`
+    Neq,
+    /// `and`
+    And,
+    /// `or`
+    Or,
+    /// `not`
+    Not,
+    /// `min`
+    Min,
+    /// `max`
+    Max,
+    /// `abs`
+    Abs,
+    /// `create$`
+    Create,
+    /// `nth$`
+    Nth,
+    /// `length$`
+    Length,
+    /// `member$`
+    Member,
+    /// `first$`
+    First,
+    /// `rest$`
+    Rest,
+    /// `str-cat`
+    StrCat,
+    /// `sym-cat`
+    SymCat,
+    /// `integerp`
+    Integerp,
+    /// `numberp`
+    Numberp,
+    /// `symbolp`
+    Symbolp,
+    /// `stringp`
+    Stringp,
+    /// `lexemep`
+    Lexemep,
+    /// `multifieldp`
+    Multifieldp,
+    /// `evenp`
+    Evenp,
+    /// `oddp`
+    Oddp,
+}
+
+/// How many arguments a function takes.
+#[derive(Clone, Copy, Debug, PartialEq, Eq)]
+pub enum Arity {
+    /// Exactly this many.
+    Exactly(usize),
+    /// This many or more.
+    AtLeast(usize),
+}
+
+impl Arity {
+    /// Whether a call may have this many arguments.
+    pub fn takes(self, count: usize) -> bool
+        ensures { result ≡ takes self count }
+    {
+        match self {
+            Arity::Exactly(number) => count == number,
+            Arity::AtLeast(least) => count >= least,
+        }
+    }
+}
+
+impl Function {
+    /// How many arguments it takes.
+    pub fn arity(self) -> Arity
+        ensures { result ≡ arity_of self }
+    {
+        match self {
+            Function::Create => Arity::AtLeast(0),
+            Function::And
+            | Function::Or
+            | Function::Min
+            | Function::Max
+            | Function::StrCat
+            | Function::SymCat => Arity::AtLeast(1),
+            Function::Add
+            | Function::Subtract
+            | Function::Multiply
+            | Function::Div
+            | Function::Equal
+            | Function::NotEqual
+            | Function::Less
+            | Function::Greater
+            | Function::LessOrEqual
+            | Function::GreaterOrEqual
+            | Function::Eq
+            | Function::Neq => Arity::AtLeast(2),
+            Function::Mod | Function::Nth | Function::Member => Arity::Exactly(2),
+            Function::Not
+            | Function::Abs
+            | Function::Length
+            | Function::First
+            | Function::Rest
+            | Function::Integerp
+            | Function::Numberp
+            | Function::Symbolp
+            | Function::Stringp
+            | Function::Lexemep
+            | Function::Multifieldp
+            | Function::Evenp
+            | Function::Oddp => Arity::Exactly(1),
+        }
+    }
+}
 
 /// Every word of the language, and what it names. No word stands twice.
 pub(crate) const WORDS: [(&str, Head); 131] = [

@@ -13,7 +13,8 @@ use Rattle.std.specs.Map.{keys_of, lookup, remove_entry, values_of}
 use Rattle.std.specs.Ordering.{eq_by_cmp, is_eq, match_ordering, nat_cmp}
 use Rattle.std.specs.Str.{bytes_eq}
 use Rattle.std.proofs.lemmas.Bool.{false_from_ne_true}
-use Rattle.cb_facts.specs.contracts.cited.LawsCited.TheImpl as facts_laws
+use Rattle.cb_facts.proofs.Inverses.{added, removed, taken_back}
+use Rattle.cb_facts.proofs.MemberLaws.{contains_here, contains_there, is_at-Decides}
 use Rattle.cb_facts.specs.FactLists.{ChangesOnly}
 use Rattle.cb_working_memory.specs.Deffacts.{DeffactsTable}
 use Rattle.cb_working_memory.specs.Internal.Groups.{AreNumbered, Group, IsAfterAll, NumberedGroups, name_at}
@@ -42,7 +43,7 @@ names-change : (m n : BTreeMap ℕ Group) (k : ℕ) (group : Option Group) → t
     → ChangesOnly (name_at m.entries) (name_at n.entries) k (option_map (λ g. g.0) group)
 names-change m n k group u = record {
   here = ap (option_map (λ g. g.0)) u.1;
-  others = λ q apart. ap (option_map (λ g. g.0)) (u.2 q (false_from_ne_true (is_at (nat_cmp k) q) (λ e. apart ((facts_laws.ghosts.is_at_decides k q).0 e))));
+  others = λ q apart. ap (option_map (λ g. g.0)) (u.2 q (false_from_ne_true (is_at (nat_cmp k) q) (λ e. apart ((is_at-Decides k q).0 e))));
 }
 
 pub numbered-taken : (old new : BTreeMap ℕ Group) (m n : Numbers) (k : ℕ) (name : List ℕ) → AreNumbered old.entries (number_of m) → number_of m name ≡ Some k
@@ -51,7 +52,7 @@ numbered-taken old new m n k name inv found groups_update numbers_update rising 
     let change = names-change old new k None groups_update in
     let find_change = numbers-change m n name None numbers_update in
     let there = inv.agree.listed name k found in
-    record { rising = rising; agree = facts_laws.ghosts.agree_removed _ (name_at old.entries) (name_at new.entries) (number_of m) (number_of n) k name (name-cases name) inv.agree there change find_change }
+    record { rising = rising; agree = removed (name_at old.entries) (name_at new.entries) (number_of m) (number_of n) k name (name-cases name) inv.agree there change find_change }
 
 -- a number after those of all groups is free, and its group comes last
 pub free : (groups : NumberedGroups) (k : ℕ) → IsAfterAll groups k → lookup (is_at (nat_cmp k)) groups ≡ None
@@ -92,17 +93,17 @@ numbered-pushed old new m n k g name shared inv same named none after groups_upd
     let find_change = subst (λ q. ChangesOnly (number_of m) (number_of n) q (Some k)) same (numbers-change m n shared (Some k) numbers_update) in
     let room = ap (option_map (λ h. h.0)) (free old.entries k after) in
     let absent = not_named old.entries name none in
-    record { rising = rising; agree = facts_laws.ghosts.agree_added _ (name_at old.entries) (name_at new.entries) (number_of m) (number_of n) k name (name-cases name) inv.agree room absent change find_change }
+    record { rising = rising; agree = added (name_at old.entries) (name_at new.entries) (number_of m) (number_of n) k name (name-cases name) inv.agree room absent change find_change }
 
 -- a number that is noted and taken out again leaves the look-up as it was
 pub numbered-undone : (groups : NumberedGroups) (m n o : Numbers) (k : ℕ) (name shared again : List ℕ) → AreNumbered groups (number_of m) → shared ≡ name → again ≡ name
     → lookup (bytes_eq name) (values_of groups) ≡ None → tree.Updates (slice_cmp nat_cmp) m n shared (Some k) → tree.Updates (slice_cmp nat_cmp) n o again None → AreNumbered groups (number_of o)
-numbered-undone groups m n o k name shared again inv same back none added undone =
-    let add = subst (λ q. ChangesOnly (number_of m) (number_of n) q (Some k)) same (numbers-change m n shared (Some k) added) in
+numbered-undone groups m n o k name shared again inv same back none grown undone =
+    let add = subst (λ q. ChangesOnly (number_of m) (number_of n) q (Some k)) same (numbers-change m n shared (Some k) grown) in
     let undo = subst (λ q. ChangesOnly (number_of n) (number_of o) q None) back (numbers-change n o again None undone) in
     record {
       rising = inv.rising;
-      agree = facts_laws.ghosts.agree_taken_back _ (name_at groups) (number_of m) (number_of n) (number_of o) k name (name-cases name) inv.agree (not_named groups name none) add undo;
+      agree = taken_back (name_at groups) (number_of m) (number_of n) (number_of o) k name (name-cases name) inv.agree (not_named groups name none) add undo;
     }
 
 taken_first : (groups : NumberedGroups) (m n : ℕ) (g : Group) (name : List ℕ) (t u : Bool) → is_at (nat_cmp n) m ≡ t → bytes_eq name g.0 ≡ u
@@ -116,7 +117,7 @@ taken_first groups m n g name true false te ue at only more =
     absurd (cc)
 taken_first groups m n g name false true te ue at only more =
     let is : n ≡ m = sym (only (sym ((bytes_decides name g.0).0 ue))) in
-    let yes : is_at (nat_cmp n) m ≡ true = (facts_laws.ghosts.is_at_decides n m).1 is in
+    let yes : is_at (nat_cmp n) m ≡ true = (is_at-Decides n m).1 is in
     absurd (cc)
 taken_first groups m n g name false false te ue at only more = ap (λ gs. g ∷ gs) (more at)
 
@@ -124,8 +125,8 @@ taken_by : (groups : NumberedGroups) (n : ℕ) (name : List ℕ) → name_at gro
     → values_of (remove_entry (is_at (nat_cmp n)) groups) ≡ remove_entry (bytes_eq name) (values_of groups)
 taken_by [] n name at only = refl
 taken_by ((m, g) ∷ groups) n name at only =
-    taken_first groups m n g name (is_at (nat_cmp n) m) (bytes_eq name g.0) refl refl at (only m g (facts_laws.ghosts.contains_here _ (m, g) groups))
-    (λ there. taken_by groups n name there (λ k h c. only k h (facts_laws.ghosts.contains_there _ (m, g) (k, h) groups c)))
+    taken_first groups m n g name (is_at (nat_cmp n) m) (bytes_eq name g.0) refl refl at (only m g (contains_here (m, g) groups))
+    (λ there. taken_by groups n name there (λ k h c. only k h (contains_there (m, g) (k, h) groups c)))
 
 -- a group that is there has the number of its name
 numbered : (groups : NumberedGroups) (find : List ℕ → Option ℕ) (m : ℕ) (g : Group) → AreNumbered groups find → Contains groups (m, g) → find g.0 ≡ Some m
@@ -146,8 +147,8 @@ values-taken groups find n name inv found =
 missing : (groups : NumberedGroups) (name : List ℕ) → ((m : ℕ) (g : Group) → Contains groups (m, g) → g.0 ≢ name) → lookup (bytes_eq name) (values_of groups) ≡ None
 missing [] name none = refl
 missing ((m, g) ∷ groups) name none =
-    ap (λ t. cond t (Some g.1) (lookup (bytes_eq name) (values_of groups))) (false_from_ne_true (bytes_eq name g.0) (λ e. none m g (facts_laws.ghosts.contains_here _ (m, g) groups) (sym ((bytes_decides name g.0).0 e))))
-    ∙ missing groups name (λ k h c. none k h (facts_laws.ghosts.contains_there _ (m, g) (k, h) groups c))
+    ap (λ t. cond t (Some g.1) (lookup (bytes_eq name) (values_of groups))) (false_from_ne_true (bytes_eq name g.0) (λ e. none m g (contains_here (m, g) groups) (sym ((bytes_decides name g.0).0 e))))
+    ∙ missing groups name (λ k h c. none k h (contains_there (m, g) (k, h) groups c))
 
 -- no group has a name that has no number
 pub missing-name : (groups : NumberedGroups) (find : List ℕ → Option ℕ) (name : List ℕ) → AreNumbered groups find → find name ≡ None → lookup (bytes_eq name) (values_of groups) ≡ None

@@ -8,7 +8,7 @@ use Rattle.std.specs.declared.cmp.Ordering.{Ordering}
 use Rattle.std.specs.declared.cmp.Ordering.TheVariants.{Less, Equal, Greater}
 use Rattle.cb_facts.specs.FactLists.{IndexedFacts, fact_at, with_fact, without_fact}
 use Rattle.cb_facts.specs.Facts.{FactValue}
-use Rattle.cb_facts.specs.Lemmas.{is_at-Decides}
+use Rattle.cb_facts.proofs.MemberLaws.{is_at-Decides}
 use Rattle.cb_working_memory.specs.Internal.WorkingMemories.{AreUpTo}
 
 pub free_after : (last ix : ℕ) (facts : IndexedFacts) → last < ix → AreUpTo last facts → fact_at facts ix ≡ None

@@ -2,7 +2,7 @@
 use Rattle.std.proofs.Common.{◌≡◌, ◌≢◌, ◌+◌, ◌∙◌, ℕ, Bool, true, false, [], ◌∷◌, Option, Some, None, Ordering, Less, Equal, Greater, refl, sym, ap, arith, cond}
 use Rattle.std.specs.BTreeMap.{is_at}
 use Rattle.std.specs.Ordering.{is_eq, nat_cmp, match_ordering}
-use Rattle.cb_facts.specs.contracts.cited.LawsCited.TheImpl as facts_laws
+use Rattle.cb_facts.proofs.MemberLaws.{is_at-Decides}
 use Rattle.cb_working_memory.specs.Laws.{NoneAfter, Keeps}
 use Rattle.cb_working_memory.specs.WorkingMemory.{Memory, grown}
 use Rattle.std.proofs.lemmas.Bool.{false_from_ne_true}
@@ -10,14 +10,14 @@ use Rattle.cb_facts.specs.FactLists.{IndexedFacts, fact_at, with_fact}
 use Rattle.cb_facts.specs.Facts.{FactValue}
 
 not_at : (q i : ℕ) → q ≢ i → is_at (nat_cmp q) i ≡ false
-not_at q i apart = false_from_ne_true (is_at (nat_cmp q) i) (λ e. apart ((facts_laws.ghosts.is_at_decides q i).0 e))
+not_at q i apart = false_from_ne_true (is_at (nat_cmp q) i) (λ e. apart ((is_at-Decides q i).0 e))
 
 -- elsewhere a fact more changes no look-up
 elsewhere_by : (facts : IndexedFacts) (ix i q : ℕ) (fact there : FactValue) (o : Ordering) → nat_cmp ix i ≡ o → q ≢ ix → fact_at (with_fact facts ix fact) q ≡ fact_at facts q
     → fact_at (match_ordering o ((ix, fact) ∷ (i, there) ∷ facts) ((i, fact) ∷ facts) ((i, there) ∷ with_fact facts ix fact)) q ≡ fact_at ((i, there) ∷ facts) q
 elsewhere_by facts ix i q fact there Less e apart more = ap (λ t. cond t (Some fact) (fact_at ((i, there) ∷ facts) q)) (not_at q ix apart)
 elsewhere_by facts ix i q fact there Equal e apart more =
-    let same : ix ≡ i = (facts_laws.ghosts.is_at_decides ix i).0 (ap is_eq e) in
+    let same : ix ≡ i = (is_at-Decides ix i).0 (ap is_eq e) in
     let no : is_at (nat_cmp q) i ≡ false = not_at q i (λ h. apart (h ∙ sym same)) in
     ap (λ t. cond t (Some fact) (fact_at facts q)) no ∙ sym (ap (λ t. cond t (Some there) (fact_at facts q)) no)
 elsewhere_by facts ix i q fact there Greater e apart more = ap (cond (is_at (nat_cmp q) i) (Some there)) more

@@ -4,5 +4,6 @@ mod GlobalLaws
 mod GroupCountLaws
 mod GroupLaws
 mod IndexLaws
+pub mod IndexOf
 mod KeepLaws
 mod RuleLaws

@@ -2,7 +2,6 @@
 #![tactic(auto)]
 
 mod asserted; // what comes of the assertion of a fact
-pub mod cited; // laws that the proofs of other crates cite
 mod deffacts; // the facts of each `deffacts`, in the order of their definition
 mod globals; // the initial expressions of globals, in the order of their definition
 mod groups; // groups of facts, each with a name and a number, in the order of the numbers

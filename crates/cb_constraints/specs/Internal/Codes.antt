@@ -3,7 +3,7 @@ use Rattle.std.specs.Prelude.{◌≡◌, ◌⊎◌, ℕ, Bool, List, Option, Som
 use Rattle.std.proofs.Common.{inl, inr}
 use Rattle.std.specs.Coded.{Coded, code_by, coded_bool, coded_ℕ, coded_list, coded_option, coded×, coded⊎}
 use Rattle.cb_constraints.specs.Constraints.{Test, constant, variable, predicate, return_value, Check, Demand, nothing, each, either, Constraint}
-use Rattle.cb_constraints.specs.PatternValues.{Parts, fields, slots, PatternValue, SlotValue}
+use Rattle.cb_constraints.specs.PatternValues.{PatternParts, fields, slots, PatternValue, SlotValue}
 use Rattle.cb_exprs.specs.Internal.Codes.{Piece, term_code}
 use Rattle.cb_exprs.specs.Terms.{Term}
 use Rattle.cb_facts.specs.declared.value.Value.{Value}
@@ -50,15 +50,15 @@ demand_back (either first alternatives) = refl
 abbrev PartsCases : Type 0
 PartsCases = List Constraint ⊎ List SlotValue
 
-abbrev parts_cases : Parts → PartsCases
+abbrev parts_cases : PatternParts → PartsCases
 parts_cases (fields row) = inl row
 parts_cases (slots rows) = inr rows
 
-abbrev parts_from : PartsCases → Parts
+abbrev parts_from : PartsCases → PatternParts
 parts_from (inl row) = fields row
 parts_from (inr rows) = slots rows
 
-pub parts_back : (p : Parts) → parts_from (parts_cases p) ≡ p
+pub parts_back : (p : PatternParts) → parts_from (parts_cases p) ≡ p
 parts_back (fields row) = refl
 parts_back (slots rows) = refl
 
@@ -88,8 +88,8 @@ module _ (value : Coded Value) (name : Coded (List ℕ)) (piece : Coded Piece) w
       (λ p. record { name = p.0.0; place = p.0.1; row = p.1 })
       (λ _. refl)
 
-  abbrev pub parts_code : Coded Parts
+  abbrev pub parts_code : Coded PatternParts
   parts_code = code_by PartsCases (coded⊎ row_code (coded_list slot_code)) parts_cases parts_from parts_back
 
   abbrev pub pattern_code : Coded PatternValue
-  pattern_code = code_by (List ℕ × Parts) (coded× name parts_code) (λ p. (p.relation, p.parts)) (λ p. record { relation = p.0; parts = p.1 }) (λ _. refl)
+  pattern_code = code_by (List ℕ × PatternParts) (coded× name parts_code) (λ p. (p.relation, p.parts)) (λ p. record { relation = p.0; parts = p.1 }) (λ _. refl)

@@ -1,9 +1,12 @@
 -- What variables have in the course of a test.
 use Rattle.std.specs.Prelude.{ℕ, zero, suc, List, [], ◌∷◌, Option, Some, None, nat_lt, if◌then◌else◌}
 use Rattle.std.specs.Option.{option_map_or}
-use Rattle.cb_constraints.specs.Binders.{binders}
+use Rattle.cb_constraints.specs.Binders.{binders, constraints_in}
+use Rattle.cb_constraints.specs.Holding.{tested_value}
 use Rattle.cb_constraints.specs.Internal.Places.{binders_before}
+use Rattle.cb_constraints.specs.Internal.Values.{values}
 use Rattle.cb_constraints.specs.Constraints.{Constraint}
+use Rattle.cb_constraints.specs.declared.known.Known.{Known}
 use Rattle.cb_constraints.specs.declared.place.Place.{Place}
 use Rattle.cb_exprs.specs.Bindings.{Bindings, value_at, with_variable}
 use Rattle.cb_facts.specs.declared.value.Value.{Value}
@@ -40,3 +43,7 @@ taken_at (w ∷ ws) v i (suc m) k = taken_at ws v i m k
 abbrev pub taken_if : List Value → Value → ℕ → Option Place → Option Value
 taken_if vs v i None = None
 taken_if vs v i (Some p) = taken_at vs v i p.constraint p.check
+
+-- what variables have before a check of the constraint that comes next
+abbrev pub before_check : Known → ℕ → Bindings
+before_check k i = bindings_before (constraints_in k.body.now) (values k.took.now) (tested_value k.tested) k.before.now i

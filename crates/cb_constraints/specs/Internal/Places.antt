@@ -4,7 +4,7 @@ use Rattle.std.specs.Map.{lookup}
 use Rattle.std.specs.Str.{bytes_eq}
 use Rattle.cb_constraints.specs.Binders.{binder, binders_of}
 use Rattle.cb_constraints.specs.Constraints.{Check, Demand, nothing, each, either, Constraint}
-use Rattle.cb_constraints.specs.PatternValues.{Parts, fields, slots, SlotValue}
+use Rattle.cb_constraints.specs.PatternValues.{PatternParts, fields, slots, SlotValue}
 use Rattle.cb_constraints.specs.declared.place.Place.{Place}
 use Rattle.cb_constraints.specs.declared.site.Site.{Site}
 
@@ -46,6 +46,6 @@ sites_from r n [] = []
 sites_from r n (s ∷ ss) = sites_of r n s.row ++ sites_from (suc r) (n + length s.row) ss
 
 -- where the constraints of a pattern stand
-abbrev pub sites_in : Parts → List Site
+abbrev pub sites_in : PatternParts → List Site
 sites_in (fields row) = sites_of 0 0 row
 sites_in (slots rows) = sites_from 0 0 rows

@@ -4,7 +4,7 @@ use Rattle.cb_constraints.specs.Constraints.{Constraint, constraint_of}
 use Rattle.cb_constraints.specs.PartValues.{asked_slot}
 use Rattle.cb_constraints.specs.PatternValues.{SlotValue}
 use Rattle.cb_constraints.specs.Rows.{before_segments, fields_wanted, segments_wanted}
-use Rattle.cb_cuts.specs.Internal.{row_fields}
+use Rattle.cb_constraints.specs.Internal.RowFields.{row_fields}
 use Rattle.cb_facts.specs.declared.value.Value.{Value}
 use Rattle.cb_fit.specs.Internal.{Begun, begun_at, endings, may_take_slots, with_group}
 use Rattle.cb_fit.specs.Internal.Standing.{AreNext, IsAt}

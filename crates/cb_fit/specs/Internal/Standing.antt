@@ -4,9 +4,9 @@ use Rattle.cb_constraints.specs.Binders.{constraints_in}
 use Rattle.cb_constraints.specs.Internal.Places.{sites_from, sites_in, sites_of}
 use Rattle.cb_constraints.specs.Constraints.{Constraint, Demand}
 use Rattle.cb_constraints.specs.Holding.{Meets, after_demand}
-use Rattle.cb_constraints.specs.PatternValues.{Parts, SlotValue}
+use Rattle.cb_constraints.specs.PatternValues.{PatternParts, SlotValue}
 use Rattle.cb_constraints.specs.declared.site.Site.{Site}
-use Rattle.cb_cuts.specs.Internal.Values.{fields_of_row, fields_taken, first_fields, next_value}
+use Rattle.cb_constraints.specs.Internal.Values.{fields_of_row, fields_taken, first_fields, next_value}
 use Rattle.cb_facts.specs.Facts.{FactContent, content_of}
 use Rattle.cb_facts.specs.declared.single.Single.{Single}
 use Rattle.cb_facts.specs.declared.value.Value.{Value}
@@ -26,7 +26,7 @@ pub record IsAt (s : program.Search) (fields : List Single) (cuts : List ℕ) (a
   pub fields_are : fields_of_row row s.body.now (content_of s.content.now) ≡ fields
 
 -- the fields for the rows, of which the first has this number, are those of their slots
-abbrev pub AreOfSlots : Parts → FactContent → List (List ℕ × Value) → ℕ → List SlotValue → Type 0
+abbrev pub AreOfSlots : PatternParts → FactContent → List (List ℕ × Value) → ℕ → List SlotValue → Type 0
 AreOfSlots parts content slots r [] = Unit {0}
 AreOfSlots parts content slots r (s ∷ ss) = (fields_of_row r parts content ≡ first_fields (drop s.place slots)) × AreOfSlots parts content slots (suc r) ss
 

@@ -1,6 +1,6 @@
 //! Keys.
 use cb_forms::NoMemory;
-use cb_match::{Cuts, Key, Part, Parts};
+use cb_match::{Cuts, Key, MatchParts, Part};
 use std::alloc::Global;
 use std::cmp::Ordering;
 
@@ -129,8 +129,8 @@ fn key(alloc: Global, row: &Row) -> Result<Key, NoMemory> {
 }
 
 /// These parts, one after another.
-fn grown(alloc: Global, parts: &[Part]) -> Result<Parts, NoMemory> {
-    let mut all = Parts::none();
+fn grown(alloc: Global, parts: &[Part]) -> Result<MatchParts, NoMemory> {
+    let mut all = MatchParts::none();
     for part in parts {
         all = all.and(alloc, part.clone()?)?;
     }
@@ -139,7 +139,11 @@ fn grown(alloc: Global, parts: &[Part]) -> Result<Parts, NoMemory> {
 
 /// Whether a clone of the key, a key of its parts, and one of the parts one after another are as the key.
 fn is_cloned(alloc: Global, key: &Key) -> Result<bool, NoMemory> {
-    let copied = Key::of(key.rule(), key.branch(), Parts::of(alloc, key.parts())?);
+    let copied = Key::of(
+        key.rule(),
+        key.branch(),
+        MatchParts::of(alloc, key.parts())?,
+    );
     let grown = Key::of(key.rule(), key.branch(), grown(alloc, key.parts())?);
     Ok(key.clone()? == *key && copied == *key && grown == *key)
 }

@@ -1,7 +1,7 @@
 //! Matchers: `Rematch` through the bound that a session has.
 ghost use Rattle.std.specs.Prelude.{◌≡◌, []};
 
-use cb_constraints::{Check, Constraint, Demand, Parts, Row, Test};
+use cb_constraints::{Check, Constraint, Demand, PatternParts, Row, Test};
 use cb_exprs::Env;
 use cb_facts::{Fact, Multifield, Name, Single, Value};
 use cb_fit::{Meter, Pattern};
@@ -106,7 +106,7 @@ fn row(alloc: Global) -> Result<Row, NoMemory> {
 
 /// `(p ?x $?)`
 fn pattern(alloc: Global) -> Result<Pattern<Mark>, NoMemory> {
-    Pattern::new(alloc, name(alloc, b"p")?, Parts::Fields(row(alloc)?))
+    Pattern::new(alloc, name(alloc, b"p")?, PatternParts::Fields(row(alloc)?))
 }
 
 fn branch(alloc: Global) -> Result<Vec<Ce<Mark>>, NoMemory> {

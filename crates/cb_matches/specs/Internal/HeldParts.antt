@@ -2,8 +2,8 @@
 use Rattle.std.specs.Prelude.{List, [], Vec}
 use Rattle.std.specs.Rc.{rc_value}
 use Rattle.cb_matches.specs.Keys.{PartValue}
-use Rattle.cb_matches.specs.declared.parts.Held.{Held}
-use Rattle.cb_matches.specs.declared.parts.Held.TheVariants as held
+use Rattle.cb_matches.specs.declared.match_parts.Held.{Held}
+use Rattle.cb_matches.specs.declared.match_parts.Held.TheVariants as held
 
 abbrev pub parts_in : Held → List PartValue
 parts_in held.None = []

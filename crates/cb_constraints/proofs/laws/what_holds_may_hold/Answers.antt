@@ -1,4 +1,4 @@
-use Rattle.cb_constraints.specs.Lemmas.{holds-may}
+use Rattle.cb_constraints.proofs.HoldingLaws.{holds-may}
 use Rattle.cb_constraints.proofs.laws.what_holds_may_hold.Goals as goal
 
 pub returns : goal.returns

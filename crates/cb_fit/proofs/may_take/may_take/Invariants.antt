@@ -1,6 +1,6 @@
 use Rattle.std.proofs.Common.{◌≡◌, ◌≤◌, drop, length, map}
 use Rattle.cb_constraints.specs.Constraints.{constraint_of}
-use Rattle.cb_cuts.specs.Internal.{row_fields}
+use Rattle.cb_constraints.specs.Internal.RowFields.{row_fields}
 use Rattle.cb_fit.specs.Internal.{may_take}
 use Rattle.cb_fit.proofs.may_take.may_take.Given as goal
 

@@ -1,6 +1,6 @@
 use Rattle.cb_forms.specs.Pieces.{lexemes}
 use Rattle.cb_forms.proofs.DepthLaws.{reads-written, reads-deep}
-use Rattle.cb_forms.specs.Lemmas.{levels-written, written-alike}
+use Rattle.cb_forms.proofs.ReadingLaws.{levels-written, written-alike}
 use Rattle.cb_forms.proofs.laws.a_form_is_as_it_is_written.Goals as goal
 
 pub returns-clause-first : goal.returns-clause-first

@@ -1,4 +1,4 @@
-use Rattle.cb_forms.specs.Lemmas.CuttingLaws.{are_cut-cut, are_cut-front, cut-joined, joined-cut}
+use Rattle.cb_forms.proofs.CuttingLaws.{are_cut-cut, are_cut-front, cut-joined, joined-cut}
 use Rattle.cb_forms.proofs.laws.a_list_is_cut_in_one_way.Goals as goal
 
 pub returns-clause-together : goal.returns-clause-together

@@ -1,4 +1,4 @@
-use Rattle.cb_forms.specs.Lemmas.{reads-items, reads-one}
+use Rattle.cb_forms.proofs.ReadingLaws.{reads-items, reads-one}
 use Rattle.cb_forms.proofs.laws.each_text_reads_once.Goals as goal
 
 pub returns-clause-reads : goal.returns-clause-reads

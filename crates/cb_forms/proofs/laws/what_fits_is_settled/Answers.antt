@@ -1,4 +1,4 @@
-use Rattle.cb_forms.specs.Lemmas.FittingLaws.{fitting-kept, fitting-items, fitting-whole, whole-fitting}
+use Rattle.cb_forms.proofs.FittingLaws.{fitting-kept, fitting-items, fitting-whole, whole-fitting}
 use Rattle.cb_forms.proofs.laws.what_fits_is_settled.Goals as goal
 
 pub returns-clause-settled : goal.returns-clause-settled

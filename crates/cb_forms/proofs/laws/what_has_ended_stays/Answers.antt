@@ -1,4 +1,4 @@
-use Rattle.cb_forms.specs.Lemmas.{whole-grows, items-keep}
+use Rattle.cb_forms.proofs.ReadingLaws.{whole-grows, items-keep}
 use Rattle.cb_forms.proofs.laws.what_has_ended_stays.Goals as goal
 
 pub returns-clause-stays : goal.returns-clause-stays

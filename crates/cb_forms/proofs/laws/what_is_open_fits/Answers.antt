@@ -1,5 +1,5 @@
-use Rattle.cb_forms.specs.Lemmas.OpenPartLaws.{open-no_gap}
-use Rattle.cb_forms.specs.Lemmas.{rest-fits, rest-after}
+use Rattle.cb_forms.proofs.OpenPartLaws.{open-no_gap}
+use Rattle.cb_forms.proofs.ReadingLaws.{rest-fits, rest-after}
 use Rattle.cb_forms.proofs.laws.what_is_open_fits.Goals as goal
 
 pub returns-clause-fits : goal.returns-clause-fits

@@ -4,7 +4,7 @@ use Rattle.cb_forms.specs.Internal.ListStacks.{frames_of}
 use Rattle.cb_forms.specs.Trees.{Tree, trees_in}
 use Rattle.cb_forms.proofs.ListLaws.{IsListSoFar, list-begin, list-gap, list-open, list-close, list-never}
 use Rattle.cb_forms.proofs.PieceLaws.{blank-first}
-use Rattle.cb_forms.specs.Lemmas.ListStackLaws.{frames_in, frames-some}
+use Rattle.cb_forms.proofs.ListStackLaws.{frames_in, frames-some}
 use Rattle.cb_forms.proofs.list.read_list.Goals as goal
 
 pub loop-rest-init : goal.loop-rest-init

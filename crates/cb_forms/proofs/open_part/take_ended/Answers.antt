@@ -1,7 +1,7 @@
 use Rattle.std.proofs.Common.{◌≡◌, true, false, [], sym, ap, ◌∙◌, if◌then◌else◌}
 use Rattle.cb_forms.specs.Items.{is_open, readings_of}
-use Rattle.cb_forms.specs.Lemmas.OpenPartLaws.{ended-list, open_bytes-open, open_bytes-ended}
-use Rattle.cb_forms.specs.Lemmas.ScanStateLaws.{state-open}
+use Rattle.cb_forms.proofs.OpenPartLaws.{ended-list, open_bytes-open, open_bytes-ended}
+use Rattle.cb_forms.proofs.ScanStateLaws.{state-open}
 use Rattle.cb_forms.proofs.open_part.take_ended.Goals as goal
 
 pub returns-then-is_open-clause-item : goal.returns-then-is_open-clause-item

@@ -2,7 +2,7 @@ use Rattle.std.proofs.Common.{◌≡◌, ◌||◌, true, false, [], nat_lt, sym,
 use Rattle.cb_forms.specs.Cuts.{item_readings}
 use Rattle.cb_forms.specs.Items.{readings_of}
 use Rattle.cb_forms.specs.Internal.ScanStates.{mode_is_open}
-use Rattle.cb_forms.specs.Lemmas.OpenPartLaws.{deep-list}
+use Rattle.cb_forms.proofs.OpenPartLaws.{deep-list}
 use Rattle.cb_forms.proofs.open_part.take_open.Goals as goal
 use Rattle.cb_forms.proofs.open_part.take_open.Goals.{then-not-is_open, else-not-is_open+then-state-gt0, else-not-is_open+else-state-gt0+in_ok-item}
 

@@ -1,5 +1,5 @@
 use Rattle.std.proofs.Common.{sym, arith}
-use Rattle.cb_forms.specs.Lemmas.OpenPartLaws.{deep-list, flat-list}
+use Rattle.cb_forms.proofs.OpenPartLaws.{deep-list, flat-list}
 use Rattle.cb_forms.proofs.reader.read_last_part.Goals as goal
 
 pub returns-then-state-gt0 : goal.returns-then-state-gt0

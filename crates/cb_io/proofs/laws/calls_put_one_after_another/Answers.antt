@@ -1,4 +1,4 @@
-use Rattle.cb_io.specs.Lemmas.{puts_none, puts_then}
+use Rattle.cb_io.proofs.PutLaws.{puts_none, puts_then}
 use Rattle.cb_io.proofs.laws.calls_put_one_after_another.Goals as goal
 
 pub returns-clause-nothing : goal.returns-clause-nothing

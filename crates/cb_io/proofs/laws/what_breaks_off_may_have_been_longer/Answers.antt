@@ -1,4 +1,4 @@
-use Rattle.cb_io.specs.Lemmas.{puts_refused, puts_nothing, puts_less, puts_failed}
+use Rattle.cb_io.proofs.PutLaws.{puts_refused, puts_nothing, puts_less, puts_failed}
 use Rattle.cb_io.proofs.laws.what_breaks_off_may_have_been_longer.Goals as goal
 
 pub returns-clause-all : goal.returns-clause-all

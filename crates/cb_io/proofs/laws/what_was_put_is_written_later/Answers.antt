@@ -1,4 +1,4 @@
-use Rattle.cb_io.specs.Lemmas.{puts_part_then, puts_part_failed}
+use Rattle.cb_io.proofs.PutLaws.{puts_part_then, puts_part_failed}
 use Rattle.cb_io.proofs.laws.what_was_put_is_written_later.Goals as goal
 
 pub returns-clause-written : goal.returns-clause-written

@@ -1,4 +1,4 @@
-use Rattle.cb_io.specs.Lemmas.{puts_fine, puts_fine_part}
+use Rattle.cb_io.proofs.PutLaws.{puts_fine, puts_fine_part}
 use Rattle.cb_io.proofs.laws.without_a_failed_write_there_is_no_fault.Goals as goal
 
 pub returns-clause-all : goal.returns-clause-all

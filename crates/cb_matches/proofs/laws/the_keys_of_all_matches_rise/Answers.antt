@@ -4,7 +4,7 @@ use Rattle.std.specs.declared.cmp.Ordering.TheVariants.{Less}
 use Rattle.std.proofs.Common.{◌≡◌}
 use Rattle.cb_fit.specs.Ways.{WayValue, ways}
 use Rattle.cb_matches.proofs.Rising.{keys_rise}
-use Rattle.cb_matches.specs.Lemmas.Lists.{chain_from_pairs}
+use Rattle.cb_matches.proofs.Lists.{chain_from_pairs}
 use Rattle.cb_matches.proofs.laws.the_keys_of_all_matches_rise.Goals as goal
 
 pub returns : goal.returns

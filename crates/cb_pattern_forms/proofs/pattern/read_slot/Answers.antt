@@ -1,10 +1,10 @@
 use Rattle.std.proofs.Common.{◌≡◌, ◌∙◌, None, ap, rules}
-use Rattle.cb_templates.specs.FaultLists.{first_of}
+use Rattle.cb_facts.specs.FaultLists.{first_of}
 use Rattle.cb_expr_forms.specs.Scopes.{is_known}
 use Rattle.cb_forms.specs.Members.{members}
 use Rattle.cb_pattern_forms.specs.PatternFaults.{slot_row_faults, named_faults, found_slot_faults}
 use Rattle.cb_pattern_forms.proofs.SlotLaws.{unplaced}
-use Rattle.cb_templates.specs.Places.{place_in}
+use Rattle.cb_facts.specs.Places.{place_in}
 use Rattle.cb_templates.specs.Slots.{names}
 use Rattle.cb_pattern_forms.proofs.pattern.read_slot.Goals as goal
 

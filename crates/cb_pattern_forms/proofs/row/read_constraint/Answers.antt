@@ -2,7 +2,7 @@ use Rattle.std.proofs.Common.{◌≡◌, ◌∙◌, ◌||◌, ◌++◌, ◌∷�
 use Rattle.std.specs.Prelude.{MatchResult}
 use Rattle.cb_constraints.specs.Constraints.{check_of, constraint_of}
 use Rattle.cb_constraints.specs.declared.constraint.Constraint.{Constraint}
-use Rattle.cb_templates.specs.FaultLists.{first_of}
+use Rattle.cb_facts.specs.FaultLists.{first_of}
 use Rattle.cb_facts.specs.Results.{Reports}
 use Rattle.cb_facts.specs.declared.refused.Refused.{Refused}
 use Rattle.cb_forms.specs.Members.{members}

@@ -1,6 +1,6 @@
 use Rattle.std.proofs.Common.{◌≡◌, ◌++◌, length, map}
 use Rattle.cb_constraints.specs.Constraints.{constraint_of}
-use Rattle.cb_templates.specs.FaultLists.{first_of}
+use Rattle.cb_facts.specs.FaultLists.{first_of}
 use Rattle.cb_forms.specs.Members.{members}
 use Rattle.cb_pattern_forms.specs.Members.{members_in}
 use Rattle.cb_pattern_forms.specs.PatternFaults.{constraints_faults}

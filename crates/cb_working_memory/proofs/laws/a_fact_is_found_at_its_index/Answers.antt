@@ -1,4 +1,4 @@
-use Rattle.cb_working_memory.specs.Lemmas.{index_of-absent, index_of-there}
+use Rattle.cb_working_memory.proofs.IndexOf.{index_of-absent, index_of-there}
 use Rattle.cb_working_memory.proofs.laws.a_fact_is_found_at_its_index.Goals as goal
 
 pub returns-clause-there : goal.returns-clause-there

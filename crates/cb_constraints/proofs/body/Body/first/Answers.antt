@@ -8,7 +8,7 @@ use Rattle.cb_constraints.specs.Internal.Places.{first_place, places}
 use Rattle.cb_constraints.specs.PartValues.{asked_parts}
 use Rattle.cb_constraints.proofs.PlaceLaws.{found, looked_up}
 use Rattle.cb_constraints.proofs.body.Body.first.Goals as goal
-use Rattle.cb_templates.specs.Places.{place_in}
+use Rattle.cb_facts.specs.Places.{place_in}
 
 pub returns : goal.returns
 returns c =

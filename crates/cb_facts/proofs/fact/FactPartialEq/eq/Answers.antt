@@ -1,4 +1,4 @@
-use Rattle.cb_facts.specs.Lemmas.FactEquality.{fact_eq-apart}
+use Rattle.cb_facts.proofs.FactEquality.{fact_eq-apart}
 use Rattle.cb_facts.proofs.fact.FactPartialEq.eq.Goals as goal
 
 pub returns-then-self-other : goal.returns-then-self-other

@@ -10,7 +10,7 @@ use Rattle.cb_fit.proofs.Tries.{enough_tries, few_ends, suc-first}
 use Rattle.cb_fit.specs.Internal.{begun_at, endings}
 use Rattle.cb_fit.specs.Internal.Choices.{segments_in}
 use Rattle.cb_fit.specs.Internal.Standing.{AreNext, IsAt}
-use Rattle.cb_cuts.specs.Internal.{row_fields}
+use Rattle.cb_constraints.specs.Internal.RowFields.{row_fields}
 use Rattle.cb_fit.proofs.choice.Choice.new.Goals as goal
 
 pub returns-then-len-rest-clause-ways : goal.returns-then-len-rest-clause-ways

@@ -1,6 +1,6 @@
 use Rattle.std.proofs.Common.{◌≡◌, ◌∙◌, ◌+◌, ◌-◌, ◌≤◌, ◌∷◌, [], ap, length, map, refl, rules, sym}
 use Rattle.cb_constraints.specs.Constraints.{constraint_of}
-use Rattle.cb_cuts.specs.Internal.{row_fields}
+use Rattle.cb_constraints.specs.Internal.RowFields.{row_fields}
 use Rattle.cb_fit.proofs.Numbers.{first_place, no-numbers, no_place}
 use Rattle.cb_fit.proofs.Standing.{kept-again, within-taken}
 use Rattle.cb_fit.specs.Internal.{begun_at, begun_if, with_group}

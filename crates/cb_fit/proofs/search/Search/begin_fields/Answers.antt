@@ -5,7 +5,7 @@ use Rattle.cb_fit.proofs.Standing.{next-count}
 use Rattle.cb_fit.proofs.Takes.{ok-same}
 use Rattle.cb_fit.specs.Internal.{begun_at, endings, env_after}
 use Rattle.cb_fit.specs.Internal.Choices.{as_ways, ways_if}
-use Rattle.cb_cuts.specs.Internal.{row_fields}
+use Rattle.cb_constraints.specs.Internal.RowFields.{row_fields}
 use Rattle.cb_fit.specs.WayValues.{way_of}
 use Rattle.cb_fit.specs.Ways.{after_cuts, ways_of_row}
 use Rattle.cb_fit.proofs.search.Search.begin_fields.Goals as goal

@@ -7,7 +7,7 @@ use Rattle.cb_fit.proofs.Looked.{all-taken, front_may}
 use Rattle.cb_fit.proofs.Splits.{ones-want, segments-in-both}
 use Rattle.cb_fit.proofs.Standing.{front-at, next-ones}
 use Rattle.cb_fit.proofs.Takes.{is-met, not-met}
-use Rattle.cb_cuts.specs.Internal.{row_fields}
+use Rattle.cb_constraints.specs.Internal.RowFields.{row_fields}
 use Rattle.cb_fit.specs.Internal.{after_ones, endings, env_after, may_take}
 use Rattle.cb_fit.specs.Internal.Standing.{IsAt}
 use Rattle.cb_fit.specs.Ways.{after_cuts, ways_of_row}

@@ -2,8 +2,8 @@ use Rattle.std.proofs.Common.{◌∙◌, ap, subst, sym}
 use Rattle.cb_constraints.specs.Binders.{constraints_in}
 use Rattle.cb_constraints.specs.Constraints.{constraint_of, demand_of}
 use Rattle.cb_constraints.specs.Holding.{Follows, Meets, after_demand, checks_in, tested_value}
-use Rattle.cb_constraints.specs.contracts.cited.LawsCited.TheImpl as constraints_laws
-use Rattle.cb_cuts.specs.Internal.Values.{values_taken}
+use Rattle.cb_constraints.proofs.FollowLaws.{known_follows}
+use Rattle.cb_constraints.specs.Internal.Values.{values_taken}
 use Rattle.cb_facts.specs.Facts.{content_of}
 use Rattle.cb_fit.proofs.Standing.{known-is, met-next, next-here}
 use Rattle.cb_fit.proofs.Takes.{ok-then}
@@ -16,7 +16,7 @@ meets_beyond_constants-requires-clause-follows c =
     c.known-known.ensures.body (ap (λ t. t.body.now) c.known-known.ensures.took ∙ c.taken-took.ensures.body) (ap content_of (ap (λ t. t.content.now) c.known-known.ensures.took ∙ c.taken-took.ensures.content))
     (ap (λ t. t.cuts.now) c.known-known.ensures.took ∙ c.taken-took.ensures.cuts) (ap tested_value c.known-known.ensures.tested) c.known-known.ensures.before in
     subst (λ f. Follows f (demand_of c.args.constraint.now.demand) (tested_value c.args.tested)) (sym is)
-    (constraints_laws.ghosts.known_follows (constraints_in c.args.self.body.now) (values_taken c.args.self.body.now (content_of c.args.self.content.now) c.args.cuts.now) (tested_value c.args.tested) c.args.self.before.now
+    (known_follows (constraints_in c.args.self.body.now) (values_taken c.args.self.body.now (content_of c.args.self.content.now) c.args.cuts.now) (tested_value c.args.tested) c.args.self.before.now
     (constraint_of c.args.constraint.now) c.requires.next.0 (next-here c.args.self c.args.cuts.now (constraint_of c.args.constraint.now) c.requires.next))
 
 pub returns : goal.returns

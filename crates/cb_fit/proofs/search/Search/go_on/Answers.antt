@@ -7,7 +7,7 @@ use Rattle.cb_fit.proofs.Standing.{keeps-all, next-count}
 use Rattle.cb_fit.proofs.Takes.{ok-same}
 use Rattle.cb_fit.specs.Internal.{begun_at, endings, env_after, taken_by}
 use Rattle.cb_fit.specs.Internal.Choices.{as_ways, followed_by_rows, ways_if}
-use Rattle.cb_cuts.specs.Internal.{row_fields}
+use Rattle.cb_constraints.specs.Internal.RowFields.{row_fields}
 use Rattle.cb_fit.specs.WayValues.{way_of}
 use Rattle.cb_fit.proofs.search.Search.go_on.Goals as goal
 

@@ -2,10 +2,10 @@ use Rattle.std.proofs.Common.{◌∙◌, ◌++◌, ◌-◌, ◌∷◌, [], ap, d
 use Rattle.cb_constraints.specs.Binders.{constraints_in}
 use Rattle.cb_constraints.specs.Constraints.{constraint_of, demand_of}
 use Rattle.cb_constraints.specs.Holding.{Follows, Meets, after_demand, checks_in, tested_value}
-use Rattle.cb_constraints.specs.contracts.cited.LawsCited.TheImpl as constraints_laws
+use Rattle.cb_constraints.proofs.FollowLaws.{known_follows}
 use Rattle.cb_constraints.specs.Internal.Known.{bindings_before}
-use Rattle.cb_cuts.specs.Internal.{row_fields}
-use Rattle.cb_cuts.specs.Internal.Values.{values_taken}
+use Rattle.cb_constraints.specs.Internal.RowFields.{row_fields}
+use Rattle.cb_constraints.specs.Internal.Values.{values_taken}
 use Rattle.cb_facts.specs.Facts.{content_of}
 use Rattle.cb_facts.specs.declared.value.Value.TheVariants as value
 use Rattle.cb_fit.proofs.Standing.{first-next, known-is, met-next, next-here, nothing-met, segment-met, segment-next, segment-tested}
@@ -30,7 +30,7 @@ meets-requires c =
     (ap (λ t. t.cuts.now) c.known-known.ensures.took ∙ c.taken-took.ensures.cuts) (ap tested_value c.known-known.ensures.tested) c.known-known.ensures.before in
     let next = first-next c.args.self (row_fields c.args.fields) c.args.cuts.now c.args.from (constraint_of c.args.constraint.now) [] c.requires.place in
     subst (λ f. Follows f (demand_of c.args.constraint.now.demand) c.in_ok-segment.segment) (sym is)
-    (constraints_laws.ghosts.known_follows (constraints_in c.args.self.body.now) (values_taken c.args.self.body.now (content_of c.args.self.content.now) c.args.cuts.now) c.in_ok-segment.segment c.args.self.before.now
+    (known_follows (constraints_in c.args.self.body.now) (values_taken c.args.self.body.now (content_of c.args.self.content.now) c.args.cuts.now) c.in_ok-segment.segment c.args.self.before.now
     (constraint_of c.args.constraint.now) next.0 (next-here c.args.self c.args.cuts.now (constraint_of c.args.constraint.now) next))
 
 pub returns : goal.returns

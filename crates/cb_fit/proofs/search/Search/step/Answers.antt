@@ -4,7 +4,7 @@ use Rattle.std.proofs.lemmas.List.{length-map}
 use Rattle.std.specs.List.{flat_map}
 use Rattle.cb_constraints.specs.Constraints.{constraint_of}
 use Rattle.cb_constraints.specs.PartValues.{asked_slot}
-use Rattle.cb_cuts.specs.Internal.{row_fields}
+use Rattle.cb_constraints.specs.Internal.RowFields.{row_fields}
 use Rattle.cb_fit.proofs.Choices.{all-open-kept, all-ways-kept, group-count, next-order, next-taken, with-number}
 use Rattle.cb_fit.proofs.Standing.{after-group, keeps-through, next-count}
 use Rattle.cb_fit.proofs.Takes.{on-ok}

@@ -1,7 +1,7 @@
 use Rattle.std.proofs.Common.{arith, ◌≡◌, ◌∙◌, ◌++◌, ◌+◌, ◌-◌, ◌∷◌, [], ap, drop, length, map, Some, replicate, slice_range, subst, sym}
 use Rattle.std.proofs.lemmas.List.{length-map}
 use Rattle.cb_constraints.specs.Constraints.{constraint_of}
-use Rattle.cb_cuts.specs.Internal.{row_fields}
+use Rattle.cb_constraints.specs.Internal.RowFields.{row_fields}
 use Rattle.cb_fit.proofs.Groups.{group-taken, none-made}
 use Rattle.cb_fit.proofs.Standing.{keeps-after, next-at}
 use Rattle.cb_fit.proofs.Takes.{is-met, nothing-taken, ok-with, on-ok}

@@ -2,7 +2,7 @@ use Rattle.std.proofs.Common.{arith, ◌≡◌, ◌∙◌, ◌++◌, ◌+◌, �
 use Rattle.cb_constraints.specs.Constraints.{constraint_of}
 use Rattle.cb_constraints.specs.Holding.{tested_value}
 use Rattle.cb_constraints.specs.Rows.{segments_wanted}
-use Rattle.cb_cuts.specs.Internal.{IsFirst, row_fields}
+use Rattle.cb_constraints.specs.Internal.RowFields.{IsFirst, row_fields}
 use Rattle.cb_fit.proofs.Rows.{others-are-ones}
 use Rattle.cb_fit.proofs.Standing.{more-ones, next-at, one-fails, one-holds, split-next}
 use Rattle.cb_fit.proofs.Takes.{may_others}

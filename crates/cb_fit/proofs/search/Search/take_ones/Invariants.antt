@@ -1,7 +1,7 @@
 use Rattle.std.proofs.Common.{◌≡◌, ◌+◌, ◌++◌, ◌≤◌, drop, length, map, replicate, true}
 use Rattle.cb_constraints.specs.Constraints.{constraint_of}
 use Rattle.cb_constraints.specs.Rows.{segments_wanted}
-use Rattle.cb_cuts.specs.Internal.{row_fields}
+use Rattle.cb_constraints.specs.Internal.RowFields.{row_fields}
 use Rattle.cb_fit.specs.Internal.{after_ones, env_after, may_take}
 use Rattle.cb_fit.specs.Internal.Standing.{IsAt}
 use Rattle.cb_fit.proofs.search.Search.take_ones.Given as goal

@@ -1,4 +1,4 @@
-use Rattle.cb_forms.specs.Lemmas.ListStackLaws.{frames_in, closed_up-add}
+use Rattle.cb_forms.proofs.ListStackLaws.{frames_in, closed_up-add}
 use Rattle.cb_forms.proofs.list_stack.ListStack.add.Goals as goal
 
 pub returns-clause-frames : goal.returns-clause-frames

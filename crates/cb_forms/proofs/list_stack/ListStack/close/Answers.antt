@@ -1,5 +1,5 @@
 use Rattle.std.proofs.Common.{◌≡◌, ◌∙◌, ◌++◌, [], ◌∷◌, ap}
-use Rattle.cb_forms.specs.Lemmas.ListStackLaws.{closed_up-close, frames_in}
+use Rattle.cb_forms.proofs.ListStackLaws.{closed_up-close, frames_in}
 use Rattle.cb_forms.specs.Internal.ListStacks.{closed_up}
 use Rattle.cb_forms.specs.Trees.{trees_in}
 use Rattle.cb_forms.proofs.list_stack.ListStack.close.Goals as goal

@@ -5,8 +5,8 @@ use Rattle.cb_forms.specs.Cuts.{item_readings}
 use Rattle.cb_forms.specs.Internal.Cuts.{opened_readings, open_bytes}
 use Rattle.cb_forms.specs.Items.{is_gap, ended_readings}
 use Rattle.cb_forms.specs.Internal.ScanStates.{IsStateIn}
-use Rattle.cb_forms.specs.Lemmas.OpenPartLaws.{kept-state, opened-says, reaches-gap, reaches-item, no_gap-fresh, depth-fresh}
-use Rattle.cb_forms.specs.Lemmas.ScanStateLaws.{state-fresh}
+use Rattle.cb_forms.proofs.OpenPartLaws.{kept-state, opened-says, reaches-gap, reaches-item, no_gap-fresh, depth-fresh}
+use Rattle.cb_forms.proofs.ScanStateLaws.{state-fresh}
 use Rattle.cb_forms.proofs.open_part.OpenPart.begin.Goals as goal
 use Rattle.cb_forms.proofs.open_part.OpenPart.begin.Goals.{then-is_blank-via-then-is_blank, then-is_blank-via-else-is_blank+then-byte-eq59}
 

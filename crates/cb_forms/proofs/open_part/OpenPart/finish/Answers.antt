@@ -1,5 +1,5 @@
 use Rattle.std.proofs.Common.{refl}
-use Rattle.cb_forms.specs.Lemmas.OpenPartLaws.{kept-start, kept-state, opened-says}
+use Rattle.cb_forms.proofs.OpenPartLaws.{kept-start, kept-state, opened-says}
 use Rattle.cb_forms.proofs.open_part.OpenPart.finish.Goals as goal
 
 pub take_open-requires : goal.take_open-requires

@@ -5,8 +5,8 @@ use Rattle.cb_forms.specs.Cuts.{item_readings}
 use Rattle.cb_forms.specs.Internal.Cuts.{open_bytes}
 use Rattle.cb_forms.specs.Items.{ended_readings}
 use Rattle.cb_forms.specs.Internal.ScanStates.{IsStateIn}
-use Rattle.cb_forms.specs.Lemmas.OpenPartLaws.{state-goes, depth-next, kept-open, open-no_gap-push, reaches-item, reaches-comment}
-use Rattle.cb_forms.specs.Lemmas.ScanStateLaws.{state-push}
+use Rattle.cb_forms.proofs.OpenPartLaws.{state-goes, depth-next, kept-open, open-no_gap-push, reaches-item, reaches-comment}
+use Rattle.cb_forms.proofs.ScanStateLaws.{state-push}
 use Rattle.cb_forms.proofs.open_part.OpenPart.go_on.Goals as goal
 
 none_kept : (v : Vec ℕ Global) (t : Bool) → t ≡ (vec_len v == 0) → t ≡ true → v.items ≡ []

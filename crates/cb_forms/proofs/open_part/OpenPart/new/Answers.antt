@@ -1,5 +1,5 @@
 use Rattle.std.proofs.Common.{refl}
-use Rattle.cb_forms.specs.Lemmas.OpenPartLaws.{kept-start}
+use Rattle.cb_forms.proofs.OpenPartLaws.{kept-start}
 use Rattle.cb_forms.proofs.open_part.OpenPart.new.Goals as goal
 
 pub returns-clause-kept : goal.returns-clause-kept

@@ -1,6 +1,6 @@
 use Rattle.std.proofs.Common.{◌≡◌, true, false, sym, ◌∙◌}
 use Rattle.cb_forms.specs.Items.{part_takes}
-use Rattle.cb_forms.specs.Lemmas.ScanStateLaws.{state-takes}
+use Rattle.cb_forms.proofs.ScanStateLaws.{state-takes}
 use Rattle.cb_forms.proofs.open_part.OpenPart.step.Goals as goal
 
 pub go_on-requires-clause-takes : goal.go_on-requires-clause-takes

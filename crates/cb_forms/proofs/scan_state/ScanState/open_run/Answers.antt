@@ -1,7 +1,7 @@
 use Rattle.std.proofs.Common.{◌+◌, ◌<◌, ◌≤◌, length, get_or, take, sym, ◌∙◌, arith}
 use Rattle.std.proofs.lemmas.List.{take_more}
 use Rattle.cb_forms.specs.Internal.ScanStates.{IsOpenStep}
-use Rattle.cb_forms.specs.Lemmas.OpenPartLaws.{depth-next}
+use Rattle.cb_forms.proofs.OpenPartLaws.{depth-next}
 use Rattle.cb_forms.proofs.RunLaws.{stays-push, stays-still}
 use Rattle.cb_forms.proofs.scan_state.ScanState.open_run.Goals as goal
 

@@ -2,7 +2,7 @@ use Rattle.std.proofs.Common.{◌≡◌, ◌∙◌, None, Some, ap, rules}
 use Rattle.std.specs.Option.{option_copied}
 use Rattle.std.specs.Slice.{IsItemAt}
 use Rattle.cb_templates.specs.Building.{given_names}
-use Rattle.cb_templates.specs.Places.{place_in}
+use Rattle.cb_facts.specs.Places.{place_in}
 use Rattle.cb_templates.proofs.PlaceLaws.{values_at, values_of}
 use Rattle.cb_templates.proofs.parts.GivenSlots.find.Goals as goal
 

@@ -1,6 +1,6 @@
 use Rattle.std.proofs.Common.{◌≡◌, ◌∙◌, ◌++◌, [], ◌∷◌, is_some, not, sym, ap, rules}
 use Rattle.cb_templates.specs.Building.{are_distinct, given_names}
-use Rattle.cb_templates.specs.Places.{place_in}
+use Rattle.cb_facts.specs.Places.{place_in}
 use Rattle.cb_templates.proofs.PlaceLaws.{distinct_still, names_after}
 use Rattle.cb_templates.proofs.parts.GivenSlots.push.Goals as goal
 

@@ -1,5 +1,5 @@
 use Rattle.std.proofs.Common.{◌≡◌, Some, rules}
-use Rattle.cb_templates.specs.Places.{place_in}
+use Rattle.cb_facts.specs.Places.{place_in}
 use Rattle.cb_templates.specs.Slots.{names}
 use Rattle.cb_templates.proofs.PlaceLaws.{slot_lent}
 use Rattle.cb_templates.proofs.template.Template.find.Goals as goal

@@ -7,7 +7,7 @@ use Rattle.cb_working_memory.proofs.IndexLaws.{free_after, up_to_next}
 use Rattle.cb_working_memory.specs.Internal.WorkingMemories.{AreKept}
 use Rattle.cb_working_memory.specs.WorkingMemory.{Asserts, Memory}
 use Rattle.cb_working_memory.specs.declared.asserted.Asserted.TheVariants.{Added}
-use Rattle.cb_working_memory.specs.Lemmas.{index_of-there, index_of-absent}
+use Rattle.cb_working_memory.proofs.IndexOf.{index_of-there, index_of-absent}
 use Rattle.cb_working_memory.specs.WorkingMemory.{greatest_index}
 use Rattle.cb_working_memory.proofs.working_memory.WorkingMemory.assert_one.Goals as goal
 

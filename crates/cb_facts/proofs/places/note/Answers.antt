@@ -1,0 +1,10 @@
+use Rattle.std.proofs.Common.{◌≡◌, false, is_some, rules}
+use Rattle.cb_facts.specs.Internal.NamePlaces.{place_at}
+use Rattle.cb_facts.proofs.PlaceLaws.{noted-copy}
+use Rattle.cb_facts.proofs.places.note.Goals as goal
+
+pub returns-clause-ok : goal.returns-clause-ok
+returns-clause-ok c =
+    let same : c.in_ok-shared.shared ≡ c.args.name.now = search rules in
+    let absent : is_some (place_at c.args.firsts.now c.args.name.now) ≡ false = search rules in
+    noted-copy c.args.firsts.now c.insert.new.self c.args.name.now c.in_ok-shared.shared c.args.place same absent c.in_ok-insert.ensures.updates

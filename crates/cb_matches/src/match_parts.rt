@@ -1,0 +1,120 @@
+//! The parts of a partial match.
+ghost use Rattle.std.specs.Prelude.{◌≡◌, ◌++◌, ◌∷◌, [], IfOk};
+
+use crate::part::Part;
+use cb_forms::NoMemory;
+use std::alloc::{AllocError, Global};
+use std::marker::Model;
+use std::rc::Rc;
+
+/// The parts of a partial match, which never change.
+///
+/// Up to two stand in the value itself, and clones share more: a clone takes no memory, and is refused only where a count of
+/// sharers is full. Contracts see the list of the parts.
+#[derive(Drop)]
+pub struct MatchParts {
+    held: Held,
+}
+
+/// Where the parts are.
+#[derive(Drop)]
+enum Held {
+    None,
+    One([Part; 1]),
+    Two([Part; 2]),
+    More(Rc<Vec<Part>>),
+}
+
+impl Model for MatchParts {
+    ghost use Rattle.std.specs.Prelude.{List};
+    ghost use Rattle.cb_matches.specs.Internal.HeldParts.{parts_in};
+    ghost use Rattle.cb_matches.specs.Keys.{PartValue};
+
+    ghost Value = { List PartValue };
+
+    ghost view = { λ p. parts_in p.held };
+}
+
+impl MatchParts {
+    /// No parts. It takes no memory.
+    pub fn none() -> MatchParts
+        ensures { result ≡ [] }
+    {
+        MatchParts { held: Held::None }
+    }
+
+    /// These parts, taken over. Growth is refused as `NoMemory`, and so is a count of sharers that is full.
+    pub fn new(alloc: Global, parts: Vec<Part>) -> Result<MatchParts, NoMemory>
+        ensures { IfOk result (λ all. all ≡ parts.items) }
+    {
+        if parts.len() <= 2 {
+            return MatchParts::of(alloc, parts.as_slice());
+        }
+        Ok(MatchParts {
+            held: Held::More(Rc::new(alloc, parts)?),
+        })
+    }
+
+    /// A copy of these parts, which takes memory only where there are more than two. Growth is refused as `NoMemory`, and so is a
+    /// count of sharers that is full.
+    pub fn of(alloc: Global, parts: &[Part]) -> Result<MatchParts, NoMemory>
+        ensures { IfOk result (λ all. all ≡ parts.now) }
+    {
+        let held = match parts {
+            [] => Held::None,
+            [only] => Held::One([only.clone()?]),
+            [first, last] => Held::Two([first.clone()?, last.clone()?]),
+            more => Held::More(Rc::new(alloc, more.to_vec(alloc)?)?),
+        };
+        Ok(MatchParts { held })
+    }
+
+    /// The parts, from left to right.
+    pub fn as_slice(&self) -> &[Part]
+        ensures { result.now ≡ self.now }
+    {
+        match &self.held {
+            Held::None => &[],
+            Held::One(parts) => parts.as_slice(),
+            Held::Two(parts) => parts.as_slice(),
+            Held::More(parts) => parts.as_slice(),
+        }
+    }
+
+    /// A copy with one more part at its end, which takes memory only where there are more than two then. Growth is refused as
+    /// `NoMemory`, and so is a count of sharers that is full.
+    pub fn and(&self, alloc: Global, last: Part) -> Result<MatchParts, NoMemory>
+        ensures { IfOk result (λ all. all ≡ self.now ++ last ∷ []) }
+    {
+        let held = match self.as_slice() {
+            [] => Held::One([last]),
+            [first] => Held::Two([first.clone()?, last]),
+            before => Held::More(Rc::new(alloc, with_last(alloc, before, last)?)?),
+        };
+        Ok(MatchParts { held })
+    }
+}
+
+/// A copy of these parts, with one more at its end.
+fn with_last(alloc: Global, before: &[Part], last: Part) -> Result<Vec<Part>, NoMemory>
+    ensures { IfOk result (λ all. all.items ≡ before.now ++ last ∷ []) }
+{
+    let mut parts = Vec::with_capacity(alloc, before.len() + 1)?;
+    parts.extend_with_clones(before)?;
+    parts.push(last)?;
+    Ok(parts)
+}
+
+impl Clone for MatchParts {
+    ghost is_clone = { λ parts copy. copy ≡ parts };
+
+    fn clone(&self) -> Result<MatchParts, AllocError> {
+        let held = match &self.held {
+            Held::None => Held::None,
+            Held::One([only]) => Held::One([only.clone()?]),
+            Held::Two([first, last]) => Held::Two([first.clone()?, last.clone()?]),
+            Held::More(parts) => Held::More(parts.clone()?),
+        };
+        Ok(MatchParts { held })
+    }
+}
