@@ -3,14 +3,14 @@ use Rattle.std.proofs.Common.{◌≡◌, ◌<◌, ◌≤◌, ◌++◌, ◌∷◌
 use Rattle.cb_actions.specs.Acts.{each, give, stop, ◌>>=◌}
 use Rattle.cb_actions.specs.Changes.{gone_line, moved, rescheduled, told}
 use Rattle.cb_actions.specs.Effects.{added_beside, added_next, fact_added, fact_gone, fact_taken, gone_if, is_retractable, retracted, retracted_one}
-use Rattle.cb_actions.specs.Lemmas.ActLaws.{went_as}
+use Rattle.cb_actions.proofs.ActLaws.{went_as}
 use Rattle.cb_actions.specs.Went.{Went}
 use Rattle.cb_actions.specs.Worlds.{World}
 use Rattle.cb_rules.specs.RuleInfos.{RuleInfo}
 use Rattle.cb_actions.specs.declared.act.Break.{Break}
 use Rattle.cb_io.specs.Histories.{PastWrites}
 use Rattle.cb_io.specs.Output.{OutState}
-use Rattle.cb_actions.specs.declared.act.Ended.TheVariants as ended
+use Rattle.cb_actions.specs.declared.act.EarlyEnd.TheVariants as ended
 use Rattle.cb_actions.specs.declared.act.Limit.TheVariants.{Numbers}
 use Rattle.std.proofs.lemmas.Bool.{false≢true, and_parts}
 use Rattle.std.specs.List.{list_all}

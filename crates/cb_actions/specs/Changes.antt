@@ -5,7 +5,7 @@ use Rattle.cb_actions.specs.Acts.{Act, stop, ◌>>=◌}
 use Rattle.cb_lines.specs.Lines.{activation_line, fact_line, rule_numbered, salience_of}
 use Rattle.cb_actions.specs.Worlds.{World}
 use Rattle.cb_rules.specs.RuleInfos.{RuleInfo}
-use Rattle.cb_actions.specs.declared.act.Ended.TheVariants as ended
+use Rattle.cb_actions.specs.declared.act.EarlyEnd.TheVariants as ended
 use Rattle.cb_actions.specs.declared.act.Limit.TheVariants.{Numbers}
 use Rattle.cb_agenda.specs.Agendas.{changed, has_stamps, is_due}
 use Rattle.cb_facts.specs.Facts.{FactValue}

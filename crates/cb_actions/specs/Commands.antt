@@ -5,7 +5,7 @@ use Rattle.cb_actions.specs.Acts.{Act, become, each, give, stop, ◌>>=◌}
 use Rattle.cb_actions.specs.Effects.{index_named, valued}
 use Rattle.cb_actions.specs.Runs.{defined_rule, dropped_rule, rule_named, run}
 use Rattle.cb_actions.specs.Worlds.{World}
-use Rattle.cb_actions.specs.declared.act.Ended.TheVariants as ended
+use Rattle.cb_actions.specs.declared.act.EarlyEnd.TheVariants as ended
 use Rattle.cb_actions.specs.declared.watched.Watched.{Watched}
 use Rattle.cb_agenda.specs.declared.strategy.Strategy.{Strategy}
 use Rattle.cb_agenda.specs.declared.strategy.Strategy.TheVariants.{Depth, Breadth}

@@ -1,16 +1,18 @@
--- What each kind of action does with the values that it is given.
+-- What a call does with the values of its arguments.
 use Rattle.std.specs.Prelude.{ℕ, ℤ, pos, negsuc, is_some, ◌+◌, nat_lt, zero, suc, Bool, true, false, List, [], ◌∷◌, ◌++◌, Option, Some, None, codes, if◌then◌else◌}
 use Rattle.std.specs.List.{list_all}
 use Rattle.std.specs.Map.{keys_of}
 use Rattle.std.specs.Str.{bytes_eq}
-use Rattle.cb_actions.specs.Acts.{Act, each, give, stop, give_or_fault, become, ◌>>=◌}
+use Rattle.cb_actions.specs.Acts.{Act, each, give, stop, give_or_fault, become, write, ◌>>=◌}
 use Rattle.cb_actions.specs.Changes.{come_line, gone_line, moved}
-use Rattle.cb_actions.specs.Printing.{printed_values}
+use Rattle.cb_actions.specs.Printing.{printed, printed_values}
 use Rattle.cb_actions.specs.Worlds.{World}
-use Rattle.cb_actions.specs.declared.act.Ended.TheVariants as ended
+use Rattle.cb_actions.specs.declared.act.EarlyEnd.TheVariants as ended
 use Rattle.cb_actions.specs.declared.act.Limit.TheVariants.{Numbers, Turns}
 use Rattle.cb_exprs.specs.Bindings.{value_at, with_variable, with_global}
 use Rattle.cb_exprs.specs.Shapes.{Shape}
+use Rattle.cb_exprs.specs.declared.effect.Effect.{Effect}
+use Rattle.cb_exprs.specs.declared.effect.Effect.TheVariants as kind
 use Rattle.cb_facts.specs.FactLists.{fact_at}
 use Rattle.cb_facts.specs.Facts.{FactValue}
 use Rattle.cb_facts.specs.declared.value.Value.{Value}
@@ -20,7 +22,8 @@ use Rattle.cb_forms.specs.declared.fault.Fault.TheVariants.{NoSuchFact, UnboundV
 use Rattle.cb_functions.specs.Applied.{applied}
 use Rattle.cb_functions.specs.Logic.{is_true, decides}
 use Rattle.cb_templates.specs.Building.{Given, PartValues, field_values, slot_values, built}
-use Rattle.cb_words.specs.declared.function.Function.{Function}
+use Rattle.cb_words.specs.declared.words.Function.{Function}
+use Rattle.cb_words.specs.declared.words.Function.TheVariants as function
 use Rattle.cb_working_memory.specs.WorkingMemory.{greatest_index, grown, index_of, without}
 
 -- a value that is there, or this fault
@@ -128,6 +131,11 @@ is_retractable v = false
 abbrev pub retracted : List Value → Act World (Option Value)
 retracted vs s = if list_all is_retractable vs then (each retracted_one vs >>= (λ _. give None)) s else stop (ended.Fault WrongType) s
 
+-- one value of several: a multifield of them, as `create$` makes, unless there is one
+abbrev pub joined : List Value → Act World Value
+joined (v ∷ []) = give v
+joined vs = give_or_fault (applied function.Create vs)
+
 -- a variable has this value now, and so has a global variable
 abbrev pub bound : List ℕ → Value → Act World (Option Value)
 bound x v s = give (Some v) (record s { env = with_variable x v s.env })
@@ -143,6 +151,17 @@ halted s = become (record s { is_halted = true }) s
 -- values on a line
 abbrev pub printed_line : List Value → List ℕ
 printed_line vs = printed_values vs ++ codes "\n"
+
+-- What a call with an effect does with the values of its arguments.
+abbrev pub effected : Effect → List Value → Act World (Option Value)
+effected (kind.Assert shape) vs = asserted shape vs
+effected kind.Retract vs = retracted vs
+effected (kind.Bind x) vs = joined vs >>= bound x
+effected (kind.BindGlobal x) vs = joined vs >>= global_bound x
+effected (kind.Printout on) vs = write (printed on vs)
+effected kind.Print vs = write (printed_values vs)
+effected kind.Println vs = write (printed_line vs)
+effected kind.Halt vs = halted
 
 -- one of two acts
 abbrev pub chosen : {A : Type 0} → Bool → Act World A → Act World A → Act World A

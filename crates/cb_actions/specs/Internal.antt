@@ -6,10 +6,10 @@ use Rattle.cb_actions.specs.Acts.{Act}
 use Rattle.cb_actions.specs.Worlds.{World}
 use Rattle.cb_actions.specs.declared.act.Break.{Break}
 use Rattle.cb_actions.specs.declared.act.Break.TheVariants as break
-use Rattle.cb_actions.specs.declared.act.Ended.TheVariants as ended
+use Rattle.cb_actions.specs.declared.act.EarlyEnd.TheVariants as ended
 use Rattle.cb_actions.specs.declared.watched.Watched.{Watched}
 use Rattle.cb_agenda.specs.Agendas.{AgendaValue}
-use Rattle.cb_actions.specs.declared.stop.Stop.TheVariants as stop
+use Rattle.cb_io.specs.declared.stop.Stop.TheVariants as stop
 use Rattle.cb_exprs.specs.Bindings.{Bindings}
 use Rattle.cb_exprs.specs.Internal.Codes.{Piece}
 use Rattle.cb_facts.specs.declared.refused.Refused.{Refused}

@@ -8,7 +8,7 @@ use Rattle.cb_actions.specs.Changes.{if_watched, moved, rescheduled, tell}
 use Rattle.cb_lines.specs.Lines.{fact_line, firing_line, rule_numbered}
 use Rattle.cb_actions.specs.Worlds.{World}
 use Rattle.cb_rules.specs.RuleInfos.{RuleInfo}
-use Rattle.cb_actions.specs.declared.act.Ended.TheVariants as ended
+use Rattle.cb_actions.specs.declared.act.EarlyEnd.TheVariants as ended
 use Rattle.cb_actions.specs.declared.act.Limit.TheVariants.{Firings, Numbers}
 use Rattle.cb_agenda.specs.Agendas.{AgendaValue, popped}
 use Rattle.cb_rules.specs.Elements.{Elements}

@@ -9,10 +9,10 @@ ghost use Rattle.cb_exprs.specs.Terms.{term_of, terms_of};
 ghost use Rattle.cb_exprs.specs.Terms as term;
 ghost use Rattle.cb_functions.specs.Constants.{false_symbol};
 
-use crate::act::{Break, Ended};
+use crate::act::{Break, EarlyEnd};
 use crate::world::{World, constant, ends};
-use cb_exprs::{Channel, Expr, FactShape};
-use cb_facts::{Name, Value};
+use cb_exprs::{Effect, Expr};
+use cb_facts::Value;
 use cb_forms::{Fault, Out, Sink};
 use cb_functions::{decides, is_true};
 use cb_matches::Matcher;
@@ -40,17 +40,10 @@ impl<M: Matcher<Mark>> World<M> {
             Expr::Variable(name) => self.variable(name),
             Expr::Global(name) => self.global(name),
             Expr::Call(function, args) => self.carry_call(*function, args, out),
-            Expr::Assert(shape, parts) => self.carry_assert(shape, parts, out),
-            Expr::Retract(args) => self.carry_retract(args, out),
-            Expr::Bind(name, value) => self.carry_bind(name, value, out),
-            Expr::BindGlobal(name, value) => self.carry_bind_global(name, value, out),
+            Expr::Effect(effect, args) => self.carry_effect(effect, args, out),
             Expr::If(test, then_do, else_do) => self.carry_if(test, then_do, else_do, out),
             Expr::While(test, action) => self.carry_while(test, action, out),
             Expr::Actions(actions) => self.carry_all(actions, out),
-            Expr::Printout(channel, args) => self.carry_printout(*channel, args, out),
-            Expr::Print(args) => self.carry_printout(Channel::Output, args, out),
-            Expr::Println(args) => self.carry_println(args, out),
-            Expr::Halt => self.halt(),
         }
     }
 
@@ -80,71 +73,25 @@ impl<M: Matcher<Mark>> World<M> {
         self.call(function, values.as_slice())
     }
 
-    /// Asserts a fact of this shape with the values of expressions.
+    /// Does with the values of expressions what a call with an effect does.
     #[cycle(carrying)]
-    fn carry_assert<K: Sink>(
+    fn carry_effect<K: Sink>(
         &mut self,
-        shape: &FactShape,
-        parts: &[Expr],
-        out: &mut Out<K>,
-    ) -> Result<Option<Value>, Break>
-        requires { out.old.fault ≡ false }
-        ensures went { Went K.writes out.old out.new self.new result
-            (carried (term.assert shape.now (terms_of parts.now)) self.old) }
-        ensures fine { OnOk result (out.new.fault ≡ false) }
-    {
-        let values = self.carry_values(None, parts, out)?;
-        self.assert(shape, values, out)
-    }
-
-    /// Retracts the facts that the values of expressions name.
-    #[cycle(carrying)]
-    fn carry_retract<K: Sink>(
-        &mut self,
+        effect: &Effect,
         args: &[Expr],
         out: &mut Out<K>,
     ) -> Result<Option<Value>, Break>
         requires { out.old.fault ≡ false }
         ensures went { Went K.writes out.old out.new self.new result
-            (carried (term.retract (terms_of args.now)) self.old) }
+            (carried (term.effect effect.now (terms_of args.now)) self.old) }
         ensures fine { OnOk result (out.new.fault ≡ false) }
     {
+        if let [only] = args {
+            let value = self.carry_value(only, out)?;
+            return self.perform_with(effect, value, out);
+        }
         let values = self.carry_values(None, args, out)?;
-        self.retract(values.as_slice(), out)
-    }
-
-    /// Gives a variable the value of an expression.
-    #[cycle(carrying)]
-    fn carry_bind<K: Sink>(
-        &mut self,
-        name: &Name,
-        value: &Expr,
-        out: &mut Out<K>,
-    ) -> Result<Option<Value>, Break>
-        requires { out.old.fault ≡ false }
-        ensures went { Went K.writes out.old out.new self.new result
-            (carried (term.bind name.now (term_of value.now)) self.old) }
-        ensures fine { OnOk result (out.new.fault ≡ false) }
-    {
-        let value = self.carry_value(value, out)?;
-        self.bind(name, value)
-    }
-
-    /// Gives a global variable the value of an expression.
-    #[cycle(carrying)]
-    fn carry_bind_global<K: Sink>(
-        &mut self,
-        name: &Name,
-        value: &Expr,
-        out: &mut Out<K>,
-    ) -> Result<Option<Value>, Break>
-        requires { out.old.fault ≡ false }
-        ensures went { Went K.writes out.old out.new self.new result
-            (carried (term.bind_global name.now (term_of value.now)) self.old) }
-        ensures fine { OnOk result (out.new.fault ≡ false) }
-    {
-        let value = self.carry_value(value, out)?;
-        self.bind_global(name, value)
+        self.perform(effect, values, out)
     }
 
     /// Carries out one of two expressions, as a test decides.
@@ -196,39 +143,6 @@ impl<M: Matcher<Mark>> World<M> {
         Ok(Some(self.no()?))
     }
 
-    /// Prints the values of expressions on a channel.
-    #[cycle(carrying)]
-    fn carry_printout<K: Sink>(
-        &mut self,
-        channel: Channel,
-        args: &[Expr],
-        out: &mut Out<K>,
-    ) -> Result<Option<Value>, Break>
-        requires { out.old.fault ≡ false }
-        ensures went { Went K.writes out.old out.new self.new result
-            (carried (term.printout channel (terms_of args.now)) self.old) }
-        ensures fine { OnOk result (out.new.fault ≡ false) }
-    {
-        let values = self.carry_values(None, args, out)?;
-        self.print(channel, values.as_slice(), out)
-    }
-
-    /// Prints the values of expressions on a line.
-    #[cycle(carrying)]
-    fn carry_println<K: Sink>(
-        &mut self,
-        line: &[Expr],
-        out: &mut Out<K>,
-    ) -> Result<Option<Value>, Break>
-        requires { out.old.fault ≡ false }
-        ensures went { Went K.writes out.old out.new self.new result
-            (carried (term.println (terms_of line.now)) self.old) }
-        ensures fine { OnOk result (out.new.fault ≡ false) }
-    {
-        let values = self.carry_values(None, line, out)?;
-        self.print_line(values.as_slice(), out)
-    }
-
     /// The value of an expression; one that has none is CB17.
     #[cycle(carrying)]
     pub(crate) fn carry_value<K: Sink>(
@@ -243,7 +157,7 @@ impl<M: Matcher<Mark>> World<M> {
     {
         match self.carry_out(expr, out)? {
             Some(value) => Ok(value),
-            None => Err(Break::Ended(Ended::Fault(Fault::WrongType))),
+            None => Err(Break::Ended(EarlyEnd::Fault(Fault::WrongType))),
         }
     }
 

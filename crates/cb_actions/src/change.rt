@@ -9,14 +9,13 @@ ghost use Rattle.cb_agenda.specs.Agendas.{is_due};
 ghost use Rattle.cb_actions.specs.Worlds.{World as State};
 ghost use Rattle.cb_working_memory.specs.WorkingMemory.{Asserts, greatest_index};
 
-use crate::act::{Break, Ended, Limit};
-use crate::output::put;
+use crate::act::{Break, EarlyEnd, Limit};
 use crate::rules::saliences;
-use crate::stop::Stop;
 use crate::world::World;
 use cb_agenda::{Agenda, ApplyFault};
 use cb_facts::{Fact, Value};
 use cb_forms::{NoMemory, Out, Sink};
+use cb_io::{Stop, put};
 use cb_lines::{add_activation_line, add_fact_line};
 use cb_matches::{Delta, Key, Matcher};
 use cb_rules::DefinedRule;
@@ -36,7 +35,7 @@ impl<M: Matcher<Mark>> World<M> {
         let line = self.come_line(&fact)?;
         match self.memorize(fact)? {
             Asserted::There(ix) => Ok(Some(Value::Fact(ix))),
-            Asserted::NoIndex => Err(Break::Ended(Ended::Limit(Limit::Numbers))),
+            Asserted::NoIndex => Err(Break::Ended(EarlyEnd::Limit(Limit::Numbers))),
             Asserted::Added(ix, delta) => {
                 self.tell_and_apply(line.as_slice(), &delta, out)?;
                 Ok(Some(Value::Fact(ix)))
@@ -101,7 +100,7 @@ impl<M: Matcher<Mark>> World<M> {
         let saliences = saliences(self.alloc, self.rules.as_slice(), delta.come.as_slice())?;
         match self.agenda.apply(delta, saliences.as_slice()) {
             Ok(()) => Ok(()),
-            Err(ApplyFault::Exhausted) => Err(Break::Ended(Ended::Limit(Limit::Numbers))),
+            Err(ApplyFault::Exhausted) => Err(Break::Ended(EarlyEnd::Limit(Limit::Numbers))),
             Err(ApplyFault::NoMemory) => Err(Break::Stop(Stop::NoMemory)),
         }
     }

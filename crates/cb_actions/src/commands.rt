@@ -7,7 +7,7 @@ ghost use Rattle.cb_actions.specs.Went.{Quietly, Went};
 ghost use Rattle.cb_actions.specs.Worlds.{World as State};
 ghost use Rattle.cb_exprs.specs.Terms.{term_of};
 
-use crate::act::{Break, Ended};
+use crate::act::{Break, EarlyEnd};
 use crate::watched::Watched;
 use crate::world::World;
 use cb_agenda::Strategy;
@@ -77,7 +77,7 @@ impl<M: Matcher<Mark>> World<M> {
     {
         match status {
             Some(status) => self.exit_with(status, out),
-            None => Err(Break::Ended(Ended::Exit(None))),
+            None => Err(Break::Ended(EarlyEnd::Exit(None))),
         }
     }
 
@@ -130,7 +130,7 @@ impl<M: Matcher<Mark>> World<M> {
     {
         match self.number_of(name) {
             Some(id) => self.drop_rule(id, out),
-            None => Err(Break::Ended(Ended::Fault(Fault::NoSuchRule))),
+            None => Err(Break::Ended(EarlyEnd::Fault(Fault::NoSuchRule))),
         }
     }
 
@@ -177,7 +177,7 @@ fn asked_by(value: &Value) -> Result<Option<u64>, Break>
 {
     match value {
         Value::Int(number) => Ok(u64::try_from(*number).ok()),
-        _ => Err(Break::Ended(Ended::Fault(Fault::WrongType))),
+        _ => Err(Break::Ended(EarlyEnd::Fault(Fault::WrongType))),
     }
 }
 
@@ -186,8 +186,8 @@ fn end_with(value: &Value) -> Result<Option<Value>, Break>
     ensures { (s : State) → Quietly s result (exited_with (status_in value.now) s) }
 {
     match status_in(value) {
-        Some(status) => Err(Break::Ended(Ended::Exit(Some(status)))),
-        None => Err(Break::Ended(Ended::Fault(Fault::WrongType))),
+        Some(status) => Err(Break::Ended(EarlyEnd::Exit(Some(status)))),
+        None => Err(Break::Ended(EarlyEnd::Fault(Fault::WrongType))),
     }
 }
 

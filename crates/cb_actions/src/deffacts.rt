@@ -3,7 +3,8 @@ ghost use Rattle.std.specs.Prelude.{◌≡◌, OnOk, false};
 ghost use Rattle.cb_actions.specs.Actions.{carried};
 ghost use Rattle.cb_actions.specs.Definitions.{all_asserted};
 ghost use Rattle.cb_actions.specs.Went.{Went};
-ghost use Rattle.cb_exprs.specs.Terms.{assert};
+ghost use Rattle.cb_exprs.specs.Terms.{effect};
+ghost use Rattle.cb_exprs.specs.declared.effect.Effect.TheVariants as kind;
 ghost use Rattle.cb_working_memory.specs.Deffacts.{kept_facts};
 
 use crate::act::Break;
@@ -56,7 +57,7 @@ impl<M: Matcher<Mark>> World<M> {
     ) -> Result<Option<Value>, Break>
         requires { out.old.fault ≡ false }
         ensures went { Went K.writes out.old out.new self.new result
-            (carried (assert fact.now.shape fact.now.values) self.old) }
+            (carried (effect (kind.Assert fact.now.shape) fact.now.values) self.old) }
         ensures fine { OnOk result (out.new.fault ≡ false) }
     {
         let values = self.carry_values(None, fact.values(), out)?;

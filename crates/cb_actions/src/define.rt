@@ -9,7 +9,7 @@ ghost use Rattle.cb_rules.specs.RuleValues.{rule_value};
 ghost use Rattle.cb_matches.specs.Changes.{IsDelta};
 ghost use Rattle.cb_working_memory.specs.WorkingMemory.{greatest_index, with_next_rule, without_one_rule};
 
-use crate::act::{Break, Ended, Limit};
+use crate::act::{Break, EarlyEnd, Limit};
 use crate::rules::find_named;
 use crate::world::World;
 use cb_facts::{Name, Value};
@@ -48,7 +48,7 @@ impl<M: Matcher<Mark>> World<M> {
             (defined_rule rule (branches_of branches.items) self.old) }
     {
         if !self.memory.has_rule_number() {
-            return Err(Break::Ended(Ended::Limit(Limit::Numbers)));
+            return Err(Break::Ended(EarlyEnd::Limit(Limit::Numbers)));
         }
         self.drop_named(&rule.name, out)?;
         self.add_rule(rule, branches, out)
@@ -117,7 +117,7 @@ impl<M: Matcher<Mark>> World<M> {
             (added_rule rule (branches_of branches.items) self.old) }
     {
         if !self.memory.has_rule_number() {
-            return Err(Break::Ended(Ended::Limit(Limit::Numbers)));
+            return Err(Break::Ended(EarlyEnd::Limit(Limit::Numbers)));
         }
         let delta = self.keep_rule(rule, branches)?;
         self.tell_and_apply(b"".as_slice(), &delta, out)

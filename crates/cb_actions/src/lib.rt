@@ -6,27 +6,23 @@
 mod act; // how an item ends before it is done, at which limit, and why a call breaks off
 mod carry; // `World::carry_out`, and what it calls in turn: all that is recursive
 mod change; // a fact asserted; what a change does to the agenda, and its lines
-pub mod cited; // laws that the proofs of other crates cite
 mod commands; // what the commands on rules do
 mod deffacts; // the facts of each `deffacts`, asserted
 mod define; // rules defined and dropped
 mod globals; // globals defined, all or none of them, and evaluated anew
 pub mod laws; // laws of carrying out expressions
 mod numbers; // the numbers that were given last
-mod output; // bytes and texts put into the output
+mod perform; // what a call with an effect does with the values of its arguments: one arm for each effect
 mod print; // what printed values put
 mod restart; // all facts dropped, or everything
 mod retract; // facts retracted, one change after another
 mod rules; // the rule of a name, and the saliences of keys
 mod run; // rules that fire
-mod stop; // why a script could not be carried out further: memory was refused, or a write failed
 mod watched; // what is watched
 mod world; // what actions see and change, and what each kind of action does with its values
 
-pub use act::{Break, Ended, Limit};
+pub use act::{Break, EarlyEnd, Limit};
 pub use numbers::Numbers;
-pub use output::{put, put_text};
 pub use print::{put_printed, put_values};
-pub use stop::Stop;
 pub use watched::Watched;
 pub use world::World;

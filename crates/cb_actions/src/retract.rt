@@ -9,7 +9,7 @@ ghost use Rattle.cb_actions.specs.Went.{Went};
 ghost use Rattle.cb_facts.specs.FactLists.{fact_at};
 ghost use Rattle.cb_working_memory.specs.WorkingMemory.{Retracts};
 
-use crate::act::{Break, Ended};
+use crate::act::{Break, EarlyEnd};
 use crate::world::World;
 use cb_facts::{FactList, Value};
 use cb_forms::{Fault, NoMemory, Out, Sink};
@@ -30,7 +30,7 @@ impl<M: Matcher<Mark>> World<M> {
         ensures fine { OnOk result (out.new.fault ≡ false) }
     {
         if !are_retractable(values) {
-            return Err(Break::Ended(Ended::Fault(Fault::WrongType)));
+            return Err(Break::Ended(EarlyEnd::Fault(Fault::WrongType)));
         }
         self.retract_each(values, out)?;
         Ok(None)
@@ -67,7 +67,7 @@ impl<M: Matcher<Mark>> World<M> {
     {
         match index_named(number) {
             Some(ix) => self.take_index(ix, out),
-            None => Err(Break::Ended(Ended::Fault(Fault::NoSuchFact))),
+            None => Err(Break::Ended(EarlyEnd::Fault(Fault::NoSuchFact))),
         }
     }
 
@@ -77,7 +77,7 @@ impl<M: Matcher<Mark>> World<M> {
         ensures { Went K.writes out.old out.new self.new result (fact_taken ix self.old) }
     {
         if self.memory.facts().get(ix).is_none() {
-            return Err(Break::Ended(Ended::Fault(Fault::NoSuchFact)));
+            return Err(Break::Ended(EarlyEnd::Fault(Fault::NoSuchFact)));
         }
         self.drop_fact(ix, out)
     }

@@ -12,7 +12,7 @@ ghost use Rattle.cb_exprs.specs.Terms.{terms_of};
 ghost use Rattle.cb_functions.specs.Constants.{false_symbol};
 ghost use Rattle.cb_matches.specs.Keys.{KeyValue};
 
-use crate::act::{Break, Ended, Limit};
+use crate::act::{Break, EarlyEnd, Limit};
 use crate::change::tell;
 use crate::world::World;
 use cb_exprs::{Env, Expr};
@@ -38,7 +38,7 @@ impl<M: Matcher<Mark>> World<M> {
         let mut done = 0;
         while let Some(key) = self.take_due(asked) {
             if left == 0 {
-                return Err(Break::Ended(Ended::Limit(Limit::Firings)));
+                return Err(Break::Ended(EarlyEnd::Limit(Limit::Firings)));
             }
             left -= 1;
             done += 1;

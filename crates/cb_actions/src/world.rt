@@ -5,7 +5,8 @@ ghost use Rattle.cb_eval.specs.Evaluation.{value_of};
 ghost use Rattle.cb_exprs.specs.Terms.{term_of};
 ghost use Rattle.cb_actions.specs.Acts.{give, give_or_fault, write};
 ghost use Rattle.cb_actions.specs.Definitions.{template_defined};
-ghost use Rattle.cb_actions.specs.Effects.{asserted, bound, called, each_given, ends, global_bound, global_looked_up, looked_up, parts_of, printed_line, turn};
+ghost use Rattle.cb_actions.specs.Effects.{asserted, bound, called, each_given, effected, ends, global_bound, global_looked_up, joined, looked_up, parts_of, printed_line, turn};
+ghost use Rattle.cb_exprs.specs.declared.effect.Effect.TheVariants as kind;
 ghost use Rattle.cb_actions.specs.Printing.{printed};
 ghost use Rattle.cb_actions.specs.Went.{Quietly, Went};
 ghost use Rattle.cb_actions.specs.Worlds.{World as State, first_world, with_numbers, without_variables};
@@ -13,9 +14,8 @@ ghost use Rattle.cb_functions.specs.Constants.{false_symbol};
 ghost use Rattle.cb_matches.specs.Networks.{empty_network};
 ghost use Rattle.cb_templates.specs.Building.{built, part_values};
 
-use crate::act::{Break, Ended, Limit};
+use crate::act::{Break, EarlyEnd, Limit};
 use crate::numbers::Numbers;
-use crate::output::put;
 use crate::print::{put_printed, put_values};
 use crate::watched::Watched;
 use cb_agenda::Agenda;
@@ -24,6 +24,7 @@ use cb_exprs::{Channel, Env, Expr, FactShape};
 use cb_facts::{Fact, Name, Refused, Value};
 use cb_forms::{Fault, NoMemory, Out, Sink};
 use cb_functions::{Constants, apply, decides};
+use cb_io::put;
 use cb_matches::Matcher;
 use cb_rules::DefinedRule;
 use cb_templates::{GivenSlot, Parts, Relations, Template, build_fact};
@@ -199,7 +200,7 @@ impl<M: Matcher<Mark>> World<M> {
     {
         match self.env.get(name) {
             Some(value) => Ok(Some(value.clone()?)),
-            None => Err(Break::Ended(Ended::Fault(Fault::UnboundVariable))),
+            None => Err(Break::Ended(EarlyEnd::Fault(Fault::UnboundVariable))),
         }
     }
 
@@ -209,7 +210,7 @@ impl<M: Matcher<Mark>> World<M> {
     {
         match self.env.global(name) {
             Some(value) => Ok(Some(value.clone()?)),
-            None => Err(Break::Ended(Ended::Fault(Fault::UnknownGlobal))),
+            None => Err(Break::Ended(EarlyEnd::Fault(Fault::UnknownGlobal))),
         }
     }
 
@@ -286,12 +287,51 @@ impl<M: Matcher<Mark>> World<M> {
         Ok(Some(answer))
     }
 
+    /// Gives a variable these values, joined to one, which is the answer.
+    pub(crate) fn bind_all(
+        &mut self,
+        name: &Name,
+        values: Vec<Value>,
+    ) -> Result<Option<Value>, Break>
+        ensures { Quietly self.new result (effected (kind.Bind name.now) values.items self.old) }
+    {
+        let value = self.join(values)?;
+        self.bind(name, value)
+    }
+
+    /// The same of a global variable.
+    pub(crate) fn bind_global_all(
+        &mut self,
+        name: &Name,
+        values: Vec<Value>,
+    ) -> Result<Option<Value>, Break>
+        ensures { Quietly self.new result
+            (effected (kind.BindGlobal name.now) values.items self.old) }
+    {
+        let value = self.join(values)?;
+        self.bind_global(name, value)
+    }
+
+    /// One value of several: a multifield of them, as `create$` makes, unless there is one.
+    fn join(&mut self, values: Vec<Value>) -> Result<Value, Break>
+        ensures { Quietly self.new result (joined values.items self.old) }
+    {
+        let mut values = values;
+        if values.len() == 1 {
+            if let Some(value) = values.pop() {
+                return Ok(value);
+            }
+        }
+        let constants = made(self.alloc, &mut self.constants)?;
+        Ok(apply(self.alloc, constants, Function::Create, values.as_slice())?)
+    }
+
     /// Takes a turn from those that are left.
     pub(crate) fn take_turn(&mut self) -> Result<(), Break>
         ensures { Quietly self.new result (turn self.old) }
     {
         if self.turns == 0 {
-            return Err(Break::Ended(Ended::Limit(Limit::Turns)));
+            return Err(Break::Ended(EarlyEnd::Limit(Limit::Turns)));
         }
         self.turns -= 1;
         Ok(())

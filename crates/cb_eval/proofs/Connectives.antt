@@ -15,8 +15,8 @@ use Rattle.cb_forms.specs.declared.fault.Fault.TheVariants.{WrongType}
 use Rattle.cb_functions.specs.Applied.{applied}
 use Rattle.cb_functions.specs.Constants.{truth}
 use Rattle.cb_functions.specs.Logic.{decides, is_true}
-use Rattle.cb_words.specs.declared.function.Function.{Function}
-use Rattle.cb_words.specs.declared.function.Function.TheVariants as function
+use Rattle.cb_words.specs.declared.words.Function.{Function}
+use Rattle.cb_words.specs.declared.words.Function.TheVariants as function
 
 affirmed : (t : Bool) → not t ≡ false → t ≡ true
 affirmed true e = refl

@@ -14,10 +14,10 @@ use Rattle.cb_forms.specs.declared.fault.Fault.TheVariants.{WrongType}
 use Rattle.cb_functions.specs.Applied.{applied}
 use Rattle.cb_functions.specs.Constants.{truth}
 use Rattle.cb_functions.specs.Logic.{decides, is_true}
-use Rattle.cb_words.specs.Arities.{takes}
-use Rattle.cb_words.specs.declared.function.Arity.TheVariants.{AtLeast}
-use Rattle.cb_words.specs.declared.function.Function.{Function}
-use Rattle.cb_words.specs.declared.function.Function.TheVariants as function
+use Rattle.cb_words.specs.Words.{takes}
+use Rattle.cb_words.specs.declared.words.Arity.TheVariants.{AtLeast}
+use Rattle.cb_words.specs.declared.words.Function.{Function}
+use Rattle.cb_words.specs.declared.words.Function.TheVariants as function
 
 or_true : (t : Bool) → (t || true) ≡ true
 or_true true = refl

@@ -2,14 +2,14 @@
 use Rattle.std.specs.Prelude.{List, [], ◌∷◌, ◌++◌, Result, Ok, Err, if◌then◌else◌}
 use Rattle.std.specs.Option.{ok_or}
 use Rattle.cb_exprs.specs.Bindings.{Bindings, value_at}
-use Rattle.cb_exprs.specs.Terms.{Term, constant, variable, global, call, assert, retract, bind, bind_global, choose, repeat, actions, printout, print, println, halt, Terms, no_terms, term}
+use Rattle.cb_exprs.specs.Terms.{Term, constant, variable, global, call, effect, choose, repeat, actions, Terms, no_terms, term}
 use Rattle.cb_facts.specs.Results.{and_then}
 use Rattle.cb_facts.specs.declared.value.Value.{Value}
 use Rattle.cb_forms.specs.declared.fault.Fault.{Fault}
 use Rattle.cb_forms.specs.declared.fault.Fault.TheVariants.{UnboundVariable, UnknownGlobal, NotInProfile}
 use Rattle.cb_functions.specs.Applied.{applied}
 use Rattle.cb_functions.specs.Logic.{decides}
-use Rattle.cb_words.specs.declared.function.Function.{Function}
+use Rattle.cb_words.specs.declared.words.Function.{Function}
 
 abbrev mutual
   -- the value of an expression, or its first fault; one with an effect has no value here
@@ -18,17 +18,10 @@ abbrev mutual
   value_of (variable x) env = ok_or (value_at x env.variables) UnboundVariable
   value_of (global x) env = ok_or (value_at x env.globals) UnknownGlobal
   value_of (call f ts) env = and_then (values_of f [] ts env) (applied f)
-  value_of (assert shape ts) env = Err NotInProfile
-  value_of (retract ts) env = Err NotInProfile
-  value_of (bind x t) env = Err NotInProfile
-  value_of (bind_global x t) env = Err NotInProfile
+  value_of (effect e ts) env = Err NotInProfile
   value_of (choose t u w) env = Err NotInProfile
   value_of (repeat t u) env = Err NotInProfile
   value_of (actions ts) env = Err NotInProfile
-  value_of (printout on ts) env = Err NotInProfile
-  value_of (print ts) env = Err NotInProfile
-  value_of (println ts) env = Err NotInProfile
-  value_of halt env = Err NotInProfile
 
   -- the values of a function's arguments, after those that are there: left to right, up to one that decides the call
   pub values_of : Function → List Value → Terms → Bindings → Result (List Value) Fault

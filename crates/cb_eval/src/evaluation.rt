@@ -38,17 +38,9 @@ pub fn eval<L: Lookup>(
         Expr::Variable(name) => variable(known, name),
         Expr::Global(name) => global_variable(known, name),
         Expr::Call(function, args) => call(alloc, constants, *function, args.as_slice(), known),
-        Expr::Assert(_, _)
-        | Expr::Retract(_)
-        | Expr::Bind(_, _)
-        | Expr::BindGlobal(_, _)
-        | Expr::If(_, _, _)
-        | Expr::While(_, _)
-        | Expr::Actions(_)
-        | Expr::Printout(_, _)
-        | Expr::Print(_)
-        | Expr::Println(_)
-        | Expr::Halt => Err(Refused::Fault(Fault::NotInProfile)),
+        Expr::Effect(_, _) | Expr::If(_, _, _) | Expr::While(_, _) | Expr::Actions(_) => {
+            Err(Refused::Fault(Fault::NotInProfile))
+        }
     }
 }
 

@@ -7,7 +7,7 @@ ghost use Rattle.cb_exprs.specs.Terms.{Term, Terms, call, term};
 ghost use Rattle.cb_facts.specs.declared.value.Value.{Value};
 ghost use Rattle.cb_forms.specs.declared.fault.Fault.{Fault};
 ghost use Rattle.cb_functions.specs.Applied.{applied};
-ghost use Rattle.cb_words.specs.declared.function.Function.{Function};
+ghost use Rattle.cb_words.specs.declared.words.Function.{Function};
 
 /// Where all arguments of a call have values, its value is that of the function for all of them: to leave some out after one
 /// that decides changes no value, and only spares faults.

@@ -5,7 +5,7 @@ use Rattle.std.specs.Option.{unwrap_or}
 use Rattle.cb_expr_forms.specs.Actions.{action_of}
 use Rattle.cb_expr_forms.specs.ExprFaults.{action_faults, all_faults, arguments_fault, facts_faults}
 use Rattle.cb_expr_forms.specs.ExprForms.{assertions, call_expr, exprs_of, no_expr}
-use Rattle.cb_templates.specs.FaultLists.{first_of, unless}
+use Rattle.cb_facts.specs.FaultLists.{first_of, unless}
 use Rattle.cb_expr_forms.specs.Internal.{HasPlan, IsCall, IsCallFault, IsHeaded, IsHeadedFault, plan_expr}
 use Rattle.cb_expr_forms.specs.Scopes.{Scope, effect_fault, may_act}
 use Rattle.cb_expr_forms.specs.declared.action_form.ActionForm.{ActionForm}
@@ -21,10 +21,10 @@ use Rattle.cb_forms.specs.declared.token.Token.TheVariants as token
 use Rattle.cb_forms.specs.declared.fault.Fault.{Fault}
 use Rattle.cb_exprs.specs.Terms.{Term}
 use Rattle.cb_words.specs.Words.{head_of}
-use Rattle.cb_words.specs.declared.head.Action.{Action}
-use Rattle.cb_words.specs.declared.head.Action.TheVariants as action
-use Rattle.cb_words.specs.declared.head.Head.{Head}
-use Rattle.cb_words.specs.declared.head.Head.TheVariants as head
+use Rattle.cb_words.specs.declared.words.Action.{Action}
+use Rattle.cb_words.specs.declared.words.Action.TheVariants as action
+use Rattle.cb_words.specs.declared.words.Head.{Head}
+use Rattle.cb_words.specs.declared.words.Head.TheVariants as head
 
 one_more : (side : Side) (name : List ℕ) (us : Trees) (r : Result CallForm Refused)
     → MatchResult r (IsHeaded side (head_of name) us) (λ e. Reports e (IsHeadedFault side (head_of name) us))
@@ -44,26 +44,12 @@ by_word side word known us r h there = subst (λ it. MatchResult r (IsHeaded sid
 
 expr_other : (a : Action) (ts facts : List Term) (t : Term) → a ≢ action.Assert → action_of a ts ≡ Some t → call_expr (Some (head.Action a)) ts facts ≡ t
 expr_other action.Assert ts facts t other h = absurd (other refl)
-expr_other action.Retract ts facts t other h = ap (λ o. unwrap_or o no_expr) h
-expr_other action.Bind ts facts t other h = ap (λ o. unwrap_or o no_expr) h
-expr_other action.If ts facts t other h = ap (λ o. unwrap_or o no_expr) h
-expr_other action.While ts facts t other h = ap (λ o. unwrap_or o no_expr) h
-expr_other action.Printout ts facts t other h = ap (λ o. unwrap_or o no_expr) h
-expr_other action.Print ts facts t other h = ap (λ o. unwrap_or o no_expr) h
-expr_other action.Println ts facts t other h = ap (λ o. unwrap_or o no_expr) h
-expr_other action.Halt ts facts t other h = ap (λ o. unwrap_or o no_expr) h
+expr_other a ts facts t other h = ap (λ o. unwrap_or o no_expr) h
 
 faults_other : (s : Scope) (a : Action) (ts : Trees) (args facts : List Fault) → a ≢ action.Assert
     → action_faults s a ts args facts ≡ unless (is_some (action_of a (exprs_of s.templates ts))) (arguments_fault a) ++ args
 faults_other s action.Assert ts args facts other = absurd (other refl)
-faults_other s action.Retract ts args facts other = refl
-faults_other s action.Bind ts args facts other = refl
-faults_other s action.If ts args facts other = refl
-faults_other s action.While ts args facts other = refl
-faults_other s action.Printout ts args facts other = refl
-faults_other s action.Print ts args facts other = refl
-faults_other s action.Println ts args facts other = refl
-faults_other s action.Halt ts args facts other = refl
+faults_other s a ts args facts other = refl
 
 allowed : (s : Scope) (side : Side) → may_act side ≡ true → s.side ≡ side → may_act s.side ≡ true
 allowed s side may is = ap may_act is ∙ may

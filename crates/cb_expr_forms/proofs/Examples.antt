@@ -3,19 +3,20 @@ use Rattle.std.proofs.Common.{◌≡◌, ℕ, List, [], ◌∷◌, Some, None, c
 use Rattle.cb_expr_forms.specs.Bound.{bound_in}
 use Rattle.cb_expr_forms.specs.ExprFaults.{faults_of}
 use Rattle.cb_expr_forms.specs.ExprForms.{expr_of}
-use Rattle.cb_templates.specs.FaultLists.{first_of}
+use Rattle.cb_facts.specs.FaultLists.{first_of}
 use Rattle.cb_expr_forms.specs.Scopes.{Scope, scope_on}
 use Rattle.cb_expr_forms.specs.Variables.{variables_of}
 use Rattle.cb_expr_forms.specs.declared.scope.Side.TheVariants.{Top, Left, Actions}
-use Rattle.cb_exprs.specs.Terms.{constant, variable, global, call, bind, choose, repeat, actions, no_terms, term}
+use Rattle.cb_exprs.specs.Terms.{constant, variable, global, call, effect, choose, repeat, actions, no_terms, term}
+use Rattle.cb_exprs.specs.declared.effect.Effect.TheVariants as kind
 use Rattle.cb_facts.specs.declared.value.Value.TheVariants as value
 use Rattle.cb_forms.specs.Trees.{Tree, atom, branch, Trees, no_trees, tree}
 use Rattle.cb_forms.specs.declared.fault.Fault.TheVariants.{UnknownFunction, WrongArguments, MalformedForm, FactDoesNotFit, ValueNotAllowed, UnboundVariable, UnknownGlobal, NotOnLeftSide, NotInProfile}
 use Rattle.cb_forms.specs.declared.token.Token.TheVariants as token
-use Rattle.cb_templates.specs.Reserved.{is_reserved}
+use Rattle.cb_words.specs.Reserved.{is_reserved}
 use Rattle.cb_templates.specs.declared.slot_type.SlotType.TheVariants.{Integer}
 use Rattle.cb_words.specs.Words.{head_of}
-use Rattle.cb_words.specs.declared.function.Function.TheVariants.{Add, Create}
+use Rattle.cb_words.specs.declared.words.Function.TheVariants.{Add, Create}
 
 abbrev word : List ℕ → Tree
 word bytes = atom (token.Symbol bytes)
@@ -102,7 +103,7 @@ while_then_is = refl
 
 -- (bind ?x 1 2), (bind ?x), (bind ?*u* (bogus)), (bind ? 1)
 bind_is : expr_of [] (list (word (codes "bind") ∷ var (codes "x") ∷ int 1 ∷ int 2 ∷ []))
-    ≡ bind (codes "x") (call Create (term (constant (value.Int (pos 1))) (term (constant (value.Int (pos 2))) no_terms)))
+    ≡ effect (kind.Bind (codes "x")) (term (constant (value.Int (pos 1))) (term (constant (value.Int (pos 2))) no_terms))
 unfolding head_of
 bind_is = refl
 
@@ -202,5 +203,5 @@ unfolding head_of
 given_there = refl
 
 -- (bind ?x (+ ?y ?*g* ?x))
-in_order : variables_of (bind (codes "x") (call Add (term (variable (codes "y")) (term (global (codes "g")) (term (variable (codes "x")) no_terms))))) ≡ codes "x" ∷ codes "y" ∷ codes "x" ∷ []
+in_order : variables_of (effect (kind.Bind (codes "x")) (term (call Add (term (variable (codes "y")) (term (global (codes "g")) (term (variable (codes "x")) no_terms)))) no_terms)) ≡ codes "x" ∷ codes "y" ∷ codes "x" ∷ []
 in_order = refl

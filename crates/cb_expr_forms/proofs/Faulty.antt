@@ -2,7 +2,7 @@
 use Rattle.std.proofs.Common.{◌≡◌, ◌≤◌, ◌<◌, ◌+◌, ◌∙◌, ℕ, suc, zero, List, [], ◌∷◌, Some, Err, arith, drop, get_or, length, sym, ap}
 use Rattle.std.proofs.lemmas.List.{at_drop_more}
 use Rattle.cb_expr_forms.specs.ExprFaults.{slot_faults, slots_faults}
-use Rattle.cb_templates.specs.FaultLists.{ReadsAs, first_of}
+use Rattle.cb_facts.specs.FaultLists.{ReadsAs, first_of}
 use Rattle.cb_expr_forms.specs.Scopes.{Scope}
 use Rattle.cb_expr_forms.specs.Internal.Sizes.{tree_size, trees_size}
 use Rattle.cb_facts.specs.Results.{Reports}
@@ -13,7 +13,7 @@ use Rattle.cb_forms.specs.Trees.{tree_of}
 use Rattle.cb_forms.specs.declared.fault.Fault.{Fault}
 use Rattle.cb_forms.specs.declared.form.Form.{Form}
 use Rattle.cb_templates.specs.Slots.{SlotShape}
-use Rattle.cb_templates.specs.contracts.cited.LawsCited.TheImpl as templates_laws
+use Rattle.cb_facts.proofs.FirstFaults.{first_append}
 
 -- its first fault is the first of the whole
 pub fails_told : {U W : Type 0} (other : U → W) (w : W) (r : Refused) (P : Fault → Type 0) (gs : List Fault) → ((f : Fault) → P f → first_of gs ≡ Some f) → Reports r P → ReadsAs other (Err r) gs w
@@ -32,4 +32,4 @@ pub next_slot : (s : Scope) (slots : List SlotShape) (given : List (List ℕ)) (
     → first_of (slot_faults s slots given (tree_of form)) ≡ Some f → first_of (slots_faults s slots [] (members forms)) ≡ Some f
 next_slot s slots given forms i form f within is inv h =
     ap first_of (sym inv ∙ at_drop_more (λ fs. slots_faults s slots given (members fs)) forms i form within ∙ ap (λ it. slots_faults s slots given (members (it ∷ drop (i + 1) forms))) is)
-    ∙ templates_laws.ghosts.first_append (slot_faults s slots given (tree_of form)) _ f h
+    ∙ first_append (slot_faults s slots given (tree_of form)) _ f h

@@ -8,7 +8,7 @@ use Rattle.cb_expr_forms.specs.Scopes.{is_known, names_of}
 use Rattle.cb_exprs.specs.Bindings.{Values, value_at}
 use Rattle.std.proofs.lemmas.Bool.{false_from_ne_true}
 use Rattle.cb_facts.specs.declared.value.Value.{Value}
-use Rattle.cb_templates.specs.Places.{place_in}
+use Rattle.cb_facts.specs.Places.{place_in}
 
 pub same_words : (n k : List ℕ) → bytes_eq n k ≡ bytes_eq k n
 same_words n k = same (bytes_eq n k) refl where

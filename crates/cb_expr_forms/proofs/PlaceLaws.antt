@@ -7,8 +7,8 @@ use Rattle.std.specs.Cmp.Lexicographic.{slice_cmp, texts_ties, bytes_decides}
 use Rattle.std.specs.Option.{option_eq, option_or}
 use Rattle.std.specs.Ordering.{nat_cmp}
 use Rattle.std.specs.Str.{bytes_eq}
-use Rattle.cb_templates.specs.Internal.{HasPlaces, NotesPlace, place_at}
-use Rattle.cb_templates.specs.Places.{place_in}
+use Rattle.cb_facts.specs.Internal.NamePlaces.{HasPlaces, NotesPlace, place_at}
+use Rattle.cb_facts.specs.Places.{place_in}
 
 abbrev if_is : Bool → ℕ → Option ℕ
 if_is t i = if t then Some i else None

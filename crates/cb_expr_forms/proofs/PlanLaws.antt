@@ -6,12 +6,12 @@ use Rattle.std.specs.List.{list_all}
 use Rattle.std.specs.Str.{bytes_eq}
 use Rattle.cb_expr_forms.specs.ExprFaults.{given_slot_faults, type_faults, values_faults}
 use Rattle.cb_expr_forms.specs.ExprForms.{slot_expr, exprs_of}
-use Rattle.cb_templates.specs.FaultLists.{first_of, unless}
+use Rattle.cb_facts.specs.FaultLists.{first_of, unless}
 use Rattle.cb_expr_forms.specs.Internal.{IsFact, IsSlot, IsSlotFault, IsFilling, IsFillingFault, content_by}
 use Rattle.cb_expr_forms.specs.Scopes.{is_known}
 use Rattle.cb_expr_forms.specs.declared.slot_form.SlotForm.{SlotForm}
 use Rattle.cb_expr_forms.proofs.Heads.{called}
-use Rattle.cb_exprs.specs.Terms.{Term, constant, variable, global, call, assert, retract, bind, bind_global, choose, repeat, actions, printout, print, println, halt}
+use Rattle.cb_exprs.specs.Terms.{Term, constant}
 use Rattle.cb_facts.specs.Results.{Reports}
 use Rattle.cb_facts.specs.Values.{fields_in}
 use Rattle.cb_facts.specs.declared.refused.Refused.{Refused}
@@ -21,7 +21,7 @@ use Rattle.cb_forms.specs.Members.{call_of}
 use Rattle.cb_forms.specs.Trees.{Tree, branch, Trees, tree, atom}
 use Rattle.cb_forms.specs.declared.fault.Fault.TheVariants.{FactDoesNotFit, ValueNotAllowed}
 use Rattle.cb_forms.specs.declared.token.Token.TheVariants as token
-use Rattle.cb_templates.specs.Reserved.{is_reserved}
+use Rattle.cb_words.specs.Reserved.{is_reserved}
 use Rattle.cb_templates.specs.Slots.{SlotShape, allows, slot_named}
 
 -- a fact of a relation
@@ -71,17 +71,4 @@ any_field (f ∷ fields) = any_field fields
 -- a field of an ordered fact may be of any type
 pub any_type : (t : Term) → type_faults None t ≡ []
 any_type (constant v) = ap (λ b. unless b ValueNotAllowed) (any_field (fields_in v))
-any_type (variable x) = refl
-any_type (global x) = refl
-any_type (call f us) = refl
-any_type (assert s us) = refl
-any_type (retract us) = refl
-any_type (bind x u) = refl
-any_type (bind_global x u) = refl
-any_type (choose u v w) = refl
-any_type (repeat u v) = refl
-any_type (actions us) = refl
-any_type (printout on us) = refl
-any_type (print us) = refl
-any_type (println us) = refl
-any_type halt = refl
+any_type t = refl

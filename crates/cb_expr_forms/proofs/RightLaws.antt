@@ -2,19 +2,19 @@
 use Rattle.std.proofs.Common.{◌≡◌, ◌≢◌, ◌↔◌, ◌∙◌, ◌++◌, ◌&&◌, Bool, true, false, not, List, [], ◌∷◌, Option, Some, None, codes, refl, ap, ap₂, sym}
 use Rattle.cb_expr_forms.specs.ExprFaults.{all_faults, begins_with_list, call_faults, count, equals_faults, fact_faults, facts_faults, faults_of, is_equals, type_faults, values_faults}
 use Rattle.cb_expr_forms.specs.ExprForms.{expr_of}
-use Rattle.cb_templates.specs.FaultLists.{first_of, unless}
+use Rattle.cb_facts.specs.FaultLists.{first_of, unless}
 use Rattle.cb_expr_forms.specs.Laws.{AreFaultless, AreRight, NoListAfterEquals, followed_by, list_of}
 use Rattle.cb_expr_forms.specs.Scopes.{Scope, effect_fault, may_act}
 use Rattle.cb_expr_forms.proofs.PlanLaws.{any_type}
 use Rattle.cb_forms.specs.Trees.{Tree, Trees, no_trees, tree}
 use Rattle.cb_forms.specs.declared.fault.Fault.{Fault}
 use Rattle.cb_forms.specs.declared.fault.Fault.TheVariants.{NotInProfile, WrongArguments}
-use Rattle.cb_templates.specs.contracts.cited.LawsCited.TheImpl as templates_laws
-use Rattle.cb_words.specs.Arities.{arity_of, takes}
+use Rattle.cb_facts.proofs.FirstFaults.{first_append}
+use Rattle.cb_words.specs.Words.{arity_of, takes}
 use Rattle.cb_words.specs.Words.{head_of}
-use Rattle.cb_words.specs.declared.function.Function.{Function}
-use Rattle.cb_words.specs.declared.head.Head.{Head}
-use Rattle.cb_words.specs.declared.head.Head.TheVariants as head
+use Rattle.cb_words.specs.declared.words.Function.{Function}
+use Rattle.cb_words.specs.declared.words.Head.{Head}
+use Rattle.cb_words.specs.declared.words.Head.TheVariants as head
 
 pub both_none : (xs ys : List Fault) → xs ++ ys ≡ [] → (xs ≡ []) × (ys ≡ [])
 both_none [] ys h = (refl, h)
@@ -42,7 +42,7 @@ all_right s (tree t ts) h = none_both (faults_of s t) (all_faults s ts) h.0 (all
 -- of forms, the faults of one after another: the first that has a fault is reported
 pub first_reported : (faults : Tree → List Fault) (all : Trees → List Fault) (next : (t : Tree) (ts : Trees) → all (tree t ts) ≡ faults t ++ all ts)
     (before : Trees) (t : Tree) (after : Trees) (f : Fault) → AreFaultless faults before → first_of (faults t) ≡ Some f → first_of (all (followed_by before (tree t after))) ≡ Some f
-first_reported faults all next no_trees t after f right h = ap first_of (next t after) ∙ templates_laws.ghosts.first_append (faults t) (all after) f h
+first_reported faults all next no_trees t after f right h = ap first_of (next t after) ∙ first_append (faults t) (all after) f h
 first_reported faults all next (tree u us) t after f right h =
     let rest = followed_by us (tree t after) in
     ap first_of (next u rest) ∙ ap (λ fs. first_of (fs ++ all rest)) right.0 ∙ first_reported faults all next us t after f right.1 h

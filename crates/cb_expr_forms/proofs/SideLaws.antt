@@ -7,7 +7,7 @@ use Rattle.std.specs.List.{Contains}
 use Rattle.std.specs.Str.{bytes_eq}
 use Rattle.cb_expr_forms.specs.ExprFaults.{action_faults, all_faults, call_faults, count, facts_faults, faults_of, list_faults, token_faults}
 use Rattle.cb_expr_forms.specs.ExprForms.{assertions, call_expr, expr_of, exprs_of, list_expr, token_expr}
-use Rattle.cb_templates.specs.FaultLists.{first_of, unless}
+use Rattle.cb_facts.specs.FaultLists.{first_of, unless}
 use Rattle.cb_expr_forms.specs.Laws.{ArePlain, IsPlain, list_of}
 use Rattle.cb_expr_forms.specs.Scopes.{Scope, effect_fault, is_known, may_act, may_use_globals}
 use Rattle.cb_expr_forms.specs.declared.scope.Side.TheVariants.{Left}
@@ -19,11 +19,11 @@ use Rattle.cb_forms.specs.declared.fault.Fault.{Fault}
 use Rattle.cb_forms.specs.declared.fault.Fault.TheVariants.{NotOnLeftSide, UnboundVariable, UnknownGlobal, WrongArguments}
 use Rattle.cb_forms.specs.declared.token.Token.{Token}
 use Rattle.cb_forms.specs.declared.token.Token.TheVariants as token
-use Rattle.cb_words.specs.Arities.{arity_of, takes}
+use Rattle.cb_words.specs.Words.{arity_of, takes}
 use Rattle.cb_words.specs.Words.{head_of}
-use Rattle.cb_words.specs.declared.head.Action.{Action}
-use Rattle.cb_words.specs.declared.head.Head.{Head}
-use Rattle.cb_words.specs.declared.head.Head.TheVariants as head
+use Rattle.cb_words.specs.declared.words.Action.{Action}
+use Rattle.cb_words.specs.declared.words.Head.{Head}
+use Rattle.cb_words.specs.declared.words.Head.TheVariants as head
 
 pub global_refused : (s : Scope) (name : List ℕ) → s.side ≡ Left → first_of (token_faults s (token.Global name)) ≡ Some NotOnLeftSide
 global_refused s name left = ap (λ it. first_of (unless (may_use_globals it) NotOnLeftSide ++ unless (is_known s.globals name) UnknownGlobal)) left

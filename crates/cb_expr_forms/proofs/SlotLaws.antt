@@ -9,7 +9,7 @@ use Rattle.std.specs.List.{All, AllByRecursion, IsDistinct}
 use Rattle.std.specs.Str.{bytes_eq}
 use Rattle.cb_expr_forms.specs.ExprFaults.{are_filled, content_faults, fact_faults, given_slot_faults, slot_faults, slots_faults, values_faults}
 use Rattle.cb_expr_forms.specs.ExprForms.{exprs_of, fact_of, fact_with, given_slot, slot_exprs, slot_name, slot_names}
-use Rattle.cb_templates.specs.FaultLists.{first_of, unless}
+use Rattle.cb_facts.specs.FaultLists.{first_of, unless}
 use Rattle.cb_expr_forms.specs.Laws.{AreFaultless, AreRight, GiveSlots, GiveTheSame, NoListAfterEquals, fact_giving, followed_by, list_of}
 use Rattle.cb_expr_forms.specs.Scopes.{Scope, is_known}
 use Rattle.cb_expr_forms.proofs.Heads.{called, unslotted_faults}
@@ -20,10 +20,10 @@ use Rattle.cb_forms.specs.Members.{call_of}
 use Rattle.cb_forms.specs.Trees.{Tree, Trees, no_trees, tree, trees_of}
 use Rattle.cb_forms.specs.declared.fault.Fault.{Fault}
 use Rattle.cb_forms.specs.declared.fault.Fault.TheVariants.{FactDoesNotFit}
-use Rattle.cb_templates.specs.Reserved.{is_reserved}
+use Rattle.cb_words.specs.Reserved.{is_reserved}
 use Rattle.cb_templates.specs.Slots.{SlotShape, Types, slot_named}
 use Rattle.cb_templates.specs.Templates.{Templates, slots_of}
-use Rattle.cb_templates.specs.contracts.cited.LawsCited.TheImpl as templates_laws
+use Rattle.cb_facts.proofs.FirstFaults.{first_append}
 
 -- what is wrong with a fact after its relation, by the template that is known
 abbrev after_relation : Scope → Option (List SlotShape) → Trees → List Fault
@@ -121,7 +121,7 @@ first_slot : (s : Scope) (slots : List SlotShape) (given : List (List ℕ)) (bef
     → IsDistinct bytes_eq (given ++ slot_names before) → first_of (slot_faults s slots (given ++ slot_names before) t) ≡ Some f
     → first_of (slots_faults s slots given (followed_by before (tree t after))) ≡ Some f
 first_slot s slots given no_trees t after f right distinct h =
-    templates_laws.ghosts.first_append (slot_faults s slots given t) (slots_faults s slots (given ++ slot_name t ∷ []) after) f
+    first_append (slot_faults s slots given t) (slots_faults s slots (given ++ slot_name t ∷ []) after) f
     (ap (λ names. first_of (slot_faults s slots names t)) (sym (append-nil given)) ∙ h)
 first_slot s slots given (tree u us) t after f right distinct h =
     let more = given ++ slot_name u ∷ [] in

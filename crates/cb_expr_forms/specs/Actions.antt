@@ -2,28 +2,23 @@
 use Rattle.std.specs.Prelude.{◌||◌, ℕ, Bool, false, List, [], ◌∷◌, Option, Some, None, codes, option_map, if◌then◌else◌}
 use Rattle.std.specs.List.{list_any}
 use Rattle.std.specs.Str.{bytes_eq}
-use Rattle.cb_exprs.specs.Terms.{Term, constant, variable, global, call, retract, bind, bind_global, choose, repeat, actions, printout, print, println, halt, terms}
+use Rattle.cb_exprs.specs.Terms.{Term, constant, variable, global, effect, choose, repeat, actions, terms}
 use Rattle.cb_exprs.specs.declared.channel.Channel.{Channel}
 use Rattle.cb_exprs.specs.declared.channel.Channel.TheVariants as channel
+use Rattle.cb_exprs.specs.declared.effect.Effect.TheVariants as kind
 use Rattle.cb_facts.specs.declared.value.Value.TheVariants as value
-use Rattle.cb_words.specs.declared.function.Function.TheVariants as function
-use Rattle.cb_words.specs.declared.head.Action.{Action}
-use Rattle.cb_words.specs.declared.head.Action.TheVariants as action
+use Rattle.cb_words.specs.declared.words.Action.{Action}
+use Rattle.cb_words.specs.declared.words.Action.TheVariants as action
 
 -- the argument is this word
 abbrev pub is_this_word : List ℕ → Term → Bool
 is_this_word word (constant (value.Symbol bytes)) = bytes_eq bytes word
 is_this_word word t = false
 
--- the value of several expressions: a multifield, unless there is one
-abbrev pub as_one_value : List Term → Term
-as_one_value (t ∷ []) = t
-as_one_value ts = call function.Create (terms ts)
-
 -- `(bind ?name value ..)`, `(bind ?*name* value ..)`
 abbrev pub bind_of : List Term → Option Term
-bind_of (variable x ∷ t ∷ ts) = Some (bind x (as_one_value (t ∷ ts)))
-bind_of (global x ∷ t ∷ ts) = Some (bind_global x (as_one_value (t ∷ ts)))
+bind_of (variable x ∷ t ∷ ts) = Some (effect (kind.Bind x) (terms (t ∷ ts)))
+bind_of (global x ∷ t ∷ ts) = Some (effect (kind.BindGlobal x) (terms (t ∷ ts)))
 bind_of ts = None
 
 abbrev pub is_else : Term → Bool
@@ -67,17 +62,17 @@ named_channel name =
 
 -- `(printout channel value ..)`
 abbrev pub printout_of : List Term → Option Term
-printout_of (constant (value.Symbol name) ∷ ts) = option_map (λ on. printout on (terms ts)) (named_channel name)
+printout_of (constant (value.Symbol name) ∷ ts) = option_map (λ on. effect (kind.Printout on) (terms ts)) (named_channel name)
 printout_of ts = None
 
 -- `(retract value ..)`
 abbrev pub retract_of : List Term → Option Term
 retract_of [] = None
-retract_of ts = Some (retract (terms ts))
+retract_of ts = Some (effect kind.Retract (terms ts))
 
 -- `(halt)`
 abbrev pub halt_of : List Term → Option Term
-halt_of [] = Some halt
+halt_of [] = Some (effect kind.Halt (terms []))
 halt_of ts = None
 
 -- a call with an effect, where the number and the shape of its arguments are right; an `assert` has facts and no arguments
@@ -88,6 +83,6 @@ action_of action.Bind ts = bind_of ts
 action_of action.If ts = if_of ts
 action_of action.While ts = while_of ts
 action_of action.Printout ts = printout_of ts
-action_of action.Print ts = Some (print (terms ts))
-action_of action.Println ts = Some (println (terms ts))
+action_of action.Print ts = Some (effect kind.Print (terms ts))
+action_of action.Println ts = Some (effect kind.Println (terms ts))
 action_of action.Halt ts = halt_of ts

@@ -5,7 +5,7 @@ use Rattle.std.specs.Option.{option_map_or}
 use Rattle.std.specs.Str.{bytes_eq}
 use Rattle.cb_expr_forms.specs.Actions.{action_of}
 use Rattle.cb_expr_forms.specs.ExprForms.{expr_of, exprs_of, slot_name}
-use Rattle.cb_templates.specs.FaultLists.{unless}
+use Rattle.cb_facts.specs.FaultLists.{unless}
 use Rattle.cb_expr_forms.specs.Scopes.{Scope, effect_fault, is_known, may_act, may_name, may_use_globals}
 use Rattle.cb_exprs.specs.Terms.{Term, constant}
 use Rattle.cb_forms.specs.Members.{symbol_of}
@@ -14,16 +14,16 @@ use Rattle.cb_forms.specs.declared.fault.Fault.{Fault}
 use Rattle.cb_forms.specs.declared.fault.Fault.TheVariants.{UnknownFunction, WrongArguments, MalformedForm, FactDoesNotFit, ValueNotAllowed, UnboundVariable, UnknownGlobal, NotOnLeftSide, NotInProfile}
 use Rattle.cb_forms.specs.declared.token.Token.{Token}
 use Rattle.cb_forms.specs.declared.token.Token.TheVariants as token
-use Rattle.cb_templates.specs.Reserved.{is_reserved}
+use Rattle.cb_words.specs.Reserved.{is_reserved}
 use Rattle.cb_templates.specs.Slots.{SlotShape, Types, allows_all, slot_named}
 use Rattle.cb_templates.specs.TemplateFaults.{is_no_form, is_one_form}
 use Rattle.cb_templates.specs.Templates.{slots_of}
-use Rattle.cb_words.specs.Arities.{arity_of, takes}
+use Rattle.cb_words.specs.Words.{arity_of, takes}
 use Rattle.cb_words.specs.Words.{head_of}
-use Rattle.cb_words.specs.declared.head.Action.{Action}
-use Rattle.cb_words.specs.declared.head.Action.TheVariants as action
-use Rattle.cb_words.specs.declared.head.Head.{Head}
-use Rattle.cb_words.specs.declared.head.Head.TheVariants as head
+use Rattle.cb_words.specs.declared.words.Action.{Action}
+use Rattle.cb_words.specs.declared.words.Action.TheVariants as action
+use Rattle.cb_words.specs.declared.words.Head.{Head}
+use Rattle.cb_words.specs.declared.words.Head.TheVariants as head
 
 -- a variable and a global must be allowed and known; a wildcard and a connective are no expressions
 abbrev pub token_faults : Scope → Token → List Fault

@@ -3,7 +3,8 @@ use Rattle.std.specs.Prelude.{ℕ, List, [], ◌∷◌, Option, Some, None, if�
 use Rattle.std.specs.Option.{unwrap_or}
 use Rattle.cb_expr_forms.specs.Actions.{action_of}
 use Rattle.cb_exprs.specs.FactTerms.{FactTerm}
-use Rattle.cb_exprs.specs.Terms.{Term, constant, variable, global, call, assert, actions, no_terms, terms}
+use Rattle.cb_exprs.specs.Terms.{Term, constant, variable, global, call, effect, actions, no_terms, terms}
+use Rattle.cb_exprs.specs.declared.effect.Effect.TheVariants as kind
 use Rattle.cb_facts.specs.declared.value.Value.TheVariants as value
 use Rattle.cb_forms.specs.Trees.{Tree, atom, branch, Trees, no_trees, tree}
 use Rattle.cb_forms.specs.declared.token.Token.{Token}
@@ -11,10 +12,10 @@ use Rattle.cb_forms.specs.declared.token.Token.TheVariants as token
 use Rattle.cb_templates.specs.Slots.{SlotShape, slot_named}
 use Rattle.cb_templates.specs.Templates.{Templates, slots_of}
 use Rattle.cb_words.specs.Words.{head_of}
-use Rattle.cb_words.specs.declared.function.Function.TheVariants as function
-use Rattle.cb_words.specs.declared.head.Action.TheVariants as action
-use Rattle.cb_words.specs.declared.head.Head.{Head}
-use Rattle.cb_words.specs.declared.head.Head.TheVariants as head
+use Rattle.cb_words.specs.declared.words.Function.TheVariants as function
+use Rattle.cb_words.specs.declared.words.Action.TheVariants as action
+use Rattle.cb_words.specs.declared.words.Head.{Head}
+use Rattle.cb_words.specs.declared.words.Head.TheVariants as head
 
 -- what stands for a form with a fault
 abbrev pub no_expr : Term
@@ -32,7 +33,7 @@ token_expr t = no_expr
 
 -- to assert it
 abbrev pub assertion : FactTerm → Term
-assertion f = assert f.shape f.values
+assertion f = effect (kind.Assert f.shape) f.values
 
 -- what stands for a fact with a fault
 abbrev pub no_fact : FactTerm

@@ -1,10 +1,10 @@
 -- What a call with an effect is and what is wrong with its arguments, once their number and shape are known to be right.
 pub mod Sizes
 use Rattle.std.specs.Prelude.{◌≡◌, ◌≤◌, ◌<◌, ◌+◌, ℕ, Bool, List, [], ◌++◌, Option, Some, None}
-use Rattle.cb_expr_forms.specs.Actions.{action_of, after_else, as_one_value, before_else}
+use Rattle.cb_expr_forms.specs.Actions.{action_of, after_else, before_else}
 use Rattle.cb_expr_forms.specs.ExprFaults.{call_faults, token_faults, equals_faults, faults_of, all_faults, list_faults, facts_faults, fact_faults, content_faults, slot_faults, given_slot_faults, slots_faults, type_faults, values_faults}
 use Rattle.cb_expr_forms.specs.ExprForms.{call_expr, expr_of, exprs_of, list_expr, assertions, fact_of, fact_with, given_slot, slot_expr, slot_exprs, slot_name, slot_names}
-use Rattle.cb_templates.specs.FaultLists.{first_of}
+use Rattle.cb_facts.specs.FaultLists.{first_of}
 use Rattle.cb_expr_forms.specs.Scopes.{Scope}
 use Rattle.cb_expr_forms.specs.Internal.Sizes.{tree_size, trees_size, plan_size, called_size, filling_size}
 use Rattle.cb_expr_forms.specs.declared.call_form.CallForm.{CallForm}
@@ -13,22 +13,22 @@ use Rattle.cb_expr_forms.specs.declared.slot_form.SlotForm.{SlotForm}
 use Rattle.cb_expr_forms.specs.declared.slot_form.SlotForm.TheVariants as slot_form
 use Rattle.cb_expr_forms.specs.declared.scope.Side.{Side}
 use Rattle.cb_expr_forms.specs.declared.action_form.ActionForm.{ActionForm}
-use Rattle.cb_expr_forms.specs.declared.action_form.Effect.{Effect}
-use Rattle.cb_expr_forms.specs.declared.action_form.Effect.TheVariants as effect
+use Rattle.cb_expr_forms.specs.declared.action_form.Bound.{Bound}
+use Rattle.cb_expr_forms.specs.declared.action_form.Bound.TheVariants as bound
 use Rattle.cb_expr_forms.specs.declared.action_form.ActionForm.TheVariants as program
-use Rattle.cb_expr_forms.specs.declared.build.KnownEffect.{KnownEffect}
-use Rattle.cb_expr_forms.specs.declared.build.KnownEffect.TheVariants as known
 use Rattle.cb_exprs.specs.FactTerms.{FactTerm}
-use Rattle.cb_exprs.specs.Terms.{Term, call, retract, bind, bind_global, choose, repeat, actions, printout, print, println, halt, terms}
+use Rattle.cb_exprs.specs.Terms.{Term, call, effect, choose, repeat, actions, terms}
+use Rattle.cb_exprs.specs.declared.effect.Effect.{Effect}
+use Rattle.cb_exprs.specs.declared.effect.Effect.TheVariants as kind
 use Rattle.cb_forms.specs.Members.{members}
 use Rattle.cb_forms.specs.Trees.{Tree, Trees, no_trees, tree_of}
 use Rattle.cb_forms.specs.declared.fault.Fault.{Fault}
 use Rattle.cb_forms.specs.declared.token.Token.TheVariants as token
 use Rattle.cb_templates.specs.Slots.{SlotShape, Types}
 use Rattle.cb_templates.specs.Templates.{Templates, slots_of}
-use Rattle.cb_words.specs.declared.function.Function.TheVariants as function
-use Rattle.cb_words.specs.declared.head.Action.{Action}
-use Rattle.cb_words.specs.declared.head.Head.{Head}
+use Rattle.cb_words.specs.declared.words.Function.TheVariants as function
+use Rattle.cb_words.specs.declared.words.Action.{Action}
+use Rattle.cb_words.specs.declared.words.Head.{Head}
 
 -- an `if` and a `while`, and what is wrong with one, by their parts
 abbrev pub if_expr : Templates → Tree → Trees → Trees → Term
@@ -43,39 +43,25 @@ while_expr templates test body = repeat (expr_of templates test) (actions (terms
 abbrev pub while_faults : Scope → Tree → Trees → List Fault
 while_faults s test body = faults_of s test ++ all_faults s body
 
--- what a call makes of its values, and what is wrong with what it binds
-abbrev pub effect_expr : Effect → List Term → Term
-effect_expr effect.Retract ts = retract (terms ts)
-effect_expr (effect.Bind name) ts = bind name.now (as_one_value ts)
-effect_expr (effect.BindGlobal name) ts = bind_global name.now (as_one_value ts)
-effect_expr (effect.Printout on) ts = printout on (terms ts)
-effect_expr effect.Print ts = print (terms ts)
-effect_expr effect.Println ts = println (terms ts)
-effect_expr effect.Halt ts = halt
+-- to bind it, and what is wrong with that
+abbrev pub binding : Bound → Effect
+binding (bound.Variable name) = kind.Bind name.now
+binding (bound.Global name) = kind.BindGlobal name.now
 
-abbrev pub effect_faults : Scope → Effect → List Fault
-effect_faults s (effect.Bind name) = token_faults s (token.Var name.now)
-effect_faults s (effect.BindGlobal name) = token_faults s (token.Global name.now)
-effect_faults s e = []
-
--- the same of an effect whose variable is known
-abbrev pub known_expr : KnownEffect → List Term → Term
-known_expr known.Retract ts = retract (terms ts)
-known_expr (known.Bind name) ts = bind name (as_one_value ts)
-known_expr (known.BindGlobal name) ts = bind_global name (as_one_value ts)
-known_expr (known.Printout on) ts = printout on (terms ts)
-known_expr known.Print ts = print (terms ts)
-known_expr known.Println ts = println (terms ts)
-known_expr known.Halt ts = halt
+abbrev pub bound_faults : Scope → Bound → List Fault
+bound_faults s (bound.Variable name) = token_faults s (token.Var name.now)
+bound_faults s (bound.Global name) = token_faults s (token.Global name.now)
 
 -- a call with an effect, and what is wrong with it
 abbrev pub plan_expr : Templates → ActionForm → Term
-plan_expr templates (program.Of e values) = effect_expr e (exprs_of templates (members values.now))
+plan_expr templates (program.Of e values) = effect e (terms (exprs_of templates (members values.now)))
+plan_expr templates (program.Bind b values) = effect (binding b) (terms (exprs_of templates (members values.now)))
 plan_expr templates (program.If test first second) = if_expr templates (tree_of test.now) (members first.now) (members second.now)
 plan_expr templates (program.While test body) = while_expr templates (tree_of test.now) (members body.now)
 
 abbrev pub plan_faults : Scope → ActionForm → List Fault
-plan_faults s (program.Of e values) = effect_faults s e ++ all_faults s (members values.now)
+plan_faults s (program.Of e values) = all_faults s (members values.now)
+plan_faults s (program.Bind b values) = bound_faults s b ++ all_faults s (members values.now)
 plan_faults s (program.If test first second) = if_faults s (tree_of test.now) (members first.now) (members second.now)
 plan_faults s (program.While test body) = while_faults s (tree_of test.now) (members body.now)
 

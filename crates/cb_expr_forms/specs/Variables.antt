@@ -1,6 +1,13 @@
 -- The variables of an expression.
 use Rattle.std.specs.Prelude.{ℕ, List, [], ◌∷◌, ◌++◌}
-use Rattle.cb_exprs.specs.Terms.{Term, constant, variable, global, call, assert, retract, bind, bind_global, choose, repeat, actions, printout, print, println, halt, Terms, no_terms, term}
+use Rattle.cb_exprs.specs.declared.effect.Effect.{Effect}
+use Rattle.cb_exprs.specs.declared.effect.Effect.TheVariants as kind
+use Rattle.cb_exprs.specs.Terms.{Term, constant, variable, global, call, effect, choose, repeat, actions, Terms, no_terms, term}
+
+-- the variable that a call with an effect binds
+abbrev pub bound_by : Effect → List (List ℕ)
+bound_by (kind.Bind x) = x ∷ []
+bound_by e = []
 
 abbrev mutual
   -- The variables of an expression, in the order in which they stand, each as often as it does; globals are not
@@ -10,17 +17,10 @@ abbrev mutual
   variables_of (variable x) = x ∷ []
   variables_of (global x) = []
   variables_of (call f ts) = variables_in ts
-  variables_of (assert shape ts) = variables_in ts
-  variables_of (retract ts) = variables_in ts
-  variables_of (bind x t) = x ∷ variables_of t
-  variables_of (bind_global x t) = variables_of t
+  variables_of (effect e ts) = bound_by e ++ variables_in ts
   variables_of (choose t u w) = variables_of t ++ (variables_of u ++ variables_of w)
   variables_of (repeat t u) = variables_of t ++ variables_of u
   variables_of (actions ts) = variables_in ts
-  variables_of (printout on ts) = variables_in ts
-  variables_of (print ts) = variables_in ts
-  variables_of (println ts) = variables_in ts
-  variables_of halt = []
 
   -- The variables of several expressions.
   pub variables_in : Terms → List (List ℕ)

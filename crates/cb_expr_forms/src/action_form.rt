@@ -12,38 +12,30 @@ ghost use Rattle.cb_forms.specs.Trees.{tree_of};
 ghost use Rattle.cb_templates.specs.Templates.{Templates};
 
 use crate::words::{is_symbol, named_channel};
-use cb_exprs::Channel;
+use cb_exprs::Effect;
 use cb_forms::{Fault, Form, Token};
 use cb_words::Action;
 
 /// A call with an effect whose arguments are right in number and shape, by what of it is read next.
-#[derive(Clone, Copy)]
+#[derive(Drop)]
 pub(crate) enum ActionForm<'a> {
     /// An effect of these values.
-    Of(Effect<'a>, &'a [Form]),
+    Of(Effect, &'a [Form]),
+    /// `(bind ?name value ..)` or `(bind ?*name* value ..)`
+    Bind(Bound<'a>, &'a [Form]),
     /// `(if test then action .. else action ..)`
     If(&'a Form, &'a [Form], &'a [Form]),
     /// `(while test do action ..)`
     While(&'a Form, &'a [Form]),
 }
 
-/// What a call does with the values of its arguments.
+/// What a `bind` gives a value, by the bytes of its name.
 #[derive(Clone, Copy)]
-pub(crate) enum Effect<'a> {
-    /// `(retract value ..)`
-    Retract,
-    /// `(bind ?name value ..)`, by the bytes of the name
-    Bind(&'a [u8]),
-    /// `(bind ?*name* value ..)`, likewise
-    BindGlobal(&'a [u8]),
-    /// `(printout channel value ..)`
-    Printout(Channel),
-    /// `(print value ..)`
-    Print,
-    /// `(println value ..)`
-    Println,
-    /// `(halt)`
-    Halt,
+pub(crate) enum Bound<'a> {
+    /// A variable.
+    Variable(&'a [u8]),
+    /// A global variable.
+    Global(&'a [u8]),
 }
 
 /// A call with an effect, by its arguments; `None` where their number or shape is wrong.
@@ -91,10 +83,10 @@ fn split_bind<'a>(args: &'a [Form]) -> Option<ActionForm<'a>>
     };
     match first {
         Form::Atom(Token::Var(name)) | Form::Atom(Token::MultiVar(name)) => {
-            Some(ActionForm::Of(Effect::Bind(name.as_slice()), values))
+            Some(ActionForm::Bind(Bound::Variable(name.as_slice()), values))
         }
         Form::Atom(Token::Global(name)) => {
-            Some(ActionForm::Of(Effect::BindGlobal(name.as_slice()), values))
+            Some(ActionForm::Bind(Bound::Global(name.as_slice()), values))
         }
         _ => None,
     }

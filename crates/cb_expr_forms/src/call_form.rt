@@ -12,7 +12,7 @@ use cb_forms::{Fault, Form, split_head};
 use cb_words::{Action, Function, Head, read_head};
 
 /// A call that may stand where it does and whose arguments are right in number and shape, by what of it is read next.
-#[derive(Clone, Copy)]
+#[derive(Drop)]
 pub(crate) enum CallForm<'a> {
     /// Of a function without an effect.
     Function(Function, &'a [Form]),

@@ -3,21 +3,21 @@ ghost use Rattle.std.specs.Prelude.{◌≡◌, ◌++◌, ◌∷◌, ℕ, List, [
 ghost use Rattle.std.specs.Option.{option_and_then};
 ghost use Rattle.cb_expr_forms.specs.ExprFaults.{all_faults, fact_faults, facts_faults, faults_of, list_faults, slot_faults, slots_faults, values_faults};
 ghost use Rattle.cb_expr_forms.specs.ExprForms.{assertions, expr_of, exprs_of, fact_of, given_slot, list_expr, slot_exprs, slot_name, slot_names};
-ghost use Rattle.cb_templates.specs.FaultLists.{ReadsAs};
-ghost use Rattle.cb_expr_forms.specs.Internal.{effect_expr, effect_faults, filling_expr, filling_faults, if_expr, if_faults, plan_expr, plan_faults, value_faults, while_expr, while_faults};
-ghost use Rattle.cb_exprs.specs.Terms.{Term, term_of};
+ghost use Rattle.cb_facts.specs.FaultLists.{ReadsAs};
+ghost use Rattle.cb_expr_forms.specs.Internal.{binding, bound_faults, filling_expr, filling_faults, if_expr, if_faults, plan_expr, plan_faults, value_faults, while_expr, while_faults};
+ghost use Rattle.cb_exprs.specs.Terms.{Term, effect as effect_of, term_of, terms};
 ghost use Rattle.cb_forms.specs.Members.{members};
 ghost use Rattle.cb_forms.specs.Trees.{tree_of};
 
-use crate::action_form::{ActionForm, Effect};
-use crate::build::{add, boxed, build_call, build_if, build_while, know_effect};
+use crate::action_form::{ActionForm, Bound};
+use crate::build::{add, boxed, build_if, build_while, know_bound};
 use crate::call_form::{CallForm, split_call};
 use crate::scope::Scope;
 use crate::slot_form::{SlotForm, split_fact};
 use crate::slot_values::SlotValues;
 use crate::token_form::read_token;
 use crate::value_form::{check_equals, fit_type};
-use cb_exprs::{Expr, FactExpr, FactShape};
+use cb_exprs::{Effect, Expr, FactExpr, FactShape};
 use cb_facts::{Name, Names, Refused};
 use cb_forms::Form;
 use cb_templates::{Slot, Template};
@@ -60,6 +60,7 @@ fn read_action(
 {
     match action {
         ActionForm::Of(effect, values) => read_effect(names, scope, effect, values),
+        ActionForm::Bind(bound, values) => read_bind(names, scope, bound, values),
         ActionForm::If(test, yes, no) => read_if(names, scope, test, yes, no),
         ActionForm::While(test, actions) => read_while(names, scope, test, actions),
     }
@@ -70,16 +71,29 @@ fn read_action(
 fn read_effect(
     names: &mut Names,
     scope: &Scope<'_>,
-    effect: Effect<'_>,
+    effect: Effect,
+    values: &[Form],
+) -> Result<Expr, Refused>
+    ensures { ReadsAs term_of result (all_faults scope.now (members values.now))
+        (effect_of effect (terms (exprs_of scope.now.templates (members values.now)))) }
+{
+    Ok(Expr::Effect(effect, read_exprs(names, scope, values)?))
+}
+
+/// A `bind` of these values.
+#[cycle(reading)]
+fn read_bind(
+    names: &mut Names,
+    scope: &Scope<'_>,
+    bound: Bound<'_>,
     values: &[Form],
 ) -> Result<Expr, Refused>
     ensures { ReadsAs term_of result
-        (effect_faults scope.now effect.entry ++ all_faults scope.now (members values.now))
-        (effect_expr effect.entry (exprs_of scope.now.templates (members values.now))) }
+        (bound_faults scope.now bound.entry ++ all_faults scope.now (members values.now))
+        (effect_of (binding bound.entry) (terms (exprs_of scope.now.templates (members values.now)))) }
 {
-    let effect = know_effect(names, scope, effect)?;
-    let values = read_exprs(names, scope, values)?;
-    build_call(names.alloc(), effect, values)
+    let effect = know_bound(names, scope, bound)?;
+    read_effect(names, scope, effect, values)
 }
 
 /// The expression that a form is, in a box.

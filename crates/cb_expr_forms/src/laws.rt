@@ -2,7 +2,7 @@
 ghost use Rattle.std.specs.Prelude.{◌≡◌, ◌≢◌, ◌↔◌, ℕ, List, [], Contains, None, Some, codes, false, true, IsPermutation};
 ghost use Rattle.cb_expr_forms.specs.ExprFaults.{all_faults, are_filled, count, fact_faults, facts_faults, faults_of, slot_faults};
 ghost use Rattle.cb_expr_forms.specs.ExprForms.{expr_of, fact_of, slot_names};
-ghost use Rattle.cb_templates.specs.FaultLists.{first_of};
+ghost use Rattle.cb_facts.specs.FaultLists.{first_of};
 ghost use Rattle.cb_expr_forms.specs.Laws.{AreFaultless, AreRight, GiveSlots, GiveTheSame, IsPlain, NoListAfterEquals, followed_by, list_of};
 ghost use Rattle.cb_expr_forms.specs.Scopes.{Scope, may_act, scope_on};
 ghost use Rattle.cb_expr_forms.specs.declared.scope.Side.TheVariants.{Actions, Left};
@@ -10,14 +10,14 @@ ghost use Rattle.cb_forms.specs.Trees.{Tree, Trees, atom, no_trees, tree, trees_
 ghost use Rattle.cb_forms.specs.declared.fault.Fault.{Fault};
 ghost use Rattle.cb_forms.specs.declared.fault.Fault.TheVariants.{NotOnLeftSide};
 ghost use Rattle.cb_forms.specs.declared.token.Token.TheVariants as token;
-ghost use Rattle.cb_templates.specs.Reserved.{is_reserved};
+ghost use Rattle.cb_words.specs.Reserved.{is_reserved};
 ghost use Rattle.cb_templates.specs.Slots.{SlotShape};
 ghost use Rattle.cb_templates.specs.Templates.{Templates, slots_of};
-ghost use Rattle.cb_words.specs.Arities.{arity_of, takes};
+ghost use Rattle.cb_words.specs.Words.{arity_of, takes};
 ghost use Rattle.cb_words.specs.Words.{head_of};
-ghost use Rattle.cb_words.specs.declared.function.Function.{Function};
-ghost use Rattle.cb_words.specs.declared.head.Action.{Action};
-ghost use Rattle.cb_words.specs.declared.head.Head.TheVariants as head;
+ghost use Rattle.cb_words.specs.declared.words.Function.{Function};
+ghost use Rattle.cb_words.specs.declared.words.Action.{Action};
+ghost use Rattle.cb_words.specs.declared.words.Head.TheVariants as head;
 
 /// Arguments have no fault exactly where each of them, by itself, has none.
 pub fn arguments_are_right_one_by_one()

@@ -1,7 +1,7 @@
 //! Lists of names.
 ghost use Rattle.std.specs.Prelude.{◌≡◌, ◌++◌, ◌∷◌, ◌-◌, [], OnErr, OnOk, length, take};
 ghost use Rattle.cb_expr_forms.specs.Scopes.{is_known};
-ghost use Rattle.cb_templates.specs.Internal.{NotesPlace};
+ghost use Rattle.cb_facts.specs.Internal.NamePlaces.{NotesPlace};
 
 use cb_facts::Name;
 use cb_forms::NoMemory;
@@ -20,7 +20,7 @@ pub struct NameList {
 
 impl Model for NameList {
     ghost use Rattle.std.specs.Prelude.{List, ℕ};
-    ghost use Rattle.cb_templates.specs.Internal.{HasPlaces};
+    ghost use Rattle.cb_facts.specs.Internal.NamePlaces.{HasPlaces};
 
     ghost Value = { List (List ℕ) };
 

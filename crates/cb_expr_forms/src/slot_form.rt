@@ -8,7 +8,8 @@ ghost use Rattle.cb_forms.specs.Trees.{tree_of};
 use crate::name_list::NameList;
 use cb_facts::{Name, Names, Refused};
 use cb_forms::{Fault, Form};
-use cb_templates::{Slot, Template, is_reserved};
+use cb_templates::{Slot, Template};
+use cb_words::is_reserved;
 
 /// The relation that a fact begins with, and what follows it, or its first fault before those of what follows.
 pub(crate) fn split_fact<'a>(form: &'a Form) -> Result<(&'a [u8], &'a [Form]), Refused>

@@ -6,7 +6,7 @@ ghost use Rattle.cb_expr_forms.specs.Internal.{IsSlot, IsSlotFault};
 ghost use Rattle.cb_exprs.specs.Terms.{Term, term_of};
 ghost use Rattle.cb_facts.specs.Results.{Reports};
 ghost use Rattle.cb_forms.specs.Trees.{tree_of};
-ghost use Rattle.cb_templates.specs.FaultLists.{ReadsAs, unless};
+ghost use Rattle.cb_facts.specs.FaultLists.{ReadsAs, unless};
 
 use crate::name_list::NameList;
 use crate::slot_form::{SlotForm, split_slot};

@@ -3,7 +3,7 @@ ghost use Rattle.std.specs.Prelude.{◌≡◌};
 ghost use Rattle.cb_expr_forms.specs.ExprFaults.{token_faults};
 ghost use Rattle.cb_expr_forms.specs.ExprForms.{token_expr};
 ghost use Rattle.cb_exprs.specs.Terms.{term_of};
-ghost use Rattle.cb_templates.specs.FaultLists.{ReadsAs};
+ghost use Rattle.cb_facts.specs.FaultLists.{ReadsAs};
 
 use crate::scope::Scope;
 use cb_exprs::Expr;

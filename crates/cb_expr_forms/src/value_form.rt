@@ -5,7 +5,7 @@ ghost use Rattle.cb_expr_forms.specs.ExprFaults.{equals_faults, type_faults};
 ghost use Rattle.cb_exprs.specs.Terms.{term_of};
 ghost use Rattle.cb_forms.specs.Members.{members};
 ghost use Rattle.cb_forms.specs.Trees.{tree_of};
-ghost use Rattle.cb_templates.specs.FaultLists.{ReadsAs};
+ghost use Rattle.cb_facts.specs.FaultLists.{ReadsAs};
 
 use crate::words::{begins_with_list, is_symbol};
 use cb_exprs::Expr;

@@ -2,11 +2,11 @@
 ghost use Rattle.std.specs.Prelude.{◌≡◌};
 ghost use Rattle.std.specs.List.{list_all};
 ghost use Rattle.cb_expr_forms.specs.Scopes.{is_known};
-ghost use Rattle.cb_expr_forms.specs.Variables.{variables_in, variables_of};
+ghost use Rattle.cb_expr_forms.specs.Variables.{bound_by, variables_in, variables_of};
 ghost use Rattle.cb_exprs.specs.Terms.{term_of, terms_of};
 
 use crate::name_list::NameList;
-use cb_exprs::Expr;
+use cb_exprs::{Effect, Expr};
 
 /// Whether each variable of an expression is among these names, also one that it only binds.
 ///
@@ -16,17 +16,10 @@ pub fn knows_all(known: &NameList, expr: &Expr) -> bool
     ensures { result ≡ list_all (is_known known.now) (variables_of (term_of expr.now)) }
 {
     match expr {
-        Expr::Constant(_) | Expr::Global(_) | Expr::Halt => true,
+        Expr::Constant(_) | Expr::Global(_) => true,
         Expr::Variable(name) => known.has(name),
-        Expr::Call(_, exprs)
-        | Expr::Assert(_, exprs)
-        | Expr::Retract(exprs)
-        | Expr::Actions(exprs)
-        | Expr::Printout(_, exprs)
-        | Expr::Print(exprs)
-        | Expr::Println(exprs) => knows_each(known, exprs),
-        Expr::Bind(name, value) => known.has(name) && knows_all(known, value),
-        Expr::BindGlobal(_, value) => knows_all(known, value),
+        Expr::Call(_, exprs) | Expr::Actions(exprs) => knows_each(known, exprs),
+        Expr::Effect(effect, exprs) => knows_bound(known, effect) && knows_each(known, exprs),
         Expr::If(test, yes, no) => {
             knows_all(known, test) && knows_all(known, yes) && knows_all(known, no)
         }
@@ -45,4 +38,14 @@ fn knows_each(known: &NameList, exprs: &[Expr]) -> bool
         }
     }
     true
+}
+
+/// Whether the variable that a call with an effect binds, if it binds one, is among these names.
+fn knows_bound(known: &NameList, effect: &Effect) -> bool
+    ensures { result ≡ list_all (is_known known.now) (bound_by effect.now) }
+{
+    match effect {
+        Effect::Bind(name) => known.has(name),
+        _ => true,
+    }
 }

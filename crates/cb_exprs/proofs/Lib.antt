@@ -1,2 +1,5 @@
+mod FrameLaws
 mod Ordered
+pub mod TermLaws
 mod Trees
+pub mod ValueLaws

@@ -1,5 +1,6 @@
 -- What only the code needs.
 pub mod Codes
+pub mod Frames
 pub mod Trees
 use Rattle.std.specs.Prelude.{refl, ℕ, List}
 use Rattle.std.specs.Coded.{Coded, code_by, coded×}

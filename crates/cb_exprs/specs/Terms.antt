@@ -1,36 +1,28 @@
 -- Expressions, and which one an `Expr` of the program is.
 use Rattle.std.specs.Prelude.{ℕ, List, [], ◌∷◌, map}
-use Rattle.cb_exprs.specs.Shapes.{Shape}
-use Rattle.cb_exprs.specs.declared.channel.Channel.{Channel}
+use Rattle.cb_exprs.specs.declared.effect.Effect.{Effect}
 use Rattle.cb_exprs.specs.declared.expr.Expr.{Expr, fold-Expr}
 use Rattle.cb_exprs.specs.declared.expr.Expr.TheOpen as program
 use Rattle.cb_facts.specs.declared.value.Value.{Value}
-use Rattle.cb_words.specs.declared.function.Function.{Function}
+use Rattle.cb_words.specs.declared.words.Function.{Function}
 
 mutual
-  -- An expression: a constant, a variable, a global variable, a call without an effect, or one of the expressions
-  -- with an effect.
+  -- An expression: a constant, a variable, a global variable, a call without an effect or with one, or actions that are carried
+  -- out as a test says or one after another.
   pub data Term : Type 0 where
     constant : Value → Term
     variable : List ℕ → Term
     global : List ℕ → Term
     -- a call without an effect
     call : Function → Terms → Term
-    -- a fact to assert: the values of its fields, or of the slots that it gives
-    assert : Shape → Terms → Term
-    retract : Terms → Term
-    bind : List ℕ → Term → Term
-    bind_global : List ℕ → Term → Term
+    -- a call that does this with the values of its arguments
+    effect : Effect → Terms → Term
     -- `if`: a test, what is done where it holds, and what is done where it doesn't
     choose : Term → Term → Term → Term
     -- `while`: a test, and what is done each time that it holds
     repeat : Term → Term → Term
     -- one after another
     actions : Terms → Term
-    printout : Channel → Terms → Term
-    print : Terms → Term
-    println : Terms → Term
-    halt : Term
 
   pub data Terms : Type 0 where
     no_terms : Terms
@@ -47,17 +39,10 @@ term_step (program.Constant v) = constant v
 term_step (program.Variable x) = variable x
 term_step (program.Global x) = global x
 term_step (program.Call f ts) = call f (terms ts.items)
-term_step (program.Assert shape ts) = assert shape (terms ts.items)
-term_step (program.Retract ts) = retract (terms ts.items)
-term_step (program.Bind x t) = bind x t.value
-term_step (program.BindGlobal x t) = bind_global x t.value
+term_step (program.Effect e ts) = effect e (terms ts.items)
 term_step (program.If c t u) = choose c.value t.value u.value
 term_step (program.While c t) = repeat c.value t.value
 term_step (program.Actions ts) = actions (terms ts.items)
-term_step (program.Printout on ts) = printout on (terms ts.items)
-term_step (program.Print ts) = print (terms ts.items)
-term_step (program.Println ts) = println (terms ts.items)
-term_step program.Halt = halt
 
 -- The term that an `Expr` of the program is.
 abbrev pub term_of : Expr → Term

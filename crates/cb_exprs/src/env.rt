@@ -2,7 +2,7 @@
 ghost use Rattle.std.specs.Prelude.{◌≡◌, [], None, IfOk, OnOk, OnErr, option_copied};
 ghost use Rattle.cb_exprs.specs.Bindings.{no_bindings, value_at, with_global, with_variable, with_variables, without_variable};
 
-use crate::values::Values;
+use crate::assignment::Assignment;
 use cb_facts::{Name, Value};
 use cb_forms::NoMemory;
 use std::alloc::{AllocError, Global};
@@ -19,8 +19,8 @@ use std::mem;
 /// the names.
 #[derive(Drop)]
 pub struct Env {
-    variables: Values,
-    globals: Values,
+    variables: Assignment,
+    globals: Assignment,
 }
 
 impl Model for Env {
@@ -47,8 +47,8 @@ impl Env {
         ensures { result ≡ no_bindings }
     {
         Env {
-            variables: Values::new(alloc),
-            globals: Values::new(alloc),
+            variables: Assignment::new(alloc),
+            globals: Assignment::new(alloc),
         }
     }
 
@@ -71,14 +71,13 @@ impl Env {
 
     /// A copy in which these variables are set, in order; of two values for one variable the later counts. It shares with
     /// the original what it does not change. Growth is refused as `NoMemory`.
+    #[tactic(auto, using(crate::proofs::FrameLaws::variables_with_each))]
     pub fn with(&self, bindings: Vec<(Name, Value)>) -> Result<Env, NoMemory>
         ensures ok { IfOk result (λ env. env ≡ with_variables bindings.items self.now) }
     {
-        let mut env = self.clone()?;
-        for (name, value) in bindings {
-            env.set(&name, value)?;
-        }
-        Ok(env)
+        let variables = self.variables.with(bindings)?;
+        let globals = self.globals.clone()?;
+        Ok(Env { variables, globals })
     }
 
     /// Takes the value of a variable away, if it has one. Growth is refused as `NoMemory`, and then nothing has changed; a
@@ -95,7 +94,7 @@ impl Env {
     pub fn drop_variables(&mut self, alloc: Global)
         ensures { self.new ≡ record { variables = []; globals = self.old.globals } }
     {
-        self.variables = Values::new(alloc);
+        self.variables = Assignment::new(alloc);
     }
 
     /// Gives the variables the values that they have in another, and those of the other the values that they had here. The

@@ -1,7 +1,9 @@
 //! Facts that were read and are not asserted yet.
 ghost use Rattle.std.specs.Prelude.{◌≡◌};
-ghost use Rattle.cb_exprs.specs.Terms.{assert, term_of, terms_of};
+ghost use Rattle.cb_exprs.specs.Terms.{effect, term_of, terms_of};
+ghost use Rattle.cb_exprs.specs.declared.effect.Effect.TheVariants as kind;
 
+use crate::effect::Effect;
 use crate::expr::Expr;
 use crate::fact_shape::FactShape;
 use std::marker::Model;
@@ -54,8 +56,8 @@ impl FactExpr {
 
     /// The expression that asserts it.
     pub fn into_expr(self) -> Expr
-        ensures { term_of result ≡ assert self.shape self.values }
+        ensures { term_of result ≡ effect (kind.Assert self.shape) self.values }
     {
-        Expr::Assert(self.shape, self.values)
+        Expr::Effect(Effect::Assert(self.shape), self.values)
     }
 }

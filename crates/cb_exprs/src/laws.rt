@@ -2,14 +2,13 @@
 ghost use Rattle.std.specs.Prelude.{◌≡◌, ◌≢◌, ℕ, List, Some, Box, Vec};
 ghost use Rattle.std.specs.declared.alloc.Global.{Global};
 ghost use Rattle.cb_exprs.specs.Bindings.{Bindings, Values, value_at, with_global, with_value, with_variable, without_value, without_variable};
-ghost use Rattle.cb_exprs.specs.Shapes.{Shape};
-ghost use Rattle.cb_exprs.specs.Terms.{constant, variable, global, call, assert, retract, bind, bind_global, choose, repeat, actions, printout, print, println, halt, term_of, terms_of};
-ghost use Rattle.cb_exprs.specs.declared.channel.Channel.{Channel};
+ghost use Rattle.cb_exprs.specs.Terms.{constant, variable, global, call, effect, choose, repeat, actions, term_of, terms_of};
+ghost use Rattle.cb_exprs.specs.declared.effect.Effect.{Effect};
 ghost use Rattle.cb_exprs.specs.declared.expr.Expr.{Expr};
 ghost use Rattle.cb_exprs.specs.declared.expr.Expr.TheVariants as kind;
 ghost use Rattle.cb_exprs.specs.declared.expr.Expr.TheViews as kind_of;
 ghost use Rattle.cb_facts.specs.declared.value.Value.{Value};
-ghost use Rattle.cb_words.specs.declared.function.Function.{Function};
+ghost use Rattle.cb_words.specs.declared.words.Function.{Function};
 
 /// Each kind of expression is the term of its kind, and what stands in it is the terms of that.
 pub fn each_expression_is_its_term()
@@ -18,27 +17,14 @@ pub fn each_expression_is_its_term()
     ensures is_global { (x : List ℕ) → term_of (kind.Global x) ≡ global x }
     ensures is_call { (f : Function) (v : Vec Expr Global) → term_of (kind_of.Call f v)
         ≡ call f (terms_of v.items) }
-    ensures is_assert { (shape : Shape) (v : Vec Expr Global) → term_of (kind_of.Assert shape v)
-        ≡ assert shape (terms_of v.items) }
-    ensures is_retract { (v : Vec Expr Global) → term_of (kind_of.Retract v)
-        ≡ retract (terms_of v.items) }
-    ensures is_bind { (x : List ℕ) (b : Box Expr Global) → term_of (kind_of.Bind x b)
-        ≡ bind x (term_of b.value) }
-    ensures is_bind_global { (x : List ℕ) (b : Box Expr Global) → term_of (kind_of.BindGlobal x b)
-        ≡ bind_global x (term_of b.value) }
+    ensures is_effect { (e : Effect) (v : Vec Expr Global) → term_of (kind_of.Effect e v)
+        ≡ effect e (terms_of v.items) }
     ensures is_if { (b d e : Box Expr Global) → term_of (kind_of.If b d e)
         ≡ choose (term_of b.value) (term_of d.value) (term_of e.value) }
     ensures is_while { (b d : Box Expr Global) → term_of (kind_of.While b d)
         ≡ repeat (term_of b.value) (term_of d.value) }
     ensures is_actions { (v : Vec Expr Global) → term_of (kind_of.Actions v)
         ≡ actions (terms_of v.items) }
-    ensures is_printout { (on : Channel) (v : Vec Expr Global) → term_of (kind_of.Printout on v)
-        ≡ printout on (terms_of v.items) }
-    ensures is_print { (v : Vec Expr Global) → term_of (kind_of.Print v)
-        ≡ print (terms_of v.items) }
-    ensures is_println { (v : Vec Expr Global) → term_of (kind_of.Println v)
-        ≡ println (terms_of v.items) }
-    ensures is_halt { term_of kind.Halt ≡ halt }
 {}
 
 /// A name has the value that it was given last.

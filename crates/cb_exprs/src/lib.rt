@@ -3,19 +3,22 @@
 //! `docs/ARCHITECTURE.md` says where it belongs.
 #![tactic(auto)]
 
+mod assignment; // names, each with its value: few in frames, and many in a tree
 mod channel; // where `printout` prints
-pub mod cited; // laws that the proofs of other crates cite
+mod effect; // what a call with an effect does
 mod env; // the values of variables and of global variables
 mod expr; // an expression, as it was read
 mod fact_expr; // a fact that was read: its shape and its expressions
 mod fact_shape; // what is known of a fact before its values are: its relation, and the names of its slots
+mod frames; // names, each with its value, in frames that are shared
 mod global_expr; // a global that was read: its name and its initial expression
 pub mod laws; // laws of expressions as terms, and of the values that names have
 mod lookup; // the trait `Lookup`: what says which values variables have; an `Env` is one
 mod tree; // a balanced search tree of names, each with its value, whose nodes are shared
-mod values; // names, each with its value, in a tree of `tree.rt`
+mod values; // many names, each with its value, in a tree of `tree.rt`
 
 pub use channel::Channel;
+pub use effect::Effect;
 pub use env::Env;
 pub use expr::Expr;
 pub use fact_expr::FactExpr;

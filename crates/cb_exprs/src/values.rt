@@ -1,5 +1,5 @@
-//! The values that names have.
-ghost use Rattle.std.specs.Prelude.{◌≡◌, [], None, OnErr, OnOk, option_copied};
+//! The values that many names have.
+ghost use Rattle.std.specs.Prelude.{◌≡◌, [], None, IfErr, OnErr, OnOk, option_copied};
 ghost use Rattle.cb_exprs.specs.Bindings.{value_at, with_value, without_value};
 
 use crate::tree::Tree;
@@ -61,13 +61,23 @@ impl Values {
         self.by_name.get(name)
     }
 
+    /// Writes a value in place of the one that a name has. Where the name has none, or a clone shares the way to it, the value is
+    /// returned and nothing has changed. It takes no memory.
+    pub(crate) fn write(&mut self, name: &Name, value: Value) -> Result<(), Value>
+        ensures ok { OnOk result (self.new ≡ with_value name.now value self.old) }
+        ensures err { OnErr result (self.new ≡ self.old) }
+        ensures back { IfErr result (λ v. v ≡ value) }
+    {
+        self.by_name.write(name, value)
+    }
+
     /// Gives a name a value, in place of the one that it has, if it has one. Growth is refused as `NoMemory`, and then
     /// nothing has changed; a name that has a value takes no memory where no clone shares the way to it.
     pub(crate) fn set(&mut self, name: &Name, value: Value) -> Result<(), NoMemory>
         ensures ok { OnOk result (self.new ≡ with_value name.now value self.old) }
         ensures err { OnErr result (self.new ≡ self.old) }
     {
-        let Err(value) = self.by_name.write(name, value) else {
+        let Err(value) = self.write(name, value) else {
             return Ok(());
         };
         let by_name = self.by_name.with(self.alloc, name, value)?;

@@ -3,9 +3,10 @@ use Prim.Native.String.{String}
 use Rattle.std.proofs.Common.{◌≡◌, ◌++◌, ℕ, ℤ, pos, Bool, List, [], ◌∷◌, Option, Some, None, Result, Ok, map, codes, true, false, refl}
 use Rattle.cb_constraints.specs.Constraints.{variable, each}
 use Rattle.cb_constraints.specs.PatternValues.{PatternValue, fields}
-use Rattle.cb_templates.specs.FaultLists.{first_of, unless_faulty}
+use Rattle.cb_facts.specs.FaultLists.{first_of, unless_faulty}
 use Rattle.cb_exprs.specs.Bindings.{Bindings}
-use Rattle.cb_exprs.specs.Terms.{Term, println, retract, terms}
+use Rattle.cb_exprs.specs.Terms.{Term, terms}
+use Rattle.cb_exprs.specs.declared.effect.Effect.TheVariants as kind
 use Rattle.cb_exprs.specs.Terms as expr
 use Rattle.cb_facts.specs.declared.value.Value.TheVariants as value
 use Rattle.cb_forms.specs.Trees.{Tree, atom, branch, trees_of}
@@ -17,9 +18,9 @@ use Rattle.cb_rule_forms.specs.Relations.{patterns_relations}
 use Rattle.cb_rule_forms.specs.Rules.{rule_faults, rule_of}
 use Rattle.cb_rules.specs.Elements.{pattern, test, group, Elements, elements, no_elements}
 use Rattle.cb_rules.specs.RuleValues.{RuleValue}
-use Rattle.cb_templates.specs.Reserved.{is_reserved}
+use Rattle.cb_words.specs.Reserved.{is_reserved}
 use Rattle.cb_words.specs.Words.{head_of}
-use Rattle.cb_words.specs.declared.function.Function.TheVariants as function
+use Rattle.cb_words.specs.declared.words.Function.TheVariants as function
 
 -- at the top level the variable `?t` has a value, and the global `?*g*` is 2
 abbrev env : Bindings
@@ -106,7 +107,7 @@ whole_rule : read (word "r" ∷ text "c" ∷ salience (form "*" (glob "g" ∷ nu
       salience = pos 10;
       branches = elements (pattern (Some (codes "f")) (of_one "a" false) ∷ pattern None (of_one "b" true) ∷ []) ∷ [];
       layouts = (true ∷ true ∷ []) ∷ [];
-      actions = retract (terms (expr.variable (codes "f") ∷ [])) ∷ println (terms (expr.variable (codes "x") ∷ [])) ∷ [];
+      actions = expr.effect kind.Retract (terms (expr.variable (codes "f") ∷ [])) ∷ expr.effect kind.Println (terms (expr.variable (codes "x") ∷ [])) ∷ [];
       relations = codes "a" ∷ codes "b" ∷ [];
     })
 unfolding head_of is_reserved operator_of

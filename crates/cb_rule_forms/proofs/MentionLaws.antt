@@ -3,7 +3,7 @@ use Rattle.std.proofs.Common.{◌≡◌, ◌<◌, ◌+◌, ◌∙◌, ◌++◌, 
 use Rattle.std.proofs.lemmas.List.{at_drop_more}
 use Rattle.std.proofs.lemmas.List.Folds.{flat_map-map}
 use Rattle.std.specs.List.{flat_map, list_all}
-use Rattle.cb_templates.specs.FaultLists.{first_of, unless}
+use Rattle.cb_facts.specs.FaultLists.{first_of, unless}
 use Rattle.cb_facts.specs.declared.refused.Refused.{Refused}
 use Rattle.cb_facts.specs.declared.refused.Refused.TheVariants as refused
 use Rattle.cb_expr_forms.specs.Scopes.{is_known}
@@ -11,7 +11,7 @@ use Rattle.cb_forms.specs.declared.fault.Fault.{Fault}
 use Rattle.cb_forms.specs.declared.fault.Fault.TheVariants.{UnboundVariable}
 use Rattle.cb_rule_forms.specs.Internal.{Knows}
 use Rattle.cb_rule_forms.specs.Mentions.{Mention, after_mention, apart_mentions, known_after, mention_fault, mention_faults, needed, with_name}
-use Rattle.cb_templates.specs.contracts.cited.LawsCited.TheImpl as templates_laws
+use Rattle.cb_facts.proofs.FirstFaults.{first_append}
 
 -- the mentions that are left, with the variables known so far, are what the others were at first
 abbrev pub Same : List (List ℕ) → List Mention → List (List ℕ) → List Mention → Type 0
@@ -93,7 +93,7 @@ module _ {X : Type 0} (f : X → List Mention) (first : List (List ℕ)) (xs : L
   first_there known i x e within is so h =
       let rest = left_from (i + 1) in
       ap first_of (sym so.0 ∙ (ap (mention_faults known) (next_split i x within is) ∙ faults_append known (f x) rest))
-      ∙ templates_laws.ghosts.first_append (mention_faults known (f x)) (mention_faults (known_after known (f x)) rest) e h
+      ∙ first_append (mention_faults known (f x)) (mention_faults (known_after known (f x)) rest) e h
 
   -- its fault is the fault of all
   pub next_fault : (new known : List (List ℕ)) (i : ℕ) (x : X) (r : Refused) (res : Result (Unit {0}) Refused) → i < length xs → get_or xs i x ≡ x

@@ -11,8 +11,8 @@ use Rattle.cb_rule_forms.specs.Branches.{combined, ways_through, ways_through_al
 use Rattle.cb_rule_forms.specs.Elements.{element_faults, elements_faults}
 use Rattle.cb_rule_forms.specs.Internal.{writtens}
 use Rattle.cb_rule_forms.specs.WrittenElements.{Written, wrong, written_pattern, written_test, all_of, one_of, written_group, Writtens, none_written, written}
-use Rattle.cb_templates.specs.FaultLists.{ReadsAs, first_of}
-use Rattle.cb_templates.specs.contracts.cited.LawsCited.TheImpl as templates_laws
+use Rattle.cb_facts.specs.FaultLists.{ReadsAs, first_of}
+use Rattle.cb_facts.proofs.FirstFaults.{first_append}
 
 -- these elements before each way
 abbrev pub led_by : List Written → List (List Written) → List (List Written)
@@ -129,5 +129,5 @@ branch_end w old first gone others here p q =
 pub fault_passes : {T U V W : Type 0} (view : T → V) (see : U → W) (r : Refused) (res : Result U Refused) (here rest all : List Fault) (x : V) (y : W)
     → here ++ rest ≡ all → res ≡ Err r → ReadsAs view (Err r) here x → ReadsAs see res all y
 fault_passes view see (refused.Fault f) res here rest all x y is same h =
-    subst (λ it. ReadsAs see it all y) (sym same) (ap first_of (sym is) ∙ templates_laws.ghosts.first_append here rest f h)
+    subst (λ it. ReadsAs see it all y) (sym same) (ap first_of (sym is) ∙ first_append here rest f h)
 fault_passes view see refused.NoMemory res here rest all x y is same h = subst (λ it. ReadsAs see it all y) (sym same) tt

@@ -24,7 +24,7 @@ use Rattle.cb_rule_forms.specs.declared.written.Next.TheVariants as next
 use Rattle.cb_rule_forms.specs.declared.written.Written as declared
 use Rattle.cb_rule_forms.specs.declared.written.Written.TheOpen as program
 use Rattle.cb_rules.specs.Elements.{Element, pattern, test, group, Elements, elements}
-use Rattle.cb_templates.specs.FaultLists.{ReadsAs, unless}
+use Rattle.cb_facts.specs.FaultLists.{ReadsAs, unless}
 
 -- one element that was read, with those of a group in their place
 abbrev pub form_step : form.ElementForm-F Element → Element

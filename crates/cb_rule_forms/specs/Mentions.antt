@@ -2,8 +2,8 @@
 use Rattle.std.specs.Prelude.{◌++◌, ℕ, Bool, false, not, List, [], ◌∷◌, Option, Some, None, map, if◌then◌else◌}
 use Rattle.std.specs.List.{filter, flat_map, list_all}
 use Rattle.cb_constraints.specs.Constraints.{Test, constant, variable, predicate, return_value, Check, Demand, nothing, each, either, Constraint}
-use Rattle.cb_constraints.specs.PatternValues.{Parts, PatternValue, fields, slots}
-use Rattle.cb_templates.specs.FaultLists.{unless}
+use Rattle.cb_constraints.specs.PatternValues.{PatternParts, PatternValue, fields, slots}
+use Rattle.cb_facts.specs.FaultLists.{unless}
 use Rattle.cb_expr_forms.specs.Scopes.{is_known}
 use Rattle.cb_expr_forms.specs.Variables.{variables_of}
 use Rattle.cb_forms.specs.declared.fault.Fault.{Fault}
@@ -53,7 +53,7 @@ abbrev pub row_mentions : List Constraint → List Mention
 row_mentions row = flat_map (λ c. demand_mentions c.demand) row
 
 -- what a pattern mentions, in the order in which it is written
-abbrev pub parts_mentions : Parts → List Mention
+abbrev pub parts_mentions : PatternParts → List Mention
 parts_mentions (fields row) = row_mentions row
 parts_mentions (slots rows) = flat_map (λ slot. row_mentions slot.row) rows
 

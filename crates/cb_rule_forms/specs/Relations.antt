@@ -1,9 +1,16 @@
 -- The relations that a rule names.
 use Rattle.std.specs.Prelude.{◌++◌, ℕ, List, [], ◌∷◌}
 use Rattle.std.specs.List.{flat_map}
-use Rattle.cb_exprs.specs.Terms.{Term, constant, variable, global, call, assert, retract, bind, bind_global, choose, repeat, actions, printout, print, println, halt, Terms, no_terms, term, terms}
+use Rattle.cb_exprs.specs.Terms.{Term, constant, variable, global, call, effect, choose, repeat, actions, Terms, no_terms, term, terms}
+use Rattle.cb_exprs.specs.declared.effect.Effect.{Effect}
+use Rattle.cb_exprs.specs.declared.effect.Effect.TheVariants as kind
 use Rattle.cb_constraints.specs.Bound.{each_once}
 use Rattle.cb_rules.specs.Elements.{Element, pattern, test, group, Elements, no_elements, element}
+
+-- the relation of the fact that a call with an effect asserts
+abbrev pub asserted_with : Effect → List (List ℕ)
+asserted_with (kind.Assert shape) = shape.relation ∷ []
+asserted_with e = []
 
 abbrev mutual
   -- those of the facts that an expression asserts, in the order in which they stand, each as often as it does
@@ -12,17 +19,10 @@ abbrev mutual
   asserted_by (variable x) = []
   asserted_by (global x) = []
   asserted_by (call f ts) = asserted_in ts
-  asserted_by (assert shape ts) = shape.relation ∷ asserted_in ts
-  asserted_by (retract ts) = asserted_in ts
-  asserted_by (bind x t) = asserted_by t
-  asserted_by (bind_global x t) = asserted_by t
+  asserted_by (effect e ts) = asserted_with e ++ asserted_in ts
   asserted_by (choose t u w) = asserted_by t ++ (asserted_by u ++ asserted_by w)
   asserted_by (repeat t u) = asserted_by t ++ asserted_by u
   asserted_by (actions ts) = asserted_in ts
-  asserted_by (printout on ts) = asserted_in ts
-  asserted_by (print ts) = asserted_in ts
-  asserted_by (println ts) = asserted_in ts
-  asserted_by halt = []
 
   -- The relations of the facts that several expressions assert, in order.
   pub asserted_in : Terms → List (List ℕ)

@@ -1,7 +1,7 @@
 -- Rules as they are written: which one forms are, and what is wrong with them, in the order in which it is looked for.
 use Rattle.std.specs.Prelude.{◌++◌, ℕ, ℤ, pos, Bool, true, false, List, [], ◌∷◌, Option, Some, None, length, map, nat_le}
 use Rattle.std.specs.List.{flat_map}
-use Rattle.cb_templates.specs.FaultLists.{unless}
+use Rattle.cb_facts.specs.FaultLists.{unless}
 use Rattle.cb_expr_forms.specs.Bound.{bound_in_all}
 use Rattle.cb_expr_forms.specs.ExprFaults.{all_faults}
 use Rattle.cb_expr_forms.specs.ExprForms.{exprs_of}

@@ -10,7 +10,7 @@ use Rattle.cb_forms.specs.declared.token.Token.TheVariants as token
 use Rattle.cb_rule_forms.specs.Sections.{only_of}
 use Rattle.cb_rule_forms.specs.declared.written.Kind.{Kind}
 use Rattle.cb_rule_forms.specs.declared.written.Kind.TheVariants as kind
-use Rattle.cb_templates.specs.Reserved.{is_reserved}
+use Rattle.cb_words.specs.Reserved.{is_reserved}
 
 mutual
   -- a condition element as it is written

@@ -3,7 +3,7 @@ ghost use Rattle.std.specs.Prelude.{◌≡◌, ◌++◌, OnOk, map};
 ghost use Rattle.cb_expr_forms.specs.Bound.{bound_in_all};
 ghost use Rattle.cb_expr_forms.specs.ExprFaults.{all_faults};
 ghost use Rattle.cb_expr_forms.specs.ExprForms.{exprs_of};
-ghost use Rattle.cb_templates.specs.FaultLists.{ReadsAs};
+ghost use Rattle.cb_facts.specs.FaultLists.{ReadsAs};
 ghost use Rattle.cb_exprs.specs.Terms.{term_of};
 ghost use Rattle.cb_forms.specs.Members.{members};
 ghost use Rattle.cb_rule_forms.specs.Rules.{action_scope};

@@ -1,7 +1,7 @@
 //! The salience that a rule declares.
 ghost use Rattle.std.specs.Prelude.{◌≡◌, [], None, Ok, Some, MatchOption, pos};
 ghost use Rattle.std.specs.Option.{option_and_then, unwrap_or};
-ghost use Rattle.cb_templates.specs.FaultLists.{ReadsAs};
+ghost use Rattle.cb_facts.specs.FaultLists.{ReadsAs};
 ghost use Rattle.cb_eval.specs.Evaluation.{value_of};
 ghost use Rattle.cb_expr_forms.specs.ExprFaults.{faults_of};
 ghost use Rattle.cb_expr_forms.specs.ExprForms.{expr_of};

@@ -1,7 +1,7 @@
 //! The condition elements of a rule, read.
 ghost use Rattle.std.specs.Prelude.{◌≡◌, ◌++◌, ◌∷◌, [], IfOk, map, option_map};
 ghost use Rattle.std.specs.List.{flat_map};
-ghost use Rattle.cb_templates.specs.FaultLists.{ReadsAs};
+ghost use Rattle.cb_facts.specs.FaultLists.{ReadsAs};
 ghost use Rattle.cb_forms.specs.Members.{members};
 ghost use Rattle.cb_pattern_forms.specs.PatternFaults.{pattern_faults};
 ghost use Rattle.cb_pattern_forms.specs.Patterns.{pattern_of};
@@ -10,7 +10,7 @@ ghost use Rattle.cb_rule_forms.specs.Internal.{form_value, way_seen, writtens, w
 ghost use Rattle.cb_rules.specs.Elements.{pattern};
 
 use crate::written::Written;
-use cb_constraints::Parts as PatternParts;
+use cb_constraints::PatternParts;
 use cb_expr_forms::{Scope, read_expr};
 use cb_exprs::Expr;
 use cb_facts::{Name, Names, Refused};

@@ -11,7 +11,7 @@ ghost use Rattle.cb_pattern_forms.specs.Patterns.{slot_in};
 ghost use Rattle.cb_rule_forms.specs.Branches.{ways_through, ways_through_all};
 ghost use Rattle.cb_rule_forms.specs.Choices.{IsLeftOfAll};
 ghost use Rattle.cb_rule_forms.specs.WrittenElements.{Written, Writtens, written};
-ghost use Rattle.cb_templates.specs.Places.{place_in};
+ghost use Rattle.cb_facts.specs.Places.{place_in};
 ghost use Rattle.cb_templates.specs.Slots.{SlotShape, names};
 ghost use Rattle.cb_templates.specs.Templates.{Templates};
 

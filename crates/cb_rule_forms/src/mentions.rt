@@ -3,7 +3,7 @@ ghost use Rattle.std.specs.Prelude.{◌≡◌, ◌∷◌, [], IfOk, List, MatchO
 ghost use Rattle.std.specs.List.{filter, flat_map, list_all};
 ghost use Rattle.cb_constraints.specs.Constraints.{check_of, demand_of, either, asked_test};
 ghost use Rattle.cb_constraints.specs.PartValues.{asked_parts};
-ghost use Rattle.cb_templates.specs.FaultLists.{ReadsAs};
+ghost use Rattle.cb_facts.specs.FaultLists.{ReadsAs};
 ghost use Rattle.cb_expr_forms.specs.Scopes.{is_known};
 ghost use Rattle.cb_expr_forms.specs.Variables.{variables_of};
 ghost use Rattle.cb_exprs.specs.Terms.{term_of};
@@ -12,7 +12,7 @@ ghost use Rattle.cb_rules.specs.Elements as rules;
 ghost use Rattle.cb_rule_forms.specs.Mentions.{Mention, address_mentions, apart_mentions, check_mentions, checks_variables, demand_mentions, known_after, known_by_all, known_in, known_past, needed, parts_mentions, pattern_mentions, place, row_mentions, test_variables, variable_faults, variables_faults, with_name};
 
 use crate::element::{ElementForm, PatternForm};
-use cb_constraints::{Check, Constraint, Demand, Parts, Row, SlotRow, Test};
+use cb_constraints::{Check, Constraint, Demand, PatternParts, Row, SlotRow, Test};
 use cb_expr_forms::{NameList, knows_all};
 use cb_exprs::Expr;
 use cb_facts::{Name, Refused};
@@ -158,12 +158,12 @@ fn bind_address(known: &mut NameList, address: Option<&Name>) -> Result<(), Refu
 
 /// Adds the variables that a row of fields or the slots of a pattern bind to those that have a value, or gives the first
 /// fault of a variable.
-fn bind_parts(known: &mut NameList, parts: &Parts) -> Result<(), Refused>
+fn bind_parts(known: &mut NameList, parts: &PatternParts) -> Result<(), Refused>
     ensures { Knows known.old (parts_mentions (asked_parts parts.now)) known.new result }
 {
     match parts {
-        Parts::Fields(row) => bind_row(known, row),
-        Parts::Slots(slots) => bind_all(known, slots.as_slice()),
+        PatternParts::Fields(row) => bind_row(known, row),
+        PatternParts::Slots(slots) => bind_all(known, slots.as_slice()),
     }
 }
 

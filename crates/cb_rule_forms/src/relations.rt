@@ -3,13 +3,13 @@ ghost use Rattle.std.specs.Prelude.{◌≡◌, ◌∷◌, [], IfOk, OnOk, map};
 ghost use Rattle.std.specs.List.{flat_map};
 ghost use Rattle.cb_exprs.specs.Terms.{term_of, terms_of};
 ghost use Rattle.cb_rule_forms.specs.Internal.{branches_read, form_value, with_names};
-ghost use Rattle.cb_rule_forms.specs.Relations.{asserted_by, asserted_in, pattern_relations, patterns_relations, relations_of};
+ghost use Rattle.cb_rule_forms.specs.Relations.{asserted_by, asserted_in, asserted_with, pattern_relations, patterns_relations, relations_of};
 ghost use Rattle.cb_rules.specs.Elements.{elements};
 
 use crate::element::ElementForm;
 use crate::mentions::add_name;
 use cb_expr_forms::NameList;
-use cb_exprs::Expr;
+use cb_exprs::{Effect, Expr};
 use cb_facts::Name;
 use cb_forms::NoMemory;
 use std::alloc::Global;
@@ -77,18 +77,12 @@ fn add_asserted(found: &mut NameList, expr: &Expr) -> Result<(), NoMemory>
     ensures { OnOk result (found.new ≡ with_names found.old (asserted_by (term_of expr.now))) }
 {
     match expr {
-        Expr::Constant(_) | Expr::Variable(_) | Expr::Global(_) | Expr::Halt => Ok(()),
-        Expr::Assert(shape, exprs) => {
-            add_name(found, shape.relation())?;
+        Expr::Constant(_) | Expr::Variable(_) | Expr::Global(_) => Ok(()),
+        Expr::Call(_, exprs) | Expr::Actions(exprs) => add_each_asserted(found, exprs),
+        Expr::Effect(effect, exprs) => {
+            add_own(found, effect)?;
             add_each_asserted(found, exprs)
         }
-        Expr::Call(_, exprs)
-        | Expr::Retract(exprs)
-        | Expr::Actions(exprs)
-        | Expr::Printout(_, exprs)
-        | Expr::Print(exprs)
-        | Expr::Println(exprs) => add_each_asserted(found, exprs),
-        Expr::Bind(_, value) | Expr::BindGlobal(_, value) => add_asserted(found, value),
         Expr::If(test, yes, no) => {
             add_asserted(found, test)?;
             add_asserted(found, yes)?;
@@ -110,4 +104,14 @@ fn add_each_asserted(found: &mut NameList, exprs: &[Expr]) -> Result<(), NoMemor
         add_asserted(found, expr)?;
     }
     Ok(())
+}
+
+/// Adds the relation of the fact that a call with an effect asserts, if it asserts one and it is not among the names.
+fn add_own(found: &mut NameList, effect: &Effect) -> Result<(), NoMemory>
+    ensures { OnOk result (found.new ≡ with_names found.old (asserted_with effect.now)) }
+{
+    match effect {
+        Effect::Assert(shape) => add_name(found, shape.relation()),
+        _ => Ok(()),
+    }
 }

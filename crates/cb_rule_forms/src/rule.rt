@@ -1,6 +1,6 @@
 //! Rules.
 ghost use Rattle.std.specs.Prelude.{◌≡◌, ◌++◌, IfOk, List, Some, false, map, option_map};
-ghost use Rattle.cb_templates.specs.FaultLists.{ReadsAs};
+ghost use Rattle.cb_facts.specs.FaultLists.{ReadsAs};
 ghost use Rattle.cb_expr_forms.specs.ExprForms.{exprs_of};
 ghost use Rattle.cb_exprs.specs.Terms.{Term, term_of};
 ghost use Rattle.cb_forms.specs.Members.{members};

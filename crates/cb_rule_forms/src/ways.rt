@@ -6,7 +6,7 @@ ghost use Rattle.cb_rule_forms.specs.Branches.{asked_by, branches_in, combined, 
 ghost use Rattle.cb_rule_forms.specs.Elements.{element_faults, elements_faults};
 ghost use Rattle.cb_rule_forms.specs.Rules.{left_faults};
 ghost use Rattle.cb_rule_forms.specs.Internal.{branches_read, capped, way_seen, ways_seen, writtens, written_seen};
-ghost use Rattle.cb_templates.specs.FaultLists.{ReadsAs, unless};
+ghost use Rattle.cb_facts.specs.FaultLists.{ReadsAs, unless};
 
 use crate::element::{ElementForm, read_each, read_way};
 use crate::written::Written;

@@ -10,7 +10,7 @@ ghost use Rattle.cb_rule_forms.specs.WrittenElements as element;
 use crate::sections::only_of;
 use cb_expr_forms::is_symbol;
 use cb_forms::{Fault, Form, NoMemory, Token};
-use cb_templates::is_reserved;
+use cb_words::is_reserved;
 use std::alloc::Global;
 
 /// A condition element as it is written.

@@ -1,6 +1,6 @@
 //! Expressions carried out, one after another.
 use super::rows::expr;
-use cb_actions::{Break, Ended, Limit, World};
+use cb_actions::{Break, EarlyEnd, Limit, World};
 use cb_exprs::Expr;
 use cb_facts::{Names, Refused, Value, quoted_text};
 use cb_forms::{Fault, Form, Item, MemSink, NoMemory, Out, read_items};
@@ -245,11 +245,11 @@ fn line(alloc: Global, answer: Result<Option<Value>, Break>) -> Result<Vec<u8>, 
     match answer {
         Ok(Some(value)) => value_line(alloc, &value),
         Ok(None) => Ok(Vec::new(alloc)),
-        Err(Break::Ended(Ended::Fault(fault))) => number_line(alloc, fault.number()),
-        Err(Break::Ended(Ended::Limit(Limit::Firings))) => number_line(alloc, 92),
-        Err(Break::Ended(Ended::Limit(Limit::Turns))) => number_line(alloc, 93),
-        Err(Break::Ended(Ended::Limit(Limit::Numbers))) => number_line(alloc, 94),
-        Err(Break::Ended(Ended::Exit(_)) | Break::Stop(_)) => Err(NoMemory),
+        Err(Break::Ended(EarlyEnd::Fault(fault))) => number_line(alloc, fault.number()),
+        Err(Break::Ended(EarlyEnd::Limit(Limit::Firings))) => number_line(alloc, 92),
+        Err(Break::Ended(EarlyEnd::Limit(Limit::Turns))) => number_line(alloc, 93),
+        Err(Break::Ended(EarlyEnd::Limit(Limit::Numbers))) => number_line(alloc, 94),
+        Err(Break::Ended(EarlyEnd::Exit(_)) | Break::Stop(_)) => Err(NoMemory),
     }
 }
 

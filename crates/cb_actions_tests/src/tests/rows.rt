@@ -1,5 +1,5 @@
 //! Expressions from rows.
-use cb_exprs::{Channel, Expr, FactShape};
+use cb_exprs::{Channel, Effect, Expr, FactShape};
 use cb_facts::{Name, Names, Refused, Value};
 use cb_forms::{Form, Token, split_head};
 use cb_words::{Action, Head, read_head};
@@ -36,14 +36,14 @@ fn headed(alloc: Global, head: &Form, rest: &[Form], parts: Vec<Expr>) -> Result
 fn act(alloc: Global, action: Action, forms: &[Form], parts: Vec<Expr>) -> Result<Expr, Refused> {
     match action {
         Action::Assert => assert(alloc, forms, parts),
-        Action::Retract => Ok(Expr::Retract(parts)),
+        Action::Retract => Ok(Expr::Effect(Effect::Retract, parts)),
         Action::Bind => bind(alloc, parts),
         Action::If => choose(alloc, parts),
         Action::While => repeat(alloc, parts),
         Action::Printout => printout(alloc, forms, parts),
-        Action::Print => Ok(Expr::Print(parts)),
-        Action::Println => Ok(Expr::Println(parts)),
-        Action::Halt => Ok(Expr::Halt),
+        Action::Print => Ok(Expr::Effect(Effect::Print, parts)),
+        Action::Println => Ok(Expr::Effect(Effect::Println, parts)),
+        Action::Halt => Ok(Expr::Effect(Effect::Halt, parts)),
     }
 }
 
@@ -51,12 +51,20 @@ fn last(parts: &mut Vec<Expr>) -> Result<Expr, Refused> {
     Ok(parts.pop().ok_or(Refused::NoMemory)?)
 }
 
+/// The first part is what is bound.
 fn bind(alloc: Global, parts: Vec<Expr>) -> Result<Expr, Refused> {
-    let mut parts = parts;
-    let value = Box::new(alloc, last(&mut parts)?)?;
-    match last(&mut parts)? {
-        Expr::Variable(name) => Ok(Expr::Bind(name, value)),
-        Expr::Global(name) => Ok(Expr::BindGlobal(name, value)),
+    let mut target = None;
+    let mut values = Vec::new(alloc);
+    for part in parts {
+        if target.is_none() {
+            target = Some(part);
+        } else {
+            values.push(part)?;
+        }
+    }
+    match target.ok_or(Refused::NoMemory)? {
+        Expr::Variable(name) => Ok(Expr::Effect(Effect::Bind(name), values)),
+        Expr::Global(name) => Ok(Expr::Effect(Effect::BindGlobal(name), values)),
         _ => Err(Refused::NoMemory),
     }
 }
@@ -82,7 +90,7 @@ fn printout(alloc: Global, forms: &[Form], parts: Vec<Expr>) -> Result<Expr, Ref
             values.push(part)?;
         }
     }
-    Ok(Expr::Printout(channel(forms), values))
+    Ok(Expr::Effect(Effect::Printout(channel(forms)), values))
 }
 
 fn channel(forms: &[Form]) -> Channel {
@@ -96,7 +104,7 @@ fn channel(forms: &[Form]) -> Channel {
 fn assert(alloc: Global, forms: &[Form], parts: Vec<Expr>) -> Result<Expr, Refused> {
     let mut parts = parts;
     match last(&mut parts)? {
-        Expr::Actions(values) => Ok(Expr::Assert(shape(alloc, forms)?, values)),
+        Expr::Actions(values) => Ok(Expr::Effect(Effect::Assert(shape(alloc, forms)?), values)),
         _ => Err(Refused::NoMemory),
     }
 }

@@ -153,6 +153,30 @@ fn more_values_are_not_seen_below(rt: HostRuntime) -> Result<(), Refused> {
     Ok(())
 }
 
+/// `?x` is 3 and `?y` is 2, given so many times.
+fn given_often(alloc: Global, times: usize) -> Result<Env, NoMemory> {
+    let mut env = Env::new(alloc);
+    for _ in 0..times {
+        env = with_more(alloc, &env)?;
+    }
+    Ok(env)
+}
+
+/// How often they are given: few values stand in frames, and more in a tree.
+const TIMES: [usize; 3] = [1, 5, 6];
+
+/// Expressions, and their values.
+const VALUES_GIVEN_OFTEN: [(&str, &str); 2] = [("?x", "3"), ("?y", "2")];
+
+#[test]
+fn values_given_often_are_seen(rt: HostRuntime) -> Result<(), Refused> {
+    for times in TIMES {
+        let env = given_often(rt.alloc(), times)?;
+        assert!(rt; first_wrong_value(rt.alloc(), &env, &VALUES_GIVEN_OFTEN)?.is_none());
+    }
+    Ok(())
+}
+
 /// Expressions, and the numbers of their faults: the first counts, from left to right, and types come after all values.
 const FAULTS: [(&str, u8); 20] = [
     ("?y", 11),

@@ -22,6 +22,7 @@ abbrev mutual
 -- how many there are in what is read next
 abbrev pub plan_size : ActionForm → ℕ
 plan_size (program.Of e values) = trees_size (members values.now)
+plan_size (program.Bind b values) = trees_size (members values.now)
 plan_size (program.If test first second) = tree_size (tree_of test.now) + (trees_size (members first.now) + trees_size (members second.now))
 plan_size (program.While test body) = tree_size (tree_of test.now) + trees_size (members body.now)
 

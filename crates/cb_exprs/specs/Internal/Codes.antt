@@ -2,28 +2,20 @@
 use Rattle.std.specs.Prelude.{◌≡◌, ℕ, List, [], ◌∷◌, refl}
 use Rattle.std.specs.Coded.{Coded, code_by, coded_list}
 use Rattle.std.proofs.Common.{◌∙◌, ap}
-use Rattle.cb_exprs.specs.Shapes.{Shape}
-use Rattle.cb_exprs.specs.Terms.{Term, constant, variable, global, call, assert, retract, bind, bind_global, choose, repeat, actions, printout, print, println, halt, Terms, no_terms, term}
-use Rattle.cb_exprs.specs.declared.channel.Channel.{Channel}
+use Rattle.cb_exprs.specs.Terms.{Term, constant, variable, global, call, effect, choose, repeat, actions, Terms, no_terms, term}
+use Rattle.cb_exprs.specs.declared.effect.Effect.{Effect}
 use Rattle.cb_facts.specs.declared.value.Value.{Value}
-use Rattle.cb_words.specs.declared.function.Function.{Function}
+use Rattle.cb_words.specs.declared.words.Function.{Function}
 
 pub data Piece : Type 0 where
   a_constant : Value → Piece
   a_variable : List ℕ → Piece
   a_global : List ℕ → Piece
   a_call : Function → Piece
-  an_assert : Shape → Piece
-  a_retract : Piece
-  a_bind : List ℕ → Piece
-  a_bind_global : List ℕ → Piece
+  an_effect : Effect → Piece
   a_choose : Piece
   a_repeat : Piece
   an_actions : Piece
-  a_printout : Channel → Piece
-  a_print : Piece
-  a_println : Piece
-  a_halt : Piece
   no_more : Piece
   one_more : Piece
 
@@ -34,17 +26,10 @@ abbrev mutual
   term_pieces (variable x) rest = a_variable x ∷ rest
   term_pieces (global x) rest = a_global x ∷ rest
   term_pieces (call f ts) rest = pieces_of_all ts (a_call f ∷ rest)
-  term_pieces (assert shape ts) rest = pieces_of_all ts (an_assert shape ∷ rest)
-  term_pieces (retract ts) rest = pieces_of_all ts (a_retract ∷ rest)
-  term_pieces (bind x t) rest = term_pieces t (a_bind x ∷ rest)
-  term_pieces (bind_global x t) rest = term_pieces t (a_bind_global x ∷ rest)
+  term_pieces (effect e ts) rest = pieces_of_all ts (an_effect e ∷ rest)
   term_pieces (choose t u w) rest = term_pieces t (term_pieces u (term_pieces w (a_choose ∷ rest)))
   term_pieces (repeat t u) rest = term_pieces t (term_pieces u (a_repeat ∷ rest))
   term_pieces (actions ts) rest = pieces_of_all ts (an_actions ∷ rest)
-  term_pieces (printout on ts) rest = pieces_of_all ts (a_printout on ∷ rest)
-  term_pieces (print ts) rest = pieces_of_all ts (a_print ∷ rest)
-  term_pieces (println ts) rest = pieces_of_all ts (a_println ∷ rest)
-  term_pieces halt rest = a_halt ∷ rest
 
   pub pieces_of_all : Terms → List Piece → List Piece
   pieces_of_all no_terms rest = no_more ∷ rest
@@ -64,17 +49,10 @@ with_piece (a_constant v) ones lists = with_term (constant v) ones lists
 with_piece (a_variable x) ones lists = with_term (variable x) ones lists
 with_piece (a_global x) ones lists = with_term (global x) ones lists
 with_piece (a_call f) ones (ts ∷ lists) = with_term (call f ts) ones lists
-with_piece (an_assert shape) ones (ts ∷ lists) = with_term (assert shape ts) ones lists
-with_piece a_retract ones (ts ∷ lists) = with_term (retract ts) ones lists
-with_piece (a_bind x) (t ∷ ones) lists = with_term (bind x t) ones lists
-with_piece (a_bind_global x) (t ∷ ones) lists = with_term (bind_global x t) ones lists
+with_piece (an_effect e) ones (ts ∷ lists) = with_term (effect e ts) ones lists
 with_piece a_choose (w ∷ u ∷ t ∷ ones) lists = with_term (choose t u w) ones lists
 with_piece a_repeat (u ∷ t ∷ ones) lists = with_term (repeat t u) ones lists
 with_piece an_actions ones (ts ∷ lists) = with_term (actions ts) ones lists
-with_piece (a_printout on) ones (ts ∷ lists) = with_term (printout on ts) ones lists
-with_piece a_print ones (ts ∷ lists) = with_term (print ts) ones lists
-with_piece a_println ones (ts ∷ lists) = with_term (println ts) ones lists
-with_piece a_halt ones lists = with_term halt ones lists
 with_piece no_more ones lists = record { ones = ones; lists = no_terms ∷ lists }
 with_piece one_more (t ∷ ones) (ts ∷ lists) = record { ones = ones; lists = term t ts ∷ lists }
 with_piece p ones lists = record { ones = ones; lists = lists }
@@ -89,19 +67,12 @@ mutual
   one_is (variable x) rest ones lists = refl
   one_is (global x) rest ones lists = refl
   one_is (call f ts) rest ones lists = all_are ts (a_call f ∷ rest) ones lists
-  one_is (assert shape ts) rest ones lists = all_are ts (an_assert shape ∷ rest) ones lists
-  one_is (retract ts) rest ones lists = all_are ts (a_retract ∷ rest) ones lists
-  one_is (bind x t) rest ones lists = one_is t (a_bind x ∷ rest) ones lists
-  one_is (bind_global x t) rest ones lists = one_is t (a_bind_global x ∷ rest) ones lists
+  one_is (effect e ts) rest ones lists = all_are ts (an_effect e ∷ rest) ones lists
   one_is (choose t u w) rest ones lists =
       one_is t (term_pieces u (term_pieces w (a_choose ∷ rest))) ones lists
       ∙ (one_is u (term_pieces w (a_choose ∷ rest)) (t ∷ ones) lists ∙ one_is w (a_choose ∷ rest) (u ∷ t ∷ ones) lists)
   one_is (repeat t u) rest ones lists = one_is t (term_pieces u (a_repeat ∷ rest)) ones lists ∙ one_is u (a_repeat ∷ rest) (t ∷ ones) lists
   one_is (actions ts) rest ones lists = all_are ts (an_actions ∷ rest) ones lists
-  one_is (printout on ts) rest ones lists = all_are ts (a_printout on ∷ rest) ones lists
-  one_is (print ts) rest ones lists = all_are ts (a_print ∷ rest) ones lists
-  one_is (println ts) rest ones lists = all_are ts (a_println ∷ rest) ones lists
-  one_is halt rest ones lists = refl
 
   all_are : (ts : Terms) (rest : List Piece) (ones : List Term) (lists : List Terms) → put_together (pieces_of_all ts rest) ones lists ≡ put_together rest ones (ts ∷ lists)
   all_are no_terms rest ones lists = refl

@@ -2,7 +2,7 @@ use Rattle.std.proofs.Common.{◌≡◌, ◌∙◌, Some, ap, sym}
 use Rattle.cb_expr_forms.proofs.Calls.{by_head, by_word}
 use Rattle.cb_forms.specs.Members.{members}
 use Rattle.cb_words.specs.Words.{head_of}
-use Rattle.cb_words.specs.declared.head.Head.TheVariants as head
+use Rattle.cb_words.specs.declared.words.Head.TheVariants as head
 use Rattle.cb_expr_forms.proofs.call_form.split_call.Goals as goal
 
 pub returns-in-Some-Function : goal.returns-in-Some-Function

@@ -26,6 +26,9 @@ decreases-read_exprs l = 8 * trees_size (members l.forms.now) + 1
 abbrev pub decreases-read_effect : goal.decreases-read_effect
 decreases-read_effect l = 8 * trees_size (members l.values.now) + 2
 
+abbrev pub decreases-read_bind : goal.decreases-read_bind
+decreases-read_bind l = 8 * trees_size (members l.values.now) + 3
+
 abbrev pub decreases-read_facts : goal.decreases-read_facts
 decreases-read_facts l = 8 * trees_size (members l.forms.now) + 2
 

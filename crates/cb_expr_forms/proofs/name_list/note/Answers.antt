@@ -1,5 +1,5 @@
 use Rattle.std.proofs.Common.{◌≡◌, false, is_some, rules}
-use Rattle.cb_templates.specs.Internal.{place_at}
+use Rattle.cb_facts.specs.Internal.NamePlaces.{place_at}
 use Rattle.cb_expr_forms.proofs.PlaceLaws.{notes_new}
 use Rattle.cb_expr_forms.proofs.name_list.note.Goals as goal
 

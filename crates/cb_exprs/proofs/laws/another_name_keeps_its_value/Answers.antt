@@ -1,4 +1,4 @@
-use Rattle.cb_exprs.specs.Lemmas.ValueLaws.{value_at_left, value_at_other}
+use Rattle.cb_exprs.proofs.ValueLaws.{value_at_left, value_at_other}
 use Rattle.cb_exprs.proofs.laws.another_name_keeps_its_value.Goals as goal
 
 pub returns-clause-set : goal.returns-clause-set

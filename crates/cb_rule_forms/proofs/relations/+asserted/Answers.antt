@@ -1,7 +1,7 @@
 use Rattle.std.proofs.Common.{◌≡◌, ◌∙◌, ◌+◌, ◌++◌, OnOk, ap, ap₂, drop, get_or, rules, subst, sym}
 use Rattle.std.proofs.lemmas.List.{at_drop_more}
 use Rattle.cb_exprs.specs.Terms.{choose, repeat, term_of, terms_of}
-use Rattle.cb_exprs.specs.contracts.cited.LawsCited.TheImpl as exprs_laws
+use Rattle.cb_exprs.proofs.TermLaws.{of_if, of_while}
 use Rattle.cb_rule_forms.specs.Relations.{asserted_by, asserted_in}
 use Rattle.cb_rule_forms.proofs.NameLaws.{three_parts, two_parts}
 use Rattle.cb_rule_forms.proofs.relations.+asserted.Goals as goal
@@ -13,7 +13,7 @@ add_asserted-returns-in_ok-add_asserted-in-If-2 t c =
     let no = term_of c.deref-in-If-3.result.now in
     let e : term_of c.args.expr.now ≡ choose test yes no =
     ap term_of c.in-If.is
-    ∙ (exprs_laws.ghosts.of_if _ _ _
+    ∙ (of_if _ _ _
     ∙ (ap₂ (λ it that. choose (term_of it) (term_of that) (term_of c.in-If.no.value)) (sym c.deref-in-If.ensures) (sym c.deref-in-If-2.ensures)
     ∙ ap (λ it. choose test yes (term_of it)) (sym c.deref-in-If-3.ensures)))
     in
@@ -27,7 +27,7 @@ add_asserted-returns-in_ok-add_asserted-in-While t c =
     let actions = term_of c.deref-in-While-2.result.now in
     let e : term_of c.args.expr.now ≡ repeat test actions =
     ap term_of c.in-While.is
-    ∙ (exprs_laws.ghosts.of_while _ _ ∙ ap₂ (λ it that. repeat (term_of it) (term_of that)) (sym c.deref-in-While.ensures) (sym c.deref-in-While-2.ensures))
+    ∙ (of_while _ _ ∙ ap₂ (λ it that. repeat (term_of it) (term_of that)) (sym c.deref-in-While.ensures) (sym c.deref-in-While-2.ensures))
     in
     subst (λ names. OnOk c.add_asserted-in-While-2.result (c.add_asserted-in-While-2.new.found ≡ names))
     (two_parts c.args.found.now c.add_asserted-in-While.new.found (asserted_by test) (asserted_by actions) _ (ap asserted_by e) c.in_ok-add_asserted-in-While.ensures)

@@ -6,7 +6,7 @@ use Rattle.cb_rule_forms.specs.Internal.{branches_read, ways_seen, writtens, wri
 use Rattle.cb_rule_forms.specs.Rules.{left_faults}
 use Rattle.cb_rule_forms.specs.declared.element.ElementForm.{ElementForm}
 use Rattle.cb_rule_forms.proofs.WayLaws.{all_right, both_none, fault_passes, ways_faults}
-use Rattle.cb_templates.specs.FaultLists.{ReadsAs, unless}
+use Rattle.cb_facts.specs.FaultLists.{ReadsAs, unless}
 use Rattle.cb_rule_forms.proofs.ways.read_branches.Goals as goal
 
 pub returns-in_err-check_elements : goal.returns-in_err-check_elements

@@ -6,7 +6,7 @@ use Rattle.cb_rule_forms.specs.Branches.{combined, ways_through_all}
 use Rattle.cb_rule_forms.specs.Internal.{ways_seen, writtens, written_seen}
 use Rattle.cb_rule_forms.proofs.CountLaws.{under}
 use Rattle.cb_rule_forms.proofs.WayLaws.{after_none}
-use Rattle.cb_templates.specs.FaultLists.{unless}
+use Rattle.cb_facts.specs.FaultLists.{unless}
 use Rattle.cb_rule_forms.proofs.ways.split_ways.Goals as goal
 
 pub returns : goal.returns

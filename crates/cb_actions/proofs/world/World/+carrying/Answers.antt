@@ -1,21 +1,20 @@
 use Rattle.std.proofs.Common.{◌≡◌, ◌+◌, ◌∷◌, ◌++◌, Bool, true, false, List, [], Option, Some, Ok, Err, drop, refl, sym, ap, ap₂, ◌∙◌, subst, rules}
 use Rattle.std.proofs.lemmas.List.{drop_all}
-use Rattle.cb_actions.specs.Acts.{Act, give, write}
+use Rattle.cb_actions.specs.Acts.{Act, give}
 use Rattle.cb_actions.specs.Actions.{carried, carried_all, carried_values}
-use Rattle.cb_actions.specs.Effects.{wanted, looked_up, global_looked_up, called, asserted, retracted, bound, global_bound, printed_line, chosen, ends}
-use Rattle.cb_actions.specs.Printing.{printed}
+use Rattle.cb_actions.specs.Effects.{wanted, looked_up, global_looked_up, called, chosen, ends}
 use Rattle.cb_actions.specs.Internal.{items_answered}
 use Rattle.cb_actions.specs.Went.{Went, Quietly}
 use Rattle.cb_actions.specs.Worlds.{World}
 use Rattle.cb_actions.specs.declared.act.Break.TheVariants as break
-use Rattle.cb_actions.specs.declared.act.Ended.TheVariants as ended
-use Rattle.cb_actions.specs.declared.stop.Stop.TheVariants as stop
-use Rattle.cb_actions.specs.Lemmas.ActLaws.{went_then, went_off, went_quietly, went_as}
-use Rattle.cb_actions.proofs.CallLaws.{first_off, first_decides, second_off, both_then, call_off, call_then}
+use Rattle.cb_actions.specs.declared.act.EarlyEnd.TheVariants as ended
+use Rattle.cb_io.specs.declared.stop.Stop.TheVariants as stop
+use Rattle.cb_actions.proofs.ActLaws.{went_then, went_off, went_quietly, went_as}
+use Rattle.cb_actions.proofs.CallLaws.{first_off, first_decides, second_off, both_then, call_off, call_then, effect_off, effect_then, only_off, only_then}
 use Rattle.cb_actions.proofs.LoopLaws.{all_then, all_off, values_then, values_end, values_off, values_refused, test_off, test_ends, turn_off, action_off, round_then, turns_fall}
-use Rattle.cb_actions.proofs.WentLaws.{went_unbegun, went_fine, went_ok, went_result, went_term}
-use Rattle.cb_exprs.specs.Terms.{constant, variable, global, call, assert, retract, bind, bind_global, choose, repeat, actions, printout, print, println, halt, term_of, terms_of}
-use Rattle.cb_exprs.specs.contracts.cited.LawsCited.TheImpl as exprs_laws
+use Rattle.cb_actions.proofs.WentLaws.{went_unbegun, went_fine, went_result, went_term}
+use Rattle.cb_exprs.specs.Terms.{constant, variable, global, call, effect, choose, repeat, actions, term_of, terms_of}
+use Rattle.cb_exprs.proofs.TermLaws.{of_actions, of_call, of_constant, of_effect, of_global, of_if, of_variable, of_while}
 use Rattle.cb_facts.specs.declared.value.Value.{Value}
 use Rattle.cb_forms.specs.declared.fault.Fault.TheVariants.{WrongType}
 use Rattle.cb_functions.specs.Constants.{false_symbol}
@@ -105,88 +104,37 @@ pub holds-returns-clause-went : goal.holds-returns-clause-went
 holds-returns-clause-went g t c =
     went_then g.K.Sink.writes _ _ _ _ _ _ _ _ (λ v. give (is_true v)) c.in_ok-value.ensures.went (went_quietly g.K.Sink.writes _ _ (Ok c.is_true.result) _ (went_fine g.K.Sink.writes _ _ _ _ _ c.in_ok-value.ensures.went) (ap (λ it. give it c.carry_value.new.self) (sym c.is_true.ensures)))
 
-pub carry_assert-returns-in_err-values-clause-went : goal.carry_assert-returns-in_err-values-clause-went
-carry_assert-returns-in_err-values-clause-went g t c =
-    let r : c.from_residual.result ≡ Err c.in_err-values.field-0.0 = search rules in
-    went_result g.K.Sink.writes r (went_off g.K.Sink.writes _ _ _ _ _ (asserted c.args.shape.now) c.in_err-values.ensures.went)
-
-pub carry_assert-returns-clause-went : goal.carry_assert-returns-clause-went
-carry_assert-returns-clause-went g t c =
-    went_then g.K.Sink.writes _ _ _ _ _ _ _ _ (asserted c.args.shape.now) c.in_ok-values.ensures.went c.assert.ensures.went
-
-pub carry_retract-returns-in_err-values-clause-went : goal.carry_retract-returns-in_err-values-clause-went
-carry_retract-returns-in_err-values-clause-went g t c =
-    let r : c.from_residual.result ≡ Err c.in_err-values.field-0.0 = search rules in
-    went_result g.K.Sink.writes r (went_off g.K.Sink.writes _ _ _ _ _ retracted c.in_err-values.ensures.went)
-
-pub carry_retract-returns-clause-went : goal.carry_retract-returns-clause-went
-carry_retract-returns-clause-went g t c =
-    let q : Went g.K.Sink.writes c.carry_values.new.out c.retract.new.out c.retract.new.self c.retract.result (retracted c.in_ok-values.values.items c.carry_values.new.self) = subst (λ it. Went g.K.Sink.writes c.carry_values.new.out c.retract.new.out c.retract.new.self c.retract.result (retracted it c.carry_values.new.self)) c.as_slice.ensures.value c.retract.ensures.went in
-    went_then g.K.Sink.writes _ _ _ _ _ _ _ _ retracted c.in_ok-values.ensures.went q
-
-pub carry_bind-returns-in_err-value-clause-went : goal.carry_bind-returns-in_err-value-clause-went
-carry_bind-returns-in_err-value-clause-went g t c =
+pub carry_effect-returns-in_err-value-clause-went : goal.carry_effect-returns-in_err-value-clause-went
+carry_effect-returns-in_err-value-clause-went g t c =
     let r : c.from_residual.result ≡ Err c.in_err-value.field-0.0 = search rules in
-    went_result g.K.Sink.writes r (went_off g.K.Sink.writes _ _ _ _ _ (bound c.args.name.now) c.in_err-value.ensures.went)
+    went_result g.K.Sink.writes r (only_off g.K.Sink.writes c.args.effect.now c.args.args.now c.only-item.result c.only-item.is c.in-len1.len_at_least c.in-len1.len_below _ _ _ _ _ c.in_err-value.ensures.went)
 
-pub carry_bind-returns-clause-went : goal.carry_bind-returns-clause-went
-carry_bind-returns-clause-went g t c =
-    went_then g.K.Sink.writes _ _ _ _ _ _ _ _ (bound c.args.name.now) c.in_ok-value.ensures.went (went_quietly g.K.Sink.writes _ _ _ _ (went_fine g.K.Sink.writes _ _ _ _ _ c.in_ok-value.ensures.went) c.bind.ensures)
+pub carry_effect-returns-in-len1-clause-went : goal.carry_effect-returns-in-len1-clause-went
+carry_effect-returns-in-len1-clause-went g t c =
+    only_then g.K.Sink.writes c.args.effect.now c.args.args.now c.only-item.result c.only-item.is c.in-len1.len_at_least c.in-len1.len_below _ _ _ _ _ _ _ _ c.in_ok-value.ensures.went c.perform_with.ensures.went
 
-pub carry_bind_global-returns-in_err-value-clause-went : goal.carry_bind_global-returns-in_err-value-clause-went
-carry_bind_global-returns-in_err-value-clause-went g t c =
-    let r : c.from_residual.result ≡ Err c.in_err-value.field-0.0 = search rules in
-    went_result g.K.Sink.writes r (went_off g.K.Sink.writes _ _ _ _ _ (global_bound c.args.name.now) c.in_err-value.ensures.went)
+pub carry_effect-returns-in_err-values-clause-went : goal.carry_effect-returns-in_err-values-clause-went
+carry_effect-returns-in_err-values-clause-went g t c =
+    let r : c.from_residual-in_err-values.result ≡ Err c.in_err-values.field-0.0 = search rules in
+    went_result g.K.Sink.writes r (effect_off g.K.Sink.writes c.args.effect.now c.args.args.now _ _ _ _ _ c.in_err-values.ensures.went)
 
-pub carry_bind_global-returns-clause-went : goal.carry_bind_global-returns-clause-went
-carry_bind_global-returns-clause-went g t c =
-    went_then g.K.Sink.writes _ _ _ _ _ _ _ _ (global_bound c.args.name.now) c.in_ok-value.ensures.went (went_quietly g.K.Sink.writes _ _ _ _ (went_fine g.K.Sink.writes _ _ _ _ _ c.in_ok-value.ensures.went) c.bind_global.ensures)
-
-pub carry_printout-returns-in_err-values-clause-went : goal.carry_printout-returns-in_err-values-clause-went
-carry_printout-returns-in_err-values-clause-went g t c =
-    let r : c.from_residual.result ≡ Err c.in_err-values.field-0.0 = search rules in
-    let next : List Value → Act World (Option Value) = λ vs. write (printed c.args.channel vs) in
-    went_result g.K.Sink.writes r (went_off g.K.Sink.writes _ _ _ _ _ next c.in_err-values.ensures.went)
-
-pub carry_printout-returns-clause-went : goal.carry_printout-returns-clause-went
-carry_printout-returns-clause-went g t c =
-    let next : List Value → Act World (Option Value) = λ vs. write (printed c.args.channel vs) in
-    let P : List Value → Type 0 = λ it. Went g.K.Sink.writes c.carry_values.new.out c.print.new.out c.carry_values.new.self c.print.result (next it c.carry_values.new.self) in
-    went_then g.K.Sink.writes _ _ _ _ _ _ _ _ next c.in_ok-values.ensures.went (subst P c.as_slice.ensures.value c.print.ensures)
-
-pub carry_printout-returns-clause-fine : goal.carry_printout-returns-clause-fine
-carry_printout-returns-clause-fine g t c =
-    went_ok g.K.Sink.writes _ _ _ _ _ c.print.ensures
-
-pub carry_println-returns-in_err-values-clause-went : goal.carry_println-returns-in_err-values-clause-went
-carry_println-returns-in_err-values-clause-went g t c =
-    let r : c.from_residual.result ≡ Err c.in_err-values.field-0.0 = search rules in
-    let next : List Value → Act World (Option Value) = λ vs. write (printed_line vs) in
-    went_result g.K.Sink.writes r (went_off g.K.Sink.writes _ _ _ _ _ next c.in_err-values.ensures.went)
-
-pub carry_println-returns-clause-went : goal.carry_println-returns-clause-went
-carry_println-returns-clause-went g t c =
-    let next : List Value → Act World (Option Value) = λ vs. write (printed_line vs) in
-    let P : List Value → Type 0 = λ it. Went g.K.Sink.writes c.carry_values.new.out c.print_line.new.out c.carry_values.new.self c.print_line.result (next it c.carry_values.new.self) in
-    went_then g.K.Sink.writes _ _ _ _ _ _ _ _ next c.in_ok-values.ensures.went (subst P c.as_slice.ensures.value c.print_line.ensures)
-
-pub carry_println-returns-clause-fine : goal.carry_println-returns-clause-fine
-carry_println-returns-clause-fine g t c =
-    went_ok g.K.Sink.writes _ _ _ _ _ c.print_line.ensures
+pub carry_effect-returns-clause-went : goal.carry_effect-returns-clause-went
+carry_effect-returns-clause-went g t c =
+    effect_then g.K.Sink.writes c.args.effect.now c.args.args.now _ _ _ _ _ _ _ _ c.in_ok-values.ensures.went c.perform.ensures.went
 
 pub carry_out-returns-in-Constant-clause-went : goal.carry_out-returns-in-Constant-clause-went
 carry_out-returns-in-Constant-clause-went g t c =
-    let e : term_of c.args.expr.now ≡ constant c.in-Constant.value = ap term_of c.in-Constant.is ∙ exprs_laws.ghosts.of_constant _ in
+    let e : term_of c.args.expr.now ≡ constant c.in-Constant.value = ap term_of c.in-Constant.is ∙ of_constant _ in
     went_term g.K.Sink.writes c.args.self.now e (went_quietly g.K.Sink.writes c.args.out.now c.args.self.now _ (give (Some c.in-Constant.value) c.args.self.now) c.requires (c.constant.ensures c.args.self.now))
 
 pub carry_out-returns-in-Variable-clause-went : goal.carry_out-returns-in-Variable-clause-went
 carry_out-returns-in-Variable-clause-went g t c =
-    let e : term_of c.args.expr.now ≡ variable c.in-Variable.name = ap term_of c.in-Variable.is ∙ exprs_laws.ghosts.of_variable _ in
+    let e : term_of c.args.expr.now ≡ variable c.in-Variable.name = ap term_of c.in-Variable.is ∙ of_variable _ in
     went_term g.K.Sink.writes c.args.self.now e (went_quietly g.K.Sink.writes c.args.out.now c.args.self.now _ (looked_up c.in-Variable.name c.args.self.now) c.requires c.variable.ensures)
 
 pub carry_out-returns-in-Global-clause-went : goal.carry_out-returns-in-Global-clause-went
 carry_out-returns-in-Global-clause-went g t c =
-    let e : term_of c.args.expr.now ≡ global c.in-Global.name = ap term_of c.in-Global.is ∙ exprs_laws.ghosts.of_global _ in
+    let e : term_of c.args.expr.now ≡ global c.in-Global.name = ap term_of c.in-Global.is ∙ of_global _ in
     went_term g.K.Sink.writes c.args.self.now e (went_quietly g.K.Sink.writes c.args.out.now c.args.self.now _ (global_looked_up c.in-Global.name c.args.self.now) c.requires c.global.ensures)
 
 pub carry_call-returns-in_err-first-clause-went : goal.carry_call-returns-in_err-first-clause-went
@@ -222,47 +170,17 @@ carry_call-returns-clause-went g t c =
 
 pub carry_out-returns-in-Call-clause-went : goal.carry_out-returns-in-Call-clause-went
 carry_out-returns-in-Call-clause-went g t c =
-    let e : term_of c.args.expr.now ≡ call c.in-Call.function (terms_of c.deref.result.now) = ap term_of c.in-Call.is ∙ (exprs_laws.ghosts.of_call _ _ ∙ ap (λ it. call c.in-Call.function (terms_of it)) (sym c.deref.ensures.value)) in
+    let e : term_of c.args.expr.now ≡ call c.in-Call.function (terms_of c.deref.result.now) = ap term_of c.in-Call.is ∙ (of_call _ _ ∙ ap (λ it. call c.in-Call.function (terms_of it)) (sym c.deref.ensures.value)) in
     went_term g.K.Sink.writes c.args.self.now e c.carry_call.ensures.went
 
-pub carry_out-returns-in-Assert-clause-went : goal.carry_out-returns-in-Assert-clause-went
-carry_out-returns-in-Assert-clause-went g t c =
-    let e : term_of c.args.expr.now ≡ assert c.in-Assert.shape (terms_of c.deref-in-Assert.result.now) = ap term_of c.in-Assert.is ∙ (exprs_laws.ghosts.of_assert _ _ ∙ ap (λ it. assert c.in-Assert.shape (terms_of it)) (sym c.deref-in-Assert.ensures.value)) in
-    went_term g.K.Sink.writes c.args.self.now e c.carry_assert.ensures.went
-
-pub carry_out-returns-in-Retract-clause-went : goal.carry_out-returns-in-Retract-clause-went
-carry_out-returns-in-Retract-clause-went g t c =
-    let e : term_of c.args.expr.now ≡ retract (terms_of c.deref-in-Retract.result.now) = ap term_of c.in-Retract.is ∙ (exprs_laws.ghosts.of_retract _ ∙ ap (λ it. retract (terms_of it)) (sym c.deref-in-Retract.ensures.value)) in
-    went_term g.K.Sink.writes c.args.self.now e c.carry_retract.ensures.went
-
-pub carry_out-returns-in-Printout-clause-went : goal.carry_out-returns-in-Printout-clause-went
-carry_out-returns-in-Printout-clause-went g t c =
-    let e : term_of c.args.expr.now ≡ printout c.in-Printout.channel (terms_of c.deref-in-Printout.result.now) = ap term_of c.in-Printout.is ∙ (exprs_laws.ghosts.of_printout _ _ ∙ ap (λ it. printout c.in-Printout.channel (terms_of it)) (sym c.deref-in-Printout.ensures.value)) in
-    went_term g.K.Sink.writes c.args.self.now e c.carry_printout.ensures.went
-
-pub carry_out-returns-in-Print-clause-went : goal.carry_out-returns-in-Print-clause-went
-carry_out-returns-in-Print-clause-went g t c =
-    let e : term_of c.args.expr.now ≡ print (terms_of c.deref-in-Print.result.now) = ap term_of c.in-Print.is ∙ (exprs_laws.ghosts.of_print _ ∙ ap (λ it. print (terms_of it)) (sym c.deref-in-Print.ensures.value)) in
-    went_term g.K.Sink.writes c.args.self.now e c.carry_printout-in-Print.ensures.went
-
-pub carry_out-returns-in-Println-clause-went : goal.carry_out-returns-in-Println-clause-went
-carry_out-returns-in-Println-clause-went g t c =
-    let e : term_of c.args.expr.now ≡ println (terms_of c.deref-in-Println.result.now) = ap term_of c.in-Println.is ∙ (exprs_laws.ghosts.of_println _ ∙ ap (λ it. println (terms_of it)) (sym c.deref-in-Println.ensures.value)) in
-    went_term g.K.Sink.writes c.args.self.now e c.carry_println.ensures.went
-
-pub carry_out-returns-in-Bind-clause-went : goal.carry_out-returns-in-Bind-clause-went
-carry_out-returns-in-Bind-clause-went g t c =
-    let e : term_of c.args.expr.now ≡ bind c.in-Bind.name (term_of c.deref-in-Bind.result.now) = ap term_of c.in-Bind.is ∙ (exprs_laws.ghosts.of_bind _ _ ∙ ap (λ it. bind c.in-Bind.name (term_of it)) (sym c.deref-in-Bind.ensures)) in
-    went_term g.K.Sink.writes c.args.self.now e c.carry_bind.ensures.went
-
-pub carry_out-returns-in-BindGlobal-clause-went : goal.carry_out-returns-in-BindGlobal-clause-went
-carry_out-returns-in-BindGlobal-clause-went g t c =
-    let e : term_of c.args.expr.now ≡ bind_global c.in-BindGlobal.name (term_of c.deref-in-BindGlobal.result.now) = ap term_of c.in-BindGlobal.is ∙ (exprs_laws.ghosts.of_bind_global _ _ ∙ ap (λ it. bind_global c.in-BindGlobal.name (term_of it)) (sym c.deref-in-BindGlobal.ensures)) in
-    went_term g.K.Sink.writes c.args.self.now e c.carry_bind_global.ensures.went
+pub carry_out-returns-in-Effect-clause-went : goal.carry_out-returns-in-Effect-clause-went
+carry_out-returns-in-Effect-clause-went g t c =
+    let e : term_of c.args.expr.now ≡ effect c.in-Effect.effect (terms_of c.deref-in-Effect.result.now) = ap term_of c.in-Effect.is ∙ (of_effect _ _ ∙ ap (λ it. effect c.in-Effect.effect (terms_of it)) (sym c.deref-in-Effect.ensures.value)) in
+    went_term g.K.Sink.writes c.args.self.now e c.carry_effect.ensures.went
 
 pub carry_out-returns-in-Actions-clause-went : goal.carry_out-returns-in-Actions-clause-went
 carry_out-returns-in-Actions-clause-went g t c =
-    let e : term_of c.args.expr.now ≡ actions (terms_of c.deref-in-Actions.result.now) = ap term_of c.in-Actions.is ∙ (exprs_laws.ghosts.of_actions _ ∙ ap (λ it. actions (terms_of it)) (sym c.deref-in-Actions.ensures.value)) in
+    let e : term_of c.args.expr.now ≡ actions (terms_of c.deref-in-Actions.result.now) = ap term_of c.in-Actions.is ∙ (of_actions _ ∙ ap (λ it. actions (terms_of it)) (sym c.deref-in-Actions.ensures.value)) in
     went_term g.K.Sink.writes c.args.self.now e c.carry_all.ensures.went
 
 pub carry_if-returns-in_err-holds-clause-went : goal.carry_if-returns-in_err-holds-clause-went
@@ -320,16 +238,11 @@ carry_while-loop-self-preserved g t c =
 
 pub carry_out-returns-in-If-clause-went : goal.carry_out-returns-in-If-clause-went
 carry_out-returns-in-If-clause-went g t c =
-    let e : term_of c.args.expr.now ≡ choose (term_of c.deref-in-If.result.now) (term_of c.deref-in-If-2.result.now) (term_of c.deref-in-If-3.result.now) = ap term_of c.in-If.is ∙ (exprs_laws.ghosts.of_if _ _ _
+    let e : term_of c.args.expr.now ≡ choose (term_of c.deref-in-If.result.now) (term_of c.deref-in-If-2.result.now) (term_of c.deref-in-If-3.result.now) = ap term_of c.in-If.is ∙ (of_if _ _ _
     ∙ (ap₂ (λ it that. choose (term_of it) (term_of that) (term_of c.in-If.else_do.value)) (sym c.deref-in-If.ensures) (sym c.deref-in-If-2.ensures) ∙ ap (λ it. choose (term_of c.deref-in-If.result.now) (term_of c.deref-in-If-2.result.now) (term_of it)) (sym c.deref-in-If-3.ensures))) in
     went_term g.K.Sink.writes c.args.self.now e c.carry_if.ensures.went
 
 pub carry_out-returns-in-While-clause-went : goal.carry_out-returns-in-While-clause-went
 carry_out-returns-in-While-clause-went g t c =
-    let e : term_of c.args.expr.now ≡ repeat (term_of c.deref-in-While.result.now) (term_of c.deref-in-While-2.result.now) = ap term_of c.in-While.is ∙ (exprs_laws.ghosts.of_while _ _ ∙ ap₂ (λ it that. repeat (term_of it) (term_of that)) (sym c.deref-in-While.ensures) (sym c.deref-in-While-2.ensures)) in
+    let e : term_of c.args.expr.now ≡ repeat (term_of c.deref-in-While.result.now) (term_of c.deref-in-While-2.result.now) = ap term_of c.in-While.is ∙ (of_while _ _ ∙ ap₂ (λ it that. repeat (term_of it) (term_of that)) (sym c.deref-in-While.ensures) (sym c.deref-in-While-2.ensures)) in
     went_term g.K.Sink.writes c.args.self.now e c.carry_while.ensures.went
-
-pub carry_out-returns-in-Halt-clause-went : goal.carry_out-returns-in-Halt-clause-went
-carry_out-returns-in-Halt-clause-went g t c =
-    let e : term_of c.args.expr.now ≡ halt = ap term_of c.in-Halt.is ∙ exprs_laws.ghosts.of_halt in
-    went_term g.K.Sink.writes c.args.self.now e (went_quietly g.K.Sink.writes _ _ _ _ c.requires c.halt.ensures)

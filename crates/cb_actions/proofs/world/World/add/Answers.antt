@@ -1,12 +1,12 @@
 use Rattle.std.proofs.Common.{◌≡◌, ◌+◌, Option, Some, Err, Ok, ap, refl, rules, subst, sym, ◌∙◌}
 use Rattle.cb_actions.specs.Acts.{Act, give}
 use Rattle.cb_actions.specs.Changes.{come_line}
-use Rattle.cb_actions.specs.Lemmas.ActLaws.{went_then, went_off, went_quietly, went_as}
+use Rattle.cb_actions.proofs.ActLaws.{went_then, went_off, went_quietly, went_as}
 use Rattle.cb_actions.specs.Worlds.{World}
 use Rattle.cb_actions.specs.declared.act.Break.TheVariants as break
-use Rattle.cb_actions.specs.declared.act.Ended.TheVariants as ended
+use Rattle.cb_actions.specs.declared.act.EarlyEnd.TheVariants as ended
 use Rattle.cb_actions.specs.declared.act.Limit.TheVariants.{Numbers}
-use Rattle.cb_actions.specs.declared.stop.Stop.TheVariants as stop
+use Rattle.cb_io.specs.declared.stop.Stop.TheVariants as stop
 use Rattle.cb_actions.proofs.ChangeLaws.{fact_there, in_memory, no_room, room, went_moved, with_room, without_room}
 use Rattle.cb_actions.proofs.RunLaws.{went_at}
 use Rattle.cb_actions.proofs.WentLaws.{went_fine, went_result, went_unbegun}

@@ -1,11 +1,11 @@
 use Rattle.std.proofs.Common.{◌≡◌, ◌++◌, ◌∷◌, [], Err, false, nat_lt, refl, rules, true}
-use Rattle.cb_actions.specs.Lemmas.ActLaws.{went_quietly, went_as}
+use Rattle.cb_actions.proofs.ActLaws.{went_quietly, went_as}
 use Rattle.cb_actions.specs.Runs.{numbered}
 use Rattle.cb_actions.specs.Worlds.{World}
 use Rattle.cb_actions.specs.declared.act.Break.TheVariants as break
-use Rattle.cb_actions.specs.declared.act.Ended.TheVariants as ended
+use Rattle.cb_actions.specs.declared.act.EarlyEnd.TheVariants as ended
 use Rattle.cb_actions.specs.declared.act.Limit.TheVariants.{Numbers}
-use Rattle.cb_actions.specs.declared.stop.Stop.TheVariants as stop
+use Rattle.cb_io.specs.declared.stop.Stop.TheVariants as stop
 use Rattle.cb_actions.proofs.ChangeLaws.{rule_added, rule_refused, went_moved}
 use Rattle.cb_actions.proofs.WentLaws.{went_result, went_unbegun}
 use Rattle.cb_rules.specs.Elements.{branches_of}

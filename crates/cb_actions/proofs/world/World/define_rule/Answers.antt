@@ -1,13 +1,13 @@
 use Rattle.std.proofs.Common.{◌≡◌, ◌∙◌, Err, Ok, ap, false, nat_lt, option_map, refl, rules, sym, true}
 use Rattle.cb_actions.specs.Acts.{Act, ◌>>=◌}
-use Rattle.cb_actions.specs.Lemmas.ActLaws.{went_then, went_off, went_quietly, went_as}
+use Rattle.cb_actions.proofs.ActLaws.{went_then, went_off, went_quietly, went_as}
 use Rattle.cb_actions.specs.Runs.{added_rule, replaced, rule_named}
 use Rattle.cb_actions.specs.Worlds.{World}
 use Rattle.cb_rules.specs.RuleInfos.{RuleInfo}
 use Rattle.cb_actions.specs.declared.act.Break.TheVariants as break
-use Rattle.cb_actions.specs.declared.act.Ended.TheVariants as ended
+use Rattle.cb_actions.specs.declared.act.EarlyEnd.TheVariants as ended
 use Rattle.cb_actions.specs.declared.act.Limit.TheVariants.{Numbers}
-use Rattle.cb_actions.specs.declared.stop.Stop.TheVariants as stop
+use Rattle.cb_io.specs.declared.stop.Stop.TheVariants as stop
 use Rattle.cb_actions.proofs.ChangeLaws.{definition_is, definition_refused}
 use Rattle.cb_actions.proofs.WentLaws.{went_fine, went_result}
 use Rattle.cb_rules.specs.Elements.{branches_of}

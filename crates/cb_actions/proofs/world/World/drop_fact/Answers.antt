@@ -1,9 +1,9 @@
 use Rattle.std.proofs.Common.{◌≡◌, Option, Some, None, Err, Ok, ap, refl, rules, subst, sym, ◌∙◌}
 use Rattle.cb_actions.specs.Changes.{gone_line}
 use Rattle.cb_actions.specs.Effects.{gone_if}
-use Rattle.cb_actions.specs.Lemmas.ActLaws.{went_quietly, went_as}
+use Rattle.cb_actions.proofs.ActLaws.{went_quietly, went_as}
 use Rattle.cb_actions.specs.declared.act.Break.TheVariants as break
-use Rattle.cb_actions.specs.declared.stop.Stop.TheVariants as stop
+use Rattle.cb_io.specs.declared.stop.Stop.TheVariants as stop
 use Rattle.cb_actions.proofs.ChangeLaws.{gone_some, in_memory, went_moved}
 use Rattle.cb_actions.proofs.RunLaws.{went_at}
 use Rattle.cb_actions.proofs.WentLaws.{went_result, went_unbegun}

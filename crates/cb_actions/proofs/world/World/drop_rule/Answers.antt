@@ -1,11 +1,11 @@
 use Rattle.std.proofs.Common.{◌≡◌, [], Err, Ok, ap, refl, rules, sym}
 use Rattle.cb_actions.specs.Acts.{Act, give}
 use Rattle.cb_actions.specs.Changes.{moved}
-use Rattle.cb_actions.specs.Lemmas.ActLaws.{went_then, went_off, went_quietly}
+use Rattle.cb_actions.proofs.ActLaws.{went_then, went_off, went_quietly}
 use Rattle.cb_actions.specs.Runs.{forgotten}
 use Rattle.cb_actions.specs.Worlds.{World}
 use Rattle.cb_actions.specs.declared.act.Break.TheVariants as break
-use Rattle.cb_actions.specs.declared.stop.Stop.TheVariants as stop
+use Rattle.cb_io.specs.declared.stop.Stop.TheVariants as stop
 use Rattle.cb_actions.proofs.ChangeLaws.{went_moved}
 use Rattle.cb_actions.proofs.WentLaws.{went_fine, went_refused, went_unbegun, went_result}
 use Rattle.cb_working_memory.specs.WorkingMemory.{without_one_rule}

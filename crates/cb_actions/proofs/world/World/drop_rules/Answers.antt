@@ -2,7 +2,7 @@ use Rattle.std.proofs.Common.{◌≡◌, [], Ok, Err, drop, get_or, refl, ap, ru
 use Rattle.std.proofs.lemmas.List.{drop_all}
 use Rattle.cb_actions.specs.Acts.{each}
 use Rattle.cb_actions.specs.Runs.{dropped_rule}
-use Rattle.cb_actions.specs.Lemmas.ActLaws.{went_quietly, went_as}
+use Rattle.cb_actions.proofs.ActLaws.{went_quietly, went_as}
 use Rattle.cb_actions.proofs.EachLaws.{each_then, each_off, next_number}
 use Rattle.cb_actions.proofs.WentLaws.{went_fine}
 use Rattle.cb_actions.proofs.world.World.drop_rules.Goals as goal

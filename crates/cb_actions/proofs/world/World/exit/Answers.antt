@@ -1,8 +1,8 @@
 use Rattle.std.proofs.Common.{◌≡◌, Err, None, ap, option_map, rules}
 use Rattle.cb_actions.specs.Commands.{exited}
-use Rattle.cb_actions.specs.Lemmas.ActLaws.{went_quietly}
+use Rattle.cb_actions.proofs.ActLaws.{went_quietly}
 use Rattle.cb_actions.specs.declared.act.Break.TheVariants as break
-use Rattle.cb_actions.specs.declared.act.Ended.TheVariants as ended
+use Rattle.cb_actions.specs.declared.act.EarlyEnd.TheVariants as ended
 use Rattle.cb_exprs.specs.Terms.{term_of}
 use Rattle.cb_actions.proofs.world.World.exit.Goals as goal
 

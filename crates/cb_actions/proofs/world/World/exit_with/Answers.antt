@@ -1,7 +1,7 @@
 use Rattle.std.proofs.Common.{◌≡◌, Err, Option, rules}
 use Rattle.cb_actions.specs.Acts.{Act}
 use Rattle.cb_actions.specs.Commands.{exited_with, status_in}
-use Rattle.cb_actions.specs.Lemmas.ActLaws.{went_then, went_off, went_quietly}
+use Rattle.cb_actions.proofs.ActLaws.{went_then, went_off, went_quietly}
 use Rattle.cb_actions.specs.Worlds.{World}
 use Rattle.cb_actions.proofs.WentLaws.{went_fine, went_result}
 use Rattle.cb_facts.specs.declared.value.Value.{Value}

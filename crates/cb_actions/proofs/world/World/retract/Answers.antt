@@ -1,10 +1,10 @@
 use Rattle.std.proofs.Common.{◌≡◌, Option, None, Err, Ok, false, refl, rules, true}
 use Rattle.std.specs.List.{list_all}
 use Rattle.cb_actions.specs.Acts.{Act, give}
-use Rattle.cb_actions.specs.Lemmas.ActLaws.{went_then, went_off, went_quietly, went_as}
+use Rattle.cb_actions.proofs.ActLaws.{went_then, went_off, went_quietly, went_as}
 use Rattle.cb_actions.specs.Worlds.{World}
 use Rattle.cb_actions.specs.declared.act.Break.TheVariants as break
-use Rattle.cb_actions.specs.declared.act.Ended.TheVariants as ended
+use Rattle.cb_actions.specs.declared.act.EarlyEnd.TheVariants as ended
 use Rattle.cb_actions.proofs.ChangeLaws.{are_retracted, not_retracted}
 use Rattle.cb_actions.proofs.WentLaws.{went_fine, went_result}
 use Rattle.cb_facts.specs.declared.value.Value.{Value}

@@ -1,7 +1,7 @@
 use Rattle.std.proofs.Common.{◌≡◌, Err, Ok, ℕ, Option, rules}
 use Rattle.cb_actions.specs.Acts.{Act, ◌>>=◌}
 use Rattle.cb_actions.specs.Commands.{asked_by, without_value}
-use Rattle.cb_actions.specs.Lemmas.ActLaws.{went_then, went_off, went_quietly}
+use Rattle.cb_actions.proofs.ActLaws.{went_then, went_off, went_quietly}
 use Rattle.cb_actions.specs.Runs.{run}
 use Rattle.cb_actions.specs.Worlds.{World}
 use Rattle.cb_actions.proofs.WentLaws.{went_fine, went_result}

@@ -1,10 +1,10 @@
 use Rattle.std.proofs.Common.{◌≡◌, Err, List, None, ℕ, Ok, Option, map, refl, rules, sym, ap}
 use Rattle.cb_actions.specs.Acts.{Act, each, give, ◌>>=◌}
-use Rattle.cb_actions.specs.Lemmas.ActLaws.{went_then, went_off, went_quietly, went_as}
+use Rattle.cb_actions.proofs.ActLaws.{went_then, went_off, went_quietly, went_as}
 use Rattle.cb_actions.specs.Runs.{dropped_rule}
 use Rattle.cb_actions.specs.Worlds.{World}
 use Rattle.cb_actions.specs.declared.act.Break.TheVariants as break
-use Rattle.cb_actions.specs.declared.stop.Stop.TheVariants as stop
+use Rattle.cb_io.specs.declared.stop.Stop.TheVariants as stop
 use Rattle.cb_actions.proofs.WentLaws.{went_fine, went_result, went_unbegun}
 use Rattle.cb_facts.specs.declared.value.Value.{Value}
 use Rattle.cb_actions.proofs.world.World.undefine_all.Goals as goal

@@ -1,6 +1,6 @@
 use Rattle.std.proofs.Common.{◌≡◌, Err, None, Ok, Option, refl, rules}
 use Rattle.cb_actions.specs.Acts.{Act, give}
-use Rattle.cb_actions.specs.Lemmas.ActLaws.{went_then, went_off, went_quietly}
+use Rattle.cb_actions.proofs.ActLaws.{went_then, went_off, went_quietly}
 use Rattle.cb_actions.specs.Worlds.{World}
 use Rattle.cb_actions.proofs.WentLaws.{went_fine, went_result}
 use Rattle.cb_facts.specs.declared.value.Value.{Value}

@@ -1,6 +1,6 @@
 use Rattle.std.proofs.Common.{◌≡◌, ◌++◌, ◌∷◌, [], Some, false, length, nat_eq, rules, subst}
 use Rattle.std.specs.Option.{option_eq}
-use Rattle.cb_templates.specs.Internal.{HasPlaces, place_at}
+use Rattle.cb_facts.specs.Internal.NamePlaces.{HasPlaces, place_at}
 use Rattle.cb_expr_forms.proofs.PlaceLaws.{has_places-taken, has_places-left}
 use Rattle.cb_expr_forms.proofs.name_list.NameList.pop.Goals as goal
 

@@ -1,5 +1,5 @@
 use Rattle.std.proofs.Common.{◌≡◌, ◌++◌, ◌∷◌, [], length, rules, subst, sym}
-use Rattle.cb_templates.specs.Internal.{HasPlaces, NotesPlace}
+use Rattle.cb_facts.specs.Internal.NamePlaces.{HasPlaces, NotesPlace}
 use Rattle.cb_expr_forms.proofs.PlaceLaws.{has_places-noted}
 use Rattle.cb_expr_forms.proofs.name_list.NameList.push.Goals as goal
 

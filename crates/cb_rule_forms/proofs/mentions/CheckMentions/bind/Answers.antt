@@ -1,7 +1,7 @@
 use Rattle.std.proofs.Common.{◌≡◌, ◌∙◌, ap, false, rules, sym, true}
 use Rattle.std.specs.List.{list_all}
 use Rattle.cb_constraints.specs.Constraints.{asked_test}
-use Rattle.cb_templates.specs.FaultLists.{first_of}
+use Rattle.cb_facts.specs.FaultLists.{first_of}
 use Rattle.cb_expr_forms.specs.Scopes.{is_known}
 use Rattle.cb_rule_forms.specs.Mentions.{known_after, mention_faults, test_variables}
 use Rattle.cb_rule_forms.proofs.MentionLaws.{needed_after, needed_all, needed_some}

@@ -3,9 +3,9 @@ use Rattle.std.proofs.Common.{◌≡◌, ◌<◌, ◌≤◌, ℕ, zero, suc, Boo
 use Rattle.std.specs.List.{list_all}
 use Rattle.cb_actions.specs.Acts.{Act, Effect, after_writing, become, each, follow, give, stop, give_or_fault, ◌>>=◌}
 use Rattle.cb_actions.specs.Actions.{carried, carried_all, carried_values, round, rounds}
-use Rattle.cb_actions.specs.Lemmas.{falls_then}
+use Rattle.cb_actions.proofs.FallLaws.{falls_then}
 use Rattle.cb_actions.specs.Definitions.{all_asserted, all_evaluated, globals_after, globals_defined, one_evaluated, template_defined}
-use Rattle.cb_actions.specs.Effects.{found, wanted, valued, truth_of, ends, called, fact_added, fact_gone, gone_if, added_beside, added_next, asserted, retracted, retracted_one, index_named, taken_by, bound, global_bound, chosen, turn, turn_of}
+use Rattle.cb_actions.specs.Effects.{found, wanted, valued, truth_of, ends, called, fact_added, fact_gone, gone_if, added_beside, added_next, asserted, retracted, retracted_one, index_named, taken_by, joined, bound, global_bound, effected, chosen, turn, turn_of}
 use Rattle.cb_actions.specs.Internal.{Falls, turns_left}
 use Rattle.cb_lines.specs.Lines.{rule_numbered}
 use Rattle.cb_actions.specs.Runs.{acted, actions_of, added_rule, all_gone, cleared_world, defined_rule, dropped_rule, due_by, fire_line, fired, forgotten, in_scope, next_due, numbered, ran, replaced, restarted_world, rule_named, run, spent, started_anew, unless_halted, with_variables_of, without_all, without_facts}
@@ -14,13 +14,13 @@ use Rattle.cb_rules.specs.Elements.{Elements}
 use Rattle.cb_matches.specs.Networks.{all_keys, bindings_of}
 use Rattle.cb_actions.specs.Worlds.{World}
 use Rattle.cb_rules.specs.RuleInfos.{RuleInfo}
-use Rattle.cb_actions.specs.declared.act.Ended.{Ended}
-use Rattle.cb_actions.specs.declared.act.Ended.TheVariants as ended
+use Rattle.cb_actions.specs.declared.act.EarlyEnd.{EarlyEnd}
+use Rattle.cb_actions.specs.declared.act.EarlyEnd.TheVariants as ended
 use Rattle.cb_eval.specs.Evaluation.{value_of}
 use Rattle.cb_exprs.specs.Bindings.{Bindings, value_at}
 use Rattle.cb_exprs.specs.FactTerms.{FactTerm}
 use Rattle.cb_exprs.specs.GlobalTerms.{GlobalTerm}
-use Rattle.cb_exprs.specs.Terms.{Term, constant, variable, global, call, assert, retract, bind, bind_global, choose, repeat, actions, printout, print, println, halt, Terms, no_terms, term}
+use Rattle.cb_exprs.specs.Terms.{Term, constant, variable, global, call, effect, choose, repeat, actions, Terms, no_terms, term}
 use Rattle.cb_facts.specs.declared.value.Value.{Value}
 use Rattle.cb_forms.specs.declared.fault.Fault.{Fault}
 use Rattle.cb_forms.specs.declared.fault.Fault.TheVariants.{UnboundVariable, UnknownGlobal, WrongType}
@@ -29,7 +29,10 @@ use Rattle.cb_functions.specs.Constants.{false_symbol}
 use Rattle.cb_functions.specs.Logic.{is_true}
 use Rattle.cb_templates.specs.Building.{built}
 use Rattle.cb_templates.specs.Slots.{SlotShape}
-use Rattle.cb_words.specs.declared.function.Function.{Function}
+use Rattle.cb_words.specs.declared.words.Function.{Function}
+use Rattle.cb_words.specs.declared.words.Function.TheVariants as function
+use Rattle.cb_exprs.specs.declared.effect.Effect.{Effect as Kind}
+use Rattle.cb_exprs.specs.declared.effect.Effect.TheVariants as kind
 use Rattle.cb_working_memory.specs.WorkingMemory.{greatest_index, index_of}
 use Rattle.cb_actions.specs.Changes.{activation_lines, moved, rescheduled, scheduled, tell, told, come_line, gone_line}
 use Rattle.cb_agenda.specs.Agendas.{has_stamps, popped}
@@ -138,24 +141,29 @@ asserted_falls shape vs s =
     let r = built s.templates shape.relation (parts_of shape.slots vs) in
     falls_then turns_left (give_or_fault r) fact_added (read_falls r) added_falls s
 
+joined_falls : (vs : List Value) → Falls turns_left (joined vs)
+joined_falls [] s = read_falls (applied function.Create []) s
+joined_falls (v ∷ []) s = omega arith
+joined_falls (v ∷ w ∷ vs) s = read_falls (applied function.Create (v ∷ w ∷ vs)) s
+
+effected_falls : (e : Kind) (vs : List Value) → Falls turns_left (effected e vs)
+effected_falls (kind.Assert shape) vs s = asserted_falls shape vs s
+effected_falls kind.Retract vs s = retracted_falls vs s
+effected_falls (kind.Bind x) vs s = falls_then turns_left (joined vs) (bound x) (joined_falls vs) (λ v u. omega arith) s
+effected_falls (kind.BindGlobal x) vs s = falls_then turns_left (joined vs) (global_bound x) (joined_falls vs) (λ v u. omega arith) s
+effected_falls e vs s = omega arith
+
 mutual
   pub never_rises : (t : Term) → Falls turns_left (carried t)
   never_rises (constant v) s = omega arith
   never_rises (variable x) s = found_falls UnboundVariable (value_at x s.env.variables) s
   never_rises (global x) s = found_falls UnknownGlobal (value_at x s.env.globals) s
   never_rises (call f ts) s = falls_then turns_left (carried_values (Some f) [] ts) (called f) (values_never_rise (Some f) [] ts) (called_falls f) s
-  never_rises (assert shape ts) s = falls_then turns_left (carried_values None [] ts) (asserted shape) (values_never_rise None [] ts) (asserted_falls shape) s
-  never_rises (retract ts) s = falls_then turns_left (carried_values None [] ts) retracted (values_never_rise None [] ts) retracted_falls s
-  never_rises (bind x t) s = falls_then turns_left (valued (carried t)) (bound x) (valued_falls (carried t) (never_rises t)) (λ v u. omega arith) s
-  never_rises (bind_global x t) s = falls_then turns_left (valued (carried t)) (global_bound x) (valued_falls (carried t) (never_rises t)) (λ v u. omega arith) s
+  never_rises (effect e ts) s = falls_then turns_left (carried_values None [] ts) (effected e) (values_never_rise None [] ts) (effected_falls e) s
   never_rises (choose t u w) s =
       falls_then turns_left (truth_of (carried t)) (λ b. chosen b (carried u) (carried w)) (tested_falls (carried t) (never_rises t)) (λ b. chosen_falls b _ _ (never_rises u) (never_rises w)) s
   never_rises (repeat t u) s = rounds_fall (suc s.turns) (truth_of (carried t)) (carried u) (tested_falls (carried t) (never_rises t)) (never_rises u) s
   never_rises (actions ts) s = all_never_rise (Some false_symbol) ts s
-  never_rises (printout on ts) s = falls_then turns_left (carried_values None [] ts) _ (values_never_rise None [] ts) (λ vs u. omega arith) s
-  never_rises (print ts) s = falls_then turns_left (carried_values None [] ts) _ (values_never_rise None [] ts) (λ vs u. omega arith) s
-  never_rises (println ts) s = falls_then turns_left (carried_values None [] ts) _ (values_never_rise None [] ts) (λ vs u. omega arith) s
-  never_rises halt s = omega arith
 
   values_never_rise : (f : Option Function) (vs : List Value) (ts : Terms) → Falls turns_left (carried_values f vs ts)
   values_never_rise f vs no_terms s = omega arith
@@ -167,7 +175,7 @@ mutual
   all_never_rise last no_terms s = omega arith
   all_never_rise last (term t ts) s = falls_then turns_left (carried t) (λ v. carried_all v ts) (never_rises t) (λ v. all_never_rise v ts) s
 
-follow_same : {A B : Type 0} (s : World) (w : List ℕ) (r : Result A Ended) (f g : A → Act World B) → ((a : A) → f a s ≡ g a s) → follow s w r f ≡ follow s w r g
+follow_same : {A B : Type 0} (s : World) (w : List ℕ) (r : Result A EarlyEnd) (f g : A → Act World B) → ((a : A) → f a s ≡ g a s) → follow s w r f ≡ follow s w r g
 follow_same s w (Ok a) f g h = ap (λ it. after_writing w it) (h a)
 follow_same s w (Err e) f g h = refl
 
@@ -224,7 +232,7 @@ anew_falls (g ∷ gs) s = falls_then turns_left (one_evaluated g) (λ _. all_eva
 
 pub facts_fall : (fs : List FactTerm) → Falls turns_left (all_asserted fs)
 facts_fall [] s = omega arith
-facts_fall (f ∷ fs) s = falls_then turns_left (carried (assert f.shape f.values)) (λ _. all_asserted fs) (never_rises (assert f.shape f.values)) (λ _. facts_fall fs) s
+facts_fall (f ∷ fs) s = falls_then turns_left (carried (effect (kind.Assert f.shape) f.values)) (λ _. all_asserted fs) (never_rises (effect (kind.Assert f.shape) f.values)) (λ _. facts_fall fs) s
 
 -- firings and runs
 in_scope_falls : {A : Type 0} (env : Bindings) (act : Act World A) → Falls turns_left act → Falls turns_left (in_scope env act)
