@@ -4,38 +4,28 @@ use Rattle.std.proofs.lemmas.Bool.{false≢true}
 use Rattle.std.proofs.lemmas.Map.Entries.{lookup_tail}
 use Rattle.std.specs.BTreeMap as tree
 use Rattle.std.specs.BTreeMap.{is_at, BTreeMap}
-use Rattle.std.specs.List.{AllByRecursion}
 use Rattle.std.specs.Map.{keys_of, lookup}
 use Rattle.cb_agenda.proofs.Equality.{key-Decides}
 use Rattle.cb_agenda.proofs.PairLaws.{In, found_at}
 use Rattle.cb_agenda.specs.Agendas.{Activation, Entries, without_key, without_keys}
-use Rattle.cb_agenda.specs.Internal.{IsPaired}
+use Rattle.cb_agenda.specs.Internal.{Among, AreAmong, IsPaired}
 use Rattle.cb_agenda.specs.declared.rank.Rank.{Rank}
 use Rattle.cb_matches.specs.Internal.KeyLaws.{key_tied}
 use Rattle.cb_matches.specs.Keys.{KeyValue, key_cmp, key_eq}
-
--- a key is among others
-abbrev Among : KeyValue → List KeyValue → Type 0
-Among k [] = ⊥
-Among k (q ∷ qs) = (k ≡ q) ⊎ Among k qs
-
--- the key of each activation is among others
-abbrev AllAmong : List KeyValue → Entries → Type 0
-AllAmong ks es = AllByRecursion (λ (e : Activation). Among e.1 ks) es
 
 differs_by : (k : KeyValue) (x : Activation) (ks : List KeyValue) → key_eq k x.1 ≡ false → (x.1 ≡ k) ⊎ Among x.1 ks → Among x.1 ks
 differs_by k x ks e (inl same) = absurd (false≢true (sym e ∙ (key-Decides k x.1).1 (sym same)))
 differs_by k x ks e (inr there) = there
 
-one_gone_by : (b : Bool) (k : KeyValue) (ks : List KeyValue) (x : Activation) (rest : Entries) → key_eq k x.1 ≡ b → Among x.1 (k ∷ ks) → AllAmong ks rest → AllAmong ks (cond (not b) (x ∷ rest) rest)
+one_gone_by : (b : Bool) (k : KeyValue) (ks : List KeyValue) (x : Activation) (rest : Entries) → key_eq k x.1 ≡ b → Among x.1 (k ∷ ks) → AreAmong ks rest → AreAmong ks (cond (not b) (x ∷ rest) rest)
 one_gone_by true k ks x rest e h r = r
 one_gone_by false k ks x rest e h r = (differs_by k x ks e h, r)
 
-one_gone : (k : KeyValue) (ks : List KeyValue) (es : Entries) → AllAmong (k ∷ ks) es → AllAmong ks (without_key es k)
+one_gone : (k : KeyValue) (ks : List KeyValue) (es : Entries) → AreAmong (k ∷ ks) es → AreAmong ks (without_key es k)
 one_gone k ks [] h = tt
 one_gone k ks (x ∷ xs) h = one_gone_by (key_eq k x.1) k ks x (without_key xs k) refl h.0 (one_gone k ks xs h.1)
 
-all_among_gone : (ks : List KeyValue) (es : Entries) → AllAmong ks es → without_keys es ks ≡ []
+pub all_among_gone : (ks : List KeyValue) (es : Entries) → AreAmong ks es → without_keys es ks ≡ []
 all_among_gone [] [] h = refl
 all_among_gone [] (x ∷ xs) h = absurd h.0
 all_among_gone (k ∷ ks) es h = all_among_gone ks (without_key es k) (one_gone k ks es h)
@@ -50,7 +40,7 @@ among_found : (k : KeyValue) (t : Rank) (xs : List (KeyValue × Rank)) → looku
 among_found k t [] h = cc
 among_found k t (x ∷ xs) h = among_by (is_at (key_cmp k) x.0) k t x xs refl h (among_found k t xs)
 
-each_among : (ks : List KeyValue) (es : Entries) → ((e : Activation) → In e es → Among e.1 ks) → AllAmong ks es
+each_among : (ks : List KeyValue) (es : Entries) → ((e : Activation) → In e es → Among e.1 ks) → AreAmong ks es
 each_among ks [] h = tt
 each_among ks (x ∷ xs) h = (h x (inl refl), each_among ks xs (λ e there. h e (inr there)))
 

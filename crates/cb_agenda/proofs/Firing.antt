@@ -55,7 +55,7 @@ breadth_by Less p q h e = refl
 breadth_by Equal p q h e = ap is_lt (e ∙ ap ordering_reverse h)
 breadth_by Greater p q h e = refl
 
-breadth_fires : (t u : Rank) → rank_cmp t u ≡ Less → fires_before Breadth u t ≡ is_lt (int_cmp t.salience u.salience)
+pub breadth_fires : (t u : Rank) → rank_cmp t u ≡ Less → fires_before Breadth u t ≡ is_lt (int_cmp t.salience u.salience)
 breadth_fires t u h = breadth_by (int_cmp t.salience u.salience) (nat_cmp t.stamp u.stamp) (nat_cmp u.stamp t.stamp) h (nat_cmp_total.antisymm u.stamp t.stamp)
 
 -- the ranks from the least of a salience on
@@ -69,7 +69,7 @@ from_by o n e = ap (λ p. is_le (ordering_then p (nat_cmp 0 n))) e ∙ zero_leas
 abbrev is_from : ℤ → Rank → Bool
 is_from s t = range_contains rank_cmp (Included (record { salience = s; stamp = 0 })) Unbounded t
 
-level : (s u : ℤ) → s ≡ u → int_cmp s u ≡ Equal
+pub level : (s u : ℤ) → s ≡ u → int_cmp s u ≡ Equal
 level s u e = (Equal-is (int_cmp s u)).0 ((signed_Decides s u).1 e)
 
 within : (s : ℤ) (t : Rank) → s ≡ t.salience → is_from s t ≡ true
