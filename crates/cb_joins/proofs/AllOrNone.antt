@@ -14,10 +14,10 @@ use Rattle.cb_joins.specs.Internal.Flat.{holds_alone, holds_by}
 use Rattle.cb_joins.specs.Internal.Nodes.{IsLone, Shapeless, any_there}
 use Rattle.cb_joins.specs.declared.moved.Moved.{Moved}
 use Rattle.cb_joins.specs.declared.node.Lone.{Lone}
-use Rattle.cb_matches.specs.Lemmas.Growth.{Fact, in_next, is_grown}
-use Rattle.cb_matches.specs.Lemmas.Lists.{chain_filter, filter_in, in_filter}
-use Rattle.cb_matches.specs.Lemmas.Members.{AreSame, In}
-use Rattle.cb_matches.specs.Lemmas.Order.{IsOnce, IsRising}
+use Rattle.cb_matches.proofs.Growth.{Fact, in_next, is_grown}
+use Rattle.cb_matches.proofs.Lists.{chain_filter, filter_in, in_filter}
+use Rattle.cb_matches.specs.Chains.{AreSame, In}
+use Rattle.cb_matches.specs.Order.{IsOnce, IsRising}
 use Rattle.cb_matches.specs.Matches.{Partial, group_holds, grown, next}
 use Rattle.cb_partials.specs.Probes.{added_probes, is_candidate}
 

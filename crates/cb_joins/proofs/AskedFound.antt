@@ -21,8 +21,8 @@ use Rattle.cb_joins.specs.declared.asked.Spot.{Spot}
 use Rattle.cb_joins.specs.declared.asked.Wanted.{Wanted}
 use Rattle.cb_facts.specs.Facts.{FactValue}
 use Rattle.cb_joins.specs.Internal.Asked.{IsEntered, wanted_at}
-use Rattle.cb_matches.specs.Lemmas.Lists.{by_test, filter_in}
-use Rattle.cb_matches.specs.Lemmas.Members.{Chain, In}
+use Rattle.cb_matches.proofs.Lists.{by_test, filter_in}
+use Rattle.cb_matches.specs.Chains.{Chain, In}
 
 -- ---- a set with one key more
 

@@ -5,7 +5,7 @@ use Rattle.std.specs.Cmp.{Equal-is, IsTotalOrder, tied_itself}
 use Rattle.std.specs.Cmp.Lexicographic.{nat_list_cmp_total, options_total, slice_cmp}
 use Rattle.std.specs.Option.{option_cmp}
 use Rattle.std.specs.Ordering.{ordering_reverse, ordering_then}
-use Rattle.cb_facts.specs.contracts.cited.LawsCited.TheImpl as facts_laws
+use Rattle.cb_facts.proofs.Equality.{value-Decides}
 use Rattle.cb_facts.specs.contracts.value.ValueOrd.TheImpl as value_ord
 use Rattle.cb_facts.specs.contracts.value.ValueOrd.TheImpl.Laws as value_laws
 use Rattle.cb_facts.specs.declared.value.Value.{Value}
@@ -84,7 +84,7 @@ place_exact a b h =
     ap₂ make_place (option_exact nat_cmp exact_unsigned a.slot b.slot both.0) (exact_unsigned a.field b.field both.1)
 
 value_exact : (v w : Value) → value_cmp v w ≡ Equal → v ≡ w
-value_exact v w h = (facts_laws.ghosts.value_decides v w).0 (value_laws.matches_eq-law v w ∙ ap is_eq h)
+value_exact v w h = (value-Decides v w).0 (value_laws.matches_eq-law v w ∙ ap is_eq h)
 
 pub spot_exact : (a b : Spot) → spot_cmp a b ≡ Equal → a ≡ b
 unfolding make_spot

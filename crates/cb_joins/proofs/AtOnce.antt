@@ -12,9 +12,9 @@ use Rattle.cb_joins.specs.Internal.Flat.{begins}
 use Rattle.cb_joins.specs.Internal.Nodes.{HaveParts}
 use Rattle.cb_joins.specs.Internal.Steps.{IsSettled, IsTaken, IsWith, beginnings}
 use Rattle.cb_matches.specs.Keys.{PartValue}
-use Rattle.cb_matches.specs.Lemmas.Lists.{chain_append, chain_filter, filter_in, in_either, in_filter, in_left, in_map, in_right}
-use Rattle.cb_matches.specs.Lemmas.Members.{In}
-use Rattle.cb_matches.specs.Lemmas.Order.{IsApart, IsOnce}
+use Rattle.cb_matches.proofs.Lists.{chain_append, chain_filter, filter_in, in_either, in_filter, in_left, in_map, in_right}
+use Rattle.cb_matches.specs.Chains.{In}
+use Rattle.cb_matches.specs.Order.{IsApart, IsOnce}
 use Rattle.cb_matches.specs.Matches.{Partial}
 
 -- those that pass a test are taken out of a list

@@ -7,8 +7,8 @@ use Rattle.cb_joins.proofs.Deltas.{or_second, parts_Decides}
 use Rattle.cb_joins.proofs.Origins.{Begins}
 use Rattle.cb_joins.specs.Internal.Flat.{begins}
 use Rattle.cb_matches.specs.Keys.{PartValue}
-use Rattle.cb_matches.specs.Lemmas.Lists.{by_test}
-use Rattle.cb_matches.specs.Lemmas.Members.{In}
+use Rattle.cb_matches.proofs.Lists.{by_test}
+use Rattle.cb_matches.specs.Chains.{In}
 use Rattle.cb_matches.specs.Matches.{Partial}
 
 pub begins_to : (ps : List PartValue) (z : Partial) → begins ps z ≡ true → Begins ps z.parts

@@ -8,9 +8,9 @@ use Rattle.cb_joins.proofs.Beginnings.{begins_to, to_begins}
 use Rattle.cb_joins.proofs.Origins.{Begins, more_all, of_that_alone, only_one, origin_all}
 use Rattle.cb_joins.specs.Internal.Nodes.{HaveParts}
 use Rattle.cb_matches.specs.Keys.{PartValue}
-use Rattle.cb_matches.specs.Lemmas.Lists.{filter_in, in_filter}
-use Rattle.cb_matches.specs.Lemmas.Members.{AreSame, In}
-use Rattle.cb_matches.specs.Lemmas.Order.{IsOnce}
+use Rattle.cb_matches.proofs.Lists.{filter_in, in_filter}
+use Rattle.cb_matches.specs.Chains.{AreSame, In}
+use Rattle.cb_matches.specs.Order.{IsOnce}
 use Rattle.cb_matches.specs.Matches.{Partial, after_all, group_holds}
 use Rattle.cb_rules.specs.Elements.{Elements}
 

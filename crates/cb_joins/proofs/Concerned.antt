@@ -9,7 +9,7 @@ use Rattle.std.specs.List.{All, list_any}
 use Rattle.std.specs.Str.{bytes_eq}
 use Rattle.cb_constraints.specs.PatternValues.{PatternValue}
 use Rattle.cb_facts.specs.Facts.{FactValue}
-use Rattle.cb_facts.specs.contracts.cited.LawsCited.TheImpl as facts_laws
+use Rattle.cb_facts.proofs.MemberLaws.{is_at-Decides}
 use Rattle.cb_facts.specs.declared.value.Value.{Value}
 use Rattle.cb_fit.specs.FieldPlaces.{field_value}
 use Rattle.cb_fit.specs.Shapes.{has_shape}
@@ -24,9 +24,9 @@ use Rattle.cb_joins.specs.declared.asked.AskedBy.{AskedBy}
 use Rattle.cb_joins.specs.declared.branch.Branch.{Branch}
 use Rattle.cb_fit.specs.declared.constant_fields.ConstantField.{ConstantField}
 use Rattle.cb_fit.specs.declared.field_place.FieldPlace.{FieldPlace}
-use Rattle.cb_matches.specs.Lemmas.Growth.{Fact}
-use Rattle.cb_matches.specs.Lemmas.Lists.{by_test, in_at, in_contains, in_filter, place_of}
-use Rattle.cb_matches.specs.Lemmas.Members.{In}
+use Rattle.cb_matches.proofs.Growth.{Fact}
+use Rattle.cb_matches.proofs.Lists.{by_test, in_at, in_contains, in_filter, place_of}
+use Rattle.cb_matches.specs.Chains.{In}
 use Rattle.cb_matches.specs.Networks.{Conditions}
 use Rattle.cb_partials.specs.Probes.{is_candidate}
 use Rattle.cb_rules.specs.Elements.{Elements}
@@ -147,7 +147,7 @@ none_left id table rules was = rules_left id table table (λ other apart is. is)
 -- ---- a rule that is not found
 
 pub none_listed : (id : ℕ) (numbers : List ℕ) → list_any (is_at (nat_cmp id)) numbers ≡ false → In id numbers → ⊥
-none_listed id numbers none i = none_any (is_at (nat_cmp id)) numbers id none i ((facts_laws.ghosts.is_at_decides id id).1 refl)
+none_listed id numbers none i = none_any (is_at (nat_cmp id)) numbers id none i ((is_at-Decides id id).1 refl)
 
 -- no pattern of its nodes takes the fact
 pub none_takes : {T : Type 0} (f : Fact) (bs : List (Branch T)) (rule : ℕ) → All IsPlanned bs → IsUnconcerned f (rule, kept_branches bs)

@@ -1,7 +1,7 @@
 -- Lists without doubles that have the same members are as long.
 use Rattle.std.proofs.Common.{◌≡◌, ◌≢◌, ◌≤◌, suc, List, [], ◌∷◌, length, inl, inr, refl, sym, ◌∙◌, ap, subst, arith}
-use Rattle.cb_matches.specs.Lemmas.Members.{AreSame, Chain, In}
-use Rattle.cb_matches.specs.Lemmas.Order.{IsApart, IsOnce}
+use Rattle.cb_matches.specs.Chains.{AreSame, Chain, In}
+use Rattle.cb_matches.specs.Order.{IsApart, IsOnce}
 use Rattle.cb_matches.specs.Matches.{Partial}
 
 -- a list without one of its members

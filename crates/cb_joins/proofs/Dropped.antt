@@ -10,8 +10,8 @@ use Rattle.cb_joins.specs.Internal.Keys.{branch_keys, rule_keys}
 use Rattle.cb_joins.specs.Internal.Rules.{HaveOwnNumbers}
 use Rattle.cb_matches.specs.Changes.{IsAbove, come_of}
 use Rattle.cb_matches.specs.Keys.{KeyValue, key_eq}
-use Rattle.cb_matches.specs.Lemmas.Lists.{by_test, chain_append, chain_filter, in_contains, in_either, in_filter, in_left, in_right}
-use Rattle.cb_matches.specs.Lemmas.Members.{In}
+use Rattle.cb_matches.proofs.Lists.{by_test, chain_append, chain_filter, in_contains, in_either, in_filter, in_left, in_right}
+use Rattle.cb_matches.specs.Chains.{In}
 use Rattle.cb_matches.specs.Networks.{Conditions}
 use Rattle.cb_rules.specs.Elements.{Elements}
 

@@ -17,7 +17,7 @@ use Rattle.cb_joins.specs.Internal.Nodes.{AreKept, AreMoved, AreWhole, HaveIndic
 use Rattle.cb_joins.specs.Internal.Rules.{IsBranch, IsPlanned, branch_elements, keys_at}
 use Rattle.cb_joins.specs.declared.branch.Branch.{Branch}
 use Rattle.cb_joins.specs.declared.moved.Moved.{Moved}
-use Rattle.cb_matches.specs.Lemmas.Order.{IsRising, WaysRise}
+use Rattle.cb_matches.specs.Order.{IsRising, WaysRise}
 use Rattle.cb_matches.specs.Matches.{Partial, matches_of}
 use Rattle.cb_partials.specs.Partials.{partial_cmp}
 use Rattle.cb_partials.specs.Probes.{branch_probes}

@@ -13,11 +13,11 @@ use Rattle.cb_joins.specs.Internal.Changes.{Added, IsMade, facts_before}
 use Rattle.cb_joins.specs.declared.fact_change.FactChange.{FactChange}
 use Rattle.cb_joins.specs.declared.fact_change.FactChange.TheVariants as change
 use Rattle.cb_joins.specs.Internal.Nodes.{HaveIndices}
-use Rattle.cb_matches.specs.Lemmas.Growth.{Fact}
-use Rattle.cb_matches.specs.Lemmas.Indices.{rising_keys}
-use Rattle.cb_matches.specs.Lemmas.Lists.{by_test, chain_weaker, one_chain}
-use Rattle.cb_matches.specs.Lemmas.Members.{In}
-use Rattle.cb_matches.specs.Lemmas.Order.{IsRising}
+use Rattle.cb_matches.proofs.Growth.{Fact}
+use Rattle.cb_matches.proofs.Indices.{rising_keys}
+use Rattle.cb_matches.proofs.Lists.{by_test, chain_weaker, one_chain}
+use Rattle.cb_matches.specs.Chains.{In}
+use Rattle.cb_matches.specs.Order.{IsRising}
 
 abbrev pub put : ℕ → FactValue → Fact → IndexedFacts → Ordering → IndexedFacts
 put ix f e es o = match_ordering o ((ix, f) ∷ e ∷ es) ((e.0, f) ∷ es) (e ∷ insert_entry nat_cmp es ix f)

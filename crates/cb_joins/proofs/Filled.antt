@@ -24,10 +24,10 @@ use Rattle.cb_joins.specs.Internal.Rules.{keys_at}
 use Rattle.cb_joins.specs.Internal.Steps.{NamesListsBelow}
 use Rattle.cb_joins.specs.declared.node.Node.{Node}
 use Rattle.cb_joins.specs.declared.node.Node.TheVariants as node
-use Rattle.cb_matches.specs.Lemmas.Growth.{Fact}
-use Rattle.cb_matches.specs.Lemmas.Lists.{by_test, chain_filter, in_right}
-use Rattle.cb_matches.specs.Lemmas.Members.{In}
-use Rattle.cb_matches.specs.Lemmas.Order.{IsOnce, IsRising, IsSorted, WaysRise}
+use Rattle.cb_matches.proofs.Growth.{Fact}
+use Rattle.cb_matches.proofs.Lists.{by_test, chain_filter, in_right}
+use Rattle.cb_matches.specs.Chains.{In}
+use Rattle.cb_matches.specs.Order.{IsOnce, IsRising, IsSorted, WaysRise}
 use Rattle.cb_matches.specs.Matches.{Partial, extended, grown, next, no_parts, with_address}
 use Rattle.cb_partials.specs.Probes.{is_candidate}
 

@@ -10,7 +10,7 @@ use Rattle.cb_joins.proofs.Flat.{MakeLists, branch_lists, each_made}
 use Rattle.cb_joins.proofs.Last.{GoOn, behind_folded, behind_node, behind_pattern, behind_test, inside_group, last_of_all, start_has_no_parts, start_is_once, starts_from}
 use Rattle.cb_joins.proofs.Lone.{lone_elements}
 use Rattle.cb_fit.specs.Shapes.{has_shape}
-use Rattle.cb_matches.specs.Lemmas.Order.{WaysRise}
+use Rattle.cb_matches.specs.Order.{WaysRise}
 use Rattle.cb_matches.specs.Matches.{Partial, after, next, no_parts, test_holds}
 use Rattle.cb_partials.specs.Probes.{added_probes, branch_probes, element_probes, partials_kept, probes}
 use Rattle.cb_rules.specs.Elements.{pattern, test, group, Elements, no_elements, element}

@@ -13,9 +13,9 @@ use Rattle.cb_joins.specs.Internal.Rules.{HaveOwnKeys, HaveOwnNumbers, IsBranch,
 use Rattle.cb_joins.specs.declared.branch.Branch.{Branch}
 use Rattle.cb_joins.specs.declared.rules.Rule.{Rule}
 use Rattle.cb_matches.specs.Keys.{KeyValue, key_eq}
-use Rattle.cb_matches.specs.Lemmas.Lists.{by_test, chain_map, in_either, in_flat, in_left, in_map, in_right, map_in}
-use Rattle.cb_matches.specs.Lemmas.Members.{Chain, In}
-use Rattle.cb_matches.specs.Lemmas.Order.{IsApart, IsRising, WaysRise}
+use Rattle.cb_matches.proofs.Lists.{by_test, chain_map, in_either, in_flat, in_left, in_map, in_right, map_in}
+use Rattle.cb_matches.specs.Chains.{Chain, In}
+use Rattle.cb_matches.specs.Order.{IsApart, IsRising, WaysRise}
 use Rattle.cb_matches.specs.Matches.{Partial, matches_of}
 use Rattle.cb_matches.specs.Networks.{all_matches, bindings_of, branch_matches, keyed, rule_matches}
 

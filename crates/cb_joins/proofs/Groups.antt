@@ -17,9 +17,9 @@ use Rattle.cb_partials.specs.Probes.{has_parts}
 use Rattle.cb_joins.specs.Internal.Steps.{IsSettled, beginnings, group_with}
 use Rattle.cb_joins.specs.declared.moved.Moved.{Moved}
 use Rattle.cb_matches.specs.Keys.{PartValue}
-use Rattle.cb_matches.specs.Lemmas.Lists.{by_test, chain_append, chain_filter, filter_in, in_either, in_filter, in_left, in_right, map_in}
-use Rattle.cb_matches.specs.Lemmas.Members.{AreSame, In}
-use Rattle.cb_matches.specs.Lemmas.Order.{IsApart, IsOnce}
+use Rattle.cb_matches.proofs.Lists.{by_test, chain_append, chain_filter, filter_in, in_either, in_filter, in_left, in_right, map_in}
+use Rattle.cb_matches.specs.Chains.{AreSame, In}
+use Rattle.cb_matches.specs.Order.{IsApart, IsOnce}
 use Rattle.cb_matches.specs.Matches.{Partial}
 
 -- a test of what is before it

@@ -1,10 +1,10 @@
 -- The partial matches behind elements are there once, and in the order of keys where the facts are in that of their indices.
 use Rattle.std.proofs.Common.{◌≢◌, List, [], ◌∷◌}
 use Rattle.cb_facts.specs.FactLists.{IndexedFacts}
-use Rattle.cb_matches.specs.Lemmas.Growth.{Fact, once_next, sorted_next}
-use Rattle.cb_matches.specs.Lemmas.Lists.{chain_filter}
-use Rattle.cb_matches.specs.Lemmas.Members.{Chain}
-use Rattle.cb_matches.specs.Lemmas.Order.{IsAhead, IsApart, IsOnce, IsRising, IsSorted, WaysRise}
+use Rattle.cb_matches.proofs.Growth.{Fact, once_next, sorted_next}
+use Rattle.cb_matches.proofs.Lists.{chain_filter}
+use Rattle.cb_matches.specs.Chains.{Chain}
+use Rattle.cb_matches.specs.Order.{IsAhead, IsApart, IsOnce, IsRising, IsSorted, WaysRise}
 use Rattle.cb_matches.specs.Matches.{Partial, after, after_all, group_holds, test_holds}
 use Rattle.cb_rules.specs.Elements.{Element, pattern, test, group, Elements, no_elements, element}
 

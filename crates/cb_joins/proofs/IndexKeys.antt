@@ -4,7 +4,7 @@ use Rattle.std.proofs.lemmas.Map.Lookups.{exact_unsigned}
 use Rattle.std.specs.Cmp.{Equal-is, IsTotalOrder, nat_cmp_total, ranks, tied_itself}
 use Rattle.std.specs.Cmp.Lexicographic.{lists_ties, lists_total, pointwise, pointwise_decides, slice_cmp}
 use Rattle.std.specs.Ordering.{MatchOrdering, ordering_reverse, ordering_then}
-use Rattle.cb_facts.specs.contracts.cited.LawsCited.TheImpl as facts_laws
+use Rattle.cb_facts.proofs.Equality.{value-Decides}
 use Rattle.cb_facts.specs.contracts.value.ValueOrd.TheImpl as value_ord
 use Rattle.cb_facts.specs.contracts.value.ValueOrd.TheImpl.Laws as value_laws
 use Rattle.cb_facts.specs.declared.value.Value.{Value}
@@ -73,10 +73,10 @@ abbrev pub values_cmp : List Value → List Value → Ordering
 values_cmp = slice_cmp value_ord.ghosts.cmp
 
 pub are_same : (vs ws : List Value) → pointwise same vs ws ≡ true → vs ≡ ws
-are_same vs ws = (pointwise_decides facts_laws.ghosts.value_decides vs ws).0
+are_same vs ws = (pointwise_decides value-Decides vs ws).0
 
 pub same_are : (vs ws : List Value) → vs ≡ ws → pointwise same vs ws ≡ true
-same_are vs ws = (pointwise_decides facts_laws.ghosts.value_decides vs ws).1
+same_are vs ws = (pointwise_decides value-Decides vs ws).1
 
 values_exact : (vs ws : List Value) → values_cmp vs ws ≡ Equal → vs ≡ ws
 values_exact vs ws h = are_same vs ws (lists_ties value_ord.ghosts.cmp value_laws.matches_eq-law vs ws ∙ ap is_eq h)

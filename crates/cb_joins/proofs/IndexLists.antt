@@ -9,8 +9,8 @@ use Rattle.std.specs.Map.{keys_of, lookup, remove_entry}
 use Rattle.std.specs.Ordering.{match_ordering}
 use Rattle.std.specs.Set.{remove_key}
 use Rattle.cb_joins.proofs.Pieces.{false_true, less_in, none_pass}
-use Rattle.cb_matches.specs.Lemmas.Lists.{by_test, map_in}
-use Rattle.cb_matches.specs.Lemmas.Members.{AreSame, Chain, In}
+use Rattle.cb_matches.proofs.Lists.{by_test, map_in}
+use Rattle.cb_matches.specs.Chains.{AreSame, Chain, In}
 
 pub by_order : {P : Type 0} (o : Ordering) → (o ≡ Less → P) → (o ≡ Equal → P) → (o ≡ Greater → P) → P
 by_order Less less level more = less refl

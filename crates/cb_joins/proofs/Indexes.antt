@@ -26,9 +26,9 @@ use Rattle.cb_joins.specs.declared.index.FactKey.{FactKey}
 use Rattle.cb_joins.specs.declared.index.Filed.{Filed}
 use Rattle.cb_joins.specs.declared.index.Index.{Index}
 use Rattle.cb_joins.specs.declared.moved.Moved.{Moved}
-use Rattle.cb_matches.specs.Lemmas.Lists.{by_test, chain_compares, chain_filter, chain_map, filter_in, in_at, in_either, in_filter, in_left, in_map, in_right, map_in, one_chain}
-use Rattle.cb_matches.specs.Lemmas.Members.{AreSame, Chain, In}
-use Rattle.cb_matches.specs.Lemmas.Order.{IsApart, IsOnce, IsRising}
+use Rattle.cb_matches.proofs.Lists.{by_test, chain_compares, chain_filter, chain_map, filter_in, in_at, in_either, in_filter, in_left, in_map, in_right, map_in, one_chain}
+use Rattle.cb_matches.specs.Chains.{AreSame, Chain, In}
+use Rattle.cb_matches.specs.Order.{IsApart, IsOnce, IsRising}
 use Rattle.cb_matches.specs.Matches.{Partial}
 use Rattle.cb_partials.specs.Internal.PartialLaws.{partial_total}
 use Rattle.cb_partials.specs.Partials.{partial_cmp}

@@ -6,9 +6,9 @@ use Rattle.std.specs.List.Sorted.{IsStrictlySortedBy}
 use Rattle.std.specs.Str.{bytes_eq}
 use Rattle.cb_constraints.specs.PatternValues.{PatternValue}
 use Rattle.cb_exprs.specs.Bindings.{Bindings, value_at}
-use Rattle.cb_exprs.specs.contracts.cited.LawsCited.TheImpl as exprs_laws
+use Rattle.cb_exprs.proofs.ValueLaws.{value_at-with_value}
 use Rattle.cb_facts.specs.FactLists.{IndexedFacts}
-use Rattle.cb_facts.specs.contracts.cited.LawsCited.TheImpl as facts_laws
+use Rattle.cb_facts.proofs.Equality.{value-Decides}
 use Rattle.cb_facts.specs.declared.value.Value.{Value}
 use Rattle.cb_facts.specs.declared.value.Value.TheVariants as value
 use Rattle.cb_fit.specs.Ways.{WayValue}
@@ -21,17 +21,17 @@ use Rattle.cb_joins.specs.Internal.Nodes.{AreEnough, AreFound, AreJoinFields, Fi
 use Rattle.cb_joins.specs.declared.index.Index.{Index}
 use Rattle.cb_joins.specs.declared.moved.Moved.{Moved}
 use Rattle.cb_joins.specs.declared.node.Place.{Place}
-use Rattle.cb_matches.specs.Lemmas.Growth.{Fact, ways_after}
-use Rattle.cb_matches.specs.Lemmas.Lists.{by_test, filter_in, in_contains, in_filter}
-use Rattle.cb_matches.specs.Lemmas.Members.{AreSame, In}
-use Rattle.cb_matches.specs.Lemmas.Order.{IsOnce, IsRising}
+use Rattle.cb_matches.proofs.Growth.{Fact, ways_after}
+use Rattle.cb_matches.proofs.Lists.{by_test, filter_in, in_contains, in_filter}
+use Rattle.cb_matches.specs.Chains.{AreSame, In}
+use Rattle.cb_matches.specs.Order.{IsOnce, IsRising}
 use Rattle.cb_matches.specs.Matches.{Partial, extended, grown, next, with_address}
 use Rattle.cb_partials.specs.Partials.{partial_cmp}
 
 -- these values are those
 all_same : (vs : List Value) → pointwise same vs vs ≡ true
 all_same [] = refl
-all_same (v ∷ vs) = ap₂ (λ (a : Bool) (b : Bool). a && b) ((facts_laws.ghosts.value_decides v v).1 refl) (all_same vs)
+all_same (v ∷ vs) = ap₂ (λ (a : Bool) (b : Bool). a && b) ((value-Decides v v).1 refl) (all_same vs)
 
 they_are : (vs : List Value) (found : Option (List Value)) → found ≡ Some vs → are_values vs found ≡ true
 they_are vs found e = ap (are_values vs) e ∙ all_same vs
@@ -62,7 +62,7 @@ both_there (Some v) (Some us) vs e = record { v = v; us = us; first_is = refl; o
 past_address : (x : Option (List ℕ)) (ix : ℕ) (env : Bindings) (y : List ℕ) → x ≢ Some y → value_at y (with_address x ix env).variables ≡ value_at y env.variables
 past_address None ix env y apart = refl
 past_address (Some z) ix env y apart =
-    exprs_laws.ghosts.value_at_with_value env.variables y z (value.Fact ix)
+    value_at-with_value env.variables y z (value.Fact ix)
     ∙ by_test (bytes_eq y z)
     (λ t. absurd (apart (ap Some (sym ((bytes_decides y z).0 t)))))
     (λ t. ap (λ b. cond b (Some (value.Fact ix)) (value_at y env.variables)) t)

@@ -14,8 +14,8 @@ use Rattle.cb_joins.proofs.Lone.{lone_elements}
 use Rattle.cb_joins.proofs.Origins.{long_filter, long_pattern}
 use Rattle.cb_joins.proofs.Named.{AllAt, all_first, all_second, place_behind}
 use Rattle.cb_joins.proofs.Flat.{MakeLists, branch_lists, each_made}
-use Rattle.cb_matches.specs.Lemmas.Members.{AreSame}
-use Rattle.cb_matches.specs.Lemmas.Order.{IsOnce, WaysRise}
+use Rattle.cb_matches.specs.Chains.{AreSame}
+use Rattle.cb_matches.specs.Order.{IsOnce, WaysRise}
 use Rattle.cb_matches.specs.Matches.{Partial, after, after_all, group_holds, matches_of, next, no_parts, test_holds}
 use Rattle.cb_rules.specs.Elements.{pattern, test, group, Elements, no_elements, element}
 

@@ -3,7 +3,7 @@ use Rattle.std.proofs.Common.{◌≡◌, ◌∷◌, ℕ, Bool, true, false, List
 use Rattle.cb_constraints.specs.PatternValues.{PatternValue}
 use Rattle.cb_fit.specs.StandsAlone.{stands_alone}
 use Rattle.cb_joins.specs.Internal.Flat.{FlatNode, count_inside, group_node, lone_pattern, nodes_inside, node_width}
-use Rattle.cb_matches.specs.Lemmas.Lists.{by_test}
+use Rattle.cb_matches.proofs.Lists.{by_test}
 use Rattle.cb_rules.specs.Elements.{Element, pattern, test, group, Elements, elements, no_elements, element}
 
 -- the elements of such a group

@@ -17,9 +17,9 @@ use Rattle.cb_joins.specs.Internal.Memories.{IsAdded, IsFound, begins_as, first_
 use Rattle.cb_partials.specs.Internal.PartialLaws.{partial_tied, partial_total}
 use Rattle.cb_partials.specs.Probes.{has_parts}
 use Rattle.cb_matches.specs.Keys.{PartValue, part_cmp, part_eq}
-use Rattle.cb_matches.specs.Lemmas.Lists.{by_test}
-use Rattle.cb_matches.specs.Lemmas.Members.{In}
-use Rattle.cb_matches.specs.Lemmas.Order.{IsOnce}
+use Rattle.cb_matches.proofs.Lists.{by_test}
+use Rattle.cb_matches.specs.Chains.{In}
+use Rattle.cb_matches.specs.Order.{IsOnce}
 use Rattle.cb_matches.specs.Matches.{Partial}
 use Rattle.cb_partials.specs.Partials.{partial_cmp}
 

@@ -6,10 +6,10 @@ use Rattle.cb_joins.proofs.Origins.{one_by_parts}
 use Rattle.cb_joins.proofs.Steps.{moved, not_true, regrown, same_parents}
 use Rattle.cb_joins.specs.Internal.Changes.{Added, FactMoves, Holds, Moves, PartialMoves}
 use Rattle.cb_joins.specs.Internal.Steps.{IsTaken, IsWith}
-use Rattle.cb_matches.specs.Lemmas.Growth.{Fact, is_grown}
-use Rattle.cb_matches.specs.Lemmas.Lists.{by_test, filter_in, in_filter}
-use Rattle.cb_matches.specs.Lemmas.Members.{In}
-use Rattle.cb_matches.specs.Lemmas.Order.{IsOnce}
+use Rattle.cb_matches.proofs.Growth.{Fact, is_grown}
+use Rattle.cb_matches.proofs.Lists.{by_test, filter_in, in_filter}
+use Rattle.cb_matches.specs.Chains.{In}
+use Rattle.cb_matches.specs.Order.{IsOnce}
 use Rattle.cb_matches.specs.Matches.{Partial, next}
 
 -- the other way round

@@ -7,10 +7,10 @@ use Rattle.cb_rules.specs.Elements.{Elements}
 use Rattle.cb_exprs.specs.Bindings.{Bindings}
 use Rattle.cb_facts.specs.FactLists.{IndexedFacts}
 use Rattle.cb_joins.specs.Internal.Keys.{branch_keys, key_of, rule_keys}
-use Rattle.cb_matches.specs.Lemmas.Members.{In}
+use Rattle.cb_matches.specs.Chains.{In}
 use Rattle.cb_joins.specs.Internal.Rules.{HaveOwnNumbers}
 use Rattle.cb_joins.proofs.Deltas.{come_in_parts}
-use Rattle.cb_matches.specs.Lemmas.Lists.{in_either, in_map}
+use Rattle.cb_matches.proofs.Lists.{in_either, in_map}
 use Rattle.cb_matches.specs.Changes.{come_of}
 use Rattle.cb_matches.specs.Keys.{KeyValue}
 use Rattle.cb_matches.specs.Matches.{Partial, matches_of}

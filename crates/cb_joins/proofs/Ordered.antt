@@ -12,11 +12,11 @@ use Rattle.cb_joins.proofs.Pieces.{less_in}
 use Rattle.cb_joins.proofs.Widths.{up_to}
 use Rattle.cb_joins.specs.Internal.Flat.{AreLists, AreWidths, FlatNode, IsWell, Lists, all_hold, alone, begins, grouping, holds_alone, holds_by, joining, node_list, testing}
 use Rattle.cb_joins.specs.Internal.Steps.{IsWith}
-use Rattle.cb_matches.specs.Lemmas.Growth.{sorted_next}
-use Rattle.cb_matches.specs.Lemmas.Lists.{chain_filter, chain_weaker, one_chain}
-use Rattle.cb_matches.specs.Lemmas.Members.{AreSame, Chain, In}
-use Rattle.cb_matches.specs.Lemmas.Order.{IsAhead, IsApart, IsEarlier, IsOnce, IsRising, IsSorted, WaysRise}
-use Rattle.cb_matches.specs.Lemmas.Parts.{earlier_is_less, never_earlier}
+use Rattle.cb_matches.proofs.Growth.{sorted_next}
+use Rattle.cb_matches.proofs.Lists.{chain_filter, chain_weaker, one_chain}
+use Rattle.cb_matches.specs.Chains.{AreSame, Chain, In}
+use Rattle.cb_matches.specs.Order.{IsAhead, IsApart, IsEarlier, IsOnce, IsRising, IsSorted, WaysRise}
+use Rattle.cb_matches.proofs.PartOrder.{earlier_is_less, never_earlier}
 use Rattle.cb_matches.specs.Matches.{Partial, matches_of, next, no_parts, test_holds}
 use Rattle.cb_partials.specs.Internal.PartialLaws.{partial_total}
 use Rattle.cb_partials.specs.Partials.{partial_cmp}

@@ -6,10 +6,10 @@ use Rattle.cb_facts.specs.FactLists.{IndexedFacts}
 use Rattle.cb_joins.specs.Internal.Nodes.{HaveParts}
 use Rattle.cb_joins.proofs.Steps.{moved, regrown}
 use Rattle.cb_matches.specs.Keys.{PartValue}
-use Rattle.cb_matches.specs.Lemmas.Growth.{is_grown}
-use Rattle.cb_matches.specs.Lemmas.Lists.{chain_compares, filter_in, in_filter}
-use Rattle.cb_matches.specs.Lemmas.Members.{In}
-use Rattle.cb_matches.specs.Lemmas.Order.{IsApart, IsOnce}
+use Rattle.cb_matches.proofs.Growth.{is_grown}
+use Rattle.cb_matches.proofs.Lists.{chain_compares, filter_in, in_filter}
+use Rattle.cb_matches.specs.Chains.{In}
+use Rattle.cb_matches.specs.Order.{IsApart, IsOnce}
 use Rattle.cb_matches.specs.Matches.{Partial, after, after_all, group_holds, next, test_holds}
 use Rattle.cb_rules.specs.Elements.{Element, pattern, test, group, Elements, no_elements, element}
 

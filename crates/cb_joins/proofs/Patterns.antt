@@ -37,12 +37,12 @@ use Rattle.cb_joins.specs.declared.index.Index.{Index}
 use Rattle.cb_joins.specs.declared.moved.Moved.{Moved}
 use Rattle.cb_joins.specs.declared.node.Place.{Place}
 use Rattle.cb_matches.specs.Keys.{PartValue}
-use Rattle.cb_matches.specs.Lemmas.Growth.{Fact, is_grown, once_next, ways_after}
-use Rattle.cb_matches.specs.Lemmas.Indices.{looked_in}
-use Rattle.cb_matches.specs.Lemmas.Lists.{by_test, chain_append, chain_filter, filter_in, in_either, in_filter, in_left, in_right}
-use Rattle.cb_matches.specs.Lemmas.Members.{AreSame, In}
-use Rattle.cb_matches.specs.Lemmas.Order.{IsApart, IsOnce, IsRising, WaysRise}
-use Rattle.cb_matches.specs.Lemmas.Parts.{part}
+use Rattle.cb_matches.proofs.Growth.{Fact, is_grown, once_next, ways_after}
+use Rattle.cb_matches.proofs.Indices.{looked_in}
+use Rattle.cb_matches.proofs.Lists.{by_test, chain_append, chain_filter, filter_in, in_either, in_filter, in_left, in_right}
+use Rattle.cb_matches.specs.Chains.{AreSame, In}
+use Rattle.cb_matches.specs.Order.{IsApart, IsOnce, IsRising, WaysRise}
+use Rattle.cb_matches.proofs.PartOrder.{part}
 use Rattle.cb_matches.specs.Matches.{Partial, next}
 use Rattle.cb_partials.specs.Probes.{added_probes, has_parts, is_candidate, partials_come, partials_kept}
 

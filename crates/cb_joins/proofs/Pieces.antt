@@ -8,8 +8,8 @@ use Rattle.std.specs.List.Sorted.{IsStrictlySortedBy}
 use Rattle.std.specs.Option.{option_copied}
 use Rattle.std.specs.Ordering.{ordering_reverse}
 use Rattle.std.specs.Set.{remove_key}
-use Rattle.cb_matches.specs.Lemmas.Lists.{by_test, in_filter}
-use Rattle.cb_matches.specs.Lemmas.Members.{In}
+use Rattle.cb_matches.proofs.Lists.{by_test, in_filter}
+use Rattle.cb_matches.specs.Chains.{In}
 
 pub false_true : false ≡ true → ⊥
 false_true h = cc

@@ -17,8 +17,8 @@ use Rattle.cb_joins.specs.declared.fact_change.FactChange.{FactChange}
 use Rattle.cb_joins.specs.declared.rules.Rule.{Rule}
 use Rattle.cb_matches.specs.Changes.{come_of}
 use Rattle.cb_matches.specs.Keys.{KeyValue}
-use Rattle.cb_matches.specs.Lemmas.Members.{In}
-use Rattle.cb_matches.specs.Lemmas.Order.{WaysRise}
+use Rattle.cb_matches.specs.Chains.{In}
+use Rattle.cb_matches.specs.Order.{WaysRise}
 use Rattle.cb_matches.specs.Networks.{Conditions}
 use Rattle.cb_partials.specs.Probes.{rules_probes}
 use Rattle.cb_rules.specs.Elements.{Elements}

@@ -14,11 +14,11 @@ use Rattle.cb_joins.proofs.Moves.{swapped}
 use Rattle.cb_joins.specs.Internal.Changes.{IsMoved, PartialMoves, parts_of_partial}
 use Rattle.cb_joins.specs.Internal.Keys.{Tells, key_of}
 use Rattle.cb_joins.specs.declared.moved.Moved.{Moved}
-use Rattle.cb_matches.specs.Lemmas.Members.{AreSame, Chain}
-use Rattle.cb_matches.specs.Lemmas.Order.{IsAhead, IsApart, IsOnce, IsSorted as IsSortedPartials}
+use Rattle.cb_matches.specs.Chains.{AreSame, Chain}
+use Rattle.cb_matches.specs.Order.{IsAhead, IsApart, IsOnce, IsSorted as IsSortedPartials}
 use Rattle.cb_joins.proofs.Deltas.{come_members, key_Decides}
-use Rattle.cb_matches.specs.Lemmas.Lists.{chain_filter, chain_from_pairs, chain_map, contains_in, in_contains, one_chain, pairs_from_chain}
-use Rattle.cb_matches.specs.Lemmas.Parts.{earlier_is_less}
+use Rattle.cb_matches.proofs.Lists.{chain_filter, chain_from_pairs, chain_map, contains_in, in_contains, one_chain, pairs_from_chain}
+use Rattle.cb_matches.proofs.PartOrder.{earlier_is_less}
 use Rattle.cb_matches.specs.Changes.{come_of}
 use Rattle.cb_matches.specs.Internal.KeyLaws.{key_equiv, key_total, key_tied}
 use Rattle.cb_matches.specs.Keys.{KeyValue, key_cmp, key_eq, part_cmp}

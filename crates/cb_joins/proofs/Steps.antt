@@ -8,11 +8,11 @@ use Rattle.cb_exprs.specs.Bindings.{Bindings}
 use Rattle.cb_facts.specs.FactLists.{IndexedFacts}
 use Rattle.cb_facts.specs.Facts.{FactValue}
 use Rattle.cb_fit.specs.Ways.{WayValue, ways}
-use Rattle.cb_matches.specs.Lemmas.Lists.{chain_from_pairs}
-use Rattle.cb_matches.specs.Lemmas.Members.{In}
-use Rattle.cb_matches.specs.Lemmas.Order.{WaysRise}
-use Rattle.cb_matches.specs.Lemmas.Parts.{part, same_last}
-use Rattle.cb_matches.specs.Lemmas.Growth.{Fact, IsGrown, in_next, is_grown}
+use Rattle.cb_matches.proofs.Lists.{chain_from_pairs}
+use Rattle.cb_matches.specs.Chains.{In}
+use Rattle.cb_matches.specs.Order.{WaysRise}
+use Rattle.cb_matches.proofs.PartOrder.{part, same_last}
+use Rattle.cb_matches.proofs.Growth.{Fact, IsGrown, in_next, is_grown}
 use Rattle.cb_matches.specs.Matches.{Partial, next}
 
 -- the ways of a pattern and a fact rise, from the law that says so by places

@@ -17,8 +17,8 @@ use Rattle.cb_joins.specs.Internal.Flat.{begins}
 use Rattle.cb_joins.specs.Internal.Memories.{begins_as, first_part}
 use Rattle.cb_matches.specs.Internal.KeyLaws.{part_equiv}
 use Rattle.cb_matches.specs.Keys.{PartValue, part_eq}
-use Rattle.cb_matches.specs.Lemmas.Lists.{by_test}
-use Rattle.cb_matches.specs.Lemmas.Members.{In}
+use Rattle.cb_matches.proofs.Lists.{by_test}
+use Rattle.cb_matches.specs.Chains.{In}
 use Rattle.cb_matches.specs.Matches.{Partial}
 use Rattle.cb_partials.specs.Internal.PartialLaws.{partial_tied, partial_total}
 use Rattle.cb_partials.specs.Partials.{partial_cmp}

@@ -7,9 +7,9 @@ use Rattle.cb_joins.proofs.Deltas.{same_test}
 use Rattle.cb_joins.proofs.Steps.{not_true}
 use Rattle.cb_joins.specs.Internal.Memories.{IsAdded}
 use Rattle.cb_joins.specs.Internal.Steps.{IsTaken, IsWith}
-use Rattle.cb_matches.specs.Lemmas.Lists.{by_test, chain_append, chain_filter, filter_in, in_either, in_filter, in_left, in_right}
-use Rattle.cb_matches.specs.Lemmas.Members.{In}
-use Rattle.cb_matches.specs.Lemmas.Order.{IsApart, IsOnce}
+use Rattle.cb_matches.proofs.Lists.{by_test, chain_append, chain_filter, filter_in, in_either, in_filter, in_left, in_right}
+use Rattle.cb_matches.specs.Chains.{In}
+use Rattle.cb_matches.specs.Order.{IsApart, IsOnce}
 use Rattle.cb_matches.specs.Matches.{Partial}
 
 -- what is taken out by `all` in the end, where `rest` is still to be done

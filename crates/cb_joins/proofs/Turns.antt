@@ -16,7 +16,7 @@ use Rattle.cb_joins.specs.Internal.Nodes.{AreWhole, HaveIndices, HaveParts, IsRe
 use Rattle.cb_joins.specs.Internal.Steps.{AreAround, HasWidth, IsStep, NamesListsBelow}
 use Rattle.cb_joins.specs.declared.moved.Moved.{Moved}
 use Rattle.cb_joins.specs.declared.node.Node.{Node}
-use Rattle.cb_matches.specs.Lemmas.Order.{IsOnce, WaysRise}
+use Rattle.cb_matches.specs.Order.{IsOnce, WaysRise}
 use Rattle.cb_matches.specs.Matches.{Partial, no_parts}
 
 pub names_below : (k : ℕ) (n : FlatNode) (ws : ℕ → ℕ) → IsWell k n ws → NamesListsBelow (suc k) n

@@ -28,9 +28,9 @@ use Rattle.cb_joins.specs.declared.node.Node.{Node}
 use Rattle.cb_joins.specs.declared.node.Node.TheVariants as node
 use Rattle.cb_matches.specs.Changes.{come_of}
 use Rattle.cb_matches.specs.Keys.{KeyValue, key_eq}
-use Rattle.cb_matches.specs.Lemmas.Growth.{Fact}
-use Rattle.cb_matches.specs.Lemmas.Members.{AreSame, In}
-use Rattle.cb_matches.specs.Lemmas.Order.{WaysRise}
+use Rattle.cb_matches.proofs.Growth.{Fact}
+use Rattle.cb_matches.specs.Chains.{AreSame, In}
+use Rattle.cb_matches.specs.Order.{WaysRise}
 use Rattle.cb_matches.specs.Matches.{Partial, extended, group_holds, grown, matches_of, next, no_parts, with_address}
 use Rattle.cb_matches.specs.declared.delta.Delta.{Delta}
 use Rattle.cb_partials.specs.Probes.{is_candidate}

@@ -10,10 +10,10 @@ use Rattle.cb_joins.proofs.Origins.{long_filter, long_pattern}
 use Rattle.cb_joins.proofs.Named.{AllAt, IsBelow, all_both, all_first, all_second, at_each, below_all, from_each, from_inside, place_behind}
 use Rattle.cb_joins.proofs.Lone.{group_width}
 use Rattle.cb_joins.proofs.Flat.{are_lists, gathered, gathered_front, gathered_is, list_local}
-use Rattle.cb_matches.specs.Lemmas.Growth.{once_next}
-use Rattle.cb_matches.specs.Lemmas.Lists.{chain_filter}
-use Rattle.cb_matches.specs.Lemmas.Members.{In}
-use Rattle.cb_matches.specs.Lemmas.Order.{IsApart, IsOnce, WaysRise}
+use Rattle.cb_matches.proofs.Growth.{once_next}
+use Rattle.cb_matches.proofs.Lists.{chain_filter}
+use Rattle.cb_matches.specs.Chains.{In}
+use Rattle.cb_matches.specs.Order.{IsApart, IsOnce, WaysRise}
 use Rattle.cb_matches.specs.Matches.{Partial, next, test_holds}
 use Rattle.cb_rules.specs.Elements.{pattern, test, group, Elements, no_elements, element}
 

@@ -7,7 +7,7 @@ ghost use Rattle.std.specs.Prelude.{◌≡◌, ◌≢◌, ℕ, IfOk, None, OnOk,
 ghost use Rattle.cb_joins.specs.Internal.Asked.{IsEntered, KeepsEntered, LosesOnly, asked_by, asked_of, value_there, wanted_at};
 ghost use Rattle.cb_joins.specs.declared.asked.AskedBy.{AskedBy};
 ghost use Rattle.cb_fit.specs.declared.field_place.FieldPlace.{FieldPlace};
-ghost use Rattle.cb_matches.specs.Lemmas.Members.{In};
+ghost use Rattle.cb_matches.specs.Chains.{In};
 
 use cb_facts::{Fact, Name, Value};
 use cb_fit::{FieldPlace, Pattern};

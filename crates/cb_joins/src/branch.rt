@@ -47,6 +47,7 @@ pub(crate) fn plan_branches<T>(
     for branch in branches {
         all.push(plan_branch(alloc, branch)?)?;
     }
+    all.shrink_to_fit();
     Ok(all)
 }
 

@@ -10,7 +10,7 @@ ghost use Rattle.cb_joins.specs.Internal.Indexes.{index_fields};
 ghost use Rattle.cb_joins.specs.Internal.Nodes.{AreJoinFields, AreKept, AreReady, AreWhole, IsLone, IsPlace, IsPrepared, IsReady};
 ghost use Rattle.cb_joins.specs.Internal.Rules.{keys_at};
 ghost use Rattle.cb_joins.specs.Internal.Steps.{NamesListsBelow, group_with};
-ghost use Rattle.cb_matches.specs.Lemmas.Order.{IsOnce, IsSorted};
+ghost use Rattle.cb_matches.specs.Order.{IsOnce, IsSorted};
 ghost use Rattle.cb_matches.specs.Matches.{no_parts};
 
 use crate::alone::holds;
@@ -48,6 +48,7 @@ pub(crate) fn fill_nodes<T>(
         let found = fill_node(setting, node, lists.as_slice(), meter)?;
         lists.push(set_of(setting.alloc, found.as_slice())?)?;
     }
+    lists.shrink_to_fit();
     Ok(lists)
 }
 

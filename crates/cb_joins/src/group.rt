@@ -7,7 +7,7 @@ ghost use Rattle.cb_joins.specs.Internal.Flat.{begins};
 ghost use Rattle.cb_joins.specs.Internal.Nodes.{HaveParts};
 ghost use Rattle.cb_joins.specs.Internal.Steps.{IsSettled, IsTaken, beginnings, group_with};
 ghost use Rattle.cb_matches.specs.Keys.{PartValue};
-ghost use Rattle.cb_matches.specs.Lemmas.Members.{In};
+ghost use Rattle.cb_matches.specs.Chains.{In};
 ghost use Rattle.cb_matches.specs.Matches.{Partial, test_holds};
 
 use crate::filling::fill_group;

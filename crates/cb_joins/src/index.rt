@@ -9,8 +9,8 @@ ghost use Rattle.cb_facts.specs.FactLists.{IndexedFacts, fact_at, with_fact, wit
 ghost use Rattle.cb_facts.specs.Facts.{FactValue};
 ghost use Rattle.cb_joins.specs.Internal.Changes.{IsMoved};
 ghost use Rattle.cb_joins.specs.Internal.Indexes.{HasIndex, IsIndex, KeepsFields, binds_values, field_values, has_values, index_fields, variable_values, without_partials};
-ghost use Rattle.cb_matches.specs.Lemmas.Members.{In};
-ghost use Rattle.cb_matches.specs.Lemmas.Order.{IsOnce, IsRising};
+ghost use Rattle.cb_matches.specs.Chains.{In};
+ghost use Rattle.cb_matches.specs.Order.{IsOnce, IsRising};
 ghost use Rattle.cb_matches.specs.Matches.{Partial};
 ghost use Rattle.cb_partials.specs.Partials.{partial_cmp};
 

@@ -12,14 +12,14 @@ ghost use Rattle.cb_joins.specs.Internal.Flat.{begins};
 ghost use Rattle.cb_joins.specs.Internal.Memories.{IsAdded, IsFound, begins_as, begins_with, ends_with, first_part};
 ghost use Rattle.cb_joins.specs.Internal.Nodes.{HaveParts};
 ghost use Rattle.cb_matches.specs.Keys.{PartValue};
-ghost use Rattle.cb_matches.specs.Lemmas.Order.{IsOnce};
+ghost use Rattle.cb_matches.specs.Order.{IsOnce};
 ghost use Rattle.cb_matches.specs.Matches.{Partial};
 ghost use Rattle.cb_partials.specs.Partials.{partial_cmp};
 ghost use Rattle.cb_partials.specs.Probes.{has_parts};
 
 use cb_exprs::Env;
 use cb_forms::NoMemory;
-use cb_matches::{Cuts, Part, Parts};
+use cb_matches::{Cuts, MatchParts, Part};
 use cb_partials::Partial;
 use std::alloc::Global;
 use std::collections::BTreeSet;
@@ -253,7 +253,7 @@ pub(crate) fn ends_with(partial: &Partial, ix: u64) -> bool
 pub(crate) fn probe(alloc: Global, parts: &[Part], ix: Option<u64>) -> Result<Partial, NoMemory>
     ensures { IfOk result (λ m. m.parts ≡ parts.now ++ first_part ix) }
 {
-    let before = Parts::of(alloc, parts)?;
+    let before = MatchParts::of(alloc, parts)?;
     let parts = match ix {
         Some(index) => before.and(alloc, first_part(index))?,
         None => before,

@@ -8,7 +8,7 @@ ghost use Rattle.cb_joins.specs.Internal.Flat.{begins, tests_of};
 ghost use Rattle.cb_joins.specs.Internal.Indexes.{HasIndex, KeepsFields, index_fields};
 ghost use Rattle.cb_joins.specs.Internal.Nodes.{IsJoined, candidates_with, found_with};
 ghost use Rattle.cb_joins.specs.Internal.Steps.{IsChanged, IsTaken, IsTakenWith, IsWithinProbes};
-ghost use Rattle.cb_matches.specs.Lemmas.Members.{In};
+ghost use Rattle.cb_matches.specs.Chains.{In};
 ghost use Rattle.cb_matches.specs.Matches.{Partial};
 ghost use Rattle.cb_partials.specs.Probes.{added_probes};
 

@@ -56,6 +56,7 @@ pub(crate) fn plan_nodes<T>(alloc: Global, branch: Vec<Ce<T>>) -> Result<Plan<T>
         is_pattern: false,
     };
     let last = add_nodes(alloc, branch, start, &mut bound, &mut nodes)?;
+    nodes.shrink_to_fit();
     Ok(Plan { nodes, last })
 }
 

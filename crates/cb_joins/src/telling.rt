@@ -5,7 +5,7 @@ ghost use Rattle.std.specs.List.Sorted.{IsPermutation, IsSorted};
 ghost use Rattle.cb_joins.specs.Internal.Changes.{IsMoved};
 ghost use Rattle.cb_joins.specs.Internal.Keys.{Tells, key_of};
 ghost use Rattle.cb_matches.specs.Keys.{key_cmp};
-ghost use Rattle.cb_matches.specs.Lemmas.Order.{IsSorted as AreInOrder};
+ghost use Rattle.cb_matches.specs.Order.{IsSorted as AreInOrder};
 ghost use Rattle.cb_matches.specs.Matches.{Partial};
 ghost use Rattle.cb_partials.specs.Partials.{partial_cmp};
 

@@ -14,7 +14,7 @@ use Rattle.cb_joins.specs.declared.asked.Wanted.{Wanted}
 use Rattle.cb_joins.specs.declared.rules.Rule.{Rule}
 use Rattle.cb_fit.specs.declared.constant_fields.ConstantField.{ConstantField}
 use Rattle.cb_fit.specs.declared.field_place.FieldPlace.{FieldPlace}
-use Rattle.cb_matches.specs.Lemmas.Members.{In}
+use Rattle.cb_matches.specs.Chains.{In}
 use Rattle.cb_matches.specs.Networks.{Conditions}
 use Rattle.cb_partials.specs.Probes.{is_candidate}
 use Rattle.cb_rules.specs.Elements.{Elements}

@@ -13,7 +13,7 @@ use Rattle.cb_functions.specs.Comparison.{same}
 use Rattle.cb_joins.specs.declared.index.FactKey.{FactKey}
 use Rattle.cb_joins.specs.declared.index.Filed.{Filed}
 use Rattle.cb_joins.specs.declared.index.Index.{Index}
-use Rattle.cb_matches.specs.Lemmas.Members.{In}
+use Rattle.cb_matches.specs.Chains.{In}
 use Rattle.cb_matches.specs.Matches.{Partial}
 use Rattle.cb_partials.specs.Probes.{has_parts}
 

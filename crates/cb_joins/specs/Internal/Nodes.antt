@@ -18,8 +18,8 @@ use Rattle.cb_joins.specs.declared.node.Lone.{Lone}
 use Rattle.cb_joins.specs.declared.node.Node.{Node}
 use Rattle.cb_joins.specs.declared.node.Node.TheVariants as node
 use Rattle.cb_joins.specs.declared.node.Place.{Place}
-use Rattle.cb_matches.specs.Lemmas.Members.{AreSame, Chain, In}
-use Rattle.cb_matches.specs.Lemmas.Order.{IsRising}
+use Rattle.cb_matches.specs.Chains.{AreSame, Chain, In}
+use Rattle.cb_matches.specs.Order.{IsRising}
 use Rattle.cb_matches.specs.Matches.{Partial, extended, next, no_parts, with_address}
 use Rattle.cb_partials.specs.Probes.{is_candidate}
 

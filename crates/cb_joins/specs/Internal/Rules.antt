@@ -8,7 +8,7 @@ use Rattle.cb_joins.specs.Internal.Nodes.{AreKept, AreReady, IsPrepared}
 use Rattle.cb_joins.specs.declared.branch.Branch.{Branch}
 use Rattle.cb_joins.specs.declared.rules.Rule.{Rule}
 use Rattle.cb_matches.specs.Keys.{KeyValue}
-use Rattle.cb_matches.specs.Lemmas.Members.{Chain}
+use Rattle.cb_matches.specs.Chains.{Chain}
 use Rattle.cb_matches.specs.Matches.{Partial}
 use Rattle.cb_matches.specs.Networks.{Conditions, keyed}
 use Rattle.cb_rules.specs.Elements.{Elements, element_of, elements}

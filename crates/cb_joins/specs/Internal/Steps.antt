@@ -14,8 +14,8 @@ use Rattle.cb_joins.specs.declared.node.Lone.{Lone}
 use Rattle.cb_joins.specs.declared.node.Node.{Node}
 use Rattle.cb_joins.specs.declared.node.Place.{Place}
 use Rattle.cb_matches.specs.Keys.{PartValue}
-use Rattle.cb_matches.specs.Lemmas.Members.{In}
-use Rattle.cb_matches.specs.Lemmas.Order.{IsOnce}
+use Rattle.cb_matches.specs.Chains.{In}
+use Rattle.cb_matches.specs.Order.{IsOnce}
 use Rattle.cb_matches.specs.Matches.{Partial}
 use Rattle.cb_partials.specs.Probes.{added_probes, is_candidate, partials_come, partials_kept}
 

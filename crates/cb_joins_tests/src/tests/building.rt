@@ -1,5 +1,5 @@
 //! Elements and facts by rows.
-use cb_constraints::{Check, Constraint, Demand, Parts, Row, Test};
+use cb_constraints::{Check, Constraint, Demand, PatternParts, Row, Test};
 use cb_exprs::Expr;
 use cb_facts::{Fact, Multifield, Name, Single, Value};
 use cb_fit::Pattern;
@@ -106,7 +106,11 @@ fn row(alloc: Global, fields: &[Field]) -> Result<Row, NoMemory> {
 
 fn pattern(alloc: Global, asked: &Asked) -> Result<Pattern<Mark>, NoMemory> {
     let row = row(alloc, asked.fields)?;
-    Pattern::new(alloc, letter(alloc, asked.relation)?, Parts::Fields(row))
+    Pattern::new(
+        alloc,
+        letter(alloc, asked.relation)?,
+        PatternParts::Fields(row),
+    )
 }
 
 fn pattern_element(

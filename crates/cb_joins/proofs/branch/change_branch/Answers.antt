@@ -9,8 +9,8 @@ use Rattle.cb_joins.proofs.Unasked.{branch_unasked, keys_unasked, none_for_relat
 use Rattle.cb_joins.specs.Internal.Asked.{ask_for}
 use Rattle.cb_joins.specs.Internal.Changes.{fact_added, fact_changed, facts_before}
 use Rattle.cb_joins.specs.Internal.Flat.{FlatNode, flat_nodes, flat_probes}
-use Rattle.cb_matches.specs.Lemmas.Lists.{chain_from_pairs}
-use Rattle.cb_matches.specs.Lemmas.Order.{IsRising, WaysRise}
+use Rattle.cb_matches.proofs.Lists.{chain_from_pairs}
+use Rattle.cb_matches.specs.Order.{IsRising, WaysRise}
 use Rattle.std.proofs.lemmas.Result.{on_ok_weaker}
 use Rattle.std.specs.Vec.{vec_len}
 use Rattle.cb_joins.proofs.Ends.{end_moved, last_within, probes_within, whole_of}

@@ -12,8 +12,8 @@ use Rattle.cb_joins.proofs.branch.tell_branch.Goals as goal
 use Rattle.cb_joins.specs.Internal.Flat.{flat_nodes}
 use Rattle.cb_joins.specs.Internal.Keys.{key_of}
 use Rattle.cb_joins.specs.Internal.Rules.{branch_elements}
-use Rattle.cb_matches.specs.Lemmas.Lists.{chain_from_pairs}
-use Rattle.cb_matches.specs.Lemmas.Order.{WaysRise}
+use Rattle.cb_matches.proofs.Lists.{chain_from_pairs}
+use Rattle.cb_matches.specs.Order.{WaysRise}
 use Rattle.cb_matches.specs.Matches.{matches_of}
 
 pub index-requires : goal.index-requires

@@ -7,7 +7,7 @@ use Rattle.cb_joins.proofs.changes.change_facts.Goals as goal
 use Rattle.cb_joins.specs.Internal.Asked.{IsEntered, asked_of}
 use Rattle.cb_joins.specs.Internal.Changes.{fact_changed, facts_before}
 use Rattle.cb_joins.specs.Internal.Rules.{kept_rules}
-use Rattle.cb_matches.specs.Lemmas.Members.{In}
+use Rattle.cb_matches.specs.Chains.{In}
 
 pub returns-clause-delta : goal.returns-clause-delta
 returns-clause-delta g c =

@@ -10,10 +10,10 @@ use Rattle.cb_joins.proofs.OneMore.{stay_mapped}
 use Rattle.cb_joins.proofs.Steps.{ways_rise}
 use Rattle.cb_joins.proofs.filling.fill_nodes.Goals as goal
 use Rattle.cb_joins.specs.Internal.Flat.{FlatNode, flat_node, flat_nodes, node_list}
-use Rattle.cb_joins.specs.Internal.Nodes.{IsPrepared, IsReady, branch_lists}
+use Rattle.cb_joins.specs.Internal.Nodes.{AreKept, IsPrepared, IsReady, branch_lists}
 use Rattle.cb_joins.specs.Internal.Rules.{keys_at}
 use Rattle.cb_joins.specs.Internal.Steps.{NamesListsBelow}
-use Rattle.cb_matches.specs.Lemmas.Order.{IsRising, IsSorted, WaysRise}
+use Rattle.cb_matches.specs.Order.{IsRising, IsSorted, WaysRise}
 use Rattle.cb_matches.specs.Matches.{Partial}
 
 pub fill_node-requires-clause-below : goal.fill_node-requires-clause-below
@@ -81,4 +81,5 @@ returns-clause-kept g c =
     let all : length ns ≡ length c.args.nodes.now = length-map c.args.nodes.now flat_node in
     let now : length c.args.nodes.now ≡ length c.loop-node.nodes = (sym all ∙ (ap length (sym inv.stay) ∙ length-map c.loop-node.nodes flat_node)) in
     let long = inv.long in
-    kept_found rise ns fs (rising_base fs c.len-facts.ensures.base) c.requires.whole c.loop-node.lists.items (omega (arith, all, now, long)) inv.found
+    subst (AreKept ns fs) (sym c.shrink_to_fit.ensures.items)
+    (kept_found rise ns fs (rising_base fs c.len-facts.ensures.base) c.requires.whole c.loop-node.lists.items (omega (arith, all, now, long)) inv.found)

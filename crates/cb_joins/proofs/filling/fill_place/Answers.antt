@@ -11,10 +11,10 @@ use Rattle.cb_joins.specs.Internal.Indexes.{HasIndex, KeepsFields, index_fields}
 use Rattle.cb_joins.specs.Internal.Nodes.{IsJoined}
 use Rattle.cb_joins.specs.declared.node.Place.{Place}
 use Rattle.cb_joins.proofs.filling.fill_place.Goals as goal
-use Rattle.cb_matches.specs.Lemmas.Growth.{Fact}
-use Rattle.cb_matches.specs.Lemmas.Lists.{chain_filter}
-use Rattle.cb_matches.specs.Lemmas.Members.{AreSame}
-use Rattle.cb_matches.specs.Lemmas.Order.{IsOnce, IsRising}
+use Rattle.cb_matches.proofs.Growth.{Fact}
+use Rattle.cb_matches.proofs.Lists.{chain_filter}
+use Rattle.cb_matches.specs.Chains.{AreSame}
+use Rattle.cb_matches.specs.Order.{IsOnce, IsRising}
 use Rattle.cb_partials.specs.Probes.{is_candidate}
 
 pub returns-clause-place : goal.returns-clause-place

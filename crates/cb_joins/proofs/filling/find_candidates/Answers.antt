@@ -6,7 +6,7 @@ use Rattle.cb_fit.specs.Ways.{ways}
 use Rattle.cb_joins.proofs.Facts.{rising_base}
 use Rattle.cb_joins.proofs.Filled.{one_more}
 use Rattle.cb_joins.proofs.filling.find_candidates.Goals as goal
-use Rattle.cb_matches.specs.Lemmas.Growth.{Fact}
+use Rattle.cb_matches.proofs.Growth.{Fact}
 
 pub loop-ix-preserved-in_ok-insert : goal.loop-ix-preserved-in_ok-insert
 loop-ix-preserved-in_ok-insert g c =

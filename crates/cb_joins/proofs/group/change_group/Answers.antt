@@ -7,9 +7,9 @@ use Rattle.cb_joins.proofs.Origins.{one_by_parts}
 use Rattle.cb_joins.specs.Internal.Flat.{begins}
 use Rattle.cb_joins.specs.Internal.Steps.{IsSettled, IsTaken, IsWith, beginnings, group_with}
 use Rattle.cb_matches.specs.Keys.{PartValue}
-use Rattle.cb_matches.specs.Lemmas.Lists.{chain_filter, in_filter, in_left, in_right}
-use Rattle.cb_matches.specs.Lemmas.Members.{In}
-use Rattle.cb_matches.specs.Lemmas.Order.{IsApart, IsOnce}
+use Rattle.cb_matches.proofs.Lists.{chain_filter, in_filter, in_left, in_right}
+use Rattle.cb_matches.specs.Chains.{In}
+use Rattle.cb_matches.specs.Order.{IsApart, IsOnce}
 use Rattle.cb_matches.specs.Matches.{Partial}
 use Rattle.cb_joins.proofs.group.change_group.Goals as goal
 

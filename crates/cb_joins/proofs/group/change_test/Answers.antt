@@ -7,9 +7,9 @@ use Rattle.cb_joins.specs.Internal.Changes.{PartialMoves}
 use Rattle.cb_joins.specs.Internal.Flat.{begins}
 use Rattle.cb_joins.specs.Internal.Nodes.{HaveParts}
 use Rattle.cb_joins.specs.Internal.Steps.{IsTaken, IsWith}
-use Rattle.cb_matches.specs.Lemmas.Lists.{chain_filter, filter_in, in_filter}
-use Rattle.cb_matches.specs.Lemmas.Members.{In}
-use Rattle.cb_matches.specs.Lemmas.Order.{IsApart, IsOnce}
+use Rattle.cb_matches.proofs.Lists.{chain_filter, filter_in, in_filter}
+use Rattle.cb_matches.specs.Chains.{In}
+use Rattle.cb_matches.specs.Order.{IsApart, IsOnce}
 use Rattle.cb_matches.specs.Matches.{Partial, test_holds}
 use Rattle.cb_joins.proofs.group.change_test.Goals as goal
 

@@ -5,7 +5,7 @@ use Rattle.cb_joins.proofs.TakenOut.{none_long}
 use Rattle.cb_joins.proofs.Takings.{cut_at, none_left}
 use Rattle.cb_joins.specs.Internal.Steps.{IsSettled, beginnings, group_with}
 use Rattle.cb_matches.specs.Keys.{PartValue}
-use Rattle.cb_matches.specs.Lemmas.Members.{In}
+use Rattle.cb_matches.specs.Chains.{In}
 use Rattle.cb_joins.proofs.group.settle_all.Goals as goal
 
 pub loop-partial-init : goal.loop-partial-init

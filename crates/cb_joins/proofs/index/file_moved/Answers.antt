@@ -5,9 +5,9 @@ use Rattle.cb_joins.proofs.Indexes.{all_same, left_without, moved_is, one_of, sa
 use Rattle.cb_joins.specs.Internal.Indexes.{HasIndex, IsIndex, without_partials}
 use Rattle.cb_joins.specs.declared.index.Index.{Index}
 use Rattle.cb_joins.specs.declared.moved.Moved.{Moved}
-use Rattle.cb_matches.specs.Lemmas.Lists.{in_at}
-use Rattle.cb_matches.specs.Lemmas.Members.{In}
-use Rattle.cb_matches.specs.Lemmas.Order.{IsOnce}
+use Rattle.cb_matches.proofs.Lists.{in_at}
+use Rattle.cb_matches.specs.Chains.{In}
+use Rattle.cb_matches.specs.Order.{IsOnce}
 use Rattle.cb_matches.specs.Matches.{Partial}
 use Rattle.cb_partials.specs.Probes.{has_parts}
 use Rattle.cb_joins.proofs.index.file_moved.Goals as goal

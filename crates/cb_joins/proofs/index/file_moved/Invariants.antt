@@ -1,8 +1,8 @@
 use Rattle.std.proofs.Common.{◌≡◌, List, take}
 use Rattle.cb_facts.specs.FactLists.{IndexedFacts}
 use Rattle.cb_joins.specs.Internal.Indexes.{IsIndex, without_partials}
-use Rattle.cb_matches.specs.Lemmas.Members.{In}
-use Rattle.cb_matches.specs.Lemmas.Order.{IsOnce}
+use Rattle.cb_matches.specs.Chains.{In}
+use Rattle.cb_matches.specs.Order.{IsOnce}
 use Rattle.cb_matches.specs.Matches.{Partial}
 use Rattle.cb_joins.proofs.index.file_moved.Given as goal
 

@@ -6,8 +6,8 @@ use Rattle.cb_joins.proofs.Indexes.{apart_before, partial_filed}
 use Rattle.cb_joins.specs.Internal.Indexes.{IsIndex, variable_values}
 use Rattle.cb_joins.specs.declared.index.Filed.{Filed}
 use Rattle.cb_joins.specs.declared.index.Index.{Index}
-use Rattle.cb_matches.specs.Lemmas.Lists.{in_at, in_either}
-use Rattle.cb_matches.specs.Lemmas.Members.{In}
+use Rattle.cb_matches.proofs.Lists.{in_at, in_either}
+use Rattle.cb_matches.specs.Chains.{In}
 use Rattle.cb_matches.specs.Matches.{Partial}
 use Rattle.cb_joins.proofs.index.file_partials.Goals as goal
 

@@ -1,6 +1,6 @@
 use Rattle.std.proofs.Common.{◌≡◌, rules, subst, sym}
 use Rattle.cb_joins.proofs.Memories.{once_of_ordered}
-use Rattle.cb_matches.specs.Lemmas.Order.{IsOnce}
+use Rattle.cb_matches.specs.Order.{IsOnce}
 use Rattle.cb_joins.proofs.memory.copy_list.Goals as goal
 
 pub returns-clause-once : goal.returns-clause-once

@@ -10,7 +10,7 @@ use Rattle.cb_joins.specs.Internal.Flat.{FlatNode, flat_node, flat_nodes}
 use Rattle.cb_joins.specs.Internal.Nodes.{HaveIndices, branch_lists}
 use Rattle.cb_joins.specs.Internal.Steps.{AreAround, IsStep, NamesListsBelow}
 use Rattle.cb_joins.specs.declared.moved.Moved.{Moved}
-use Rattle.cb_matches.specs.Lemmas.Order.{WaysRise}
+use Rattle.cb_matches.specs.Order.{WaysRise}
 use Rattle.cb_matches.specs.Matches.{Partial, no_parts}
 use Rattle.cb_joins.proofs.nodes.change_nodes.Goals as goal
 

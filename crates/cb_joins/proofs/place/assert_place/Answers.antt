@@ -11,7 +11,7 @@ use Rattle.cb_joins.specs.Internal.Indexes.{index_fields}
 use Rattle.cb_joins.specs.Internal.Nodes.{IsJoined, found_with}
 use Rattle.cb_joins.specs.declared.node.Place.{Place}
 use Rattle.cb_joins.specs.Internal.Steps.{IsTaken, IsWith}
-use Rattle.cb_matches.specs.Lemmas.Order.{IsRising, WaysRise}
+use Rattle.cb_matches.specs.Order.{IsRising, WaysRise}
 use Rattle.cb_matches.specs.Matches.{Partial}
 use Rattle.cb_partials.specs.Probes.{added_probes}
 use Rattle.cb_joins.proofs.place.assert_place.Goals as goal

@@ -10,7 +10,7 @@ use Rattle.cb_joins.specs.Internal.Flat.{begins, next_where, tests_of}
 use Rattle.cb_joins.specs.Internal.Nodes.{IsJoined}
 use Rattle.cb_joins.specs.Internal.Steps.{IsTaken, IsTakenWith, IsWith}
 use Rattle.cb_joins.specs.declared.node.Place.{Place}
-use Rattle.cb_matches.specs.Lemmas.Order.{IsRising, WaysRise}
+use Rattle.cb_matches.specs.Order.{IsRising, WaysRise}
 use Rattle.cb_matches.specs.Matches.{Partial}
 use Rattle.cb_joins.proofs.place.retract_place.Goals as goal
 

@@ -3,8 +3,8 @@ use Rattle.std.specs.List.{Contains}
 use Rattle.cb_fit.specs.JoinFields.{join_fields}
 use Rattle.cb_joins.specs.Internal.Indexes.{index_fields}
 use Rattle.cb_joins.specs.Internal.Nodes.{AreJoinFields}
-use Rattle.cb_matches.specs.Lemmas.Lists.{in_contains, in_either}
-use Rattle.cb_matches.specs.Lemmas.Members.{In}
+use Rattle.cb_matches.proofs.Lists.{in_contains, in_either}
+use Rattle.cb_matches.specs.Chains.{In}
 use Rattle.cb_joins.proofs.planning.plan_index.Goals as goal
 
 pub loop-field-preserved-in_ok-push-2 : goal.loop-field-preserved-in_ok-push-2

@@ -15,8 +15,8 @@ use Rattle.cb_joins.specs.Internal.Keys.{rule_keys}
 use Rattle.cb_joins.specs.Internal.Rules.{IsRule, kept_rule, kept_rules}
 use Rattle.cb_matches.specs.Changes.{come_of}
 use Rattle.cb_matches.specs.Keys.{KeyValue}
-use Rattle.cb_matches.specs.Lemmas.Lists.{chain_from_pairs}
-use Rattle.cb_matches.specs.Lemmas.Order.{IsRising, WaysRise}
+use Rattle.cb_matches.proofs.Lists.{chain_from_pairs}
+use Rattle.cb_matches.specs.Order.{IsRising, WaysRise}
 use Rattle.cb_partials.specs.Probes.{rules_probes}
 
 pub loop-at-init : goal.loop-at-init

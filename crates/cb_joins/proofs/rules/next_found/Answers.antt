@@ -4,7 +4,7 @@ use Rattle.std.proofs.lemmas.List.{get_or_default}
 use Rattle.cb_joins.proofs.Concerned.{none_listed}
 use Rattle.cb_joins.proofs.rules.next_found.Goals as goal
 use Rattle.cb_joins.specs.declared.rules.Rule.{Rule}
-use Rattle.cb_matches.specs.Lemmas.Members.{In}
+use Rattle.cb_matches.specs.Chains.{In}
 
 pub loop-at-preserved : goal.loop-at-preserved
 loop-at-preserved g c =

@@ -4,7 +4,7 @@ use Rattle.cb_joins.proofs.Beginnings.{in_some}
 use Rattle.cb_joins.proofs.Takings.{cut_at, in_drop, none_left, taking_first, taking_last, taking_next}
 use Rattle.cb_joins.specs.Internal.Flat.{begins}
 use Rattle.cb_joins.specs.Internal.Nodes.{HaveParts}
-use Rattle.cb_matches.specs.Lemmas.Members.{In}
+use Rattle.cb_matches.specs.Chains.{In}
 use Rattle.cb_joins.proofs.taking.take_these.Goals as goal
 
 pub loop-partial-init : goal.loop-partial-init

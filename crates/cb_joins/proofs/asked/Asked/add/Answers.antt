@@ -3,7 +3,7 @@ use Rattle.std.specs.BTreeSet.{insert_key}
 use Rattle.cb_joins.proofs.AskedFound.{key_kept, key_there}
 use Rattle.cb_joins.proofs.AskedOrder.{asked_cmp, asked_exact, spot_cmp, spot_exact}
 use Rattle.cb_joins.proofs.asked.Asked.add.Goals as goal
-use Rattle.cb_matches.specs.Lemmas.Members.{In}
+use Rattle.cb_matches.specs.Chains.{In}
 
 pub returns-clause-entered : goal.returns-clause-entered
 returns-clause-entered c =

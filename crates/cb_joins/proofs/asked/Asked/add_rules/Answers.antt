@@ -8,7 +8,7 @@ use Rattle.cb_joins.specs.Internal.Asked.{wanted_at}
 use Rattle.cb_joins.specs.declared.asked.AskedBy.{AskedBy}
 use Rattle.cb_joins.specs.declared.asked.Wanted.{Wanted}
 use Rattle.cb_joins.proofs.asked.Asked.add_rules.Goals as goal
-use Rattle.cb_matches.specs.Lemmas.Members.{In}
+use Rattle.cb_matches.specs.Chains.{In}
 
 pub returns-then-ne-clause-added : goal.returns-then-ne-clause-added
 returns-then-ne-clause-added c =

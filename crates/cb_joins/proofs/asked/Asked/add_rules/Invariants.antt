@@ -6,7 +6,7 @@ use Rattle.cb_joins.proofs.AskedOrder.{asked_cmp}
 use Rattle.cb_joins.proofs.IndexLists.{run}
 use Rattle.cb_joins.proofs.asked.Asked.add_rules.Given as goal
 use Rattle.cb_joins.specs.declared.asked.AskedBy.{AskedBy}
-use Rattle.cb_matches.specs.Lemmas.Members.{In}
+use Rattle.cb_matches.specs.Chains.{In}
 
 abbrev pub invariant-loop-asked : goal.invariant-loop-asked
 invariant-loop-asked l = record {

@@ -2,7 +2,7 @@ use Rattle.std.proofs.Common.{◌≡◌, ◌∙◌, [], false, rules, subst, sym
 use Rattle.cb_joins.proofs.AskedFound.{has_spot, in_spot, none_further}
 use Rattle.cb_joins.proofs.IndexLists.{run}
 use Rattle.cb_joins.proofs.asked.Asked.is_used.Goals as goal
-use Rattle.cb_matches.specs.Lemmas.Members.{In}
+use Rattle.cb_matches.specs.Chains.{In}
 
 pub returns-in-Some : goal.returns-in-Some
 returns-in-Some c =

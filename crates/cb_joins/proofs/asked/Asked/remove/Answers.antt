@@ -1,7 +1,7 @@
 use Rattle.std.proofs.Common.{◌≡◌, false, rules, subst, sym}
 use Rattle.cb_joins.proofs.AskedFound.{entry_stays, spot_stays}
 use Rattle.cb_joins.proofs.asked.Asked.remove.Goals as goal
-use Rattle.cb_matches.specs.Lemmas.Members.{In}
+use Rattle.cb_matches.specs.Chains.{In}
 
 pub returns-then-not-branch : goal.returns-then-not-branch
 returns-then-not-branch c =

@@ -4,7 +4,7 @@ use Rattle.cb_joins.proofs.IndexLists.{run}
 use Rattle.cb_joins.specs.Internal.Asked.{asked_of, wanted_at}
 use Rattle.cb_joins.specs.declared.asked.Spot.{Spot}
 use Rattle.cb_joins.proofs.asked.Asked.rules_for.Goals as goal
-use Rattle.cb_matches.specs.Lemmas.Members.{In}
+use Rattle.cb_matches.specs.Chains.{In}
 
 pub returns-then-ne : goal.returns-then-ne
 returns-then-ne c =

@@ -6,7 +6,7 @@ use Rattle.cb_joins.proofs.AskedOrder.{spot_cmp}
 use Rattle.cb_joins.proofs.IndexLists.{run}
 use Rattle.cb_joins.proofs.asked.Asked.rules_for.Given as goal
 use Rattle.cb_joins.specs.declared.asked.Spot.{Spot}
-use Rattle.cb_matches.specs.Lemmas.Members.{In}
+use Rattle.cb_matches.specs.Chains.{In}
 
 abbrev pub invariant-loop-spot : goal.invariant-loop-spot
 invariant-loop-spot l =

@@ -13,8 +13,8 @@ use Rattle.cb_joins.proofs.Found.{bindings_kept, kept_once}
 use Rattle.cb_joins.proofs.joins.JoinsMatcher.bindings.Goals as goal
 use Rattle.cb_joins.specs.Internal.Rules.{HaveOwnKeys, IsKeeping, kept_matches}
 use Rattle.cb_matches.specs.Keys.{key_eq}
-use Rattle.cb_matches.specs.Lemmas.Lists.{chain_from_pairs}
-use Rattle.cb_matches.specs.Lemmas.Order.{WaysRise}
+use Rattle.cb_matches.proofs.Lists.{chain_from_pairs}
+use Rattle.cb_matches.specs.Order.{WaysRise}
 use Rattle.cb_matches.specs.Networks.{bindings_of}
 
 pub returns : goal.returns
