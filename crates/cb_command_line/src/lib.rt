@@ -1,5 +1,5 @@
 //! The program but for its `main`: its words, and the script as they ask. How a script is carried out stands in
-//! `cb_script`, and this crate passes that on.
+//! `cb_script`, and this crate passes that on. It is a crate of its own, since it alone stands on `clap`.
 #![tactic(auto)]
 
 mod arguments; // `run_program`: the words that the system has for the program, and the report of how it went

@@ -5,11 +5,12 @@ use Rattle.cb_actions.specs.Acts.{after_writing, follow, give_or_fault, stop, �
 use Rattle.cb_actions.specs.Effects.{each_given, fact_added, asserted, is_retractable, parts_of, retracted}
 use Rattle.cb_actions.specs.Laws.{with_answer}
 use Rattle.cb_actions.specs.Worlds.{World}
-use Rattle.cb_actions.specs.declared.act.Ended.{Ended}
-use Rattle.cb_actions.specs.declared.act.Ended.TheVariants as ended
+use Rattle.cb_actions.specs.declared.act.EarlyEnd.{EarlyEnd}
+use Rattle.cb_actions.specs.declared.act.EarlyEnd.TheVariants as ended
 use Rattle.cb_actions.specs.declared.act.Limit.TheVariants.{Numbers}
 use Rattle.cb_exprs.specs.Shapes.{Shape}
-use Rattle.cb_exprs.specs.Terms.{Terms, assert, retract}
+use Rattle.cb_exprs.specs.Terms.{Terms, effect}
+use Rattle.cb_exprs.specs.declared.effect.Effect.TheVariants as kind
 use Rattle.cb_facts.specs.FactLists.{fact_at}
 use Rattle.cb_facts.specs.Facts.{FactValue}
 use Rattle.cb_facts.specs.declared.value.Value.{Value}
@@ -42,7 +43,7 @@ module _ (shape : Shape) (vs : List Value) (s : World) where
       let same = is_asserted fact made in
       (answer, sym (ap (λ e. e.answer) same) ∙ h, sym (ap (λ e. e.state) same))
 
-  pub limit_only : (fact : FactValue) (e : Ended) → built s.templates shape.relation (parts_of shape.slots vs) ≡ Ok fact → (asserted shape vs s).answer ≡ Err e → e ≡ ended.Limit Numbers
+  pub limit_only : (fact : FactValue) (e : EarlyEnd) → built s.templates shape.relation (parts_of shape.slots vs) ≡ Ok fact → (asserted shape vs s).answer ≡ Err e → e ≡ ended.Limit Numbers
   limit_only fact e made h = (adds_alone fact s).limit e (sym (ap (λ it. it.answer) (is_asserted fact made)) ∙ h)
 
   pub asserts_only : ChangesFactsOnly s (asserted shape vs s).state
@@ -69,17 +70,17 @@ module _ (shape : Shape) (vs : List Value) (s : World) where
 -- a command, by how its arguments end
 module _ (ts : Terms) (s : World) where
   pub assert_acts : (shape : Shape) (vs : List Value) → (carried_values None [] ts s).answer ≡ Ok vs
-      → carried (assert shape ts) s ≡ after_writing (carried_values None [] ts s).written (asserted shape vs (carried_values None [] ts s).state)
+      → carried (effect (kind.Assert shape) ts) s ≡ after_writing (carried_values None [] ts s).written (asserted shape vs (carried_values None [] ts s).state)
   assert_acts shape vs h = ap (λ r. follow (carried_values None [] ts s).state (carried_values None [] ts s).written r (asserted shape)) h
 
-  pub assert_ends : (shape : Shape) (e : Ended) → (carried_values None [] ts s).answer ≡ Err e → carried (assert shape ts) s ≡ with_answer (carried_values None [] ts s) (Err e)
+  pub assert_ends : (shape : Shape) (e : EarlyEnd) → (carried_values None [] ts s).answer ≡ Err e → carried (effect (kind.Assert shape) ts) s ≡ with_answer (carried_values None [] ts s) (Err e)
   assert_ends shape e h = ap (λ r. follow (carried_values None [] ts s).state (carried_values None [] ts s).written r (asserted shape)) h
 
   pub retract_acts : (vs : List Value) → (carried_values None [] ts s).answer ≡ Ok vs
-      → carried (retract ts) s ≡ after_writing (carried_values None [] ts s).written (retracted vs (carried_values None [] ts s).state)
+      → carried (effect kind.Retract ts) s ≡ after_writing (carried_values None [] ts s).written (retracted vs (carried_values None [] ts s).state)
   retract_acts vs h = ap (λ r. follow (carried_values None [] ts s).state (carried_values None [] ts s).written r retracted) h
 
-  pub retract_ends : (e : Ended) → (carried_values None [] ts s).answer ≡ Err e → carried (retract ts) s ≡ with_answer (carried_values None [] ts s) (Err e)
+  pub retract_ends : (e : EarlyEnd) → (carried_values None [] ts s).answer ≡ Err e → carried (effect kind.Retract ts) s ≡ with_answer (carried_values None [] ts s) (Err e)
   retract_ends e h = ap (λ r. follow (carried_values None [] ts s).state (carried_values None [] ts s).written r retracted) h
 
 -- what names a fact, and every integer, may be retracted

@@ -11,7 +11,7 @@ use Rattle.std.specs.Map.{keys_of, remove_entry}
 use Rattle.std.specs.Ordering.{is_eq, match_ordering, ordering_reverse}
 use Rattle.cb_actions.specs.Changes.{moved}
 use Rattle.cb_actions.specs.Worlds.{World}
-use Rattle.cb_actions.specs.declared.act.Ended.{Ended}
+use Rattle.cb_actions.specs.declared.act.EarlyEnd.{EarlyEnd}
 use Rattle.cb_agenda.specs.Agendas.{Activation, AgendaValue, Entries, changed, first_to_fire, is_due, popped, taken_out, top_of, with_key, with_keys, without_key, without_keys}
 use Rattle.cb_agenda.specs.Internal.RankLaws.{rank_equiv, rank_tied, rank_total}
 use Rattle.cb_agenda.specs.Ranks.{fires_before, rank_cmp}
@@ -251,7 +251,7 @@ pub changed_proper : (a : AgendaValue) (gone come : List KeyValue) (ss : List �
 changed_proper a gone come ss p = keys_proper come ss (record a { entries = without_keys a.entries gone }) (gone_proper gone a p)
 
 -- a change of the rules or the facts
-pub moved_proper : (s : World) (next : Memory) (line : List ℕ) (t : World) (w : List ℕ) (r : Result (Unit {0}) Ended) → Moved s next line t w r → IsProper s.agenda → IsProper t.agenda
+pub moved_proper : (s : World) (next : Memory) (line : List ℕ) (t : World) (w : List ℕ) (r : Result (Unit {0}) EarlyEnd) → Moved s next line t w r → IsProper s.agenda → IsProper t.agenda
 moved_proper s next line t w r m p = by m.agenda
   where
     by : (t.agenda ≡ s.agenda) ⊎ ((ss : List ℤ) × (t.agenda ≡ changed s.agenda (keys_gone s.memory.network next.network) (keys_come s.memory.network next.network) ss)) → IsProper t.agenda

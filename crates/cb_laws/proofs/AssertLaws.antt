@@ -8,12 +8,12 @@ use Rattle.cb_actions.specs.Acts.{Effect, follow, give, stop}
 use Rattle.cb_actions.specs.Changes.{come_line}
 use Rattle.cb_actions.specs.Effects.{added_beside, fact_added}
 use Rattle.cb_actions.specs.Worlds.{World}
-use Rattle.cb_actions.specs.declared.act.Ended.{Ended}
-use Rattle.cb_actions.specs.declared.act.Ended.TheVariants as ended
+use Rattle.cb_actions.specs.declared.act.EarlyEnd.{EarlyEnd}
+use Rattle.cb_actions.specs.declared.act.EarlyEnd.TheVariants as ended
 use Rattle.cb_actions.specs.declared.act.Limit.TheVariants.{Numbers}
 use Rattle.cb_facts.specs.FactLists.{IsAbsent, fact_at, with_fact}
 use Rattle.cb_facts.specs.Facts.{FactValue}
-use Rattle.cb_facts.specs.contracts.cited.LawsCited.TheImpl as facts_laws
+use Rattle.cb_facts.proofs.MemberLaws.{contains_here, contains_there, is_at-Decides}
 use Rattle.cb_facts.specs.declared.value.Value.{Value}
 use Rattle.cb_facts.specs.declared.value.Value.TheVariants as value
 use Rattle.cb_laws.proofs.AgendaLaws.{moved_proper}
@@ -24,7 +24,7 @@ use Rattle.cb_laws.proofs.MoveLaws.{Moved, added_cases, memory_is, quiet_line}
 use Rattle.cb_laws.specs.Firing.{IsProper}
 use Rattle.cb_laws.specs.Memories.{AreAsserted, ChangesFactsOnly, IsSound, IsThere, IsUnwatched, has_stamps_for}
 use Rattle.cb_working_memory.specs.WorkingMemory.{Memory, greatest_index, grown, index_of}
-use Rattle.cb_working_memory.specs.contracts.cited.LawsCited.TheImpl as memory_laws
+use Rattle.cb_working_memory.proofs.IndexOf.{index_of-absent, index_of-there}
 
 -- A fact was asserted and has this index: it is there, the others are as before, and there are no more.
 pub record OneMore (m : Memory) (f : FactValue) (n : Memory) (ix : ℕ) : Type 0 where
@@ -41,10 +41,10 @@ module _ (m : Memory) (f : FactValue) (sound : IsSound m) (absent : index_of m.n
   new = m.last + 1
 
   at_new : fact_at (with_fact m.network.facts (m.last + 1) f) (m.last + 1) ≡ Some f
-  at_new = put_here nat_cmp (λ i j. is_at (nat_cmp i) j) facts_laws.ghosts.is_at_decides facts_laws.ghosts.is_at_decides m.network.facts (m.last + 1) f
+  at_new = put_here nat_cmp (λ i j. is_at (nat_cmp i) j) is_at-Decides is_at-Decides m.network.facts (m.last + 1) f
 
   at_old : (q : ℕ) → q ≢ m.last + 1 → fact_at (with_fact m.network.facts (m.last + 1) f) q ≡ fact_at m.network.facts q
-  at_old q n = put_elsewhere nat_cmp (λ i j. is_at (nat_cmp i) j) facts_laws.ghosts.is_at_decides facts_laws.ghosts.is_at_decides m.network.facts (m.last + 1) q f n
+  at_old q n = put_elsewhere nat_cmp (λ i j. is_at (nat_cmp i) j) is_at-Decides is_at-Decides m.network.facts (m.last + 1) q f n
 
   was_free : (q : ℕ) (g : FactValue) → fact_at m.network.facts q ≡ Some g → q ≢ m.last + 1
   was_free q g at e =
@@ -95,7 +95,7 @@ answered f s answer sound h = added_cases f s (λ e. e.answer ≡ Ok answer → 
     there : (ix : ℕ) → index_of s.memory.network.facts f ≡ Some ix → (give (Some (value.Fact ix)) s).answer ≡ Ok answer → Answered f s (give (Some (value.Fact ix)) s) answer
     there ix e is = record { ix = ix; address = cc; more = there_already s.memory f ix sound e }
 
-    grows : index_of s.memory.network.facts f ≡ None → nat_lt s.memory.last greatest_index ≡ true → (t : World) (w : List ℕ) (r : Result (Unit {0}) Ended)
+    grows : index_of s.memory.network.facts f ≡ None → nat_lt s.memory.last greatest_index ≡ true → (t : World) (w : List ℕ) (r : Result (Unit {0}) EarlyEnd)
         → Moved s (grown f s.memory) (come_line s (s.memory.last + 1) f) t w r
         → (follow t w r (λ _. give (Some (value.Fact (s.memory.last + 1))))).answer ≡ Ok answer
         → Answered f s (follow t w r (λ _. give (Some (value.Fact (s.memory.last + 1))))) answer
@@ -129,7 +129,7 @@ stays_grown f m sound none e =
 pub added_stays : (f : FactValue) (s : World) → IsSound s.memory → Stays f s.memory (fact_added f s).state.memory
 added_stays f s sound = added_cases f s (λ e. Stays f s.memory e.state.memory) (λ ix e. stays_same f s.memory sound) grows (λ none e. stays_same f s.memory sound)
   where
-    grows : index_of s.memory.network.facts f ≡ None → nat_lt s.memory.last greatest_index ≡ true → (t : World) (w : List ℕ) (r : Result (Unit {0}) Ended)
+    grows : index_of s.memory.network.facts f ≡ None → nat_lt s.memory.last greatest_index ≡ true → (t : World) (w : List ℕ) (r : Result (Unit {0}) EarlyEnd)
         → Moved s (grown f s.memory) (come_line s (s.memory.last + 1) f) t w r → Stays f s.memory (follow t w r (λ _. give (Some (value.Fact (s.memory.last + 1))))).state.memory
     grows none e t w (Ok v) m = subst (Stays f s.memory) (sym (memory_is _ _ _ t w (Ok v) m)) (stays_grown f s.memory sound none e)
     grows none e t w (Err x) m = subst (Stays f s.memory) (sym (memory_is _ _ _ t w (Err x) m)) (stays_grown f s.memory sound none e)
@@ -140,11 +140,11 @@ pub is_there : (f : FactValue) (s : World) (answer : Option Value) → IsSound s
 is_there f s answer sound h = let it = answered f s answer sound h in (it.ix, it.address, it.more.here)
 
 pub known : (f : FactValue) (s : World) (ix : ℕ) → IsSound s.memory → fact_at s.memory.network.facts ix ≡ Some f → fact_added f s ≡ give (Some (value.Fact ix)) s
-known f s ix sound at = ap (λ o. added_beside f o s) (memory_laws.ghosts.index_of_there s.memory.network.facts f ix (base_of s.memory sound) at)
+known f s ix sound at = ap (λ o. added_beside f o s) (index_of-there s.memory.network.facts f ix (base_of s.memory sound) at)
 
 module _ (f : FactValue) (s : World) (sound : IsSound s.memory) (absent : IsAbsent s.memory.network.facts f) where
   is_absent : index_of s.memory.network.facts f ≡ None
-  is_absent = memory_laws.ghosts.index_of_absent s.memory.network.facts f (base_of s.memory sound) absent
+  is_absent = index_of-absent s.memory.network.facts f (base_of s.memory sound) absent
 
   not_there : (ix : ℕ) → index_of s.memory.network.facts f ≡ Some ix → ⊥
   not_there ix e = let none = is_absent in cc
@@ -166,7 +166,7 @@ module _ (f : FactValue) (s : World) (sound : IsSound s.memory) (absent : IsAbse
     pub is_grown : (fact_added f s).state.memory ≡ grown f s.memory
     is_grown = added_cases f s (λ e. e.state.memory ≡ grown f s.memory) (λ ix e. absurd (not_there ix e)) grows (λ none e. absurd (not_full e))
       where
-        grows : index_of s.memory.network.facts f ≡ None → nat_lt s.memory.last greatest_index ≡ true → (t : World) (w : List ℕ) (r : Result (Unit {0}) Ended)
+        grows : index_of s.memory.network.facts f ≡ None → nat_lt s.memory.last greatest_index ≡ true → (t : World) (w : List ℕ) (r : Result (Unit {0}) EarlyEnd)
             → Moved s (grown f s.memory) (come_line s (s.memory.last + 1) f) t w r → (follow t w r (λ _. give (Some (value.Fact (s.memory.last + 1))))).state.memory ≡ grown f s.memory
         grows none e t w (Ok v) m = memory_is _ _ _ t w (Ok v) m
         grows none e t w (Err x) m = memory_is _ _ _ t w (Err x) m
@@ -174,7 +174,7 @@ module _ (f : FactValue) (s : World) (sound : IsSound s.memory) (absent : IsAbse
     pub has_address : has_stamps_for f s ≡ true → (fact_added f s).answer ≡ Ok (Some (value.Fact (s.memory.last + 1)))
     has_address room = added_cases f s (λ e. e.answer ≡ Ok (Some (value.Fact (s.memory.last + 1)))) (λ ix e. absurd (not_there ix e)) grows (λ none e. absurd (not_full e))
       where
-        grows : index_of s.memory.network.facts f ≡ None → nat_lt s.memory.last greatest_index ≡ true → (t : World) (w : List ℕ) (r : Result (Unit {0}) Ended)
+        grows : index_of s.memory.network.facts f ≡ None → nat_lt s.memory.last greatest_index ≡ true → (t : World) (w : List ℕ) (r : Result (Unit {0}) EarlyEnd)
             → Moved s (grown f s.memory) (come_line s (s.memory.last + 1) f) t w r
             → (follow t w r (λ _. give (Some (value.Fact (s.memory.last + 1))))).answer ≡ Ok (Some (value.Fact (s.memory.last + 1)))
         grows none e t w r m = ap (λ x. (follow t w x (λ _. give (Some (value.Fact (s.memory.last + 1))))).answer) (m.room room)
@@ -182,7 +182,7 @@ module _ (f : FactValue) (s : World) (sound : IsSound s.memory) (absent : IsAbse
     pub has_no_stamps : has_stamps_for f s ≡ false → (fact_added f s).answer ≡ Err (ended.Limit Numbers)
     has_no_stamps room = added_cases f s (λ e. e.answer ≡ Err (ended.Limit Numbers)) (λ ix e. absurd (not_there ix e)) grows (λ none e. absurd (not_full e))
       where
-        grows : index_of s.memory.network.facts f ≡ None → nat_lt s.memory.last greatest_index ≡ true → (t : World) (w : List ℕ) (r : Result (Unit {0}) Ended)
+        grows : index_of s.memory.network.facts f ≡ None → nat_lt s.memory.last greatest_index ≡ true → (t : World) (w : List ℕ) (r : Result (Unit {0}) EarlyEnd)
             → Moved s (grown f s.memory) (come_line s (s.memory.last + 1) f) t w r
             → (follow t w r (λ _. give (Some (value.Fact (s.memory.last + 1))))).answer ≡ Err (ended.Limit Numbers)
         grows none e t w r m = ap (λ x. (follow t w x (λ _. give (Some (value.Fact (s.memory.last + 1))))).answer) (m.no_room room)
@@ -192,7 +192,7 @@ pub record Alone (s : World) (e : Effect World (Option Value)) : Type 0 where
   pub changes : ChangesFactsOnly s e.state
   pub proper : IsProper s.agenda → IsProper e.state.agenda
   pub quiet : IsUnwatched s → e.written ≡ []
-  pub limit : (x : Ended) → e.answer ≡ Err x → x ≡ ended.Limit Numbers
+  pub limit : (x : EarlyEnd) → e.answer ≡ Err x → x ≡ ended.Limit Numbers
 
 pub adds_alone : (f : FactValue) (s : World) → Alone s (fact_added f s)
 adds_alone f s = added_cases f s (Alone s) (λ ix e. there ix) grows (λ none e. record { changes = same; proper = λ p. p; quiet = λ h. refl; limit = λ x h. cc })
@@ -203,7 +203,7 @@ adds_alone f s = added_cases f s (Alone s) (λ ix e. there ix) grows (λ none e.
     there : (ix : ℕ) → Alone s (give (Some (value.Fact ix)) s)
     there ix = record { changes = same; proper = λ p. p; quiet = λ h. refl; limit = λ x h. absurd (cc) }
 
-    changed_so : (t : World) (w : List ℕ) (r : Result (Unit {0}) Ended) → Moved s (grown f s.memory) (come_line s (s.memory.last + 1) f) t w r → ChangesFactsOnly s t
+    changed_so : (t : World) (w : List ℕ) (r : Result (Unit {0}) EarlyEnd) → Moved s (grown f s.memory) (come_line s (s.memory.last + 1) f) t w r → ChangesFactsOnly s t
     changed_so t w r m =
         let is : t.memory ≡ grown f s.memory = memory_is _ _ _ t w r m in
         record {
@@ -215,11 +215,11 @@ adds_alone f s = added_cases f s (Alone s) (λ ix e. there ix) grows (λ none e.
     unwatched : IsUnwatched s → come_line s (s.memory.last + 1) f ≡ []
     unwatched h = quiet_line s.watched.facts h.0 _
 
-    limited : (r : Result (Unit {0}) Ended) (y x : Ended) → (r ≡ Ok tt) ⊎ (r ≡ Err (ended.Limit Numbers)) → r ≡ Err y → y ≡ x → x ≡ ended.Limit Numbers
+    limited : (r : Result (Unit {0}) EarlyEnd) (y x : EarlyEnd) → (r ≡ Ok tt) ⊎ (r ≡ Err (ended.Limit Numbers)) → r ≡ Err y → y ≡ x → x ≡ ended.Limit Numbers
     limited r y x (inl e) h is = absurd (cc)
     limited r y x (inr e) h is = cc
 
-    grows : index_of s.memory.network.facts f ≡ None → nat_lt s.memory.last greatest_index ≡ true → (t : World) (w : List ℕ) (r : Result (Unit {0}) Ended)
+    grows : index_of s.memory.network.facts f ≡ None → nat_lt s.memory.last greatest_index ≡ true → (t : World) (w : List ℕ) (r : Result (Unit {0}) EarlyEnd)
         → Moved s (grown f s.memory) (come_line s (s.memory.last + 1) f) t w r → Alone s (follow t w r (λ _. give (Some (value.Fact (s.memory.last + 1)))))
     grows none e t w (Ok v) m = record { changes = changed_so t w (Ok v) m; proper = moved_proper s (grown f s.memory) (come_line s (s.memory.last + 1) f) t w (Ok v) m; quiet = λ h. ap (λ ws. ws ++ []) (m.quiet (unwatched h) h.1); limit = λ x h. absurd (cc) }
     grows none e t w (Err y) m = record { changes = changed_so t w (Err y) m; proper = moved_proper s (grown f s.memory) (come_line s (s.memory.last + 1) f) t w (Err y) m; quiet = λ h. m.quiet (unwatched h) h.1; limit = λ x h. limited (Err y) y x m.ends refl (cc) }
@@ -244,11 +244,11 @@ several_only s t (f ∷ fs) g sound h at = by (several_only (fact_added f s).sta
 
     first : (q : ℕ) → (fact_at s.memory.network.facts q ≡ Some g) ⊎ (f ≡ g) → IsThere s.memory g ⊎ Contains (f ∷ fs) g
     first q (inl was) = inl (q, was)
-    first q (inr same) = inr (subst (Contains (f ∷ fs)) same (facts_laws.ghosts.contains_here _ f fs))
+    first q (inr same) = inr (subst (Contains (f ∷ fs)) same (contains_here f fs))
 
     by : IsThere (fact_added f s).state.memory g ⊎ Contains fs g → IsThere s.memory g ⊎ Contains (f ∷ fs) g
     by (inl there) = first there.0 (step.only there.0 g there.1)
-    by (inr c) = inr (facts_laws.ghosts.contains_there _ f g fs c)
+    by (inr c) = inr (contains_there f g fs c)
 
 pub several_there : (s t : World) (fs : List FactValue) (g : FactValue) → IsSound s.memory → AreAsserted s fs t → IsThere s.memory g ⊎ Contains fs g → IsThere t.memory g
 several_there s t fs g sound h (inl there) = (there.0, several_stay s t fs g there.0 sound h there.1)

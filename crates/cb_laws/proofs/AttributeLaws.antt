@@ -14,7 +14,7 @@ use Rattle.cb_forms.specs.declared.token.Token.TheVariants as token
 use Rattle.cb_laws.proofs.FaultListLaws.{none_of_both}
 use Rattle.cb_laws.proofs.PartLaws.{fails_first}
 use Rattle.cb_laws.specs.Written.{AreConstants, IsDefaultList, IsTypeList, are_type_words, attribute_name, type_words, variable_alone}
-use Rattle.cb_templates.specs.FaultLists.{unless}
+use Rattle.cb_facts.specs.FaultLists.{unless}
 use Rattle.cb_templates.specs.SlotForms.{is_variable, no_constant, type_named}
 use Rattle.cb_templates.specs.TemplateFaults.{attribute_faults, constant_faults, constants_faults, default_attribute_faults, is_no_form, is_one_form, type_attribute_faults, type_name_faults, types_faults}
 use Rattle.cb_templates.specs.TemplateShapes.{constant_in}

@@ -8,7 +8,7 @@ use Rattle.cb_forms.specs.declared.fault.Fault.TheVariants.{MalformedForm, NotIn
 use Rattle.cb_forms.specs.declared.token.Token.{Token}
 use Rattle.cb_forms.specs.declared.token.Token.TheVariants as token
 use Rattle.cb_laws.specs.Written.{slot_word}
-use Rattle.cb_templates.specs.FaultLists.{first_of, unless}
+use Rattle.cb_facts.specs.FaultLists.{first_of, unless}
 use Rattle.cb_templates.specs.SlotForms.{is_variable}
 use Rattle.cb_templates.specs.TemplateFaults.{attribute_faults, constants_faults, default_attribute_faults, is_one_form, type_attribute_faults, types_faults}
 use Rattle.cb_templates.specs.TemplateShapes.{slot_headed, slot_said}

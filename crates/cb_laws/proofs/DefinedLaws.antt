@@ -9,8 +9,8 @@ use Rattle.cb_forms.specs.declared.fault.Fault.{Fault}
 use Rattle.cb_forms.specs.declared.fault.Fault.TheVariants.{MalformedForm, TemplateInUse}
 use Rattle.cb_laws.proofs.EntryLaws.{put_elsewhere, put_here}
 use Rattle.cb_laws.specs.SlotValues.{Defines}
-use Rattle.cb_templates.specs.FaultLists.{unless}
-use Rattle.cb_templates.specs.Reserved.{is_reserved}
+use Rattle.cb_facts.specs.FaultLists.{unless}
+use Rattle.cb_words.specs.Reserved.{is_reserved}
 use Rattle.cb_templates.specs.Slots.{SlotShape}
 use Rattle.cb_templates.specs.TemplateFaults.{named_template_faults, slots_form_faults, template_faults}
 use Rattle.cb_templates.specs.TemplateShapes.{slots_said, template_said, template_shape}

@@ -9,8 +9,8 @@ use Rattle.cb_actions.specs.Changes.{activation_lines, gone_line, moved, salienc
 use Rattle.cb_actions.specs.Effects.{asserted, fact_added, fact_gone, gone_if, index_named, is_retractable, parts_of, retracted, retracted_one, taken_by}
 use Rattle.cb_actions.specs.Runs.{started_anew, without_all, without_facts}
 use Rattle.cb_actions.specs.Worlds.{World}
-use Rattle.cb_actions.specs.declared.act.Ended.{Ended}
-use Rattle.cb_actions.specs.declared.act.Ended.TheVariants as ended
+use Rattle.cb_actions.specs.declared.act.EarlyEnd.{EarlyEnd}
+use Rattle.cb_actions.specs.declared.act.EarlyEnd.TheVariants as ended
 use Rattle.cb_actions.specs.declared.act.Limit.TheVariants.{Firings, Numbers, Turns}
 use Rattle.cb_agenda.specs.Agendas.{Activation, AgendaValue, Entries, changed, has_stamps, is_due, popped, taken_out, top_of}
 use Rattle.cb_agenda.specs.Ranks.{rank_cmp}
@@ -72,7 +72,7 @@ matches_put s next ss h k due = by (due_changed s.agenda (keys_gone s.memory.net
     by (inr came) = (has_come s.memory.network next.network k came).1
 
 -- a change of the rules or the facts
-matches_after : (s : World) (next : Memory) (line : List ℕ) (t : World) (w : List ℕ) (r : Result (Unit {0}) Ended) → Moved s next line t w r → AreMatches s → After AreMatches Anything t r
+matches_after : (s : World) (next : Memory) (line : List ℕ) (t : World) (w : List ℕ) (r : Result (Unit {0}) EarlyEnd) → Moved s next line t w r → AreMatches s → After AreMatches Anything t r
 matches_after s next line t w r m h = by m.ends
   where
     by : (r ≡ Ok tt) ⊎ (r ≡ Err (ended.Limit Numbers)) → After AreMatches Anything t r
@@ -218,7 +218,7 @@ due_kept = record {
 }
 
 -- unless an act ends at the limit of numbers
-holds_after : {A : Type 0} (s : World) (r : Result A Ended) → After AreMatches Anything s r → r ≢ Err (ended.Limit Numbers) → AreMatches s
+holds_after : {A : Type 0} (s : World) (r : Result A EarlyEnd) → After AreMatches Anything s r → r ≢ Err (ended.Limit Numbers) → AreMatches s
 holds_after s (Ok a) h n = h
 holds_after s (Err (ended.Fault f)) h n = h
 holds_after s (Err (ended.Limit Numbers)) h n = absurd (n refl)

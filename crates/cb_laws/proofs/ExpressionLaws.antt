@@ -3,14 +3,14 @@ use Rattle.std.proofs.Common.{ℕ, zero, suc, Bool, true, false, List, [], ◌�
 use Rattle.cb_actions.specs.Actions.{carried, carried_all, carried_values, round, rounds}
 use Rattle.cb_actions.specs.Acts.{Act, become, give, give_or_fault, ◌>>=◌}
 use Rattle.cb_actions.specs.Definitions.{all_asserted, all_evaluated, globals_after, globals_defined, one_evaluated}
-use Rattle.cb_actions.specs.Effects.{asserted, bound, called, chosen, ends, found, global_bound, retracted, truth_of, turn, turn_of, valued, wanted}
+use Rattle.cb_actions.specs.Effects.{asserted, bound, called, chosen, effected, ends, found, global_bound, joined, retracted, truth_of, turn, turn_of, valued, wanted}
 use Rattle.cb_actions.specs.Worlds.{World}
 use Rattle.cb_eval.specs.Evaluation.{value_of}
 use Rattle.cb_exprs.specs.Bindings.{Bindings, value_at, with_global, with_variable}
 use Rattle.cb_exprs.specs.FactTerms.{FactTerm}
 use Rattle.cb_exprs.specs.GlobalTerms.{GlobalTerm}
 use Rattle.cb_exprs.specs.Shapes.{Shape}
-use Rattle.cb_exprs.specs.Terms.{Term, constant, variable, global, call, assert, retract, bind, bind_global, choose, repeat, actions, printout, print, println, halt, Terms, no_terms, term}
+use Rattle.cb_exprs.specs.Terms.{Term, constant, variable, global, call, effect, choose, repeat, actions, Terms, no_terms, term}
 use Rattle.cb_facts.specs.declared.value.Value.{Value}
 use Rattle.cb_forms.specs.declared.fault.Fault.{Fault}
 use Rattle.cb_forms.specs.declared.fault.Fault.TheVariants.{UnboundVariable, UnknownGlobal}
@@ -18,7 +18,10 @@ use Rattle.cb_functions.specs.Applied.{applied}
 use Rattle.cb_functions.specs.Constants.{false_symbol}
 use Rattle.cb_functions.specs.Logic.{is_true}
 use Rattle.cb_laws.proofs.Keeping.{After, Keeps, keeps_then}
-use Rattle.cb_words.specs.declared.function.Function.{Function}
+use Rattle.cb_words.specs.declared.words.Function.{Function}
+use Rattle.cb_words.specs.declared.words.Function.TheVariants as function
+use Rattle.cb_exprs.specs.declared.effect.Effect.{Effect}
+use Rattle.cb_exprs.specs.declared.effect.Effect.TheVariants as kind
 
 pub record IsKept (P Q : World → Type 0) : Type 0 where
   pub weaken : (s : World) → P s → Q s
@@ -59,6 +62,19 @@ module _ (P Q : World → Type 0) (kept : IsKept P Q) where
   called_keeps : (f : Function) (vs : List Value) → Keeps P Q (called f vs)
   called_keeps f vs = keeps_then P Q (give_or_fault (applied f vs)) (λ v. give (Some v)) (read_keeps (applied f vs)) (λ v s h. h)
 
+  joined_keeps : (vs : List Value) → Keeps P Q (joined vs)
+  joined_keeps [] s h = read_keeps (applied function.Create []) s h
+  joined_keeps (v ∷ []) s h = h
+  joined_keeps (v ∷ w ∷ vs) s h = read_keeps (applied function.Create (v ∷ w ∷ vs)) s h
+
+  effected_keeps : (e : Effect) (vs : List Value) → Keeps P Q (effected e vs)
+  effected_keeps (kind.Assert shape) vs s h = kept.asserts shape vs s h
+  effected_keeps kind.Retract vs s h = kept.retracts vs s h
+  effected_keeps (kind.Bind x) vs s h = keeps_then P Q (joined vs) (bound x) (joined_keeps vs) (λ v u k. kept.env u (with_variable x v u.env) k) s h
+  effected_keeps (kind.BindGlobal x) vs s h = keeps_then P Q (joined vs) (global_bound x) (joined_keeps vs) (λ v u k. kept.env u (with_global x v u.env) k) s h
+  effected_keeps kind.Halt vs s h = kept.halted s true h
+  effected_keeps e vs s h = h
+
   -- rounds of a loop
   round_keeps : (test : Act World Bool) (action next : Act World (Option Value)) → Keeps P Q test → Keeps P Q action → Keeps P Q next → Keeps P Q (round test action next)
   round_keeps test action next f g k =
@@ -76,19 +92,12 @@ module _ (P Q : World → Type 0) (kept : IsKept P Q) where
     expression_keeps (variable x) s h = found_keeps UnboundVariable (value_at x s.env.variables) s h
     expression_keeps (global x) s h = found_keeps UnknownGlobal (value_at x s.env.globals) s h
     expression_keeps (call f ts) s h = keeps_then P Q (carried_values (Some f) [] ts) (called f) (values_keep (Some f) [] ts) (called_keeps f) s h
-    expression_keeps (assert shape ts) s h = keeps_then P Q (carried_values None [] ts) (asserted shape) (values_keep None [] ts) (kept.asserts shape) s h
-    expression_keeps (retract ts) s h = keeps_then P Q (carried_values None [] ts) retracted (values_keep None [] ts) kept.retracts s h
-    expression_keeps (bind x t) s h = keeps_then P Q (valued (carried t)) (bound x) (valued_keeps (carried t) (expression_keeps t)) (λ v u k. kept.env u (with_variable x v u.env) k) s h
-    expression_keeps (bind_global x t) s h = keeps_then P Q (valued (carried t)) (global_bound x) (valued_keeps (carried t) (expression_keeps t)) (λ v u k. kept.env u (with_global x v u.env) k) s h
+    expression_keeps (effect e ts) s h = keeps_then P Q (carried_values None [] ts) (effected e) (values_keep None [] ts) (effected_keeps e) s h
     expression_keeps (choose t u w) s h =
         keeps_then P Q (truth_of (carried t)) (λ b. chosen b (carried u) (carried w)) (tested_keeps (carried t) (expression_keeps t))
         (λ b. chosen_keeps b (carried u) (carried w) (expression_keeps u) (expression_keeps w)) s h
     expression_keeps (repeat t u) s h = rounds_keep (suc s.turns) (truth_of (carried t)) (carried u) (tested_keeps (carried t) (expression_keeps t)) (expression_keeps u) s h
     expression_keeps (actions ts) s h = all_keep (Some false_symbol) ts s h
-    expression_keeps (printout on ts) s h = keeps_then P Q (carried_values None [] ts) _ (values_keep None [] ts) (λ vs u k. k) s h
-    expression_keeps (print ts) s h = keeps_then P Q (carried_values None [] ts) _ (values_keep None [] ts) (λ vs u k. k) s h
-    expression_keeps (println ts) s h = keeps_then P Q (carried_values None [] ts) _ (values_keep None [] ts) (λ vs u k. k) s h
-    expression_keeps halt s h = kept.halted s true h
 
     pub values_keep : (f : Option Function) (vs : List Value) (ts : Terms) → Keeps P Q (carried_values f vs ts)
     values_keep f vs no_terms s h = h
@@ -117,4 +126,4 @@ module _ (P Q : World → Type 0) (kept : IsKept P Q) where
 
   pub facts_keep : (fs : List FactTerm) → Keeps P Q (all_asserted fs)
   facts_keep [] s h = h
-  facts_keep (f ∷ fs) s h = keeps_then P Q (carried (assert f.shape f.values)) (λ _. all_asserted fs) (expression_keeps (assert f.shape f.values)) (λ _. facts_keep fs) s h
+  facts_keep (f ∷ fs) s h = keeps_then P Q (carried (effect (kind.Assert f.shape) f.values)) (λ _. all_asserted fs) (expression_keeps (effect (kind.Assert f.shape) f.values)) (λ _. facts_keep fs) s h

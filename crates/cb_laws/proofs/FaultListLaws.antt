@@ -7,7 +7,7 @@ use Rattle.cb_expr_forms.specs.Laws.{AreFaultless}
 use Rattle.cb_forms.specs.Trees.{Tree, Trees, no_trees, tree, trees_of}
 use Rattle.cb_forms.specs.declared.fault.Fault.{Fault}
 use Rattle.cb_laws.specs.Written.{names_written}
-use Rattle.cb_templates.specs.FaultLists.{first_of}
+use Rattle.cb_facts.specs.FaultLists.{first_of}
 use Rattle.cb_templates.specs.TemplateFaults.{is_among}
 
 -- the name is none of those before, if there is one

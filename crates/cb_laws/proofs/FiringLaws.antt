@@ -5,8 +5,8 @@ use Rattle.cb_actions.specs.Effects.{asserted, retracted}
 use Rattle.cb_actions.specs.Acts.{Act, follow, give, stop, ◌>>=◌}
 use Rattle.cb_actions.specs.Runs.{actions_of, due_by, ran, run, spent, unless_halted, with_variables_of}
 use Rattle.cb_actions.specs.Worlds.{World}
-use Rattle.cb_actions.specs.declared.act.Ended.{Ended}
-use Rattle.cb_actions.specs.declared.act.Ended.TheVariants as ended
+use Rattle.cb_actions.specs.declared.act.EarlyEnd.{EarlyEnd}
+use Rattle.cb_actions.specs.declared.act.EarlyEnd.TheVariants as ended
 use Rattle.cb_actions.specs.declared.act.Limit.TheVariants.{Firings}
 use Rattle.cb_agenda.specs.Agendas.{popped}
 use Rattle.cb_facts.specs.declared.value.Value.{Value}
@@ -67,7 +67,7 @@ module _ (n : ℕ) (asked : Option ℕ) (done : ℕ) (more : (s : World) → s.f
   halted_within true s e = all_left n (less asked) s.firings e
   halted_within false s e = more s e
 
-  fired_within : (t : World) (w : List ℕ) (r : Result (Option Value) Ended) → t.firings ≡ n → Within n (less asked) (follow t w r (λ _. unless_halted (ran n (less asked) (done + 1)))).state.firings
+  fired_within : (t : World) (w : List ℕ) (r : Result (Option Value) EarlyEnd) → t.firings ≡ n → Within n (less asked) (follow t w r (λ _. unless_halted (ran n (less asked) (done + 1)))).state.firings
   fired_within t w (Ok v) e = halted_within t.is_halted t e
   fired_within t w (Err x) e = all_left n (less asked) t.firings e
 

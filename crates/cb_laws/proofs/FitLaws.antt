@@ -11,7 +11,7 @@ use Rattle.std.proofs.lemmas.Bool.{and_from}
 use Rattle.cb_facts.specs.Facts.{FactValue, template_fact}
 use Rattle.cb_facts.specs.Results.{ok_then, with_first}
 use Rattle.cb_facts.specs.Values.{is_multifield, spliced}
-use Rattle.cb_facts.specs.contracts.cited.LawsCited.TheImpl as facts_laws
+use Rattle.cb_facts.proofs.MemberLaws.{contains_here, contains_there}
 use Rattle.cb_facts.specs.declared.value.Value.{Value}
 use Rattle.cb_facts.specs.declared.value.Value.TheVariants as value
 use Rattle.cb_forms.specs.declared.fault.Fault.TheVariants.{FactDoesNotFit, OneValueWanted}
@@ -25,8 +25,8 @@ all_known : (slots : List SlotShape) (given : Given) → ((name : List ℕ) (vs 
     → list_all (λ g. is_some (slot_named slots g.0)) given ≡ true
 all_known slots [] known = refl
 all_known slots ((name, vs) ∷ given) known =
-    and_from (is_some (slot_named slots name)) (list_all (λ g. is_some (slot_named slots g.0)) given) (known name vs (facts_laws.ghosts.contains_here _ (name, vs) given))
-    (all_known slots given (λ other us is. known other us (facts_laws.ghosts.contains_there _ (name, vs) (other, us) given is)))
+    and_from (is_some (slot_named slots name)) (list_all (λ g. is_some (slot_named slots g.0)) given) (known name vs (contains_here (name, vs) given))
+    (all_known slots given (λ other us is. known other us (contains_there (name, vs) (other, us) given is)))
 
 -- a name that differs from all that are given is not given
 not_given : (given : Given) (name : List ℕ) → AllByRecursion (λ n. bytes_eq name n ≡ false) (given_names given) → given_for given name ≡ None

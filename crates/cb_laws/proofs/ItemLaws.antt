@@ -3,13 +3,14 @@ use Rattle.std.proofs.Common.{◌≡◌, ◌∙◌, ◌++◌, ℕ, List, [], ◌
 use Rattle.cb_actions.specs.Actions.{carried}
 use Rattle.cb_actions.specs.Acts.{follow, give_or_fault, ◌>>=◌}
 use Rattle.cb_actions.specs.Worlds.{World}
-use Rattle.cb_actions.specs.declared.act.Ended.{Ended}
-use Rattle.cb_actions.specs.declared.act.Ended.TheVariants as ended
+use Rattle.cb_actions.specs.declared.act.EarlyEnd.{EarlyEnd}
+use Rattle.cb_actions.specs.declared.act.EarlyEnd.TheVariants as ended
 use Rattle.cb_actions.specs.declared.act.Limit.{Limit}
 use Rattle.cb_expr_forms.specs.ExprFaults.{faults_of}
 use Rattle.cb_expr_forms.specs.ExprForms.{assertion, assertions, expr_of, exprs_of, fact_of, fact_with, one_of, slot_expr, slot_exprs, slot_names}
 use Rattle.cb_expr_forms.specs.Laws.{fact_giving, list_of}
-use Rattle.cb_exprs.specs.Terms.{Term, actions, call, retract, terms}
+use Rattle.cb_exprs.specs.Terms.{Term, actions, call, effect, terms}
+use Rattle.cb_exprs.specs.declared.effect.Effect.TheVariants as kind
 use Rattle.cb_facts.specs.Results.{ok_then}
 use Rattle.cb_facts.specs.declared.value.Value.{Value}
 use Rattle.cb_forms.specs.Trees.{Reading, Tree, Trees, trees_of}
@@ -24,15 +25,15 @@ use Rattle.cb_session.specs.Actions.{acted, performed_and_shown, requested, show
 use Rattle.cb_session.specs.Lines.{fault_line, limit_line}
 use Rattle.cb_session.specs.States.{State}
 use Rattle.cb_session.specs.Transcripts.{Run, concluded, executed}
-use Rattle.cb_templates.specs.FaultLists.{first_of, unless_faulty}
+use Rattle.cb_facts.specs.FaultLists.{first_of, unless_faulty}
 use Rattle.cb_templates.specs.Slots.{SlotShape, slot_named}
 use Rattle.cb_templates.specs.TemplateFaults.{template_faults}
 use Rattle.cb_templates.specs.TemplateShapes.{template_shape}
 use Rattle.cb_templates.specs.Templates.{Templates, slots_of, with_template}
 use Rattle.cb_words.specs.Words.{head_of}
-use Rattle.cb_words.specs.declared.function.Function.TheVariants as function
-use Rattle.cb_words.specs.declared.head.Action.{Action}
-use Rattle.cb_words.specs.declared.head.Head.TheVariants as head
+use Rattle.cb_words.specs.declared.words.Function.TheVariants as function
+use Rattle.cb_words.specs.declared.words.Action.{Action}
+use Rattle.cb_words.specs.declared.words.Head.TheVariants as head
 
 -- what an item does that asks for this, or that has this fault
 abbrev run_of : State → Result Request Fault → Run
@@ -45,7 +46,7 @@ unfolding executed acted
 executed_by s r asked h = ap (run_of s) h
 
 -- what an item does whose expression leaves this world, writes this and ends so
-abbrev run_after : State → World → List ℕ → Result (Option Value) Ended → Run
+abbrev run_after : State → World → List ℕ → Result (Option Value) EarlyEnd → Run
 run_after s w bytes answer =
     let it = follow (record s { world = w }) bytes answer shown in
     concluded it.state it.written it.answer
@@ -53,13 +54,13 @@ run_after s w bytes answer =
 by_expression : (s : State) (r : Reading) (t : Term) → requested s r ≡ Ok (asked.act t) → executed s r ≡ run_after s (carried t s.world).state (carried t s.world).written (carried t s.world).answer
 by_expression s r t h = executed_by s r (Ok (asked.act t)) h
 
-world_by : (s : State) (w : World) (bytes : List ℕ) (answer : Result (Option Value) Ended) → (run_after s w bytes answer).state.world ≡ w
+world_by : (s : State) (w : World) (bytes : List ℕ) (answer : Result (Option Value) EarlyEnd) → (run_after s w bytes answer).state.world ≡ w
 world_by s w bytes (Ok v) = refl
 world_by s w bytes (Err (ended.Fault f)) = refl
 world_by s w bytes (Err (ended.Limit limit)) = refl
 world_by s w bytes (Err (ended.Exit code)) = refl
 
-only_by : (s : State) (w : World) (bytes : List ℕ) (answer : Result (Option Value) Ended) → ((run_after s w bytes answer).state.deffacts ≡ s.deffacts) × ((run_after s w bytes answer).state.globals ≡ s.globals)
+only_by : (s : State) (w : World) (bytes : List ℕ) (answer : Result (Option Value) EarlyEnd) → ((run_after s w bytes answer).state.deffacts ≡ s.deffacts) × ((run_after s w bytes answer).state.globals ≡ s.globals)
 only_by s w bytes (Ok v) = (refl, refl)
 only_by s w bytes (Err (ended.Fault f)) = (refl, refl)
 only_by s w bytes (Err (ended.Limit limit)) = (refl, refl)
@@ -73,7 +74,7 @@ rest_stays s r t h =
     subst (λ (run : Run). (run.state.deffacts ≡ s.deffacts) × (run.state.globals ≡ s.globals)) (sym (by_expression s r t h))
     (only_by s (carried t s.world).state (carried t s.world).written (carried t s.world).answer)
 
-written_by : (s : State) (r : Reading) (t : Term) (answer : Result (Option Value) Ended) → requested s r ≡ Ok (asked.act t) → (carried t s.world).answer ≡ answer
+written_by : (s : State) (r : Reading) (t : Term) (answer : Result (Option Value) EarlyEnd) → requested s r ≡ Ok (asked.act t) → (carried t s.world).answer ≡ answer
     → (executed s r).written ≡ (run_after s (carried t s.world).state (carried t s.world).written answer).written
 written_by s r t answer h is = ap (λ run. run.written) (by_expression s r t h) ∙ ap (λ a. (run_after s (carried t s.world).state (carried t s.world).written a).written) is
 
@@ -136,9 +137,9 @@ single_given s t h = ap (λ b. if b then call function.Create (terms (t ∷ []))
 pub multi_given : (s : SlotShape) (ts : List Term) → s.is_multi ≡ true → slot_expr (Some s) ts ≡ call function.Create (terms ts)
 multi_given s ts h = ap (λ b. if b then call function.Create (terms ts) else one_of ts) h
 
-pub retracts : (templates : Templates) (t : Tree) (forms : List Tree) → expr_of templates (list_of (codes "retract") (trees_of (t ∷ forms))) ≡ retract (terms (map (expr_of templates) (t ∷ forms)))
+pub retracts : (templates : Templates) (t : Tree) (forms : List Tree) → expr_of templates (list_of (codes "retract") (trees_of (t ∷ forms))) ≡ effect kind.Retract (terms (map (expr_of templates) (t ∷ forms)))
 unfolding head_of
-retracts templates t forms = ap (λ ts. retract (terms (expr_of templates t ∷ ts))) (exprs_are templates forms)
+retracts templates t forms = ap (λ ts. effect kind.Retract (terms (expr_of templates t ∷ ts))) (exprs_are templates forms)
 
 -- slots as they are written
 abbrev slot_forms : List (List ℕ × List Tree) → Trees

@@ -1,12 +1,12 @@
 -- Acts that keep what holds of a state.
 use Rattle.std.proofs.Common.{List, ℕ, [], ◌∷◌, Result, Ok, Err}
 use Rattle.cb_actions.specs.Acts.{Act, each, follow, ◌>>=◌}
-use Rattle.cb_actions.specs.declared.act.Ended.{Ended}
-use Rattle.cb_actions.specs.declared.act.Ended.TheVariants as ended
+use Rattle.cb_actions.specs.declared.act.EarlyEnd.{EarlyEnd}
+use Rattle.cb_actions.specs.declared.act.EarlyEnd.TheVariants as ended
 use Rattle.cb_actions.specs.declared.act.Limit.TheVariants.{Firings, Numbers, Turns}
 
 -- what holds after an act: this, or that where it ended at the limit of numbers
-abbrev pub After : {S A : Type 0} → (S → Type 0) → (S → Type 0) → S → Result A Ended → Type 0
+abbrev pub After : {S A : Type 0} → (S → Type 0) → (S → Type 0) → S → Result A EarlyEnd → Type 0
 After P Q s (Ok a) = P s
 After P Q s (Err (ended.Fault f)) = P s
 After P Q s (Err (ended.Limit Numbers)) = Q s
@@ -18,7 +18,7 @@ After P Q s (Err (ended.Exit code)) = P s
 abbrev pub Keeps : {S A : Type 0} → (S → Type 0) → (S → Type 0) → Act S A → Type 0
 Keeps {S} P Q act = (s : S) → P s → After P Q (act s).state (act s).answer
 
-pub follow_keeps : {S A B : Type 0} (P Q : S → Type 0) (s : S) (w : List ℕ) (r : Result A Ended) (next : A → Act S B) → After P Q s r → ((a : A) → Keeps P Q (next a))
+pub follow_keeps : {S A B : Type 0} (P Q : S → Type 0) (s : S) (w : List ℕ) (r : Result A EarlyEnd) (next : A → Act S B) → After P Q s r → ((a : A) → Keeps P Q (next a))
     → After P Q (follow s w r next).state (follow s w r next).answer
 follow_keeps P Q s w (Ok a) next h more = more a s h
 follow_keeps P Q s w (Err (ended.Fault f)) next h more = h
@@ -35,7 +35,7 @@ keeps_each P Q act [] f s h = h
 keeps_each P Q act (x ∷ xs) f s h = keeps_then P Q (act x) (λ _. each act xs) (f x) (λ _. keeps_each P Q act xs f) s h
 
 -- where it makes no difference how an act ends
-pub after_any : {S A : Type 0} (P : S → Type 0) (s : S) (r : Result A Ended) → P s → After P P s r
+pub after_any : {S A : Type 0} (P : S → Type 0) (s : S) (r : Result A EarlyEnd) → P s → After P P s r
 after_any P s (Ok a) h = h
 after_any P s (Err (ended.Fault f)) h = h
 after_any P s (Err (ended.Limit Numbers)) h = h
@@ -43,7 +43,7 @@ after_any P s (Err (ended.Limit Firings)) h = h
 after_any P s (Err (ended.Limit Turns)) h = h
 after_any P s (Err (ended.Exit code)) h = h
 
-pub from_any : {S A : Type 0} (P : S → Type 0) (s : S) (r : Result A Ended) → After P P s r → P s
+pub from_any : {S A : Type 0} (P : S → Type 0) (s : S) (r : Result A EarlyEnd) → After P P s r → P s
 from_any P s (Ok a) h = h
 from_any P s (Err (ended.Fault f)) h = h
 from_any P s (Err (ended.Limit Numbers)) h = h
@@ -52,7 +52,7 @@ from_any P s (Err (ended.Limit Turns)) h = h
 from_any P s (Err (ended.Exit code)) h = h
 
 -- the same of what the state becomes
-pub after_map : {S A : Type 0} (P Q : S → Type 0) (f : S → S) (s : S) (r : Result A Ended) → ((t : S) → P t → P (f t)) → ((t : S) → Q t → Q (f t)) → After P Q s r → After P Q (f s) r
+pub after_map : {S A : Type 0} (P Q : S → Type 0) (f : S → S) (s : S) (r : Result A EarlyEnd) → ((t : S) → P t → P (f t)) → ((t : S) → Q t → Q (f t)) → After P Q s r → After P Q (f s) r
 after_map P Q f s (Ok a) p q h = p s h
 after_map P Q f s (Err (ended.Fault x)) p q h = p s h
 after_map P Q f s (Err (ended.Limit Numbers)) p q h = q s h

@@ -8,10 +8,11 @@ use Rattle.std.specs.Map.{keys_of}
 use Rattle.std.specs.Ordering.{eq_by_cmp, nat_cmp}
 use Rattle.cb_facts.specs.FactLists.{IndexedFacts, fact_at, IsFactBase}
 use Rattle.cb_facts.specs.Facts.{FactValue, fact_eq}
-use Rattle.cb_facts.specs.contracts.cited.LawsCited.TheImpl as facts_laws
+use Rattle.cb_facts.proofs.FactEquality.{fact-Decides}
+use Rattle.cb_facts.proofs.MemberLaws.{contains_here, contains_there}
 use Rattle.cb_laws.specs.Memories.{IsSound}
 use Rattle.cb_working_memory.specs.WorkingMemory.{Memory, index_of}
-use Rattle.cb_working_memory.specs.contracts.cited.LawsCited.TheImpl as memory_laws
+use Rattle.cb_working_memory.proofs.IndexOf.{index_of-there}
 
 pub base_of : (m : Memory) → IsSound m → IsFactBase m.network.facts
 base_of m sound = record { rising = sound.rising; distinct = sound.distinct }
@@ -24,8 +25,8 @@ found_in ((i, there) ∷ facts) fact ix h = by (fact_eq there fact) refl h (foun
     by : (t : Bool) → fact_eq there fact ≡ t → (if t then Some i else index_of facts fact) ≡ Some ix → (index_of facts fact ≡ Some ix → Contains facts (ix, fact)) → Contains ((i, there) ∷ facts) (ix, fact)
     by true e is more =
         let index_is : i ≡ ix = cc in
-        subst (Contains ((i, there) ∷ facts)) (ap₂ (λ (n : ℕ) (f : FactValue). (n, f)) index_is ((facts_laws.ghosts.fact_decides there fact).0 e)) (facts_laws.ghosts.contains_here _ (i, there) facts)
-    by false e is more = facts_laws.ghosts.contains_there _ (i, there) (ix, fact) facts (more is)
+        subst (Contains ((i, there) ∷ facts)) (ap₂ (λ (n : ℕ) (f : FactValue). (n, f)) index_is ((fact-Decides there fact).0 e)) (contains_here (i, there) facts)
+    by false e is more = contains_there (i, there) (ix, fact) facts (more is)
 
 pub found_there : (m : Memory) (fact : FactValue) (ix : ℕ) → IsSound m → index_of m.network.facts fact ≡ Some ix → fact_at m.network.facts ix ≡ Some fact
 found_there m fact ix sound h =
@@ -33,7 +34,7 @@ found_there m fact ix sound h =
 
 pub not_found : (m : Memory) (fact : FactValue) (ix : ℕ) → IsSound m → index_of m.network.facts fact ≡ None → fact_at m.network.facts ix ≡ Some fact → ⊥
 not_found m fact ix sound none at =
-    let there : index_of m.network.facts fact ≡ Some ix = memory_laws.ghosts.index_of_there m.network.facts fact ix (base_of m sound) at in
+    let there : index_of m.network.facts fact ≡ Some ix = index_of-there m.network.facts fact ix (base_of m sound) at in
     cc
 
 -- where facts are only taken out, the memory stays sound

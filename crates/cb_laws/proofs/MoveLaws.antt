@@ -5,8 +5,8 @@ use Rattle.cb_actions.specs.Acts.{Effect, after_writing, follow, give, stop, ◌
 use Rattle.cb_actions.specs.Changes.{activation_lines, come_line, if_watched, moved, saliences, tell}
 use Rattle.cb_actions.specs.Effects.{added_beside, added_next, fact_added}
 use Rattle.cb_actions.specs.Worlds.{World}
-use Rattle.cb_actions.specs.declared.act.Ended.{Ended}
-use Rattle.cb_actions.specs.declared.act.Ended.TheVariants as ended
+use Rattle.cb_actions.specs.declared.act.EarlyEnd.{EarlyEnd}
+use Rattle.cb_actions.specs.declared.act.EarlyEnd.TheVariants as ended
 use Rattle.cb_actions.specs.declared.act.Limit.TheVariants.{Numbers}
 use Rattle.cb_agenda.specs.Agendas.{changed, has_stamps, is_due}
 use Rattle.cb_facts.specs.Facts.{FactValue}
@@ -18,7 +18,7 @@ use Rattle.cb_matches.specs.Keys.{KeyValue}
 use Rattle.cb_working_memory.specs.WorkingMemory.{Memory, greatest_index, grown, index_of}
 
 -- The memory is the next one, whether there are stamps or not; else nothing has changed but the agenda.
-pub record Moved (s : World) (next : Memory) (line : List ℕ) (t : World) (w : List ℕ) (r : Result (Unit {0}) Ended) : Type 0 where
+pub record Moved (s : World) (next : Memory) (line : List ℕ) (t : World) (w : List ℕ) (r : Result (Unit {0}) EarlyEnd) : Type 0 where
   pub only : t ≡ record s { memory = next; agenda = t.agenda }
   pub agenda : (t.agenda ≡ s.agenda) ⊎ ((ss : List ℤ) × (t.agenda ≡ changed s.agenda (keys_gone s.memory.network next.network) (keys_come s.memory.network next.network) ss))
   pub put : r ≡ Ok tt → (ss : List ℤ) × (t.agenda ≡ changed s.agenda (keys_gone s.memory.network next.network) (keys_come s.memory.network next.network) ss)
@@ -27,7 +27,7 @@ pub record Moved (s : World) (next : Memory) (line : List ℕ) (t : World) (w : 
   pub room : has_stamps s.agenda (length (keys_come s.memory.network next.network)) ≡ true → r ≡ Ok tt
   pub no_room : has_stamps s.agenda (length (keys_come s.memory.network next.network)) ≡ false → r ≡ Err (ended.Limit Numbers)
 
-pub memory_is : (s : World) (next : Memory) (line : List ℕ) (t : World) (w : List ℕ) (r : Result (Unit {0}) Ended) → Moved s next line t w r → t.memory ≡ next
+pub memory_is : (s : World) (next : Memory) (line : List ℕ) (t : World) (w : List ℕ) (r : Result (Unit {0}) EarlyEnd) → Moved s next line t w r → t.memory ≡ next
 memory_is s next line t w r m = ap (λ (u : World). u.memory) m.only
 
 pub quiet_line : (b : Bool) → b ≡ false → (line : List ℕ) → if_watched b line ≡ []
@@ -81,7 +81,7 @@ module _ (s : World) (next : Memory) (line : List ℕ) where
 -- An assertion, by whether the fact is there, and whether an index is left.
 module _ (fact : FactValue) (s : World) (P : Effect World (Option Value) → Type 0)
     (there : (ix : ℕ) → index_of s.memory.network.facts fact ≡ Some ix → P (give (Some (value.Fact ix)) s))
-    (grows : index_of s.memory.network.facts fact ≡ None → nat_lt s.memory.last greatest_index ≡ true → (t : World) (w : List ℕ) (r : Result (Unit {0}) Ended)
+    (grows : index_of s.memory.network.facts fact ≡ None → nat_lt s.memory.last greatest_index ≡ true → (t : World) (w : List ℕ) (r : Result (Unit {0}) EarlyEnd)
     → Moved s (grown fact s.memory) (come_line s (s.memory.last + 1) fact) t w r → P (follow t w r (λ _. give (Some (value.Fact (s.memory.last + 1))))))
     (full : index_of s.memory.network.facts fact ≡ None → nat_lt s.memory.last greatest_index ≡ false → P (stop (ended.Limit Numbers) s)) where
   by_room : index_of s.memory.network.facts fact ≡ None → (b : Bool) → nat_lt s.memory.last greatest_index ≡ b

@@ -5,8 +5,8 @@ use Rattle.cb_forms.specs.Trees.{Tree, Trees}
 use Rattle.cb_forms.specs.declared.fault.Fault.{Fault}
 use Rattle.cb_forms.specs.declared.fault.Fault.TheVariants.{MalformedForm, TemplateInUse}
 use Rattle.cb_laws.specs.Written.{slot_word}
-use Rattle.cb_templates.specs.FaultLists.{first_of, unless}
-use Rattle.cb_templates.specs.Reserved.{is_reserved}
+use Rattle.cb_facts.specs.FaultLists.{first_of, unless}
+use Rattle.cb_words.specs.Reserved.{is_reserved}
 use Rattle.cb_templates.specs.TemplateFaults.{attributes_faults, is_among, kept_faults, named_slot_faults, named_template_faults, slot_form_faults, slots_form_faults, template_faults}
 use Rattle.cb_templates.specs.TemplateShapes.{default_in, types_in}
 use Rattle.cb_templates.specs.Templates.{without_comment}

@@ -3,7 +3,7 @@ use Rattle.std.proofs.Common.{◌≡◌, ◌∙◌, ◌++◌, List, [], ◌∷�
 use Rattle.cb_forms.specs.Members.{symbol_of}
 use Rattle.cb_forms.specs.Trees.{Tree, trees_of}
 use Rattle.cb_forms.specs.declared.fault.Fault.{Fault}
-use Rattle.cb_templates.specs.FaultLists.{first_of}
+use Rattle.cb_facts.specs.FaultLists.{first_of}
 use Rattle.cb_templates.specs.TemplateFaults.{constant_faults, constants_faults, type_name_faults, types_faults}
 
 first_in : (fs gs : List Fault) (f : Fault) → first_of fs ≡ Some f → first_of (fs ++ gs) ≡ Some f

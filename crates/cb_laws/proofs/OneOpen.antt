@@ -8,7 +8,8 @@ use Rattle.cb_forms.specs.Lists.{list_reading}
 use Rattle.cb_forms.specs.Pieces.{lexeme_of, lexemes, string_token}
 use Rattle.cb_forms.specs.Trees.{Reading, atom}
 use Rattle.cb_forms.specs.Words.{token_of}
-use Rattle.cb_forms.specs.contracts.cited.LawsCited.TheImpl as forms_laws
+use Rattle.cb_forms.proofs.CuttingLaws.{are_cut-cut, cut-joined}
+use Rattle.cb_forms.proofs.OpenPartLaws.{open-no_gap}
 use Rattle.cb_forms.specs.declared.fault.Fault.{Fault}
 use Rattle.cb_forms.specs.declared.fault.Fault.TheVariants.{FormNotClosed, UnmatchedParenthesis}
 use Rattle.cb_forms.specs.declared.lexeme.Lexeme.TheVariants.{Atom, Closing, Gap, Opening}
@@ -48,13 +49,13 @@ one_said (c ∷ cs) h = by (c == opening) refl
         → (r : Reading) × ((if t then (if is_open_list (c ∷ cs) then Err FormNotClosed else list_reading (lexemes (c ∷ cs))) ∷ [] else piece_readings (lexeme_of (c ∷ cs))) ≡ r ∷ [])
     by true e = (if is_open_list (c ∷ cs) then Err FormNotClosed else list_reading (lexemes (c ∷ cs)), refl)
     by false e =
-        piece_one (is_blank c || c == semicolon) (c == opening) (c == closing) (c == ampersand) (c == bar) (c == tilde) (c == quote) (string_token cs) (token_of (c ∷ cs)) (forms_laws.ghosts.open_no_gap (c ∷ cs) h) e
+        piece_one (is_blank c || c == semicolon) (c == opening) (c == closing) (c == ampersand) (c == bar) (c == tilde) (c == quote) (string_token cs) (token_of (c ∷ cs)) (open-no_gap (c ∷ cs) h) e
 
 open_part_alone : (p : List ℕ) → is_open (last_part (parts p)) ≡ true → parts (last_part (parts p)) ≡ last_part (parts p) ∷ []
 unfolding parts
 open_part_alone p h =
     ap parts (sym (append-nil (last_part (parts p))))
-    ∙ forms_laws.ghosts.cut_joined _ part_takes (last_part (parts p) ∷ []) (cut_alone (parts p) (forms_laws.ghosts.are_cut_cut _ part_takes p) h)
+    ∙ cut-joined part_takes (last_part (parts p) ∷ []) (cut_alone (parts p) (are_cut-cut part_takes p) h)
 
 by_open : (p : List ℕ) (t : Bool) → is_open (last_part (parts p)) ≡ t → rest p ≢ [] → (r : Reading) × (items (rest p) ≡ r ∷ [])
 unfolding items

@@ -4,7 +4,9 @@ use Rattle.std.proofs.lemmas.List.{append_cancel_right}
 use Rattle.std.specs.List.{flat_map, list_any}
 use Rattle.cb_forms.specs.Cutting.{AreCut, joined}
 use Rattle.cb_forms.specs.Items.{but_last, fitting, fitting_parts, is_gap, is_longer, is_open, items, last_part, over, part_takes, parts, readings_of, rest, whole}
-use Rattle.cb_forms.specs.contracts.cited.LawsCited.TheImpl as forms_laws
+use Rattle.cb_forms.proofs.CuttingLaws.{are_cut-cut, are_cut-front, cut-joined, joined-cut}
+use Rattle.cb_forms.proofs.Lasts.{list_any-split}
+use Rattle.cb_forms.proofs.OpenPartLaws.{open-no_gap}
 
 -- a text whose last part is an open item: what stands before it, and the parts of that
 pub record EndsOpen (p before : List ℕ) : Type 0 where
@@ -28,10 +30,10 @@ ends_open : (p : List ℕ) → is_open (last_part (parts p)) ≡ true → EndsOp
 unfolding parts
 ends_open p h =
     let split = open_apart (parts p) h in
-    let each : AreCut part_takes (but_last (parts p)) = forms_laws.ghosts.are_cut_front _ part_takes (but_last (parts p)) (last_part (parts p) ∷ []) (subst (AreCut part_takes) split (forms_laws.ghosts.are_cut_cut _ part_takes p)) in
+    let each : AreCut part_takes (but_last (parts p)) = are_cut-front part_takes (but_last (parts p)) (last_part (parts p) ∷ []) (subst (AreCut part_takes) split (are_cut-cut part_takes p)) in
     record {
-      together = sym (forms_laws.ghosts.joined_cut _ part_takes p) ∙ ap joined split ∙ joined_last (but_last (parts p)) (last_part (parts p));
-      parts_are = forms_laws.ghosts.cut_joined _ part_takes (but_last (parts p)) each;
+      together = sym (joined-cut part_takes p) ∙ ap joined split ∙ joined_last (but_last (parts p)) (last_part (parts p));
+      parts_are = cut-joined part_takes (but_last (parts p)) each;
       split = split;
     }
 
@@ -56,7 +58,7 @@ before_open p before e h =
 pub over_before : (limit : ℕ) (p before : List ℕ) → EndsOpen p before → over limit p ≡ (over limit before || is_longer limit (last_part (parts p)))
 unfolding over
 over_before limit p before it =
-    forms_laws.ghosts.list_any_split (is_longer limit) refl (parts p) ∙ ap (λ ws. list_any (is_longer limit) ws || is_longer limit (last_part (parts p))) (sym it.parts_are)
+    list_any-split (is_longer limit) refl (parts p) ∙ ap (λ ws. list_any (is_longer limit) ws || is_longer limit (last_part (parts p))) (sym it.parts_are)
 
 none_more : (limit : ℕ) (ws : List (List ℕ)) (w : List ℕ) → is_longer limit w ≡ true → list_any (is_longer limit) ws ≡ false → fitting_parts limit (ws ++ w ∷ []) ≡ ws
 none_more limit [] w long none = ap (λ t. if t then [] else w ∷ []) long
@@ -103,6 +105,6 @@ not_longer limit w h = by (is_gap w) (nat_lt limit (length w)) refl
 
 pub is_longer_open : (limit : ℕ) (w : List ℕ) → is_open w ≡ true → limit < length w → is_longer limit w ≡ true
 is_longer_open limit w opens h =
-    let no_gap : is_gap w ≡ false = forms_laws.ghosts.open_no_gap w opens in
+    let no_gap : is_gap w ≡ false = open-no_gap w opens in
     let long : nat_lt limit (length w) ≡ true = search rules in
     ap (λ t. not t && nat_lt limit (length w)) no_gap ∙ long

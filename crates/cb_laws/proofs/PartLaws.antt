@@ -9,8 +9,8 @@ use Rattle.cb_forms.specs.declared.fault.Fault.{Fault}
 use Rattle.cb_forms.specs.declared.fault.Fault.TheVariants.{MalformedForm, TemplateInUse, ValueNotAllowed}
 use Rattle.cb_laws.proofs.FaultListLaws.{none_of_both}
 use Rattle.cb_laws.specs.Written.{IsSlotForm, IsTemplateForm, slot_word}
-use Rattle.cb_templates.specs.FaultLists.{unless}
-use Rattle.cb_templates.specs.Reserved.{is_reserved}
+use Rattle.cb_facts.specs.FaultLists.{unless}
+use Rattle.cb_words.specs.Reserved.{is_reserved}
 use Rattle.cb_templates.specs.Slots.{Types, allows_all}
 use Rattle.cb_templates.specs.TemplateFaults.{attributes_faults, kept_faults, kind_faults, named_slot_faults, named_template_faults, slot_form_faults, slots_form_faults, template_faults}
 use Rattle.cb_templates.specs.TemplateShapes.{default_in, kind_of, types_in}

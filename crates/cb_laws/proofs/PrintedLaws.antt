@@ -18,7 +18,7 @@ use Rattle.cb_forms.specs.Pieces.{lexeme_of, piece_takes}
 use Rattle.cb_forms.specs.Strings.{escaped_content_of, is_unclosed, is_unclosed_escaped, string_content}
 use Rattle.cb_forms.specs.Trees.{Reading, atom}
 use Rattle.cb_forms.specs.Words.{after_digits, digits_value, integer_token, is_digits, is_empty, spells_integer, plain_token, token_of, without_sign}
-use Rattle.cb_forms.specs.contracts.cited.LawsCited.TheImpl as forms_laws
+use Rattle.cb_forms.proofs.ReadingLaws.{reads-one}
 use Rattle.cb_forms.specs.declared.fault.Fault.TheVariants.{FormNotClosed, IntegerOutOfRange}
 use Rattle.cb_forms.specs.declared.token.Token.TheVariants as token
 use Rattle.cb_functions.specs.Arithmetic.{fits_64_bits}
@@ -34,7 +34,7 @@ no false x y e = refl
 -- a text that is one part
 one-part : (w : List ℕ) (r : Reading) → AreCut part_takes (w ∷ []) → readings_of w ≡ r ∷ [] → items w ≡ r ∷ []
 one-part w r cut e =
-    sym (forms_laws.ghosts.reads_one w (r ∷ []) (w ∷ [], record { together = append-nil w; each = cut }, sym (append-nil (readings_of w) ∙ e)))
+    sym (reads-one w (r ∷ []) (w ∷ [], record { together = append-nil w; each = cut }, sym (append-nil (readings_of w) ∙ e)))
 
 -- the bytes close no string, whatever follows
 abbrev Through : List ℕ → Type 0

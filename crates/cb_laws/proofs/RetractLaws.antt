@@ -12,12 +12,12 @@ use Rattle.cb_actions.specs.Acts.{Act, each, follow, stop}
 use Rattle.cb_actions.specs.Changes.{gone_line, moved}
 use Rattle.cb_actions.specs.Effects.{fact_gone, gone_if, index_named, is_retractable, retracted_one, taken_by}
 use Rattle.cb_actions.specs.Worlds.{World}
-use Rattle.cb_actions.specs.declared.act.Ended.{Ended}
-use Rattle.cb_actions.specs.declared.act.Ended.TheVariants as ended
+use Rattle.cb_actions.specs.declared.act.EarlyEnd.{EarlyEnd}
+use Rattle.cb_actions.specs.declared.act.EarlyEnd.TheVariants as ended
 use Rattle.cb_actions.specs.declared.act.Limit.TheVariants.{Numbers}
 use Rattle.cb_facts.specs.FactLists.{IndexedFacts, fact_at}
 use Rattle.cb_facts.specs.Facts.{FactValue}
-use Rattle.cb_facts.specs.contracts.cited.LawsCited.TheImpl as facts_laws
+use Rattle.cb_facts.proofs.MemberLaws.{is_at-Decides}
 use Rattle.cb_facts.specs.declared.value.Value.{Value}
 use Rattle.cb_facts.specs.declared.value.Value.TheVariants as value
 use Rattle.cb_forms.specs.declared.fault.Fault.TheVariants.{NoSuchFact}
@@ -37,7 +37,7 @@ left_without m sound i ix =
     ∙ ap (λ t. cond t None (fact_at m.network.facts ix)) (unsigned_tied i ix)
   where
     one : (x y : ℕ) → is_at (nat_cmp i) x ≡ true → is_at (nat_cmp i) y ≡ eq_by_cmp nat_cmp x y
-    one x y e = ap (λ n. is_at (nat_cmp n) y) ((facts_laws.ghosts.is_at_decides i x).0 e)
+    one x y e = ap (λ n. is_at (nat_cmp n) y) ((is_at-Decides i x).0 e)
 
 kept : (t : Bool) (o : Option FactValue) (fact : FactValue) → (if t then None else o) ≡ Some fact → o ≡ Some fact
 kept true o fact h = absurd (cc)
@@ -58,7 +58,7 @@ pub record Takes (s t : World) (w : List ℕ) : Type 0 where
   pub proper : IsProper s.agenda → IsProper t.agenda
   pub quiet : IsUnwatched s → w ≡ []
 
-abbrev Ends : Result (Unit {0}) Ended → Type 0
+abbrev Ends : Result (Unit {0}) EarlyEnd → Type 0
 Ends r = (r ≡ Ok tt) ⊎ (r ≡ Err (ended.Limit Numbers))
 
 same_rest : (s : World) → ChangesFactsOnly s s
@@ -87,7 +87,7 @@ takes_both s t u w v first more = record {
   quiet = λ h. ap (λ ws. ws ++ v) (first.quiet h) ∙ more.quiet (still_unwatched s t first.changes h);
 }
 
-takes_then : (s t : World) (w : List ℕ) (r : Result (Unit {0}) Ended) (next : Act World (Unit {0})) → Takes s t w → Takes t (next t).state (next t).written
+takes_then : (s t : World) (w : List ℕ) (r : Result (Unit {0}) EarlyEnd) (next : Act World (Unit {0})) → Takes s t w → Takes t (next t).state (next t).written
     → Takes s (follow t w r (λ _. next)).state (follow t w r (λ _. next)).written
 takes_then s t w (Ok v) next first more = takes_both s t (next t).state w (next t).written first more
 takes_then s t w (Err e) next first more = first
@@ -101,7 +101,7 @@ takes_each act (x ∷ xs) s one = takes_then s (act x s).state (act x s).written
 gone_takes : (i : ℕ) (s : World) → Takes s (fact_gone i s).state (fact_gone i s).written
 gone_takes i s = by (fact_at s.memory.network.facts i)
   where
-    takes : (f : FactValue) (t : World) (w : List ℕ) (r : Result (Unit {0}) Ended) → Moved s (without i s.memory) (gone_line s i (Some f)) t w r → Takes s t w
+    takes : (f : FactValue) (t : World) (w : List ℕ) (r : Result (Unit {0}) EarlyEnd) → Moved s (without i s.memory) (gone_line s i (Some f)) t w r → Takes s t w
     takes f t w r m =
         let is : t.memory ≡ without i s.memory = memory_is _ _ _ t w r m in
         record {
@@ -145,12 +145,12 @@ gone_left i s sound ix = by (fact_at s.memory.network.facts i) refl
         ap (λ (n : Memory). fact_at n.network.facts ix) (memory_is _ _ _ _ _ _ m) ∙ left_without s.memory sound i ix
 
 -- each act of a list, by how its first ends
-module _ {X : Type 0} (act : X → Act World (Unit {0})) (P : Result (Unit {0}) Ended → Type 0) (done : P (Ok tt)) (one : (x : X) (s : World) → P (act x s).answer) where
+module _ {X : Type 0} (act : X → Act World (Unit {0})) (P : Result (Unit {0}) EarlyEnd → Type 0) (done : P (Ok tt)) (one : (x : X) (s : World) → P (act x s).answer) where
   pub each_ends_so : (xs : List X) (s : World) → P (each act xs s).answer
   each_ends_so [] s = done
   each_ends_so (x ∷ xs) s = by (act x s).answer (one x s) (λ t. each_ends_so xs t)
     where
-      by : (r : Result (Unit {0}) Ended) → P r → ((t : World) → P (each act xs t).answer) → P (follow (act x s).state (act x s).written r (λ _. each act xs)).answer
+      by : (r : Result (Unit {0}) EarlyEnd) → P r → ((t : World) → P (each act xs t).answer) → P (follow (act x s).state (act x s).written r (λ _. each act xs)).answer
       by (Ok v) h more = more (act x s).state
       by (Err e) h more = h
 
@@ -169,7 +169,7 @@ each_left : (ixs : List ℕ) (s : World) → IsSound s.memory → (each fact_gon
 each_left [] s sound h ix = refl
 each_left (i ∷ ixs) s sound h ix = by (fact_gone i s).answer h (λ t is e. each_left ixs t is e ix)
   where
-    by : (r : Result (Unit {0}) Ended) → (follow (fact_gone i s).state (fact_gone i s).written r (λ _. each fact_gone ixs)).answer ≡ Ok tt
+    by : (r : Result (Unit {0}) EarlyEnd) → (follow (fact_gone i s).state (fact_gone i s).written r (λ _. each fact_gone ixs)).answer ≡ Ok tt
         → ((t : World) → IsSound t.memory → (each fact_gone ixs t).answer ≡ Ok tt → fact_at (each fact_gone ixs t).state.memory.network.facts ix ≡ (if list_any (λ j. j == ix) ixs then None else fact_at t.memory.network.facts ix))
         → fact_at (follow (fact_gone i s).state (fact_gone i s).written r (λ _. each fact_gone ixs)).state.memory.network.facts ix ≡ (if (i == ix) || list_any (λ j. j == ix) ixs then None else fact_at s.memory.network.facts ix)
     by (Ok v) is more =
@@ -185,7 +185,7 @@ all_named ((i, f) ∷ facts) ix = by (i == ix) refl (is_at (nat_cmp ix) i) refl 
         → (if t || list_any (λ j. j == ix) (keys_of facts) then None else cond u (Some f) (fact_at facts ix)) ≡ None
     by true e u d more = refl
     by false e true d more =
-        let yes : (i == ix) ≡ true = (unsigned_Decides i ix).1 (sym ((facts_laws.ghosts.is_at_decides ix i).0 d)) in
+        let yes : (i == ix) ≡ true = (unsigned_Decides i ix).1 (sym ((is_at-Decides ix i).0 d)) in
         absurd (cc)
     by false e false d more = more
 
@@ -196,7 +196,7 @@ all_left_none s sound h ix = each_left (keys_of s.memory.network.facts) s sound 
 no_facts : (facts : IndexedFacts) → ((ix : ℕ) → fact_at facts ix ≡ None) → facts ≡ []
 no_facts [] h = refl
 no_facts ((i, f) ∷ facts) h =
-    let here : fact_at ((i, f) ∷ facts) i ≡ Some f = ap (λ t. cond t (Some f) (fact_at facts i)) ((facts_laws.ghosts.is_at_decides i i).1 refl) in
+    let here : fact_at ((i, f) ∷ facts) i ≡ Some f = ap (λ t. cond t (Some f) (fact_at facts i)) ((is_at-Decides i i).1 refl) in
     let none : fact_at ((i, f) ∷ facts) i ≡ None = h i in
     absurd (cc)
 
@@ -223,10 +223,10 @@ pub values_take : (vs : List Value) (s : World) → Takes s (each retracted_one 
 values_take vs s = takes_each retracted_one vs s one_takes
 
 -- the ways in which the retraction of values ends
-abbrev pub EndsSo : Result (Unit {0}) Ended → Type 0
+abbrev pub EndsSo : Result (Unit {0}) EarlyEnd → Type 0
 EndsSo r = (r ≡ Ok tt) ⊎ ((r ≡ Err (ended.Fault NoSuchFact)) ⊎ (r ≡ Err (ended.Limit Numbers)))
 
-ends_so : (r : Result (Unit {0}) Ended) → Ends r → EndsSo r
+ends_so : (r : Result (Unit {0}) EarlyEnd) → Ends r → EndsSo r
 ends_so r (inl h) = inl h
 ends_so r (inr h) = inr (inr h)
 
@@ -248,7 +248,7 @@ one_ends (value.Multi fields) s = ends_so (each fact_gone (keys_of s.memory.netw
 pub values_end : (vs : List Value) (s : World) → EndsSo (each retracted_one vs s).answer
 values_end vs s = each_ends_so retracted_one EndsSo (inl refl) one_ends vs s
 
-no_fault : (r : Result (Unit {0}) Ended) → Ends r → r ≡ Err (ended.Fault NoSuchFact) → ⊥
+no_fault : (r : Result (Unit {0}) EarlyEnd) → Ends r → r ≡ Err (ended.Fault NoSuchFact) → ⊥
 no_fault r (inl e) h = cc
 no_fault r (inr e) h = cc
 
@@ -303,7 +303,7 @@ pub fine : (vs : List Value) (s : World) → IsSound s.memory → list_all is_re
 fine [] s sound may h = none_named s.memory
 fine (v ∷ vs) s sound may h = by (retracted_one v s).answer refl h (λ t. fine vs t)
   where
-    by : (r : Result (Unit {0}) Ended) → (retracted_one v s).answer ≡ r → (follow (retracted_one v s).state (retracted_one v s).written r (λ _. each retracted_one vs)).answer ≡ Ok tt
+    by : (r : Result (Unit {0}) EarlyEnd) → (retracted_one v s).answer ≡ r → (follow (retracted_one v s).state (retracted_one v s).written r (λ _. each retracted_one vs)).answer ≡ Ok tt
         → ((t : World) → IsSound t.memory → list_all is_retractable vs ≡ true → (each retracted_one vs t).answer ≡ Ok tt → LeavesUnnamed t.memory vs (each retracted_one vs t).state.memory)
         → LeavesUnnamed s.memory (v ∷ vs) (follow (retracted_one v s).state (retracted_one v s).written r (λ _. each retracted_one vs)).state.memory
     by (Ok u) e is more =
@@ -320,7 +320,7 @@ fault (v ∷ vs) s sound may h = by (retracted_one v s).answer refl h (λ t. fau
     may_first : is_retractable v ≡ true
     may_first = first_so (is_retractable v) (list_all is_retractable vs) may
 
-    by : (r : Result (Unit {0}) Ended) → (retracted_one v s).answer ≡ r → (follow (retracted_one v s).state (retracted_one v s).written r (λ _. each retracted_one vs)).answer ≡ Err (ended.Fault NoSuchFact)
+    by : (r : Result (Unit {0}) EarlyEnd) → (retracted_one v s).answer ≡ r → (follow (retracted_one v s).state (retracted_one v s).written r (λ _. each retracted_one vs)).answer ≡ Err (ended.Fault NoSuchFact)
         → ((t : World) → IsSound t.memory → list_all is_retractable vs ≡ true → (each retracted_one vs t).answer ≡ Err (ended.Fault NoSuchFact) → LeavesUpToMissing t vs (each retracted_one vs t).state)
         → LeavesUpToMissing s (v ∷ vs) (follow (retracted_one v s).state (retracted_one v s).written r (λ _. each retracted_one vs)).state
     by (Err x) e is next =
@@ -354,7 +354,7 @@ pub ends : (before after : List Value) (wrong : Value) (s : World) → (each ret
 ends [] after wrong s h none = ap (λ x. (follow (retracted_one wrong s).state (retracted_one wrong s).written x (λ _. each retracted_one after)).answer) (ends_at s wrong none)
 ends (v ∷ before) after wrong s h none = by (retracted_one v s).answer h none (λ t. ends before after wrong t)
   where
-    by : (r : Result (Unit {0}) Ended) → (follow (retracted_one v s).state (retracted_one v s).written r (λ _. each retracted_one before)).answer ≡ Ok tt
+    by : (r : Result (Unit {0}) EarlyEnd) → (follow (retracted_one v s).state (retracted_one v s).written r (λ _. each retracted_one before)).answer ≡ Ok tt
         → IsMissing (follow (retracted_one v s).state (retracted_one v s).written r (λ _. each retracted_one before)).state.memory wrong
         → ((t : World) → (each retracted_one before t).answer ≡ Ok tt → IsMissing (each retracted_one before t).state.memory wrong → (each retracted_one (before ++ wrong ∷ after) t).answer ≡ Err (ended.Fault NoSuchFact))
         → (follow (retracted_one v s).state (retracted_one v s).written r (λ _. each retracted_one (before ++ wrong ∷ after))).answer ≡ Err (ended.Fault NoSuchFact)

@@ -4,8 +4,8 @@ use Rattle.std.specs.List.{list_all}
 use Rattle.cb_actions.specs.Acts.{Effect, each, follow, give, stop, ◌>>=◌}
 use Rattle.cb_actions.specs.Effects.{is_retractable, retracted, retracted_one}
 use Rattle.cb_actions.specs.Worlds.{World}
-use Rattle.cb_actions.specs.declared.act.Ended.{Ended}
-use Rattle.cb_actions.specs.declared.act.Ended.TheVariants as ended
+use Rattle.cb_actions.specs.declared.act.EarlyEnd.{EarlyEnd}
+use Rattle.cb_actions.specs.declared.act.EarlyEnd.TheVariants as ended
 use Rattle.cb_actions.specs.declared.act.Limit.TheVariants.{Numbers}
 use Rattle.cb_facts.specs.declared.value.Value.{Value}
 use Rattle.cb_forms.specs.declared.fault.Fault.TheVariants.{NoSuchFact, WrongType}
@@ -18,18 +18,18 @@ module _ (vs : List Value) (s : World) where
   abbrev after_check : Bool → Effect World (Option Value)
   after_check t = if t then (each retracted_one vs >>= (λ _. give None)) s else stop (ended.Fault WrongType) s
 
-  abbrev ended_so : Result (Unit {0}) Ended → Effect World (Option Value)
+  abbrev ended_so : Result (Unit {0}) EarlyEnd → Effect World (Option Value)
   ended_so r = follow (each retracted_one vs s).state (each retracted_one vs s).written r (λ _. give None)
 
-  state_is : (r : Result (Unit {0}) Ended) → (ended_so r).state ≡ (each retracted_one vs s).state
+  state_is : (r : Result (Unit {0}) EarlyEnd) → (ended_so r).state ≡ (each retracted_one vs s).state
   state_is (Ok v) = refl
   state_is (Err e) = refl
 
-  is_ok : (r : Result (Unit {0}) Ended) (answer : Option Value) → (ended_so r).answer ≡ Ok answer → r ≡ Ok tt
+  is_ok : (r : Result (Unit {0}) EarlyEnd) (answer : Option Value) → (ended_so r).answer ≡ Ok answer → r ≡ Ok tt
   is_ok (Ok v) answer h = refl
   is_ok (Err e) answer h = absurd (cc)
 
-  is_err : (r : Result (Unit {0}) Ended) (e : Ended) → (ended_so r).answer ≡ Err e → r ≡ Err e
+  is_err : (r : Result (Unit {0}) EarlyEnd) (e : EarlyEnd) → (ended_so r).answer ≡ Err e → r ≡ Err e
   is_err (Ok v) e h = absurd (cc)
   is_err (Err x) e h =
       let same : x ≡ e = cc in
@@ -50,7 +50,7 @@ module _ (vs : List Value) (s : World) where
   pub missing_left : IsSound s.memory → (retracted vs s).answer ≡ Err (ended.Fault NoSuchFact) → LeavesUpToMissing s vs (retracted vs s).state
   missing_left sound h = missing_by (list_all is_retractable vs) sound refl h
 
-  not_wrong : (r : Result (Unit {0}) Ended) → EndsSo r → r ≡ Err (ended.Fault WrongType) → ⊥
+  not_wrong : (r : Result (Unit {0}) EarlyEnd) → EndsSo r → r ≡ Err (ended.Fault WrongType) → ⊥
   not_wrong r (inl e) h = cc
   not_wrong r (inr (inl e)) h = cc
   not_wrong r (inr (inr e)) h = cc
@@ -65,7 +65,7 @@ module _ (vs : List Value) (s : World) where
   pub wrong_first : list_all is_retractable vs ≡ false → (retracted vs s).answer ≡ Err (ended.Fault WrongType)
   wrong_first h = ap (λ t. (after_check t).answer) h
 
-  answers_by : (r : Result (Unit {0}) Ended) → EndsSo r → ((ended_so r).answer ≡ Ok None) ⊎ (((ended_so r).answer ≡ Err (ended.Fault NoSuchFact)) ⊎ ((ended_so r).answer ≡ Err (ended.Limit Numbers)))
+  answers_by : (r : Result (Unit {0}) EarlyEnd) → EndsSo r → ((ended_so r).answer ≡ Ok None) ⊎ (((ended_so r).answer ≡ Err (ended.Fault NoSuchFact)) ⊎ ((ended_so r).answer ≡ Err (ended.Limit Numbers)))
   answers_by r (inl e) = inl (ap (λ x. (ended_so x).answer) e)
   answers_by r (inr (inl e)) = inr (inl (ap (λ x. (ended_so x).answer) e))
   answers_by r (inr (inr e)) = inr (inr (ap (λ x. (ended_so x).answer) e))
@@ -78,7 +78,7 @@ module _ (vs : List Value) (s : World) where
   retract_answers h = checked_answers (list_all is_retractable vs) h
 
   -- what holds however it ends
-  takes_so : (r : Result (Unit {0}) Ended) → Takes s (each retracted_one vs s).state (each retracted_one vs s).written → Takes s (ended_so r).state (ended_so r).written
+  takes_so : (r : Result (Unit {0}) EarlyEnd) → Takes s (each retracted_one vs s).state (each retracted_one vs s).written → Takes s (ended_so r).state (ended_so r).written
   takes_so (Ok v) h = takes_both s (each retracted_one vs s).state (each retracted_one vs s).state (each retracted_one vs s).written [] h (takes_none (each retracted_one vs s).state)
   takes_so (Err e) h = h
 

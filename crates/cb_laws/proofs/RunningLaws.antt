@@ -3,7 +3,7 @@ use Rattle.std.proofs.Common.{◌≡◌, ◌∙◌, ◌++◌, ◌∷◌, ℕ, Bo
 use Rattle.std.proofs.lemmas.Bool.{true≢false}
 use Rattle.cb_forms.specs.Items.{items, over, whole}
 use Rattle.cb_forms.specs.Trees.{Reading}
-use Rattle.cb_forms.specs.contracts.cited.LawsCited.TheImpl as forms_laws
+use Rattle.cb_forms.proofs.FittingLaws.{fitting-items, over-kept_all}
 use Rattle.cb_laws.proofs.OpenLaws.{complete_by, so_far_by}
 use Rattle.cb_laws.specs.Running.{IsCarriedOut}
 use Rattle.cb_session.specs.Setups.{Setup}
@@ -24,7 +24,7 @@ fits_before setup p q fine = by (over setup.max_form p) refl
   where
     by : (b : Bool) → over setup.max_form p ≡ b → b ≡ false
     by false e = refl
-    by true e = absurd (true≢false (sym (forms_laws.ghosts.over_kept_all setup.max_form p q e) ∙ fine))
+    by true e = absurd (true≢false (sym (over-kept_all setup.max_form p q e) ∙ fine))
 
 pub next_carried : (setup : Setup) (p q : List ℕ) (r : Reading) → over setup.max_form (p ++ q) ≡ false → whole (p ++ q) ≡ whole p ++ r ∷ [] → (so_far setup p).status ≡ None
     → IsCarriedOut (so_far setup p) r (so_far setup (p ++ q))
@@ -39,7 +39,7 @@ next_carried setup p q r fine one none =
 
 -- at the end of a script
 ended : (setup : Setup) (s : List ℕ) → over setup.max_form s ≡ false → complete setup s ≡ after_all (begun setup) (items s)
-ended setup s fine = complete_by setup s false fine ∙ ap (after_all (begun setup)) (forms_laws.ghosts.fitting_items setup.max_form s fine)
+ended setup s fine = complete_by setup s false fine ∙ ap (after_all (begun setup)) (fitting-items setup.max_form s fine)
 
 pub last_carried : (setup : Setup) (s : List ℕ) (r : Reading) → over setup.max_form s ≡ false → items s ≡ whole s ++ r ∷ [] → (so_far setup s).status ≡ None
     → IsCarriedOut (so_far setup s) r (complete setup s)

@@ -7,8 +7,8 @@ use Rattle.cb_actions.specs.Commands.{watched_so}
 use Rattle.cb_actions.specs.Definitions.{all_asserted, all_evaluated, globals_defined}
 use Rattle.cb_actions.specs.Runs.{cleared_world, restarted_world}
 use Rattle.cb_actions.specs.Worlds.{World}
-use Rattle.cb_actions.specs.declared.act.Ended.{Ended}
-use Rattle.cb_actions.specs.declared.act.Ended.TheVariants as ended
+use Rattle.cb_actions.specs.declared.act.EarlyEnd.{EarlyEnd}
+use Rattle.cb_actions.specs.declared.act.EarlyEnd.TheVariants as ended
 use Rattle.cb_agenda.specs.declared.strategy.Strategy.TheVariants.{Depth}
 use Rattle.cb_actions.specs.declared.act.Limit.TheVariants.{Firings, Numbers, Turns}
 use Rattle.cb_exprs.specs.FactTerms.{FactTerm}
@@ -41,21 +41,21 @@ use Rattle.cb_session.specs.States.{State, first_state}
 use Rattle.cb_session.specs.Transcripts.{Run, after, after_all, after_status, begun, complete, concluded, executed, so_far, too_long, too_long_status}
 use Rattle.cb_working_memory.specs.WorkingMemory.{greatest_index}
 use Rattle.cb_session.specs.declared.status.Status.{Status}
-use Rattle.cb_templates.specs.FaultLists.{unless, unless_faulty}
-use Rattle.cb_templates.specs.Reserved.{is_reserved}
+use Rattle.cb_facts.specs.FaultLists.{unless, unless_faulty}
+use Rattle.cb_words.specs.Reserved.{is_reserved}
 use Rattle.cb_templates.specs.Slots.{SlotShape}
 use Rattle.cb_templates.specs.TemplateFaults.{named_template_faults, slots_form_faults}
 use Rattle.cb_templates.specs.TemplateShapes.{slots_said, template_said}
 use Rattle.cb_templates.specs.Internal.SlotReads.{slots_after}
 use Rattle.cb_templates.specs.Templates.{with_template, without_comment}
-use Rattle.cb_templates.specs.contracts.cited.LawsCited.TheImpl as templates_laws
+use Rattle.cb_templates.proofs.TemplateFaultLaws.{slots_said_so}
 use Rattle.cb_words.specs.Words.{head_of}
-use Rattle.cb_words.specs.declared.head.Command.{Command as Word}
-use Rattle.cb_words.specs.declared.head.Command.TheVariants as word
-use Rattle.cb_words.specs.declared.head.Construct.{Construct}
-use Rattle.cb_words.specs.declared.head.Construct.TheVariants as construct
-use Rattle.cb_words.specs.declared.head.Head.{Head}
-use Rattle.cb_words.specs.declared.head.Head.TheVariants as head
+use Rattle.cb_words.specs.declared.words.Command.{Command as Word}
+use Rattle.cb_words.specs.declared.words.Command.TheVariants as word
+use Rattle.cb_words.specs.declared.words.Construct.{Construct}
+use Rattle.cb_words.specs.declared.words.Construct.TheVariants as construct
+use Rattle.cb_words.specs.declared.words.Head.{Head}
+use Rattle.cb_words.specs.declared.words.Head.TheVariants as head
 use Rattle.cb_working_memory.specs.Deffacts.{kept_facts, is_named_in_deffacts}
 
 -- the facts and the templates of a state are well kept
@@ -65,7 +65,7 @@ Kept s = AreWellKept s.world.memory s.world.templates
 -- slots that are read make a template
 right_template : (forms : Trees) → slots_form_faults [] forms ≡ [] → IsTemplate (slots_said forms)
 right_template forms h =
-    let read : slots_after [] forms ≡ Ok (slots_said forms) = templates_laws.ghosts.slots_said_so forms ∙ ap (λ fs. unless_faulty fs (slots_said forms)) h in
+    let read : slots_after [] forms ≡ Ok (slots_said forms) = slots_said_so forms ∙ ap (λ fs. unless_faulty fs (slots_said forms)) h in
     let each = (each_slot forms (slots_said forms)).0 read in
     record { differ = each.1; defaults = slots_suit forms (slots_said forms) each.0 }
 
@@ -194,7 +194,7 @@ module _ (P Q : World → Type 0) (kept : IsKeptByAll P Q)
           (performed_keeps s request (λ template e. templates s r template (is ∙ ap Ok e) h) h) (λ v u k. k)
       by (Err f) is = h
 
-  concluded_keeps : (s : State) (w : List ℕ) (r : Result (Unit {0}) Ended) → After InWorld AtLimit s r → Lasts (concluded s w r).status (concluded s w r).state
+  concluded_keeps : (s : State) (w : List ℕ) (r : Result (Unit {0}) EarlyEnd) → After InWorld AtLimit s r → Lasts (concluded s w r).status (concluded s w r).state
   concluded_keeps s w (Ok v) h = h
   concluded_keeps s w (Err (ended.Fault f)) h = h
   concluded_keeps s w (Err (ended.Limit Numbers)) h = h

@@ -12,7 +12,7 @@ use Rattle.cb_forms.specs.declared.fault.Fault.TheVariants.{MalformedForm}
 use Rattle.cb_forms.specs.declared.token.Token.TheVariants as token
 use Rattle.cb_templates.specs.Internal.SlotReads.{attributes_after, finished, no_attributes, slot_by, slot_defined, slots_after}
 use Rattle.cb_templates.specs.Slots.{SlotShape, names, slot_named}
-use Rattle.cb_templates.specs.contracts.cited.LawsCited.TheImpl as templates_laws
+use Rattle.cb_templates.proofs.SlotLaws.{slots_differ}
 
 -- each form by itself is this slot, with no other slot before it
 abbrev pub AreSlots : Trees → List SlotShape → Type 0
@@ -47,7 +47,7 @@ named_form head name ts s h again = by (bytes_eq s.name name) refl
         ap (λ r. and_then r (λ x. slots_after (x ∷ []) (tree (form_of head name ts) no_trees))) h in
         let second : and_then (slot_by (s ∷ []) (call_of (form_of head name ts))) (λ x. slots_after (s ∷ x ∷ []) no_trees) ≡ Ok (s ∷ s ∷ []) =
         ap (λ r. and_then r (λ x. slots_after (s ∷ x ∷ []) no_trees)) (again other) in
-        absurd (twice s (templates_laws.ghosts.slots_differ (tree (form_of head name ts) (tree (form_of head name ts) no_trees)) (s ∷ s ∷ []) (first ∙ second)))
+        absurd (twice s (slots_differ (tree (form_of head name ts) (tree (form_of head name ts) no_trees)) (s ∷ s ∷ []) (first ∙ second)))
 
 -- what a name and attributes say, where no slot before has the name
 abbrev said : Bool → List ℕ → Trees → Result SlotShape Fault
@@ -142,4 +142,4 @@ accepted (tree t ts) before (s ∷ more) each apart =
     ∙ ap Ok same
 
 pub each_slot : (forms : Trees) (slots : List SlotShape) → (slots_after [] forms ≡ Ok slots) ↔ (AreSlots forms slots × IsDistinct bytes_eq (names slots))
-each_slot forms slots = (λ h. let them = reads forms [] slots h in (subst (AreSlots forms) them.is them.each, templates_laws.ghosts.slots_differ forms slots h), λ h. accepted forms [] slots h.0 h.1)
+each_slot forms slots = (λ h. let them = reads forms [] slots h in (subst (AreSlots forms) them.is them.each, slots_differ forms slots h), λ h. accepted forms [] slots h.0 h.1)

@@ -9,7 +9,7 @@ use Rattle.std.specs.Str.{bytes_eq}
 use Rattle.cb_facts.specs.Facts.{FactValue, template_fact}
 use Rattle.cb_facts.specs.Results.{ok_then, with_first}
 use Rattle.cb_facts.specs.Values.{is_multifield, spliced}
-use Rattle.cb_facts.specs.contracts.cited.LawsCited.TheImpl as facts_laws
+use Rattle.cb_facts.proofs.MemberLaws.{contains_here, contains_there}
 use Rattle.cb_facts.specs.declared.value.Value.{Value}
 use Rattle.cb_facts.specs.declared.value.Value.TheVariants as value
 use Rattle.cb_forms.specs.declared.fault.Fault.{Fault}
@@ -51,8 +51,8 @@ found_given (g ∷ given) name vs h = by (bytes_eq g.0 name) refl h (found_given
     by : (t : Bool) → bytes_eq g.0 name ≡ t → (if t then Some g.1 else given_for given name) ≡ Some vs → (given_for given name ≡ Some vs → IsGiven given name vs) → IsGiven (g ∷ given) name vs
     by true e is more =
         let same : g.1 ≡ vs = cc in
-        subst (Contains (g ∷ given)) (ap₂ (λ (n : List ℕ) (us : List Value). (n, us)) ((bytes_decides g.0 name).0 e) same) (facts_laws.ghosts.contains_here _ g given)
-    by false e is more = facts_laws.ghosts.contains_there _ g (name, vs) given (more is)
+        subst (Contains (g ∷ given)) (ap₂ (λ (n : List ℕ) (us : List Value). (n, us)) ((bytes_decides g.0 name).0 e) same) (contains_here g given)
+    by false e is more = contains_there g (name, vs) given (more is)
 
 -- what is not given is not found
 pub left_out : (given : Given) (name : List ℕ) → IsLeftOut given name → given_for given name ≡ None

@@ -9,7 +9,7 @@ use Rattle.cb_actions.specs.Commands.{asked_by, exited, exited_with, ran_as, rul
 use Rattle.cb_actions.specs.Effects.{asserted, retracted, valued}
 use Rattle.cb_actions.specs.Runs.{actions_of, acted, added_rule, all_gone, cleared_world, defined_rule, dropped_rule, due_by, fire_line, forgotten, next_due, numbered, ran, replaced, restarted_world, rule_named, run, spent, started_anew, unless_halted, with_variables_of, without_all, without_facts}
 use Rattle.cb_actions.specs.Worlds.{World}
-use Rattle.cb_actions.specs.declared.act.Ended.TheVariants as ended
+use Rattle.cb_actions.specs.declared.act.EarlyEnd.TheVariants as ended
 use Rattle.cb_actions.specs.declared.act.Limit.TheVariants.{Firings, Numbers}
 use Rattle.cb_actions.specs.declared.watched.Watched.{Watched}
 use Rattle.cb_agenda.specs.Agendas.{changed, has_stamps, popped}

@@ -10,7 +10,7 @@ use Rattle.cb_forms.specs.declared.fault.Fault.{Fault}
 use Rattle.cb_forms.specs.declared.fault.Fault.TheVariants.{MalformedForm, NotInProfile}
 use Rattle.cb_laws.proofs.FaultListLaws.{IsNew, all, each_alone, first_stays, next_fault, with_name}
 use Rattle.cb_laws.specs.Written.{attribute_name, name_after_head, names_written, written_slot_name}
-use Rattle.cb_templates.specs.FaultLists.{first_of, unless}
+use Rattle.cb_facts.specs.FaultLists.{first_of, unless}
 use Rattle.cb_templates.specs.TemplateFaults.{and_name, and_slot, attribute_faults, attributes_faults, default_attribute_faults, is_among, kept_faults, kind_faults, named_slot_faults, slot_form_faults, slots_form_faults, type_attribute_faults}
 use Rattle.cb_templates.specs.TemplateShapes.{default_in, kind_of, types_in}
 

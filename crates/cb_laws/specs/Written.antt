@@ -9,7 +9,7 @@ use Rattle.cb_facts.specs.declared.value.Value.{Value}
 use Rattle.cb_forms.specs.Members.{call_of, head_and_rest, symbol_of}
 use Rattle.cb_forms.specs.Trees.{Tree, Trees, atom, no_trees, tree}
 use Rattle.cb_forms.specs.declared.token.Token.TheVariants as token
-use Rattle.cb_templates.specs.Reserved.{is_reserved}
+use Rattle.cb_words.specs.Reserved.{is_reserved}
 use Rattle.cb_templates.specs.Slots.{SlotShape, allows_all}
 use Rattle.cb_templates.specs.TemplateFaults.{attributes_faults, slots_form_faults}
 use Rattle.cb_templates.specs.TemplateShapes.{constant_in, default_in, slot_headed, types_in}

@@ -6,11 +6,12 @@ ghost use Rattle.cb_actions.specs.Acts.{after_writing, stop};
 ghost use Rattle.cb_actions.specs.Effects.{asserted, fact_added, is_retractable, parts_of, retracted};
 ghost use Rattle.cb_actions.specs.Laws.{with_answer};
 ghost use Rattle.cb_actions.specs.Worlds.{World};
-ghost use Rattle.cb_actions.specs.declared.act.Ended.{Ended};
-ghost use Rattle.cb_actions.specs.declared.act.Ended.TheVariants as ended;
+ghost use Rattle.cb_actions.specs.declared.act.EarlyEnd.{EarlyEnd};
+ghost use Rattle.cb_actions.specs.declared.act.EarlyEnd.TheVariants as ended;
 ghost use Rattle.cb_actions.specs.declared.act.Limit.TheVariants.{Numbers};
 ghost use Rattle.cb_exprs.specs.Shapes.{Shape};
-ghost use Rattle.cb_exprs.specs.Terms.{Terms, assert, retract};
+ghost use Rattle.cb_exprs.specs.Terms.{Terms, effect};
+ghost use Rattle.cb_exprs.specs.declared.effect.Effect.TheVariants as kind;
 ghost use Rattle.cb_facts.specs.FactLists.{fact_at};
 ghost use Rattle.cb_facts.specs.Facts.{FactValue};
 ghost use Rattle.cb_facts.specs.declared.value.Value.{Value};
@@ -41,7 +42,7 @@ pub fn an_assertion_returns_its_address()
         → built s.templates shape.relation (parts_of shape.slots vs) ≡ Ok fact
         → (asserted shape vs s).answer ≡ Ok answer
         → AreAsserted s (fact ∷ []) (asserted shape vs s).state }
-    ensures limit { (shape : Shape) (vs : List Value) (s : World) (fact : FactValue) (e : Ended)
+    ensures limit { (shape : Shape) (vs : List Value) (s : World) (fact : FactValue) (e : EarlyEnd)
         → built s.templates shape.relation (parts_of shape.slots vs) ≡ Ok fact
         → (asserted shape vs s).answer ≡ Err e → e ≡ ended.Limit Numbers }
     ensures fault { (shape : Shape) (vs : List Value) (s : World) (fault : Fault)
@@ -86,18 +87,18 @@ pub fn a_retraction_takes_what_is_named()
 pub fn a_command_acts_on_the_values_of_its_arguments()
     ensures assert { (shape : Shape) (ts : Terms) (s : World) (vs : List Value)
         → (carried_values None [] ts s).answer ≡ Ok vs
-        → carried (assert shape ts) s ≡ after_writing (carried_values None [] ts s).written
+        → carried (effect (kind.Assert shape) ts) s ≡ after_writing (carried_values None [] ts s).written
         (asserted shape vs (carried_values None [] ts s).state) }
-    ensures assert_ended { (shape : Shape) (ts : Terms) (s : World) (e : Ended)
+    ensures assert_ended { (shape : Shape) (ts : Terms) (s : World) (e : EarlyEnd)
         → (carried_values None [] ts s).answer ≡ Err e
-        → carried (assert shape ts) s ≡ with_answer (carried_values None [] ts s) (Err e) }
+        → carried (effect (kind.Assert shape) ts) s ≡ with_answer (carried_values None [] ts s) (Err e) }
     ensures retract { (ts : Terms) (s : World) (vs : List Value)
         → (carried_values None [] ts s).answer ≡ Ok vs
-        → carried (retract ts) s ≡ after_writing (carried_values None [] ts s).written
+        → carried (effect kind.Retract ts) s ≡ after_writing (carried_values None [] ts s).written
         (retracted vs (carried_values None [] ts s).state) }
-    ensures retract_ended { (ts : Terms) (s : World) (e : Ended)
+    ensures retract_ended { (ts : Terms) (s : World) (e : EarlyEnd)
         → (carried_values None [] ts s).answer ≡ Err e
-        → carried (retract ts) s ≡ with_answer (carried_values None [] ts s) (Err e) }
+        → carried (effect kind.Retract ts) s ≡ with_answer (carried_values None [] ts s) (Err e) }
 {}
 
 /// The values of a fact's expressions go to its fields, or to its slots, in the order in which they are written.

@@ -4,7 +4,7 @@ ghost use Rattle.std.specs.List.{Contains};
 ghost use Rattle.cb_actions.specs.Acts.{give, stop};
 ghost use Rattle.cb_actions.specs.Effects.{fact_added};
 ghost use Rattle.cb_actions.specs.Worlds.{World};
-ghost use Rattle.cb_actions.specs.declared.act.Ended.TheVariants as ended;
+ghost use Rattle.cb_actions.specs.declared.act.EarlyEnd.TheVariants as ended;
 ghost use Rattle.cb_actions.specs.declared.act.Limit.TheVariants.{Numbers};
 ghost use Rattle.cb_facts.specs.FactLists.{IsAbsent, fact_at, with_fact};
 ghost use Rattle.cb_facts.specs.Facts.{FactValue};

@@ -4,7 +4,7 @@ ghost use Rattle.cb_forms.specs.Members.{call_of, head_and_rest};
 ghost use Rattle.cb_forms.specs.Trees.{Tree, Trees, no_trees};
 ghost use Rattle.cb_forms.specs.declared.fault.Fault.TheVariants.{MalformedForm, NotInProfile};
 ghost use Rattle.cb_laws.specs.Written.{attribute_name, slot_word};
-ghost use Rattle.cb_templates.specs.FaultLists.{first_of};
+ghost use Rattle.cb_facts.specs.FaultLists.{first_of};
 ghost use Rattle.cb_templates.specs.SlotForms.{is_variable};
 ghost use Rattle.cb_templates.specs.TemplateFaults.{attribute_faults, constants_faults, is_one_form, types_faults};
 ghost use Rattle.cb_templates.specs.TemplateShapes.{default_in, slot_headed, slot_said, types_in, value_for};

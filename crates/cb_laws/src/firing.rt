@@ -5,7 +5,7 @@ ghost use Rattle.cb_actions.specs.Actions.{carried};
 ghost use Rattle.cb_actions.specs.Changes.{moved};
 ghost use Rattle.cb_actions.specs.Runs.{run, spent};
 ghost use Rattle.cb_actions.specs.Worlds.{World};
-ghost use Rattle.cb_actions.specs.declared.act.Ended.TheVariants as ended;
+ghost use Rattle.cb_actions.specs.declared.act.EarlyEnd.TheVariants as ended;
 ghost use Rattle.cb_actions.specs.declared.act.Limit.TheVariants.{Firings, Numbers};
 ghost use Rattle.cb_agenda.specs.Agendas.{AgendaValue, changed, is_due, popped};
 ghost use Rattle.cb_exprs.specs.Terms.{Term};

@@ -1,12 +1,13 @@
 //! What an item of a script does to the facts and the templates.
 ghost use Rattle.std.specs.Prelude.{◌≡◌, ◌++◌, ◌∷◌, ℕ, List, [], Option, None, Some, Ok, Err, codes, false, map, true};
 ghost use Rattle.cb_actions.specs.Actions.{carried};
-ghost use Rattle.cb_actions.specs.declared.act.Ended.TheVariants as ended;
+ghost use Rattle.cb_actions.specs.declared.act.EarlyEnd.TheVariants as ended;
 ghost use Rattle.cb_actions.specs.declared.act.Limit.{Limit};
 ghost use Rattle.cb_expr_forms.specs.ExprFaults.{faults_of};
 ghost use Rattle.cb_expr_forms.specs.ExprForms.{expr_of, fact_of, slot_expr};
 ghost use Rattle.cb_expr_forms.specs.Laws.{fact_giving, list_of};
-ghost use Rattle.cb_exprs.specs.Terms.{Term, actions, assert, call, retract, terms};
+ghost use Rattle.cb_exprs.specs.Terms.{Term, actions, call, effect, terms};
+ghost use Rattle.cb_exprs.specs.declared.effect.Effect.TheVariants as kind;
 ghost use Rattle.cb_facts.specs.declared.value.Value.{Value};
 ghost use Rattle.cb_forms.specs.Trees.{Reading, Tree, Trees, trees_of};
 ghost use Rattle.cb_forms.specs.declared.fault.Fault.{Fault};
@@ -18,14 +19,14 @@ ghost use Rattle.cb_session.specs.Actions.{requested, shown_line};
 ghost use Rattle.cb_session.specs.Lines.{fault_line, limit_line};
 ghost use Rattle.cb_session.specs.States.{State};
 ghost use Rattle.cb_session.specs.Transcripts.{executed};
-ghost use Rattle.cb_templates.specs.FaultLists.{first_of};
+ghost use Rattle.cb_facts.specs.FaultLists.{first_of};
 ghost use Rattle.cb_templates.specs.Slots.{SlotShape, slot_named};
 ghost use Rattle.cb_templates.specs.TemplateFaults.{template_faults};
 ghost use Rattle.cb_templates.specs.Templates.{Templates, slots_of};
 ghost use Rattle.cb_words.specs.Words.{head_of};
-ghost use Rattle.cb_words.specs.declared.function.Function.TheVariants.{Create};
-ghost use Rattle.cb_words.specs.declared.head.Action.{Action};
-ghost use Rattle.cb_words.specs.declared.head.Head.TheVariants as head;
+ghost use Rattle.cb_words.specs.declared.words.Function.TheVariants.{Create};
+ghost use Rattle.cb_words.specs.declared.words.Action.{Action};
+ghost use Rattle.cb_words.specs.declared.words.Head.TheVariants as head;
 
 /// An item that asks for an expression leaves the facts, the templates and the values as the expression leaves them. What
 /// each `deffacts` keeps and the initial expressions of the globals stay. The item writes what the expression writes, and
@@ -69,7 +70,7 @@ pub fn a_call_without_a_fault_is_carried_out()
 pub fn an_assert_asserts_what_is_written()
     ensures facts { (templates : Templates) (forms : List Tree)
         → expr_of templates (list_of (codes "assert") (trees_of forms))
-        ≡ actions (terms (map (λ t. assert (fact_of templates t).shape
+        ≡ actions (terms (map (λ t. effect (kind.Assert (fact_of templates t).shape)
         (fact_of templates t).values) forms)) }
     ensures fields { (templates : Templates) (relation : List ℕ) (forms : List Tree)
         → slots_of templates relation ≡ None
@@ -101,7 +102,7 @@ pub fn a_slot_is_given_what_is_written()
 pub fn a_retract_retracts_what_is_written()
     ensures { (templates : Templates) (t : Tree) (forms : List Tree)
         → expr_of templates (list_of (codes "retract") (trees_of (t ∷ forms)))
-        ≡ retract (terms (map (expr_of templates) (t ∷ forms))) }
+        ≡ effect kind.Retract (terms (map (expr_of templates) (t ∷ forms))) }
 {}
 
 /// An item that is a `deftemplate` without a fault defines its template and does nothing else. One with a fault defines

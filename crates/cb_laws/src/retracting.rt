@@ -4,7 +4,7 @@ ghost use Rattle.std.specs.List.{list_all};
 ghost use Rattle.cb_actions.specs.Acts.{each};
 ghost use Rattle.cb_actions.specs.Effects.{is_retractable, retracted_one};
 ghost use Rattle.cb_actions.specs.Worlds.{World};
-ghost use Rattle.cb_actions.specs.declared.act.Ended.TheVariants as ended;
+ghost use Rattle.cb_actions.specs.declared.act.EarlyEnd.TheVariants as ended;
 ghost use Rattle.cb_facts.specs.FactLists.{fact_at};
 ghost use Rattle.cb_facts.specs.Facts.{FactValue};
 ghost use Rattle.cb_facts.specs.declared.value.Value.{Value};

@@ -3,7 +3,8 @@ use Prim.Native.String.{String}
 use Rattle.std.proofs.Common.{◌≡◌, ℕ, true, false, pos, List, [], ◌∷◌, Result, Ok, Err, Some, None, codes, refl}
 use Rattle.cb_agenda.specs.declared.strategy.Strategy.TheVariants as strategy
 use Rattle.cb_exprs.specs.Bindings.{Bindings}
-use Rattle.cb_exprs.specs.Terms.{Term, constant, variable, global, call, bind, terms}
+use Rattle.cb_exprs.specs.Terms.{Term, constant, variable, global, call, effect, terms}
+use Rattle.cb_exprs.specs.declared.effect.Effect.TheVariants as kind
 use Rattle.cb_facts.specs.declared.value.Value.TheVariants as value
 use Rattle.cb_forms.specs.Trees.{Tree, atom, branch, trees_of}
 use Rattle.cb_forms.specs.declared.fault.Fault.{Fault}
@@ -11,9 +12,9 @@ use Rattle.cb_forms.specs.declared.fault.Fault.TheVariants.{UnknownFunction, Wro
 use Rattle.cb_forms.specs.declared.token.Token.TheVariants as token
 use Rattle.cb_requests.specs.Reads.{rule_in}
 use Rattle.cb_requests.specs.Requests.{Request, act, define_deffacts, define_globals, define_template, exit, request_of, reset, run, set_strategy, undefine, watch}
-use Rattle.cb_templates.specs.Reserved.{is_reserved}
+use Rattle.cb_words.specs.Reserved.{is_reserved}
 use Rattle.cb_words.specs.Words.{head_of}
-use Rattle.cb_words.specs.declared.function.Function.TheVariants as function
+use Rattle.cb_words.specs.declared.words.Function.TheVariants as function
 use Rattle.cb_words.specs.declared.watch_item.WatchItem.TheVariants as item
 
 -- atoms and lists, as they stand in a script
@@ -128,7 +129,7 @@ known_variable = refl
 unknown_variable : asked (var "y") ≡ Err UnboundVariable
 unknown_variable = refl
 
-bound_variable : asked (form "bind" (var "y" ∷ var "y" ∷ [])) ≡ Ok (act (bind (codes "y") (variable (codes "y"))))
+bound_variable : asked (form "bind" (var "y" ∷ var "y" ∷ [])) ≡ Ok (act (effect (kind.Bind (codes "y")) (terms (variable (codes "y") ∷ []))))
 unfolding head_of
 bound_variable = refl
 
@@ -167,7 +168,7 @@ wildcard_count : asked (form "run" (atom token.Any ∷ [])) ≡ Err MalformedFor
 unfolding head_of
 wildcard_count = refl
 
-bound_count : asked (form "run" (form "bind" (var "y" ∷ var "y" ∷ []) ∷ [])) ≡ Ok (run (Some (bind (codes "y") (variable (codes "y")))))
+bound_count : asked (form "run" (form "bind" (var "y" ∷ var "y" ∷ []) ∷ [])) ≡ Ok (run (Some (effect (kind.Bind (codes "y")) (terms (variable (codes "y") ∷ [])))))
 unfolding head_of
 bound_count = refl
 

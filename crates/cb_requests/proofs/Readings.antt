@@ -4,7 +4,7 @@ use Rattle.cb_facts.specs.Results.{Settles}
 use Rattle.cb_facts.specs.declared.refused.Refused.{Refused}
 use Rattle.cb_facts.specs.declared.refused.Refused.TheVariants as refused
 use Rattle.cb_forms.specs.declared.fault.Fault.{Fault}
-use Rattle.cb_templates.specs.FaultLists.{ReadsAs, unless_faulty}
+use Rattle.cb_facts.specs.FaultLists.{ReadsAs, unless_faulty}
 
 pub settled : {T V : Type 0} (view : T → V) (r : Result T Refused) (faults : List Fault) (v : V) → ReadsAs view r faults v → Settles view r (unless_faulty faults v)
 settled view (Ok t) [] v h = ap Ok (sym h.1)

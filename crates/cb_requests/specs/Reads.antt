@@ -3,7 +3,7 @@ use Rattle.std.specs.Prelude.{ℕ, List, [], ◌∷◌, ◌++◌, Option, Some, 
 use Rattle.cb_expr_forms.specs.Bound.{bound_in}
 use Rattle.cb_expr_forms.specs.ExprFaults.{faults_of, fact_faults, is_this_symbol}
 use Rattle.cb_expr_forms.specs.ExprForms.{expr_of, fact_of}
-use Rattle.cb_templates.specs.FaultLists.{unless_faulty}
+use Rattle.cb_facts.specs.FaultLists.{unless_faulty}
 use Rattle.cb_expr_forms.specs.Scopes.{Scope, names_of, plain_scope}
 use Rattle.cb_expr_forms.specs.declared.scope.Side.TheVariants as side
 use Rattle.cb_exprs.specs.Bindings.{Bindings}

@@ -16,18 +16,18 @@ use Rattle.cb_requests.specs.Reads.{top_scope, expr_in, facts_in, globals_in, ru
 use Rattle.cb_requests.specs.declared.request.Request as asked
 use Rattle.cb_requests.specs.declared.request.Request.TheVariants as program
 use Rattle.cb_rules.specs.RuleValues.{RuleValue, rule_value}
-use Rattle.cb_templates.specs.FaultLists.{unless_faulty}
+use Rattle.cb_facts.specs.FaultLists.{unless_faulty}
 use Rattle.cb_templates.specs.Slots.{SlotShape}
 use Rattle.cb_templates.specs.TemplateFaults.{template_faults}
 use Rattle.cb_templates.specs.TemplateShapes.{template_shape}
 use Rattle.cb_templates.specs.Templates.{Templates, without_comment}
 use Rattle.cb_words.specs.Words.{head_of}
-use Rattle.cb_words.specs.declared.head.Command.{Command}
-use Rattle.cb_words.specs.declared.head.Command.TheVariants as word
-use Rattle.cb_words.specs.declared.head.Construct.{Construct}
-use Rattle.cb_words.specs.declared.head.Construct.TheVariants as construct
-use Rattle.cb_words.specs.declared.head.Head.{Head}
-use Rattle.cb_words.specs.declared.head.Head.TheVariants as head
+use Rattle.cb_words.specs.declared.words.Command.{Command}
+use Rattle.cb_words.specs.declared.words.Command.TheVariants as word
+use Rattle.cb_words.specs.declared.words.Construct.{Construct}
+use Rattle.cb_words.specs.declared.words.Construct.TheVariants as construct
+use Rattle.cb_words.specs.declared.words.Head.{Head}
+use Rattle.cb_words.specs.declared.words.Head.TheVariants as head
 use Rattle.cb_words.specs.declared.watch_item.WatchItem.{WatchItem}
 
 -- what an item asks for: an expression to carry out, a construct to define, or a command

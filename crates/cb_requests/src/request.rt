@@ -1,21 +1,24 @@
-//! What items ask for.
+//! What items ask for, and commands among them, a row each.
 ghost use Rattle.cb_facts.specs.Results.{Settles};
+ghost use Rattle.cb_forms.specs.Members.{members};
 ghost use Rattle.cb_forms.specs.Trees.{reading_of, tree_of};
-ghost use Rattle.cb_requests.specs.Requests.{act_request, form_request, request_by, request_of};
+ghost use Rattle.cb_requests.specs.Arguments.{alone};
+ghost use Rattle.cb_requests.specs.Reads.{top_scope};
+ghost use Rattle.cb_requests.specs.Requests.{act_request, command_request, form_request, request_by, request_of};
 ghost use Rattle.cb_requests.specs.Uses.{is_in_use};
 
-use crate::command::read_command;
+use crate::arguments::{read_item, read_optional, read_rule_name, read_strategy};
 use crate::construct::read_construct;
 use crate::context::Context;
 use crate::top_expr::read_top;
 use cb_agenda::Strategy;
 use cb_exprs::{Env, Expr, FactExpr, GlobalExpr};
 use cb_facts::{Name, Names, Refused};
-use cb_forms::{Form, Item};
+use cb_forms::{Fault, Form, Item};
 use cb_matches::Matcher;
 use cb_rules::Rule;
 use cb_templates::{Relations, Template};
-use cb_words::{Head, WatchItem, read_head};
+use cb_words::{Command, Head, WatchItem, read_head};
 use cb_working_memory::Mark;
 
 /// What an item asks for.
@@ -101,4 +104,42 @@ fn read_act(
     ensures { Settles request_by result (act_request relations.now env.now (tree_of form.now)) }
 {
     Ok(Request::Act(read_top(names, relations, env, form, form)?))
+}
+
+/// What a command asks for by its arguments, or their first fault. The whole form, which it begins, binds what variables its
+/// expression may name.
+fn read_command(
+    names: &mut Names,
+    relations: &Relations,
+    env: &Env,
+    whole: &Form,
+    command: Command,
+    args: &[Form],
+) -> Result<Request, Refused>
+    ensures { Settles request_by result (command_request
+        (top_scope relations.now env.now (tree_of whole.now)) command (members args.now)) }
+{
+    match command {
+        Command::Facts => read_alone(Request::ListFacts, args),
+        Command::Agenda => read_alone(Request::ListAgenda, args),
+        Command::Rules => read_alone(Request::ListRules, args),
+        Command::Reset => read_alone(Request::Reset, args),
+        Command::Clear => read_alone(Request::Clear, args),
+        Command::Run => Ok(Request::Run(read_optional(names, relations, env, whole, args)?)),
+        Command::Exit => Ok(Request::Exit(read_optional(names, relations, env, whole, args)?)),
+        Command::Undefrule => Ok(Request::Undefine(read_rule_name(names, args)?)),
+        Command::Watch => Ok(Request::Watch(read_item(args)?, true)),
+        Command::Unwatch => Ok(Request::Watch(read_item(args)?, false)),
+        Command::SetStrategy => Ok(Request::SetStrategy(read_strategy(args)?)),
+    }
+}
+
+/// What a command without arguments asks for. An argument is CB07.
+fn read_alone(request: Request, args: &[Form]) -> Result<Request, Refused>
+    ensures { Settles request_by result (alone (request_by request) (members args.now)) }
+{
+    match args.split_first() {
+        None => Ok(request),
+        Some(_) => Err(Refused::Fault(Fault::WrongArguments)),
+    }
 }

@@ -8,14 +8,15 @@ use Rattle.cb_io.specs.Moved.{Gave, IsAtEnd}
 use Rattle.cb_session.specs.Sessions.{SessionState, flow_of}
 use Rattle.cb_session.specs.Setups.{Setup}
 use Rattle.cb_session.specs.Transcripts.{so_far, complete, transcript, status_of, status_at_end, added, added_at_end}
-use Rattle.cb_session.specs.contracts.cited.LawsCited.TheImpl as session_laws
+use Rattle.cb_session.proofs.ScriptLaws.{added-grown, end-grown}
+use Rattle.cb_session.proofs.SoFarLaws.{so_far-early, so_far-ended, so_far-grows}
 use Rattle.cb_session.specs.declared.status.Ending.{Ending}
 use Rattle.cb_session.specs.declared.status.Ending.TheVariants as ending
 use Rattle.cb_session.specs.declared.status.Flow.{Flow}
 use Rattle.cb_session.specs.declared.status.Flow.TheVariants.{Ended}
 use Rattle.cb_session.specs.declared.status.Status.{Status}
-use Rattle.cb_actions.specs.declared.stop.Stop.{Stop}
-use Rattle.cb_actions.specs.declared.stop.Stop.TheVariants as stop
+use Rattle.cb_io.specs.declared.stop.Stop.{Stop}
+use Rattle.cb_io.specs.declared.stop.Stop.TheVariants as stop
 use Rattle.cb_script.specs.Outcomes.{cause_of, ended_as, stopped_as, failed_as, HasEnded, HasStopped, HasFailed}
 use Rattle.cb_script.specs.Ran.{IsTranscript, RanFrom}
 use Rattle.cb_script.specs.declared.outcome.Cause.TheVariants.{Done, ReadFault, WriteFault}
@@ -76,7 +77,7 @@ stopped_not_done stop.WriteFault h = cc
 -- a script that has ended so far
 ended_transcript : (l : Setup) (p r : List ℕ) (status : Status) → (so_far l p).status ≡ Some status → IsTranscript l (ended_as status) (p ++ r) (so_far l p).written
 ended_transcript l p r status ended =
-    let same : complete l (p ++ r) ≡ so_far l p = (session_laws.ghosts.so_far_ended l p r status ended).1 in
+    let same : complete l (p ++ r) ≡ so_far l p = (so_far-ended l p r status ended).1 in
     let over : (complete l (p ++ r)).status ≡ Some status = ap (λ it. it.status) same ∙ ended in (
       sym (ap (λ it. it.written) same),
       ap ended_as (sym (ap (λ o. status_at_end o (complete l (p ++ r)).state.is_faulted) over)),
@@ -128,10 +129,10 @@ module _ (l : Setup) (s : SessionState) (left a a' : Option (List ℕ)) (reads r
         wrote = (so_far l p).written;
         read_is = read_more l s left a a' reads r r' writes w w' piece before read;
         wrote_is = wrote_more l s left a a' reads r r' writes w w' piece before more;
-        prompt = record { before = s.fed; piece = piece; more = added l s.fed piece; read_is = refl; is_short = short; goes_on = before.goes_on; wrote_is = session_laws.ghosts.added_grown l s.fed piece };
+        prompt = record { before = s.fed; piece = piece; more = added l s.fed piece; read_is = refl; is_short = short; goes_on = before.goes_on; wrote_is = added-grown l s.fed piece };
         ended = λ _. ended_alone l p status ended;
         ended_however = λ _ _ rest. ended_transcript l p rest status ended;
-        end_was_read = λ h. absurd (not_done status.ending (session_laws.ghosts.so_far_early l p status ended) h);
+        end_was_read = λ h. absurd (not_done status.ending (so_far-early l p status ended) h);
         after_read_fault = λ h. absurd (ended_not_read_fault status.ending h);
         after_stop = λ h. absurd (ended_not_stopped status.ending h);
         after_stop_however = λ h. absurd (ended_not_stopped status.ending h);
@@ -154,9 +155,9 @@ module _ (l : Setup) (s : SessionState) (left a a' : Option (List ℕ)) (reads r
       let here = (so_far l s.fed).written in
       let all = gave_then left a a' s.fed piece before.gave gave in
       let begins : BeginsWith (here ++ some.written) (so_far l p).written =
-      (some.unwritten, session_laws.ghosts.added_grown l s.fed piece ∙ (ap (λ it. here ++ it) some.is ∙ sym (append_assoc here some.written some.unwritten))) in
+      (some.unwritten, added-grown l s.fed piece ∙ (ap (λ it. here ++ it) some.is ∙ sym (append_assoc here some.written some.unwritten))) in
       let however : (rest : List ℕ) → BeginsWith (here ++ some.written) (transcript l (p ++ rest)) = λ rest.
-      let grows = session_laws.ghosts.so_far_grows l p rest in begins_then _ _ _ begins grows in
+      let grows = so_far-grows l p rest in begins_then _ _ _ begins (grows.more, grows.is) in
       record {
         read = p;
         wrote = here ++ some.written;
@@ -201,8 +202,8 @@ module _ (l : Setup) (s : SessionState) (left a a' : Option (List ℕ)) (reads r
         read = s.fed;
         wrote = transcript l s.fed;
         read_is = read_all_bytes;
-        wrote_is = adds.bytes_are ∙ (ap (λ it. it ++ added_at_end l s.fed) before.wrote ∙ (append_assoc writes.bytes (so_far l s.fed).written (added_at_end l s.fed) ∙ ap (λ it. writes.bytes ++ it) (sym (session_laws.ghosts.end_grown l s.fed))));
-        prompt = record { before = s.fed; piece = []; more = added_at_end l s.fed; read_is = sym (append-nil s.fed); is_short = omega arith; goes_on = before.goes_on; wrote_is = session_laws.ghosts.end_grown l s.fed };
+        wrote_is = adds.bytes_are ∙ (ap (λ it. it ++ added_at_end l s.fed) before.wrote ∙ (append_assoc writes.bytes (so_far l s.fed).written (added_at_end l s.fed) ∙ ap (λ it. writes.bytes ++ it) (sym (end-grown l s.fed))));
+        prompt = record { before = s.fed; piece = []; more = added_at_end l s.fed; read_is = sym (append-nil s.fed); is_short = omega arith; goes_on = before.goes_on; wrote_is = end-grown l s.fed };
         ended = λ _. all;
         ended_however = λ _ h. absurd (another_end h);
         end_was_read = λ _. let one : r'.ends ≡ r.ends + 1 = ends in let same : r.ends ≡ reads.ends = before.ends in omega arith;
@@ -226,7 +227,7 @@ module _ (l : Setup) (s : SessionState) (left a a' : Option (List ℕ)) (reads r
       let some : WroteBegun (added_at_end l s.fed) w w' e = rw before.same_setup at more in
       let here = (so_far l s.fed).written in
       let begins : BeginsWith (here ++ some.written) (transcript l s.fed) =
-      (some.unwritten, session_laws.ghosts.end_grown l s.fed ∙ (ap (λ it. here ++ it) some.is ∙ sym (append_assoc here some.written some.unwritten))) in
+      (some.unwritten, end-grown l s.fed ∙ (ap (λ it. here ++ it) some.is ∙ sym (append_assoc here some.written some.unwritten))) in
       record {
         read = s.fed;
         wrote = here ++ some.written;

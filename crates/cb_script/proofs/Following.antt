@@ -6,7 +6,8 @@ use Rattle.cb_io.specs.Moved.{Gave}
 use Rattle.cb_session.specs.Sessions.{SessionState, fresh_session, session_after, flow_of}
 use Rattle.cb_session.specs.Setups.{Setup}
 use Rattle.cb_session.specs.Transcripts.{so_far, added}
-use Rattle.cb_session.specs.contracts.cited.LawsCited.TheImpl as session_laws
+use Rattle.cb_session.proofs.ScriptLaws.{added-grown}
+use Rattle.cb_session.proofs.SoFarLaws.{so_far-none}
 use Rattle.cb_session.specs.declared.status.Flow.{Flow}
 use Rattle.cb_session.specs.declared.status.Flow.TheVariants.{GoOn, Ended}
 use Rattle.cb_session.specs.declared.status.Status.{Status}
@@ -43,7 +44,7 @@ flow_some (Some other) status h = cc
 -- nothing was read
 pub following_none : (l : Setup) (s : SessionState) (left : Option (List ℕ)) (reads : PastReads) (writes : PastWrites) → s ≡ fresh_session l → Following l s left left reads reads writes writes
 following_none l s left reads writes fresh =
-    let none = session_laws.ghosts.so_far_none l in
+    let none = so_far-none l in
     subst (λ (it : SessionState). Following l it left left reads reads writes writes) (sym fresh) (record {
       same_setup = refl;
       no_status = refl;
@@ -62,7 +63,7 @@ module _ (l : Setup) (s : SessionState) (left a a' : Option (List ℕ)) (reads r
   pub wrote_more : WroteAll (added s.setup s.fed piece) w w' → w'.bytes ≡ writes.bytes ++ (so_far l (s.fed ++ piece)).written
   wrote_more more =
       let adds : WroteAll (added l s.fed piece) w w' = rw before.same_setup at more in
-      adds.bytes_are ∙ (ap (λ it. it ++ added l s.fed piece) before.wrote ∙ (append_assoc writes.bytes (so_far l s.fed).written (added l s.fed piece) ∙ ap (λ it. writes.bytes ++ it) (sym (session_laws.ghosts.added_grown l s.fed piece))))
+      adds.bytes_are ∙ (ap (λ it. it ++ added l s.fed piece) before.wrote ∙ (append_assoc writes.bytes (so_far l s.fed).written (added l s.fed piece) ∙ ap (λ it. writes.bytes ++ it) (sym (added-grown l s.fed piece))))
 
   pub read_more : GaveMore piece r r' → r'.bytes ≡ reads.bytes ++ (s.fed ++ piece)
   read_more more = more.bytes ∙ (ap (λ it. it ++ piece) before.read ∙ append_assoc reads.bytes s.fed piece)

@@ -3,10 +3,9 @@ use Rattle.std.proofs.Common.{◌≡◌, ◌<◌, ℕ, List, [], ◌++◌, Optio
 use Rattle.std.proofs.lemmas.List.{append_assoc, append-nil}
 use Rattle.cb_io.specs.Histories.{PastWrites}
 use Rattle.cb_io.specs.Moved.{Gave, IsAtEnd}
-use Rattle.cb_io.specs.Output.{OutState, all_put, Puts}
-use Rattle.cb_actions.specs.Went.{extent_at}
-use Rattle.cb_actions.specs.declared.stop.Stop.{Stop}
-use Rattle.cb_actions.specs.declared.stop.Stop.TheVariants as stop
+use Rattle.cb_io.specs.Output.{OutState, Puts, all_put, extent_at}
+use Rattle.cb_io.specs.declared.stop.Stop.{Stop}
+use Rattle.cb_io.specs.declared.stop.Stop.TheVariants as stop
 
 -- one read after another
 pub gave_then : (a b c : Option (List ℕ)) (xs ys : List ℕ) → Gave a b xs → Gave b c ys → Gave a c (xs ++ ys)

@@ -3,8 +3,8 @@ use Rattle.std.specs.Prelude.{ℕ, List, [], codes}
 use Rattle.cb_session.specs.declared.status.Ending.{Ending}
 use Rattle.cb_session.specs.declared.status.Ending.TheVariants as ending
 use Rattle.cb_session.specs.declared.status.Status.{Status}
-use Rattle.cb_actions.specs.declared.stop.Stop.{Stop}
-use Rattle.cb_actions.specs.declared.stop.Stop.TheVariants as stop
+use Rattle.cb_io.specs.declared.stop.Stop.{Stop}
+use Rattle.cb_io.specs.declared.stop.Stop.TheVariants as stop
 use Rattle.cb_script.specs.declared.outcome.Cause.{Cause}
 use Rattle.cb_script.specs.declared.outcome.Cause.TheVariants.{Done, Exit, Limit, ReadFault, WriteFault, NoMemory}
 use Rattle.cb_script.specs.declared.outcome.Outcome.{Outcome}

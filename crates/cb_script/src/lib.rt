@@ -1,4 +1,6 @@
 //! A whole script from a source to a sink, how it ended, and standard input and output as the two.
+//!
+//! A crate of its own, since a session reads from no source: who feeds it by `Session::feed` does without this crate.
 #![tactic(auto)]
 
 mod outcome; // how a run ended: its exit status, and its line on standard error

@@ -1,7 +1,7 @@
 -- What an item asks for, by what a state shows of itself; and a request that is this one.
 use Rattle.std.proofs.Common.{◌≡◌, ◌∙◌, List, Option, Result, Err, refl, sym, ap}
 use Rattle.cb_actions.specs.Went.{Went}
-use Rattle.cb_actions.specs.contracts.cited.LawsCited.TheImpl as actions_laws
+use Rattle.cb_actions.proofs.ActLaws.{went_as}
 use Rattle.cb_actions.specs.declared.act.Break.{Break}
 use Rattle.cb_exprs.specs.Bindings.{Bindings}
 use Rattle.cb_facts.specs.Results.{Reports}
@@ -39,4 +39,4 @@ module _ (s : State) (r : Reading) (templates : Templates) (env : Bindings) (mem
 
 pub performed_so : {K : Type 0} (writes : K → PastWrites) (o o1 : OutState K) (s t : State) (result : Result (Option Value) Break) (request this : program.Request) → request ≡ this
     → Went writes o o1 t result (performed (request_by this) s) → Went writes o o1 t result (performed (request_by request) s)
-performed_so writes o o1 s t result request this is h = actions_laws.ghosts.went_as _ _ _ writes o o1 t _ _ _ _ refl (ap (λ it. performed (request_by it) s) is) h
+performed_so writes o o1 s t result request this is h = went_as writes o o1 t _ _ _ _ refl (ap (λ it. performed (request_by it) s) is) h

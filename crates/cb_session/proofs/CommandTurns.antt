@@ -6,10 +6,10 @@ use Rattle.cb_actions.specs.Changes.{activation_lines, moved, rescheduled, sched
 use Rattle.cb_actions.specs.Commands.{asked_by, exited, exited_with, ran_as, rule_defined, status_in, undefined, undefined_if, without_value}
 use Rattle.cb_actions.specs.Effects.{valued, wanted}
 use Rattle.cb_actions.specs.Internal.{Falls, turns_left}
-use Rattle.cb_actions.specs.Lemmas.TurnLaws.{each_falls}
 use Rattle.cb_actions.specs.Runs.{defined_rule, dropped_rule, forgotten, rule_named, run}
 use Rattle.cb_actions.specs.Worlds.{World}
-use Rattle.cb_actions.specs.contracts.cited.LawsCited.TheImpl as actions_laws
+use Rattle.cb_actions.proofs.FallLaws.{falls_then}
+use Rattle.cb_actions.proofs.TurnLaws.{each_falls, never_rises, rule_falls, run_falls}
 use Rattle.cb_agenda.specs.Agendas.{has_stamps}
 use Rattle.cb_exprs.specs.Terms.{Term}
 use Rattle.cb_facts.specs.declared.value.Value.{Value}
@@ -29,24 +29,24 @@ scheduled_falls : (gone come : List KeyValue) → Falls turns_left (scheduled go
 scheduled_falls gone come s = if_falls (has_stamps s.agenda (length come)) _ _ s (omega arith) (omega arith)
 
 rescheduled_falls : (gone come : List KeyValue) → Falls turns_left (rescheduled gone come)
-rescheduled_falls gone come s = actions_laws.ghosts.falls_then _ _ _ turns_left (scheduled gone come) (λ _. tell (activation_lines s gone come)) (scheduled_falls gone come) (λ _ u. omega arith) s
+rescheduled_falls gone come s = falls_then turns_left (scheduled gone come) (λ _. tell (activation_lines s gone come)) (scheduled_falls gone come) (λ _ u. omega arith) s
 
 moved_falls : (next : Memory) (line : List ℕ) → Falls turns_left (moved next line)
 moved_falls next line s =
     let gone = keys_gone s.memory.network next.network in
     let come = keys_come s.memory.network next.network in
     let h : (told line gone come (record s { memory = next })).state.turns ≤ s.turns
-    = actions_laws.ghosts.falls_then _ _ _ turns_left (tell line) (λ _. rescheduled gone come) (λ u. omega arith) (λ _. rescheduled_falls gone come) (record s { memory = next }) in
+    = falls_then turns_left (tell line) (λ _. rescheduled gone come) (λ u. omega arith) (λ _. rescheduled_falls gone come) (record s { memory = next }) in
     unfold moved in h
 
 dropped_falls : (id : ℕ) → Falls turns_left (dropped_rule id)
-dropped_falls id s = actions_laws.ghosts.falls_then _ _ _ turns_left (moved (without_one_rule id s.memory) []) (λ _. forgotten id) (moved_falls (without_one_rule id s.memory) []) (λ _ u. omega arith) s
+dropped_falls id s = falls_then turns_left (moved (without_one_rule id s.memory) []) (λ _. forgotten id) (moved_falls (without_one_rule id s.memory) []) (λ _ u. omega arith) s
 
 without_value_falls : (act : Act World (Unit {0})) → Falls turns_left act → Falls turns_left (without_value act)
-without_value_falls act h = actions_laws.ghosts.falls_then _ _ _ turns_left act (λ _. give None) h (λ _ s. omega arith)
+without_value_falls act h = falls_then turns_left act (λ _. give None) h (λ _ s. omega arith)
 
 pub rule_defined_falls : (rule : RuleValue) → Falls turns_left (rule_defined rule)
-rule_defined_falls rule = without_value_falls (defined_rule (info_of rule) rule.branches) (actions_laws.ghosts.rule_falls (info_of rule) rule.branches)
+rule_defined_falls rule = without_value_falls (defined_rule (info_of rule) rule.branches) (rule_falls (info_of rule) rule.branches)
 
 -- the value of an expression
 wanted_falls : (v : Option Value) → Falls turns_left (wanted v)
@@ -54,7 +54,7 @@ wanted_falls None s = omega arith
 wanted_falls (Some v) s = omega arith
 
 valued_falls : (t : Term) → Falls turns_left (valued (carried t))
-valued_falls t = actions_laws.ghosts.falls_then _ _ _ turns_left (carried t) wanted (actions_laws.ghosts.never_rises t) wanted_falls
+valued_falls t = falls_then turns_left (carried t) wanted (never_rises t) wanted_falls
 
 asked_falls : (v : Value) → Falls turns_left (asked_by v)
 asked_falls (value.Int n) s = omega arith
@@ -63,14 +63,14 @@ asked_falls (value.Str x) s = omega arith
 asked_falls (value.Fact ix) s = omega arith
 asked_falls (value.Multi x) s = omega arith
 
-run_falls : (asked : Option ℕ) → Falls turns_left (without_value (run asked))
-run_falls asked = without_value_falls (run asked) (actions_laws.ghosts.run_falls asked)
+run_alone_falls : (asked : Option ℕ) → Falls turns_left (without_value (run asked))
+run_alone_falls asked = without_value_falls (run asked) (run_falls asked)
 
 pub ran_falls : (count : Option Term) → Falls turns_left (ran_as count)
-ran_falls None s = run_falls None s
+ran_falls None s = run_alone_falls None s
 ran_falls (Some t) s =
-    actions_laws.ghosts.falls_then _ _ _ turns_left (valued (carried t)) (λ v. asked_by v >>= (λ asked. without_value (run asked))) (valued_falls t)
-    (λ v. actions_laws.ghosts.falls_then _ _ _ turns_left (asked_by v) (λ asked. without_value (run asked)) (asked_falls v) run_falls) s
+    falls_then turns_left (valued (carried t)) (λ v. asked_by v >>= (λ asked. without_value (run asked))) (valued_falls t)
+    (λ v. falls_then turns_left (asked_by v) (λ asked. without_value (run asked)) (asked_falls v) run_alone_falls) s
 
 exited_with_falls : (o : Option ℕ) → Falls turns_left (exited_with o)
 exited_with_falls None s = omega arith
@@ -78,7 +78,7 @@ exited_with_falls (Some n) s = omega arith
 
 pub exited_falls : (status : Option Term) → Falls turns_left (exited status)
 exited_falls None s = omega arith
-exited_falls (Some t) s = actions_laws.ghosts.falls_then _ _ _ turns_left (valued (carried t)) (λ v. exited_with (status_in v)) (valued_falls t) (λ v. exited_with_falls (status_in v)) s
+exited_falls (Some t) s = falls_then turns_left (valued (carried t)) (λ v. exited_with (status_in v)) (valued_falls t) (λ v. exited_with_falls (status_in v)) s
 
 undefined_if_falls : (o : Option ℕ) → Falls turns_left (undefined_if o)
 undefined_if_falls None s = omega arith

@@ -21,7 +21,7 @@ use Rattle.cb_session.specs.States.{State, first_state}
 use Rattle.cb_session.specs.Transcripts.{begun, after_all, complete, executed, limit_status, so_far, status_of, transcript}
 use Rattle.cb_working_memory.specs.WorkingMemory.{greatest_index}
 use Rattle.cb_session.specs.declared.status.Ending.TheVariants.{Done, Exit}
-use Rattle.cb_templates.specs.Reserved.{is_reserved}
+use Rattle.cb_words.specs.Reserved.{is_reserved}
 use Rattle.cb_words.specs.Words.{head_of}
 
 -- a symbol, a string, a number and a list, as they stand in a script

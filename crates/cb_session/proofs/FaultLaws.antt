@@ -1,17 +1,17 @@
 -- What an item that ends with a fault leaves as it was.
 use Rattle.std.proofs.Common.{◌≡◌, ◌∙◌, ℕ, true, List, Option, Result, Ok, Err, refl, sym, ap, subst}
-use Rattle.cb_actions.specs.Acts.{Effect, become, give_or_fault, follow, ◌>>=◌}
+use Rattle.cb_actions.specs.Acts.{Effect, give_or_fault, follow, ◌>>=◌}
 use Rattle.cb_actions.specs.Definitions.{globals_after}
-use Rattle.cb_actions.specs.declared.act.Ended.{Ended}
-use Rattle.cb_actions.specs.declared.act.Ended.TheVariants as ended
-use Rattle.cb_exprs.specs.Bindings.{Bindings}
+use Rattle.cb_actions.specs.declared.act.EarlyEnd.{EarlyEnd}
+use Rattle.cb_actions.specs.declared.act.EarlyEnd.TheVariants as ended
 use Rattle.cb_exprs.specs.GlobalTerms.{GlobalTerm}
 use Rattle.cb_facts.specs.declared.value.Value.{Value}
 use Rattle.cb_forms.specs.Trees.{Reading}
 use Rattle.cb_forms.specs.declared.fault.Fault.{Fault}
 use Rattle.cb_requests.specs.Requests as asked
 use Rattle.cb_requests.specs.Requests.{Request}
-use Rattle.cb_session.specs.Actions.{acted, on_world, initials_kept, performed, performed_and_shown, requested, shown}
+use Rattle.cb_session.proofs.RequestLaws.{FaultLeaves, globals_leave, performed_keeps}
+use Rattle.cb_session.specs.Actions.{acted, performed, performed_and_shown, requested, shown}
 use Rattle.cb_session.specs.Laws.{EndsWithFault, KeepsDefinitions}
 use Rattle.cb_session.specs.States.{State}
 use Rattle.cb_session.specs.Transcripts.{Run, concluded, executed}
@@ -24,22 +24,12 @@ done s request = (give_or_fault request >>= performed_and_shown) s
 abbrev run_of : Effect State (Unit {0}) → Run
 run_of m = concluded m.state m.written m.answer
 
--- an effect that ends with a fault leaves this state
-abbrev FaultLeaves : {A : Type 0} → State → Effect State A → Type 0
-FaultLeaves s m = (f : Fault) → m.answer ≡ Err (ended.Fault f) → m.state ≡ s
-
--- globals, by the bindings after them
-globals_leave : (s : State) (gs : List GlobalTerm) (told : Result Bindings Fault)
-    → FaultLeaves s ((on_world (λ v. (give_or_fault told >>= (λ env. become (record v { env = env }))) v) >>= (λ _. initials_kept gs)) s)
-globals_leave s gs (Ok env) f h = absurd (cc)
-globals_leave s gs (Err e) f h = refl
-
 -- the line of a value changes no state and has no fault
-shown_state : (s : State) (w : List ℕ) (r : Result (Option Value) Ended) → (follow s w r shown).state ≡ s
+shown_state : (s : State) (w : List ℕ) (r : Result (Option Value) EarlyEnd) → (follow s w r shown).state ≡ s
 shown_state s w (Ok v) = refl
 shown_state s w (Err e) = refl
 
-shown_fault : (s : State) (w : List ℕ) (r : Result (Option Value) Ended) (f : Fault) → (follow s w r shown).answer ≡ Err (ended.Fault f) → r ≡ Err (ended.Fault f)
+shown_fault : (s : State) (w : List ℕ) (r : Result (Option Value) EarlyEnd) (f : Fault) → (follow s w r shown).answer ≡ Err (ended.Fault f) → r ≡ Err (ended.Fault f)
 shown_fault s w (Ok v) f h = absurd (cc)
 shown_fault s w (Err e) f h = let same : e ≡ ended.Fault f = cc in ap Err same
 
@@ -51,7 +41,7 @@ done_fault s request f h = shown_fault (performed request s).state (performed re
 
 -- at a fault the mark is all that the item's line adds
 marked : (m : Effect State (Unit {0})) (f : Fault) → m.answer ≡ Err (ended.Fault f) → (run_of m).state ≡ record m.state { is_faulted = true }
-marked m f h = ap (λ (r : Result (Unit {0}) Ended). (concluded m.state m.written r).state) h
+marked m f h = ap (λ (r : Result (Unit {0}) EarlyEnd). (concluded m.state m.written r).state) h
 
 pub fault_refused : (s : State) (r : Reading) (f : Fault) → requested s r ≡ Err f → (executed s r).state ≡ record s { is_faulted = true }
 unfolding executed acted
@@ -75,27 +65,6 @@ unfolding acted
 template_is_defined s r f template is h =
     let ends : (done s (Ok (asked.define_template template))).answer ≡ Err (ended.Fault f) = sym (ap (λ (it : Result Request Fault). (done s it).answer) is) ∙ h in
     let faulty : (performed (asked.define_template template) s).answer ≡ Err (ended.Fault f) = done_fault s (asked.define_template template) f ends in absurd (cc)
-
--- the definitions stay where the state stays
-same_kept : (s t : State) → t ≡ s → KeepsDefinitions s t
-same_kept s t is = record { deffacts = ap (λ it. it.deffacts) is; globals = ap (λ it. it.globals) is }
-
-performed_keeps : (s : State) (request : Request) (f : Fault) → (performed request s).answer ≡ Err (ended.Fault f) → KeepsDefinitions s (performed request s).state
-performed_keeps s (asked.act t) f h = record { deffacts = refl; globals = refl }
-performed_keeps s (asked.define_template template) f h = absurd (cc)
-performed_keeps s (asked.define_deffacts name facts) f h = absurd (cc)
-performed_keeps s (asked.define_globals gs) f h = same_kept s _ (globals_leave s gs (globals_after s.world.env gs) f h)
-performed_keeps s (asked.define_rule rule) f h = record { deffacts = refl; globals = refl }
-performed_keeps s asked.list_facts f h = absurd (cc)
-performed_keeps s asked.list_agenda f h = absurd (cc)
-performed_keeps s asked.list_rules f h = absurd (cc)
-performed_keeps s asked.reset f h = record { deffacts = refl; globals = refl }
-performed_keeps s asked.clear f h = absurd (cc)
-performed_keeps s (asked.run count) f h = record { deffacts = refl; globals = refl }
-performed_keeps s (asked.exit status) f h = record { deffacts = refl; globals = refl }
-performed_keeps s (asked.undefine name) f h = record { deffacts = refl; globals = refl }
-performed_keeps s (asked.watch item on) f h = record { deffacts = refl; globals = refl }
-performed_keeps s (asked.set_strategy strategy) f h = record { deffacts = refl; globals = refl }
 
 done_keeps : (s : State) (request : Result Request Fault) (f : Fault) → (done s request).answer ≡ Err (ended.Fault f) → KeepsDefinitions s (done s request).state
 done_keeps s (Ok request) f h = subst (KeepsDefinitions s) (sym (done_state s request)) (performed_keeps s request f (done_fault s request f h))

@@ -1,17 +1,17 @@
 -- Calls that carry out items.
 use Rattle.std.proofs.Common.{◌≡◌, ℕ, true, false, List, [], ◌++◌, Option, Some, None, Result, Ok, Err, OnOk, IfOk, refl, sym, ap, ◌∙◌, subst}
 use Rattle.std.proofs.lemmas.List.{append-nil}
-use Rattle.cb_actions.specs.contracts.cited.LawsCited.TheImpl as actions_laws
+use Rattle.cb_actions.proofs.ActLaws.{stopped-more, went_as, went_then}
 use Rattle.cb_forms.specs.Laws.{BeginsWith}
 use Rattle.cb_actions.specs.Acts.{follow, give_or_fault}
-use Rattle.cb_actions.specs.Went.{Went, extent_at, stop_extent}
+use Rattle.cb_actions.specs.Went.{Went}
 use Rattle.cb_actions.specs.Internal.{broken_by}
 use Rattle.cb_actions.specs.declared.act.Break.TheVariants as break
-use Rattle.cb_actions.specs.declared.act.Ended.TheVariants as ended
-use Rattle.cb_actions.specs.declared.act.Ended.{Ended}
+use Rattle.cb_actions.specs.declared.act.EarlyEnd.TheVariants as ended
+use Rattle.cb_actions.specs.declared.act.EarlyEnd.{EarlyEnd}
 use Rattle.cb_actions.specs.declared.act.Limit.{Limit}
-use Rattle.cb_actions.specs.declared.stop.Stop.TheVariants as stop
-use Rattle.cb_actions.specs.declared.stop.Stop.{Stop}
+use Rattle.cb_io.specs.declared.stop.Stop.TheVariants as stop
+use Rattle.cb_io.specs.declared.stop.Stop.{Stop}
 use Rattle.cb_facts.specs.Results.{Reports}
 use Rattle.cb_facts.specs.declared.refused.Refused.TheVariants as refused
 use Rattle.cb_facts.specs.declared.refused.Refused.{Refused}
@@ -24,10 +24,10 @@ use Rattle.cb_forms.specs.declared.fault.Fault.{Fault}
 use Rattle.cb_forms.specs.declared.form.Item.{Item}
 use Rattle.cb_forms.specs.declared.token.Token.TheVariants as token
 use Rattle.cb_io.specs.Histories.{PastWrites}
-use Rattle.cb_io.specs.Output.{OutState, all_put, Puts}
-use Rattle.cb_io.specs.contracts.cited.LawsCited.TheImpl as io_laws
+use Rattle.cb_io.specs.Output.{OutState, Puts, all_put, extent_at, stop_extent}
+use Rattle.cb_io.proofs.PutLaws.{puts_as, puts_failed, puts_less, puts_none, puts_nothing, puts_then}
 use Rattle.cb_requests.specs.Requests.{Request}
-use Rattle.cb_session.specs.Lemmas.{grows-status}
+use Rattle.cb_session.proofs.SoFarLaws.{grows-status}
 use Rattle.cb_session.specs.Actions.{acted, performed, performed_and_shown, requested, shown, shown_line}
 use Rattle.cb_session.specs.Internal.Executing.{Executes}
 use Rattle.cb_session.specs.Lines.{fault_line, limit_line, too_long_line, value_line}
@@ -56,7 +56,7 @@ pub executed-exit : (s t : State) (r : Reading) (code : Option ℕ) → t ≡ (a
 unfolding executed
 executed-exit s t r code state_is is = ap (concluded (acted r s).state (acted r s).written) is ∙ ap (λ (u : State). record { state = u; written = (acted r s).written; status = Some (exit_status code u.is_faulted) }) (sym state_is)
 
-concluded_begins : (s : State) (w : List ℕ) (r : Result (Unit {0}) Ended) → BeginsWith w (concluded s w r).written
+concluded_begins : (s : State) (w : List ℕ) (r : Result (Unit {0}) EarlyEnd) → BeginsWith w (concluded s w r).written
 concluded_begins s w (Ok v) = ([], sym (append-nil w))
 concluded_begins s w (Err (ended.Fault f)) = (fault_line f, refl)
 concluded_begins s w (Err (ended.Limit limit)) = (limit_line limit, refl)
@@ -71,15 +71,15 @@ module _ {K : Type 0} (writes : K → PastWrites) (o o1 : OutState K) (s t : Sta
   pub executes-stopped : (e : Stop) → Went {K = K} {S = State} {A = Unit {0}} writes o o1 t (Err (break.Stop e)) (acted r s) → Executes writes o o1 t (Err e) (executed s r)
   executes-stopped stop.NoMemory h =
       let begins = executed_begins s r in
-      record { puts = io_laws.ghosts.puts_as _ writes o o1 _ _ _ _ refl begins.1 (io_laws.ghosts.puts_less _ writes o o1 (acted r s).written begins.0 h.puts); state_is = tt; status_is = tt }
+      record { puts = puts_as writes o o1 _ _ _ _ refl begins.1 (puts_less writes o o1 (acted r s).written begins.0 h.puts); state_is = tt; status_is = tt }
   executes-stopped stop.WriteFault h =
       let begins = executed_begins s r in
-      record { puts = io_laws.ghosts.puts_as _ writes o o1 _ _ _ _ refl begins.1 (io_laws.ghosts.puts_failed _ writes o o1 (acted r s).written begins.0 h.puts); state_is = tt; status_is = tt }
+      record { puts = puts_as writes o o1 _ _ _ _ refl begins.1 (puts_failed writes o o1 (acted r s).written begins.0 h.puts); state_is = tt; status_is = tt }
 
   pub executes-done : (v : Unit {0}) → Went writes o o1 t (Ok v) (acted r s) → Executes writes o o1 t (Ok None) (executed s r)
   executes-done v h =
       let is = executed-done s t r v h.answers.0 h.answers.1 in
-      record { puts = io_laws.ghosts.puts_as _ writes o o1 _ _ _ _ refl (ap (λ it. it.written) is) h.puts; state_is = sym (ap (λ it. it.state) is); status_is = sym (ap (λ it. it.status) is) }
+      record { puts = puts_as writes o o1 _ _ _ _ refl (ap (λ it. it.written) is) h.puts; state_is = sym (ap (λ it. it.state) is); status_is = sym (ap (λ it. it.status) is) }
 
   -- an item with which the script ends
   pub executes-exit : (code : Option ℕ) (status : Status) → status ≡ exit_status code t.is_faulted → Went {K = K} {S = State} {A = Unit {0}} writes o o1 t (Err (break.Ended (ended.Exit code))) (acted r s)
@@ -87,7 +87,7 @@ module _ {K : Type 0} (writes : K → PastWrites) (o o1 : OutState K) (s t : Sta
   executes-exit code status ends h =
       let is = executed-exit s t r code h.answers.0 h.answers.1 in
       record {
-        puts = io_laws.ghosts.puts_as _ writes o o1 _ _ _ _ refl (ap (λ it. it.written) is) h.puts;
+        puts = puts_as writes o o1 _ _ _ _ refl (ap (λ it. it.written) is) h.puts;
         state_is = sym (ap (λ it. it.state) is);
         status_is = ap Some ends ∙ sym (ap (λ it. it.status) is);
       }
@@ -107,7 +107,7 @@ module _ {K : Type 0} (writes : K → PastWrites) (o o1 o2 : OutState K) (s t : 
   executes-fault f h line none =
       let is = executed-fault s t r f h.answers.0 h.answers.1 in
       record {
-        puts = io_laws.ghosts.puts_as _ writes o o2 _ _ _ _ refl (ap (λ it. it.written) is) (io_laws.ghosts.puts_then _ writes o o1 o2 (stop_extent result) (acted r s).written (fault_line f) h.puts line);
+        puts = puts_as writes o o2 _ _ _ _ refl (ap (λ it. it.written) is) (puts_then writes o o1 o2 (stop_extent result) (acted r s).written (fault_line f) h.puts line);
         state_is = always _ result (sym (ap (λ it. it.state) is));
         status_is = if_ok _ _ result (λ status e. e ∙ sym (ap (λ it. it.status) is)) none;
       }
@@ -118,7 +118,7 @@ module _ {K : Type 0} (writes : K → PastWrites) (o o1 o2 : OutState K) (s t : 
   executes-limit limit h line ends =
       let is = executed-limit s t r limit h.answers.0 h.answers.1 in
       record {
-        puts = io_laws.ghosts.puts_as _ writes o o2 _ _ _ _ refl (ap (λ it. it.written) is) (io_laws.ghosts.puts_then _ writes o o1 o2 (stop_extent result) (acted r s).written (limit_line limit) h.puts line);
+        puts = puts_as writes o o2 _ _ _ _ refl (ap (λ it. it.written) is) (puts_then writes o o1 o2 (stop_extent result) (acted r s).written (limit_line limit) h.puts line);
         state_is = always _ result (sym (ap (λ it. it.state) is));
         status_is = if_ok _ _ result (λ status e. e ∙ sym (ap (λ it. it.status) is)) ends;
       }
@@ -140,16 +140,16 @@ acted-fault s r f is = ap (λ it. follow (give_or_fault it s).state (give_or_fau
 module _ {K : Type 0} (writes : K → PastWrites) (o : OutState K) (s : State) (r : Reading) where
   -- an item whose request is refused
   pub went_refused : (refusal : Refused) → o.fault ≡ false → Reports refusal (λ f. requested s r ≡ Err f) → Went {K = K} {S = State} {A = Unit {0}} writes o o s (Err (broken_by refusal)) (acted r s)
-  went_refused (refused.Fault f) fine tells = actions_laws.ghosts.went_as _ _ _ writes o o s _ _ _ _ refl (acted-fault s r f tells) (record { puts = io_laws.ghosts.puts_none _ writes o fine; answers = (refl, refl) })
-  went_refused refused.NoMemory fine tells = record { puts = io_laws.ghosts.puts_nothing _ writes o (acted r s).written fine; answers = tt }
+  went_refused (refused.Fault f) fine tells = went_as writes o o s _ _ _ _ refl (acted-fault s r f tells) (record { puts = puts_none writes o fine; answers = (refl, refl) })
+  went_refused refused.NoMemory fine tells = record { puts = puts_nothing writes o (acted r s).written fine; answers = tt }
 
 module _ {K : Type 0} (writes : K → PastWrites) (o o1 o2 : OutState K) (s t : State) (request : Request) where
   -- a value that is shown after the request was done
   pub went_shown : (v : Option Value) → Went writes o o1 t (Ok v) (performed request s) → Puts writes o1 o2 all_put (shown_line v) → Went {K = K} {S = State} {A = Unit {0}} writes o o2 t (Ok tt) (performed_and_shown request s)
-  went_shown v first line = actions_laws.ghosts.went_then _ _ _ _ writes o o1 o2 t t v (Ok tt) (performed request s) shown first (record { puts = line; answers = (refl, refl) })
+  went_shown v first line = went_then writes o o1 o2 t t v (Ok tt) (performed request s) shown first (record { puts = line; answers = (refl, refl) })
 
   pub went_not_shown : (v : Option Value) (e : Stop) → Went writes o o1 t (Ok v) (performed request s) → Puts writes o1 o2 (extent_at e) (shown_line v) → Went {K = K} {S = State} {A = Unit {0}} writes o o2 t (Err (break.Stop e)) (performed_and_shown request s)
-  went_not_shown v e first line = actions_laws.ghosts.went_then _ _ _ _ writes o o1 o2 t t v (Err (break.Stop e)) (performed request s) shown first (record { puts = line; answers = tt })
+  went_not_shown v e first line = went_then writes o o1 o2 t t v (Err (break.Stop e)) (performed request s) shown first (record { puts = line; answers = tt })
 
 -- two items, the first of which doesn't end the script
 two-items : (s : State) (first second : Item) → (executed s (reading_of first)).status ≡ None
@@ -160,7 +160,7 @@ module _ {K : Type 0} (writes : K → PastWrites) (o : OutState K) (s : State) (
   pub executes-none : given ≡ cut.More → o.fault ≡ false → Executes writes o o s (Ok None) (cut_run s given)
   executes-none is fine =
       let P : Cut → Type 0 = λ it. Executes writes o o s (Ok None) (cut_run s it) in
-      subst P (sym is) (record { puts = io_laws.ghosts.puts_none _ writes o fine; state_is = refl; status_is = refl })
+      subst P (sym is) (record { puts = puts_none writes o fine; state_is = refl; status_is = refl })
 
 module _ {K : Type 0} (writes : K → PastWrites) (o o1 : OutState K) (s : State) (given : Cut) where
   pub executes-long : (result : Result (Option Status) Stop) → given ≡ cut.TooLong → Puts writes o o1 (stop_extent result) too_long_line → IfOk result (λ status. status ≡ Some limit_status)
@@ -177,7 +177,7 @@ module _ {K : Type 0} (writes : K → PastWrites) (o o1 o2 : OutState K) (s t u 
       let two' : Executes writes o1 o2 u result (executed here.state (reading_of second)) = subst (λ (it : State). Executes writes o1 o2 u result (executed it (reading_of second))) one.state_is two in
       let all : cut_run s given ≡ runs_joined here (executed here.state (reading_of second)) = ap (cut_run s) is ∙ two-items s first second (sym one.status_is) in
       subst (λ (it : Run). Executes writes o o2 u result it) (sym all) (record {
-        puts = io_laws.ghosts.puts_then _ writes o o1 o2 (stop_extent result) here.written (executed here.state (reading_of second)).written one.puts two'.puts;
+        puts = puts_then writes o o1 o2 (stop_extent result) here.written (executed here.state (reading_of second)).written one.puts two'.puts;
         state_is = two'.state_is;
         status_is = two'.status_is;
       })
@@ -189,7 +189,7 @@ module _ {K : Type 0} (writes : K → PastWrites) (o o1 : OutState K) (s t : Sta
       let grows = grows-status here.status (runs_joined (from s) here) (reading_of second) in
       let P : Cut → Type 0 = λ it. Executes writes o o1 t (Err e) (cut_run s it) in
       subst P (sym is) (record {
-        puts = io_laws.ghosts.puts_as _ writes o o1 _ _ _ _ refl grows.is (actions_laws.ghosts.stopped_more _ writes o o1 e here.written grows.more one.puts);
+        puts = puts_as writes o o1 _ _ _ _ refl grows.is (stopped-more writes o o1 e here.written grows.more one.puts);
         state_is = tt;
         status_is = tt;
       })
@@ -200,7 +200,7 @@ pub executes-shown : {K : Type 0} (writes : K → PastWrites) (o o1 : OutState K
 executes-shown writes o o1 s r name result is line none =
     let shows = executed-symbol s r name is in
     record {
-      puts = io_laws.ghosts.puts_as _ writes o o1 _ _ _ _ refl (ap (λ it. it.written) shows) line;
+      puts = puts_as writes o o1 _ _ _ _ refl (ap (λ it. it.written) shows) line;
       state_is = always _ result (sym (ap (λ it. it.state) shows));
       status_is = if_ok _ _ result (λ status e. e ∙ sym (ap (λ it. it.status) shows)) none;
     }

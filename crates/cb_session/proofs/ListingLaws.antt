@@ -2,12 +2,11 @@
 use Rattle.std.proofs.Common.{◌≡◌, ◌<◌, ◌+◌, ◌∙◌, ◌++◌, ◌∷◌, [], ℕ, List, Err, Result, add-one, ap, append_assoc, drop, drop-cons, false, get_or, length, refl, suc, sym}
 use Rattle.std.proofs.lemmas.List.{append-nil}
 use Rattle.std.specs.List.{flat_map}
-use Rattle.cb_actions.specs.Went.{extent_at, stop_extent}
-use Rattle.cb_actions.specs.contracts.cited.LawsCited.TheImpl as actions_laws
-use Rattle.cb_actions.specs.declared.stop.Stop.{Stop}
+use Rattle.cb_actions.proofs.ActLaws.{stopped-more}
+use Rattle.cb_io.specs.declared.stop.Stop.{Stop}
 use Rattle.cb_io.specs.Histories.{PastWrites}
-use Rattle.cb_io.specs.Output.{OutState, all_put, Puts}
-use Rattle.cb_io.specs.contracts.cited.LawsCited.TheImpl as io_laws
+use Rattle.cb_io.specs.Output.{OutState, Puts, all_put, extent_at, stop_extent}
+use Rattle.cb_io.proofs.PutLaws.{puts_as, puts_none, puts_then}
 use Rattle.cb_lines.specs.Lines.{total_line}
 use Rattle.cb_lines.specs.declared.totals.Noun.{Noun}
 use Rattle.cb_session.specs.Listings.{listing}
@@ -24,7 +23,7 @@ pub record AreBegun {K X : Type 0} (writes : K → PastWrites) (line : X → Lis
 
 module _ {K X : Type 0} (writes : K → PastWrites) (line : X → List ℕ) where
   pub none_begun : (o : OutState K) (xs : List X) → o.fault ≡ false → AreBegun writes line o o xs xs
-  none_begun o xs fine = record { done = []; all = refl; puts = io_laws.ghosts.puts_none _ writes o fine }
+  none_begun o xs fine = record { done = []; all = refl; puts = puts_none writes o fine }
 
   -- one more
   split : (done : List ℕ) (xs rest more : List X) (x : X) → rest ≡ x ∷ more → done ++ flat_map line rest ≡ flat_map line xs → flat_map line xs ≡ done ++ (line x ++ flat_map line more)
@@ -34,26 +33,26 @@ module _ {K X : Type 0} (writes : K → PastWrites) (line : X → List ℕ) wher
   one_more o o1 o2 xs rest more x cut begun put = record {
     done = begun.done ++ line x;
     all = append_assoc begun.done (line x) (flat_map line more) ∙ sym (split begun.done xs rest more x cut begun.all);
-    puts = io_laws.ghosts.puts_then _ writes o o1 o2 all_put begun.done (line x) begun.puts put;
+    puts = puts_then writes o o1 o2 all_put begun.done (line x) begun.puts put;
   }
 
   -- or it stopped there
   pub one_off : (o o1 o2 : OutState K) (xs rest more : List X) (x : X) (e : Stop) (r : Result (Unit {0}) Stop) → rest ≡ x ∷ more → r ≡ Err e → AreBegun writes line o o1 xs rest → Puts writes o1 o2 (extent_at e) (line x)
       → Puts writes o o2 (stop_extent r) (flat_map line xs)
   one_off o o1 o2 xs rest more x e r cut stopped begun put =
-      io_laws.ghosts.puts_as _ writes o o2 _ _ _ _ (ap stop_extent stopped) (split begun.done xs rest more x cut begun.all)
-      (io_laws.ghosts.puts_then _ writes o o1 o2 (extent_at e) begun.done (line x ++ flat_map line more) begun.puts (actions_laws.ghosts.stopped_more _ writes o1 o2 e (line x) (flat_map line more) put))
+      puts_as writes o o2 _ _ _ _ (ap stop_extent stopped) (split begun.done xs rest more x cut begun.all)
+      (puts_then writes o o1 o2 (extent_at e) begun.done (line x ++ flat_map line more) begun.puts (stopped-more writes o1 o2 e (line x) (flat_map line more) put))
 
   pub all_begun : (o o1 : OutState K) (xs rest : List X) → rest ≡ [] → AreBegun writes line o o1 xs rest → Puts writes o o1 all_put (flat_map line xs)
   all_begun o o1 xs rest none begun =
-      io_laws.ghosts.puts_as _ writes o o1 _ _ _ _ refl (sym begun.all ∙ (ap (λ it. begun.done ++ flat_map line it) none ∙ append-nil begun.done)) begun.puts
+      puts_as writes o o1 _ _ _ _ refl (sym begun.all ∙ (ap (λ it. begun.done ++ flat_map line it) none ∙ append-nil begun.done)) begun.puts
 
 module _ {K X : Type 0} (writes : K → PastWrites) (line : X → List ℕ) (noun : Noun) (xs : List X) where
   -- the lines, and then the total
   pub listed_off : (o o1 : OutState K) (e : Stop) (r : Result (Unit {0}) Stop) → r ≡ Err e → Puts writes o o1 (extent_at e) (flat_map line xs) → Puts writes o o1 (stop_extent r) (listing line noun xs)
   listed_off o o1 e r stopped put =
-      io_laws.ghosts.puts_as _ writes o o1 _ _ _ _ (ap stop_extent stopped) refl (actions_laws.ghosts.stopped_more _ writes o o1 e (flat_map line xs) (total_line (length xs) noun) put)
+      puts_as writes o o1 _ _ _ _ (ap stop_extent stopped) refl (stopped-more writes o o1 e (flat_map line xs) (total_line (length xs) noun) put)
 
   pub listed_all : (o o1 o2 : OutState K) (r : Result (Unit {0}) Stop) → Puts writes o o1 all_put (flat_map line xs) → Puts writes o1 o2 (stop_extent r) (total_line (length xs) noun)
       → Puts writes o o2 (stop_extent r) (listing line noun xs)
-  listed_all o o1 o2 r lines total = io_laws.ghosts.puts_then _ writes o o1 o2 (stop_extent r) (flat_map line xs) (total_line (length xs) noun) lines total
+  listed_all o o1 o2 r lines total = puts_then writes o o1 o2 (stop_extent r) (flat_map line xs) (total_line (length xs) noun) lines total

@@ -9,18 +9,24 @@ use Rattle.cb_forms.specs.Trees.{reading_of}
 use Rattle.cb_forms.specs.declared.cut.Cut.{Cut}
 use Rattle.cb_forms.specs.declared.form.Item.{Item}
 use Rattle.cb_io.specs.Histories.{PastWrites}
-use Rattle.cb_io.specs.Output.{OutState}
-use Rattle.cb_io.specs.contracts.cited.LawsCited.TheImpl as io_laws
+use Rattle.cb_io.specs.Output.{OutState, Puts, stop_extent}
+use Rattle.cb_io.specs.declared.stop.Stop.{Stop}
+use Rattle.cb_io.proofs.PutLaws.{puts_as, puts_none}
 use Rattle.cb_session.specs.Setups.{Setup}
 use Rattle.cb_session.specs.States.{State}
-use Rattle.cb_session.specs.Internal.Scripts.{from, cut_run, IsUnderWay, Steps, Ends}
+use Rattle.cb_session.specs.Internal.Scripts.{from, cut_run, IsUnderWay, Ends}
 use Rattle.cb_session.specs.Sessions.{SessionState, session_after}
 use Rattle.cb_session.specs.Transcripts.{after_all, executed, so_far, added}
 use Rattle.cb_session.specs.Internal.Executing.{Executes}
 use Rattle.cb_session.specs.declared.status.Status.{Status}
-use Rattle.cb_actions.specs.declared.stop.Stop.{Stop}
-use Rattle.cb_actions.specs.declared.stop.Stop.TheVariants as stop
-use Rattle.cb_session.specs.Lemmas.ScriptLaws.{so_far-push, way-push, complete-end, added-joined, added-then, end-joined, ended-status, ended-adds, next-byte}
+use Rattle.cb_session.proofs.ScriptLaws.{so_far-push, way-push, complete-end, added-joined, added-then, end-joined, ended-status, ended-adds, next-byte}
+
+-- A byte more of a script that goes on: what it adds was put, and it goes on after it unless it has ended with it.
+pub record Steps {K : Type 0} (writes : K → PastWrites) (old new : OutState K) (setup : Setup) (fed : List ℕ) (byte : ℕ) (cutter : Progress) (state : State)
+    (result : Result (Option Status) Stop) : Type 0 where
+  pub puts : Puts writes old new (stop_extent result) (added setup fed (byte ∷ []))
+  pub status : IfOk result (λ status. status ≡ (so_far setup (fed ++ byte ∷ [])).status)
+  pub goes : IfOk result (λ status. status ≡ None → IsUnderWay setup (fed ++ byte ∷ []) cutter state)
 
 if_ok : {T E : Type 0} (P Q : T → Type 0) (r : Result T E) → ((x : T) → P x → Q x) → IfOk r P → IfOk r Q
 if_ok P Q (Ok x) f h = f x h
@@ -42,14 +48,10 @@ module _ {K : Type 0} (writes : K → PastWrites) (o o1 : OutState K) (l : Setup
   steps-cut given result limit stepped given_is whole_is long_is fine h =
       let push = so_far-push l fed cutter state way cutter' b given limit stepped given_is whole_is long_is in
       record {
-        puts = io_laws.ghosts.puts_as _ writes o o1 _ _ _ _ refl (added-joined l fed (b ∷ []) (cut_run state given) push) h.puts;
+        puts = puts_as writes o o1 _ _ _ _ refl (added-joined l fed (b ∷ []) (cut_run state given) push) h.puts;
         status = if_ok _ _ result (λ status e. e ∙ sym (ap (λ it. it.status) push)) h.status_is;
         goes = ok_and _ _ _ result (λ status state_is e none. way-push l fed cutter cutter' state state' b given way limit stepped given_is whole_is long_is fine state_is (ap (λ it. it.status) push ∙ (sym e ∙ none))) h.state_is h.status_is;
       }
-
-  -- memory is refused
-  pub steps-refused : o.fault ≡ false → Steps writes o o l fed b cutter' state' (Err stop.NoMemory)
-  steps-refused fine = record { puts = io_laws.ghosts.puts_nothing _ writes o (added l fed (b ∷ [])) fine; status = tt; goes = tt }
 
 module _ {K : Type 0} (writes : K → PastWrites) (o o1 : OutState K) (l : Setup) (fed : List ℕ) (cutter : Progress) (state state' : State) (way : IsUnderWay l fed cutter state) where
   -- the end, and the item that is open there
@@ -58,7 +60,7 @@ module _ {K : Type 0} (writes : K → PastWrites) (o o1 : OutState K) (l : Setup
   ends-run item result items_is h =
       let all = complete-end l fed cutter state way item items_is in
       record {
-        puts = io_laws.ghosts.puts_as _ writes o o1 _ _ _ _ refl (end-joined l fed (after_all (from state) (item_readings item)) all) h.puts;
+        puts = puts_as writes o o1 _ _ _ _ refl (end-joined l fed (after_all (from state) (item_readings item)) all) h.puts;
         state_is = on_ok _ _ result (λ e. e ∙ sym (ap (λ it. it.state) all)) h.state_is;
         status = if_ok _ _ result (λ status e. e ∙ sym (ap (λ it. it.status) all)) h.status_is;
       }
@@ -70,7 +72,7 @@ module _ {K : Type 0} (writes : K → PastWrites) (o o1 : OutState K) (l : Setup
   pub ends-none : o1 ≡ o → state' ≡ state → o.fault ≡ false → (over cutter.limit cutter.stepped ≡ false → readings_in cutter.given ++ item_readings None ≡ items cutter.stepped) → Ends writes o o1 l fed state' (Ok None)
   ends-none same still fine items_is =
       let P : OutState K → Type 0 = λ it. Executes writes o it state' (Ok None) (after_all (from state) []) in
-      ends-run None (Ok None) items_is (subst P (sym same) (record { puts = io_laws.ghosts.puts_none _ writes o fine; state_is = still; status_is = refl }))
+      ends-run None (Ok None) items_is (subst P (sym same) (record { puts = puts_none writes o fine; state_is = still; status_is = refl }))
 
 -- bytes after the end
 pub after-end-status : (l : Setup) (fed q : List ℕ) (o : Option Status) → o ≡ (so_far l fed).status → is_some o ≡ true → o ≡ (so_far l (fed ++ q)).status

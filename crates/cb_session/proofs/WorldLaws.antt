@@ -6,7 +6,7 @@ use Rattle.cb_actions.specs.Went.{Quietly, Went}
 use Rattle.cb_actions.specs.Worlds.{World}
 use Rattle.cb_actions.specs.declared.act.Break.TheVariants as break
 use Rattle.cb_actions.specs.declared.act.Break.{Break}
-use Rattle.cb_actions.specs.declared.stop.Stop.TheVariants as stop
+use Rattle.cb_io.specs.declared.stop.Stop.TheVariants as stop
 use Rattle.cb_io.specs.Histories.{PastWrites}
 use Rattle.cb_io.specs.Output.{OutState}
 use Rattle.cb_exprs.specs.GlobalTerms.{GlobalTerm}

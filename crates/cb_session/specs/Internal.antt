@@ -3,7 +3,7 @@ pub mod Executing
 pub mod Scripts
 use Rattle.std.specs.Prelude.{◌≡◌, ◌++◌, ℕ, List, Result, OnOk, Bool, refl}
 use Rattle.cb_session.specs.Transcripts.{so_far}
-use Rattle.cb_actions.specs.declared.stop.Stop.{Stop}
+use Rattle.cb_io.specs.declared.stop.Stop.{Stop}
 use Rattle.cb_session.specs.Sessions.{SessionState, session_after}
 use Rattle.std.specs.Coded.{Coded, code_by, coded_bool, coded_list, coded×}
 use Rattle.cb_actions.specs.Worlds.{World}
@@ -15,9 +15,9 @@ use Rattle.cb_working_memory.specs.Deffacts.{DeffactsTable}
 use Rattle.cb_working_memory.specs.Internal.{table_code}
 use Rattle.cb_session.specs.States.{State}
 
--- a session has taken these bytes, where the call answers so
-abbrev pub HasTaken : {T : Type 0} → SessionState → List ℕ → SessionState → Result T Stop → Type 0
-HasTaken old bytes new result =
+-- a session was fed these bytes, where the call answers so
+abbrev pub WasFed : {T : Type 0} → SessionState → List ℕ → SessionState → Result T Stop → Type 0
+WasFed old bytes new result =
     OnOk result (new ≡ session_after old.setup (old.fed ++ bytes) (so_far old.setup (old.fed ++ bytes)).status)
 
 -- how the logic stores it

@@ -1,6 +1,6 @@
 -- What the laws of faults speak of.
 use Rattle.std.specs.Prelude.{◌≡◌, Err}
-use Rattle.cb_actions.specs.declared.act.Ended.TheVariants as ended
+use Rattle.cb_actions.specs.declared.act.EarlyEnd.TheVariants as ended
 use Rattle.cb_forms.specs.Trees.{Reading}
 use Rattle.cb_forms.specs.declared.fault.Fault.{Fault}
 use Rattle.cb_session.specs.Actions.{acted}

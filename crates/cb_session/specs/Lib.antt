@@ -1,7 +1,6 @@
 pub mod Actions
 pub mod Internal
 pub mod Laws
-pub mod Lemmas
 pub mod Lines
 pub mod Listings
 pub mod Sessions

@@ -4,7 +4,7 @@ use Rattle.cb_session.specs.Setups.{Setup}
 use Rattle.cb_session.specs.declared.status.Flow.{Flow}
 use Rattle.cb_session.specs.declared.status.Flow.TheVariants.{GoOn, Ended}
 use Rattle.cb_session.specs.declared.status.Status.{Status}
-use Rattle.cb_actions.specs.declared.stop.Stop.{Stop}
+use Rattle.cb_io.specs.declared.stop.Stop.{Stop}
 
 -- The bytes fed so far, the status where one was answered, and the stop where one was answered. After those nothing is fed.
 pub record SessionState : Type 0 where

@@ -6,8 +6,8 @@ use Rattle.cb_session.specs.Setups.{Setup}
 use Rattle.cb_session.specs.States.{State, first_state}
 use Rattle.cb_session.specs.Actions.{acted}
 use Rattle.cb_session.specs.Lines.{fault_line, limit_line, too_long_line}
-use Rattle.cb_actions.specs.declared.act.Ended.{Ended}
-use Rattle.cb_actions.specs.declared.act.Ended.TheVariants as ended
+use Rattle.cb_actions.specs.declared.act.EarlyEnd.{EarlyEnd}
+use Rattle.cb_actions.specs.declared.act.EarlyEnd.TheVariants as ended
 use Rattle.cb_session.specs.declared.status.Ending.TheVariants.{Done, Exit, Limit}
 use Rattle.cb_session.specs.declared.status.Status.{Status}
 
@@ -35,7 +35,7 @@ exit_status code is_faulted = record { code = unwrap_or code (fault_code is_faul
 
 -- An item was done so far: this is the state, this was written, and so it ended. A fault is a line, and the script goes on; a
 -- limit is a line, and the script ends; and with `exit` the script ends.
-abbrev pub concluded : State → List ℕ → Result (Unit {0}) Ended → Run
+abbrev pub concluded : State → List ℕ → Result (Unit {0}) EarlyEnd → Run
 concluded s bytes (Ok _) = record { state = s; written = bytes; status = None }
 concluded s bytes (Err (ended.Fault f)) = record { state = record s { is_faulted = true }; written = bytes ++ fault_line f; status = None }
 concluded s bytes (Err (ended.Limit limit)) = record { state = s; written = bytes ++ limit_line limit; status = Some limit_status }

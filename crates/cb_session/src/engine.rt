@@ -1,25 +1,25 @@
-//! Carrying out items.
+//! Executing items.
 ghost use Rattle.std.specs.Prelude.{◌≡◌, IfSome, Ok, None, Some, IfOk, false, true};
-ghost use Rattle.cb_actions.specs.Went.{Went, stop_extent};
+ghost use Rattle.cb_actions.specs.Went.{Went};
 ghost use Rattle.cb_actions.specs.Worlds.{first_world, with_numbers};
 ghost use Rattle.cb_forms.specs.Trees.{atom, reading_of};
-ghost use Rattle.cb_io.specs.Output.{Puts};
+ghost use Rattle.cb_io.specs.Output.{Puts, stop_extent};
 ghost use Rattle.cb_matches.specs.Networks.{empty_network};
-ghost use Rattle.cb_requests.specs.Requests.{request_by};
-ghost use Rattle.cb_session.specs.Actions.{acted, performed_and_shown, shown_line};
+ghost use Rattle.cb_session.specs.Actions.{acted, shown_line};
 ghost use Rattle.cb_session.specs.Internal.Executing.{Executes};
 ghost use Rattle.cb_session.specs.Lines.{fault_line, value_line};
 ghost use Rattle.cb_session.specs.Internal.Scripts.{cut_run};
 ghost use Rattle.cb_session.specs.States.{state_of};
 ghost use Rattle.cb_session.specs.Transcripts.{executed, limit_status};
 
-use crate::line::{fault_line, limit_line, put_line, value_line};
+use crate::line::{fault_line, limit_line, put_line, too_long_line, value_line};
 use crate::status::Status;
-use cb_actions::{Break, Ended, Numbers, Stop, World, put, put_text};
+use cb_actions::{Break, EarlyEnd, Numbers, World};
 use cb_facts::{Names, Value};
 use cb_forms::{Cut, Fault, Item, Out, Sink, Token};
+use cb_io::{Stop, put, put_text};
 use cb_matches::Matcher;
-use cb_requests::{Context, Request, read_request};
+use cb_requests::{Context, read_request};
 use cb_working_memory::{DeffactsTable, GlobalTable, Mark};
 use std::alloc::Global;
 use std::marker::Model;
@@ -108,7 +108,7 @@ impl<M: Matcher<Mark>> Engine<M> {
                 Ok(Some(status)) => Ok(Some(status)),
                 Err(stop) => Err(stop),
             },
-            Cut::TooLong => end_at_limit(b"[CB91] form too long\n", out),
+            Cut::TooLong => end_at_limit(too_long_line(), out),
         }
     }
 
@@ -122,26 +122,14 @@ impl<M: Matcher<Mark>> Engine<M> {
         ensures { Executes K.writes out.old out.new self.new result
             (executed self.old (reading_of item.now)) }
     {
-        match item_symbol(item) {
-            Some(name) => show_symbol(name, out),
-            None => self.execute_item(item, out),
+        if let Some(name) = item_symbol(item) {
+            return show_symbol(name, out);
         }
-    }
-
-    fn execute_item<K: Sink>(
-        &mut self,
-        item: &Item,
-        out: &mut Out<K>,
-    ) -> Result<Option<Status>, Stop>
-        requires { out.old.fault ≡ false }
-        ensures { Executes K.writes out.old out.new self.new result
-            (executed self.old (reading_of item.now)) }
-    {
         match self.act(item, out) {
             Ok(()) => Ok(None),
-            Err(Break::Ended(Ended::Fault(fault))) => self.report(fault, out),
-            Err(Break::Ended(Ended::Limit(limit))) => end_at_limit(limit_line(limit), out),
-            Err(Break::Ended(Ended::Exit(code))) => Ok(Some(Status::exited(
+            Err(Break::Ended(EarlyEnd::Fault(fault))) => self.report(fault, out),
+            Err(Break::Ended(EarlyEnd::Limit(limit))) => end_at_limit(limit_line(limit), out),
+            Err(Break::Ended(EarlyEnd::Exit(code))) => Ok(Some(Status::exited(
                 code,
                 self.is_faulted(),
             ))),
@@ -176,17 +164,10 @@ impl<M: Matcher<Mark>> Engine<M> {
             rules: self.world.rules(),
             deffacts: &self.deffacts,
         };
-        match read_request(&mut self.names, &context, item) {
-            Ok(request) => self.perform_and_show(request, out),
-            Err(refused) => Err(Break::from(refused)),
-        }
-    }
-
-    fn perform_and_show<K: Sink>(&mut self, request: Request, out: &mut Out<K>) -> Result<(), Break>
-        requires { out.old.fault ≡ false }
-        ensures { Went K.writes out.old out.new self.new result
-            (performed_and_shown (request_by request) self.old) }
-    {
+        let request = match read_request(&mut self.names, &context, item) {
+            Ok(request) => request,
+            Err(refused) => return Err(Break::from(refused)),
+        };
         let value = self.perform(request, out)?;
         show(self.alloc, value, out)?;
         Ok(())

@@ -1,7 +1,6 @@
 //! Scripts carried out item by item, and their transcripts.
 #![tactic(auto)]
 
-pub mod cited; // laws that the proofs of other crates cite
 mod engine; // what is kept from item to item, and executing an item
 pub mod laws; // laws of the transcript and of faults
 mod limits; // how far a script may go
@@ -12,7 +11,8 @@ mod reset; // what `reset` does
 mod session; // `Session`, the public face: the cutter, the engine, and the status or the stop that was returned
 mod status; // how a script goes on and ends
 
-pub use cb_actions::{Numbers, Stop};
+pub use cb_actions::Numbers;
+pub use cb_io::Stop;
 pub use cb_working_memory::Mark;
 pub use limits::Limits;
 pub use session::Session;

@@ -1,12 +1,12 @@
 //! The lines of faults, of values and of limits.
 ghost use Rattle.std.specs.Prelude.{◌≡◌, ◌++◌, IfOk, codes, false};
-ghost use Rattle.cb_io.specs.Output.{Puts};
-ghost use Rattle.cb_session.specs.Lines.{fault_line, limit_line, value_line};
-ghost use Rattle.cb_actions.specs.Went.{stop_extent};
+ghost use Rattle.cb_io.specs.Output.{Puts, stop_extent};
+ghost use Rattle.cb_session.specs.Lines.{fault_line, limit_line, too_long_line, value_line};
 
-use cb_actions::{Limit, Stop, put};
+use cb_actions::Limit;
 use cb_facts::{Value, quoted_text};
 use cb_forms::{Fault, NoMemory, Out, Sink};
+use cb_io::{Stop, put};
 use std::alloc::Global;
 
 /// The line of a fault. Growth is refused as `NoMemory`, here and below.
@@ -24,7 +24,14 @@ pub(crate) fn fault_line(alloc: Global, fault: Fault) -> Result<Vec<u8>, NoMemor
     Ok(line)
 }
 
-/// The line of a limit.
+/// The line of the limit of an item's bytes: an item is too long.
+pub(crate) fn too_long_line() -> &'static [u8]
+    ensures { result.now ≡ too_long_line }
+{
+    b"[CB91] form too long\n"
+}
+
+/// The line of another limit.
 pub(crate) fn limit_line(limit: Limit) -> &'static [u8]
     ensures { result.now ≡ limit_line limit }
 {

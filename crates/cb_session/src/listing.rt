@@ -1,17 +1,16 @@
 //! The lists of facts, of activations and of rules, put line by line.
 ghost use Rattle.std.specs.Prelude.{◌≡◌, IfOk, false};
 ghost use Rattle.std.specs.List.{flat_map};
-ghost use Rattle.cb_actions.specs.Went.{stop_extent};
 ghost use Rattle.cb_agenda.specs.Agendas.{agenda_list};
-ghost use Rattle.cb_io.specs.Output.{Puts};
+ghost use Rattle.cb_io.specs.Output.{Puts, stop_extent};
 ghost use Rattle.cb_lines.specs.Lines.{agenda_line, fact_line, total_line};
 ghost use Rattle.cb_session.specs.Listings.{agenda_lines, fact_lines, rule_line, rule_lines};
 
 use crate::line::put_line;
-use cb_actions::{Stop, put_text};
 use cb_agenda::Agenda;
 use cb_facts::{Fact, FactList};
 use cb_forms::{NoMemory, Out, Sink};
+use cb_io::{Stop, put_text};
 use cb_lines::{Noun, add_agenda_line, add_fact_line, add_total_line};
 use cb_matches::Key;
 use cb_rules::DefinedRule;

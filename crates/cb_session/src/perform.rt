@@ -34,7 +34,7 @@ impl<M: Matcher<Mark>> Engine<M> {
             (performed (request_by request) self.old) }
     {
         match request {
-            Request::Act(expr) => self.carry_out(&expr, out),
+            Request::Act(expr) => self.evaluate(&expr, out),
             Request::DefineTemplate(relation, template) => {
                 self.define_template(relation, template)
             }
@@ -54,8 +54,8 @@ impl<M: Matcher<Mark>> Engine<M> {
         }
     }
 
-    /// Carries out an expression.
-    fn carry_out<K: Sink>(&mut self, expr: &Expr, out: &mut Out<K>) -> Result<Option<Value>, Break>
+    /// Evaluates an expression, which may have effects.
+    fn evaluate<K: Sink>(&mut self, expr: &Expr, out: &mut Out<K>) -> Result<Option<Value>, Break>
         requires { out.old.fault ≡ false }
         ensures { Went K.writes out.old out.new self.new result
             (performed (asked.act (term_of expr.now)) self.old) }

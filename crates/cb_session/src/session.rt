@@ -1,21 +1,20 @@
 //! A script carried out while it comes.
 ghost use Rattle.std.specs.Prelude.{◌≡◌, ◌≤◌, List, ℕ, ◌++◌, [], ◌∷◌, Some, None, Ok, Err, IfOk, IfErr, IfSome, IsSome, OnOk, is_some, length, take, false};
 ghost use Rattle.cb_forms.specs.Items.{rest};
-ghost use Rattle.cb_io.specs.Output.{IsReady, OutState, Puts};
-ghost use Rattle.cb_session.specs.Internal.Scripts.{Ends, IsUnderWay, Steps};
+ghost use Rattle.cb_io.specs.Output.{IsReady, OutState, Puts, extent_at, stop_extent};
+ghost use Rattle.cb_session.specs.Internal.Scripts.{Ends, IsUnderWay};
 ghost use Rattle.cb_session.specs.Sessions.{flow_of, fresh_session, session_after};
-ghost use Rattle.cb_session.specs.Internal.{HasTaken};
+ghost use Rattle.cb_session.specs.Internal.{WasFed};
 ghost use Rattle.cb_session.specs.Setups.{Setup, fresh_setup, setup_of};
 ghost use Rattle.cb_session.specs.Transcripts.{added, added_at_end, so_far, status_at_end, status_of};
-ghost use Rattle.cb_actions.specs.Went.{extent_at, stop_extent};
 ghost use Rattle.cb_matches.specs.Networks.{empty_network};
 
 use crate::engine::Engine;
 use crate::limits::Limits;
 use crate::status::{Ending, Flow, Status, fault_code};
-use cb_actions::{Numbers, Stop};
+use cb_actions::Numbers;
 use cb_forms::{Cutter, History, Out, Sink};
-use cb_io::with_all;
+use cb_io::{Stop, with_all};
 use cb_matches::Matcher;
 use cb_working_memory::Mark;
 use std::alloc::Global;
@@ -119,59 +118,49 @@ impl<M: Matcher<Mark>> Session<M> {
         if let Some(status) = self.status {
             return Ok(Flow::Ended(status));
         }
-        match self.feed_and_flush(bytes, out) {
-            Ok(()) => Ok(flow(self.status)),
+        match self.feed_all(bytes, out) {
+            Ok(()) => match flush(out) {
+                Ok(()) => Ok(flow(self.status)),
+                Err(stop) => {
+                    self.stop = Some(stop);
+                    Err(stop)
+                }
+            },
             Err(stop) => {
+                let stop = halt(stop, out);
                 self.stop = Some(stop);
                 Err(stop)
             }
         }
     }
 
-    /// Takes the next bytes, and writes all that their items write.
-    fn feed_and_flush<K: Sink>(&mut self, bytes: &[u8], out: &mut Out<K>) -> Result<(), Stop>
-        requires on { self.old.stop ≡ None }
-        requires goes { self.old.status ≡ (so_far self.old.setup self.old.fed).status }
-        requires ready { IsReady out.old }
-        ensures fed { HasTaken self.old bytes.now self.new result }
-        ensures puts { Puts K.writes out.old out.new (stop_extent result)
-            (added self.old.setup self.old.fed bytes.now) }
-        ensures ready { OnOk result (IsReady out.new) }
-        ensures halted { result ≡ Err Stop.NoMemory → IsReady out.new }
-    {
-        match self.take_all(bytes, out) {
-            Ok(()) => flush(out),
-            Err(stop) => Err(halt(stop, out)),
-        }
-    }
-
-    /// Takes the next bytes, one after another.
-    fn take_all<K: Sink>(&mut self, bytes: &[u8], out: &mut Out<K>) -> Result<(), Stop>
+    /// Feeds bytes one after another, those that complete nothing in runs. What is put may be left to flush.
+    fn feed_all<K: Sink>(&mut self, bytes: &[u8], out: &mut Out<K>) -> Result<(), Stop>
         requires on { self.old.stop ≡ None }
         requires goes { self.old.status ≡ (so_far self.old.setup self.old.fed).status }
         requires fine { out.old.fault ≡ false }
-        ensures fed { HasTaken self.old bytes.now self.new result }
+        ensures fed { WasFed self.old bytes.now self.new result }
         ensures puts { Puts K.writes out.old out.new (stop_extent result)
             (added self.old.setup self.old.fed bytes.now) }
     {
         let mut done = 0;
         while done < bytes.len() {
-            done += self.take_run(&bytes[done..])?;
+            done += self.feed_run(&bytes[done..])?;
             if done < bytes.len() {
-                self.take(bytes[done], out)?;
+                self.feed_byte(bytes[done], out)?;
                 done += 1;
             }
         }
         Ok(())
     }
 
-    /// Takes a beginning of the next bytes that completes nothing, and returns how many bytes that is. Nothing is written
+    /// Feeds a beginning of the next bytes that completes nothing, and returns how many bytes that is. Nothing is written
     /// for it. After the script's end all bytes are such.
-    fn take_run(&mut self, bytes: &[u8]) -> Result<usize, Stop>
+    fn feed_run(&mut self, bytes: &[u8]) -> Result<usize, Stop>
         requires on { self.old.stop ≡ None }
         requires goes { self.old.status ≡ (so_far self.old.setup self.old.fed).status }
         ensures within { IfOk result (λ n. n ≤ length bytes.now) }
-        ensures fed { IfOk result (λ n. HasTaken self.old (take n bytes.now) self.new result) }
+        ensures fed { IfOk result (λ n. WasFed self.old (take n bytes.now) self.new result) }
         ensures adds { IfOk result
             (λ n. added self.old.setup self.old.fed (take n bytes.now) ≡ []) }
         ensures err { IfErr result (λ stop. stop ≡ Stop.NoMemory) }
@@ -188,12 +177,12 @@ impl<M: Matcher<Mark>> Session<M> {
         Ok(n)
     }
 
-    /// Takes the next byte, and carries out what it completes. After the script's end a byte does nothing.
-    fn take<K: Sink>(&mut self, byte: u8, out: &mut Out<K>) -> Result<(), Stop>
+    /// Feeds the next byte, and executes what it completes. After the script's end a byte does nothing.
+    fn feed_byte<K: Sink>(&mut self, byte: u8, out: &mut Out<K>) -> Result<(), Stop>
         requires on { self.old.stop ≡ None }
         requires goes { self.old.status ≡ (so_far self.old.setup self.old.fed).status }
         requires fine { out.old.fault ≡ false }
-        ensures fed { HasTaken self.old (byte ∷ []) self.new result }
+        ensures fed { WasFed self.old (byte ∷ []) self.new result }
         ensures puts { Puts K.writes out.old out.new (stop_extent result)
             (added self.old.setup self.old.fed (byte ∷ [])) }
     {
@@ -202,7 +191,8 @@ impl<M: Matcher<Mark>> Session<M> {
             return Ok(());
         }
         self.stop = Some(Stop::NoMemory);
-        let status = step(&mut self.cutter, &mut self.engine, byte, out)?;
+        let cut = self.cutter.step(byte)?;
+        let status = self.engine.execute_cut(&cut, out)?;
         self.fed = self.fed.and(&byte);
         self.status = status;
         self.stop = None;
@@ -241,34 +231,20 @@ impl<M: Matcher<Mark>> Session<M> {
         if let Some(status) = self.status {
             return Ok(status);
         }
-        match self.end_and_flush(out) {
-            Ok(status) => Ok(status),
+        match self.end(out) {
+            Ok(status) => match flush(out) {
+                Ok(()) => Ok(status),
+                Err(stop) => {
+                    self.stop = Some(stop);
+                    Err(stop)
+                }
+            },
             Err(stop) => {
+                let stop = halt(stop, out);
                 self.stop = Some(stop);
                 Err(stop)
             }
         }
-    }
-
-    /// Ends the script, and writes all that is left to write.
-    fn end_and_flush<K: Sink>(&mut self, out: &mut Out<K>) -> Result<Status, Stop>
-        requires on { self.old.stop ≡ None }
-        requires goes { self.old.status ≡ None }
-        requires ready { IsReady out.old }
-        ensures ended { IfOk result
-            (λ status. self.new ≡ session_after self.old.setup self.old.fed (Some status)) }
-        ensures status { IfOk result (λ status. status ≡ status_of self.old.setup self.old.fed) }
-        ensures puts { Puts K.writes out.old out.new (stop_extent result)
-            (added_at_end self.old.setup self.old.fed) }
-        ensures ready { OnOk result (IsReady out.new) }
-        ensures halted { result ≡ Err Stop.NoMemory → IsReady out.new }
-    {
-        let status = match self.end(out) {
-            Ok(status) => status,
-            Err(stop) => return Err(halt(stop, out)),
-        };
-        flush(out)?;
-        Ok(status)
     }
 
     /// Ends the script: carries out the item that is open.
@@ -316,25 +292,6 @@ impl<M: Matcher<Mark>> Session<M> {
     {
         self.stop.is_some()
     }
-}
-
-/// Takes the next byte of a script that goes on, and executes what it completes. The answer is the status, where the
-/// script ends with it.
-fn step<M: Matcher<Mark>, K: Sink>(
-    cutter: &mut Cutter,
-    engine: &mut Engine<M>,
-    byte: u8,
-    out: &mut Out<K>,
-) -> Result<Option<Status>, Stop>
-    requires { out.old.fault ≡ false }
-    ensures { (setup : Setup) (fed : List ℕ) → IsUnderWay setup fed cutter.old engine.old
-        → Steps K.writes out.old out.new setup fed byte cutter.new engine.new result }
-{
-    let cut = match cutter.step(byte) {
-        Ok(cut) => cut,
-        Err(_) => return Err(Stop::NoMemory),
-    };
-    engine.execute_cut(&cut, out)
 }
 
 /// Executes the item that is open at the end of a script, if there is one. The answer is the status, where the script

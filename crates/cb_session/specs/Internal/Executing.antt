@@ -1,9 +1,8 @@
 -- What a call that carries out items did to the output and to the state.
 use Rattle.std.specs.Prelude.{◌≡◌, Option, Result, OnOk, IfOk}
-use Rattle.cb_actions.specs.Went.{stop_extent}
-use Rattle.cb_actions.specs.declared.stop.Stop.{Stop}
+use Rattle.cb_io.specs.declared.stop.Stop.{Stop}
 use Rattle.cb_io.specs.Histories.{PastWrites}
-use Rattle.cb_io.specs.Output.{OutState, Puts}
+use Rattle.cb_io.specs.Output.{OutState, Puts, stop_extent}
 use Rattle.cb_session.specs.States.{State}
 use Rattle.cb_session.specs.Transcripts.{Run}
 use Rattle.cb_session.specs.declared.status.Status.{Status}

@@ -1,5 +1,5 @@
 -- How a session keeps in step with its script.
-use Rattle.std.specs.Prelude.{◌≡◌, ◌≤◌, ℕ, false, List, [], ◌∷◌, ◌++◌, Option, None, Result, OnOk, IfOk, if◌then◌else◌}
+use Rattle.std.specs.Prelude.{◌≡◌, ◌≤◌, ℕ, false, List, [], Option, None, Result, OnOk, IfOk, if◌then◌else◌}
 use Rattle.cb_forms.specs.Cutter.{Progress, readings_in}
 use Rattle.cb_forms.specs.Cuts.{is_too_long}
 use Rattle.cb_forms.specs.Internal.Cuts.{cut_readings}
@@ -8,11 +8,10 @@ use Rattle.cb_forms.specs.declared.cut.Cut.{Cut}
 use Rattle.cb_session.specs.Setups.{Setup}
 use Rattle.cb_session.specs.States.{State}
 use Rattle.cb_io.specs.Histories.{PastWrites}
-use Rattle.cb_io.specs.Output.{OutState, Puts}
-use Rattle.cb_session.specs.Transcripts.{Run, begun, after_all, too_long, so_far, complete, added, added_at_end}
-use Rattle.cb_actions.specs.Went.{stop_extent}
+use Rattle.cb_io.specs.Output.{OutState, Puts, stop_extent}
+use Rattle.cb_session.specs.Transcripts.{Run, begun, after_all, too_long, complete, added_at_end}
 use Rattle.cb_session.specs.declared.status.Status.{Status}
-use Rattle.cb_actions.specs.declared.stop.Stop.{Stop}
+use Rattle.cb_io.specs.declared.stop.Stop.{Stop}
 
 -- a run that begins in this state
 abbrev pub from : State → Run
@@ -33,13 +32,6 @@ pub record IsUnderWay (setup : Setup) (fed : List ℕ) (cutter : Progress) (stat
   pub given : readings_in cutter.given ≡ whole fed
   pub state_is : state ≡ (after_all (begun setup) (whole fed)).state
   pub goes : (after_all (begun setup) (whole fed)).status ≡ None
-
--- A byte more of a script that goes on: what it adds was put, and it goes on after it unless it has ended with it.
-pub record Steps {K : Type 0} (writes : K → PastWrites) (old new : OutState K) (setup : Setup) (fed : List ℕ) (byte : ℕ) (cutter : Progress) (state : State)
-    (result : Result (Option Status) Stop) : Type 0 where
-  pub puts : Puts writes old new (stop_extent result) (added setup fed (byte ∷ []))
-  pub status : IfOk result (λ status. status ≡ (so_far setup (fed ++ byte ∷ [])).status)
-  pub goes : IfOk result (λ status. status ≡ None → IsUnderWay setup (fed ++ byte ∷ []) cutter state)
 
 -- The end of a script that goes on: what it adds was put.
 pub record Ends {K : Type 0} (writes : K → PastWrites) (old new : OutState K) (setup : Setup) (fed : List ℕ) (state : State) (result : Result (Option Status) Stop) : Type 0 where

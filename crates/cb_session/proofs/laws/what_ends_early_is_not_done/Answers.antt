@@ -1,4 +1,4 @@
-use Rattle.cb_session.specs.Lemmas.{so_far-early}
+use Rattle.cb_session.proofs.SoFarLaws.{so_far-early}
 use Rattle.cb_session.proofs.laws.what_ends_early_is_not_done.Goals as goal
 
 pub returns : goal.returns

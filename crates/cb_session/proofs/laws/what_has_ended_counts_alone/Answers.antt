@@ -1,4 +1,4 @@
-use Rattle.cb_session.specs.Lemmas.{so_far-ended}
+use Rattle.cb_session.proofs.SoFarLaws.{so_far-ended}
 use Rattle.cb_session.proofs.laws.what_has_ended_counts_alone.Goals as goal
 
 pub returns-clause-so_far : goal.returns-clause-so_far

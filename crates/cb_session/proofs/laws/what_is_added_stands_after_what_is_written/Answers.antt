@@ -1,4 +1,4 @@
-use Rattle.cb_session.specs.Lemmas.ScriptLaws.{added-grown, end-grown}
+use Rattle.cb_session.proofs.ScriptLaws.{added-grown, end-grown}
 use Rattle.cb_session.proofs.laws.what_is_added_stands_after_what_is_written.Goals as goal
 
 pub returns-clause-so_far : goal.returns-clause-so_far

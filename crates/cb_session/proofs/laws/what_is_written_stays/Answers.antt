@@ -1,4 +1,4 @@
-use Rattle.cb_session.specs.Lemmas.{so_far-none, so_far-grows, so_far-grows_far}
+use Rattle.cb_session.proofs.SoFarLaws.{so_far-none, so_far-grows, so_far-grows_far}
 use Rattle.cb_session.proofs.laws.what_is_written_stays.Goals as goal
 
 pub returns-clause-begun : goal.returns-clause-begun

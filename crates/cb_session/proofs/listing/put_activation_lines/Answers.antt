@@ -1,5 +1,5 @@
 use Rattle.std.proofs.Common.{◌≡◌, Err, length, rules}
-use Rattle.cb_io.specs.contracts.cited.LawsCited.TheImpl as io_laws
+use Rattle.cb_io.proofs.PutLaws.{puts_fine}
 use Rattle.cb_lines.specs.Lines.{agenda_line, total_line}
 use Rattle.cb_lines.specs.declared.totals.Noun.TheVariants.{Activation}
 use Rattle.cb_session.proofs.ListingLaws.{listed_all, listed_off}
@@ -11,7 +11,7 @@ returns-in_err-put_activations g c =
     listed_off g.K.Sink.writes (agenda_line c.args.rules.now) Activation c.args.activations.now _ _ _ _ r c.in_err-put_activations.ensures
 
 pub put_text-requires : goal.put_text-requires
-put_text-requires g c = io_laws.ghosts.puts_fine _ g.K.Sink.writes _ _ _ c.in_ok-put_activations.ensures
+put_text-requires g c = puts_fine g.K.Sink.writes _ _ _ c.in_ok-put_activations.ensures
 
 pub returns : goal.returns
 returns g c = listed_all g.K.Sink.writes (agenda_line c.args.rules.now) Activation c.args.activations.now _ _ _ _ c.in_ok-put_activations.ensures (c.put_text.ensures (total_line (length c.args.activations.now) Activation) (search rules))

@@ -1,6 +1,6 @@
 use Rattle.std.proofs.Common.{◌≡◌, Err, rules}
 use Rattle.std.proofs.lemmas.List.{drop_all}
-use Rattle.cb_io.specs.contracts.cited.LawsCited.TheImpl as io_laws
+use Rattle.cb_io.proofs.PutLaws.{puts_fine}
 use Rattle.cb_lines.specs.Lines.{agenda_line}
 use Rattle.cb_session.proofs.ListingLaws.{all_begun, next_item, none_begun, one_more, one_off}
 use Rattle.cb_session.proofs.listing.put_activations.Goals as goal
@@ -9,7 +9,7 @@ pub loop-activation-init : goal.loop-activation-init
 loop-activation-init g c = none_begun g.K.Sink.writes (agenda_line c.args.rules.now) _ _ c.requires
 
 pub put_text-requires : goal.put_text-requires
-put_text-requires g c = io_laws.ghosts.puts_fine _ g.K.Sink.writes _ _ _ c.loop-activation.invariant.puts
+put_text-requires g c = puts_fine g.K.Sink.writes _ _ _ c.loop-activation.invariant.puts
 
 pub loop-activation-preserved : goal.loop-activation-preserved
 loop-activation-preserved g c =

@@ -1,7 +1,7 @@
 use Rattle.std.proofs.Common.{◌≡◌, ◌∷◌, [], ℕ, Err, rules, sym, subst}
 use Rattle.cb_facts.specs.FactLists.{IndexedFacts}
 use Rattle.cb_facts.specs.Facts.{FactValue}
-use Rattle.cb_io.specs.contracts.cited.LawsCited.TheImpl as io_laws
+use Rattle.cb_io.proofs.PutLaws.{puts_fine}
 use Rattle.cb_lines.specs.Lines.{fact_line}
 use Rattle.cb_session.proofs.ListingLaws.{AreBegun, all_begun, none_begun, one_more, one_off}
 use Rattle.cb_session.proofs.listing.put_facts.Goals as goal
@@ -12,7 +12,7 @@ loop-ix-init g c =
     subst (λ (it : IndexedFacts). AreBegun g.K.Sink.writes fact_line c.args.out.now c.args.out.now c.args.facts.now it) (sym rest) (none_begun g.K.Sink.writes fact_line _ _ c.requires)
 
 pub put_text-requires : goal.put_text-requires
-put_text-requires g c = io_laws.ghosts.puts_fine _ g.K.Sink.writes _ _ _ c.loop-ix.invariant.puts
+put_text-requires g c = puts_fine g.K.Sink.writes _ _ _ c.loop-ix.invariant.puts
 
 pub loop-ix-preserved : goal.loop-ix-preserved
 loop-ix-preserved g c =

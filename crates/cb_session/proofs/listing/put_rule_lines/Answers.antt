@@ -1,5 +1,5 @@
 use Rattle.std.proofs.Common.{◌≡◌, Err, length, rules}
-use Rattle.cb_io.specs.contracts.cited.LawsCited.TheImpl as io_laws
+use Rattle.cb_io.proofs.PutLaws.{puts_fine}
 use Rattle.cb_lines.specs.Lines.{total_line}
 use Rattle.cb_lines.specs.declared.totals.Noun.TheVariants.{Defrule}
 use Rattle.cb_session.specs.Listings.{rule_line}
@@ -12,7 +12,7 @@ returns-in_err-put_rules g c =
     listed_off g.K.Sink.writes rule_line Defrule c.args.rules.now _ _ _ _ r c.in_err-put_rules.ensures
 
 pub put_text-requires : goal.put_text-requires
-put_text-requires g c = io_laws.ghosts.puts_fine _ g.K.Sink.writes _ _ _ c.in_ok-put_rules.ensures
+put_text-requires g c = puts_fine g.K.Sink.writes _ _ _ c.in_ok-put_rules.ensures
 
 pub returns : goal.returns
 returns g c = listed_all g.K.Sink.writes rule_line Defrule c.args.rules.now _ _ _ _ c.in_ok-put_rules.ensures (c.put_text.ensures (total_line (length c.args.rules.now) Defrule) (search rules))

@@ -1,6 +1,6 @@
 use Rattle.std.proofs.Common.{◌≡◌, Err, rules}
 use Rattle.std.proofs.lemmas.List.{drop_all}
-use Rattle.cb_io.specs.contracts.cited.LawsCited.TheImpl as io_laws
+use Rattle.cb_io.proofs.PutLaws.{puts_fine}
 use Rattle.cb_session.specs.Listings.{rule_line}
 use Rattle.cb_session.proofs.ListingLaws.{all_begun, next_item, none_begun, one_more, one_off}
 use Rattle.cb_session.proofs.listing.put_rules.Goals as goal
@@ -9,7 +9,7 @@ pub loop-rule-init : goal.loop-rule-init
 loop-rule-init g c = none_begun g.K.Sink.writes rule_line _ _ c.requires
 
 pub put_rule-requires : goal.put_rule-requires
-put_rule-requires g c = io_laws.ghosts.puts_fine _ g.K.Sink.writes _ _ _ c.loop-rule.invariant.puts
+put_rule-requires g c = puts_fine g.K.Sink.writes _ _ _ c.loop-rule.invariant.puts
 
 pub loop-rule-preserved : goal.loop-rule-preserved
 loop-rule-preserved g c =

@@ -3,7 +3,7 @@ use Rattle.cb_forms.specs.Cuts.{item_readings}
 use Rattle.cb_forms.specs.Cutter.{readings_in}
 use Rattle.cb_forms.specs.Items.{items, over}
 use Rattle.cb_forms.specs.declared.form.Item.{Item}
-use Rattle.cb_io.specs.contracts.cited.LawsCited.TheImpl as io_laws
+use Rattle.cb_io.proofs.PutLaws.{puts_nothing}
 use Rattle.cb_session.proofs.StepLaws.{ends-item, ends-none}
 use Rattle.cb_session.proofs.session.execute_last.Goals as goal
 
@@ -18,4 +18,4 @@ returns-in-Ok-None g c = λ l fed way.
     ends-none g.K.Sink.writes _ _ l fed _ _ _ way refl refl c.requires (subst P c.in-Ok-None.field-0-is c.in-Ok-None.ensures.items)
 
 pub returns-in-Err : goal.returns-in-Err
-returns-in-Err g c = λ l fed way. record { puts = io_laws.ghosts.puts_nothing _ g.K.Sink.writes _ _ c.requires; state_is = tt; status = tt }
+returns-in-Err g c = λ l fed way. record { puts = puts_nothing g.K.Sink.writes _ _ c.requires; state_is = tt; status = tt }

@@ -1,13 +1,14 @@
 use Rattle.std.proofs.Common.{◌≡◌, Ok, None, ap, ◌∙◌, subst}
 use Rattle.cb_forms.specs.Trees.{reading_of}
-use Rattle.cb_io.specs.contracts.cited.LawsCited.TheImpl as io_laws
+use Rattle.cb_io.specs.Output.{Puts, stop_extent}
+use Rattle.cb_io.proofs.PutLaws.{puts_fine}
 use Rattle.cb_session.specs.Transcripts.{executed}
 use Rattle.cb_session.specs.Internal.Executing.{Executes}
 use Rattle.cb_session.proofs.ItemLaws.{executes-none, executes-long, executes-two, executes-first}
 use Rattle.cb_session.proofs.engine.Engine.execute_cut.Goals as goal
 
 pub execute-requires-in-Ok-None : goal.execute-requires-in-Ok-None
-execute-requires-in-Ok-None g c = io_laws.ghosts.puts_fine _ g.K.Sink.writes _ _ _ c.in-Ok-None.ensures.puts
+execute-requires-in-Ok-None g c = puts_fine g.K.Sink.writes _ _ _ c.in-Ok-None.ensures.puts
 
 pub returns-in-More : goal.returns-in-More
 returns-in-More g c = executes-none g.K.Sink.writes _ c.args.self.now c.args.cut.now c.in-More.is c.requires
@@ -23,4 +24,6 @@ pub returns-in-Err : goal.returns-in-Err
 returns-in-Err g c = executes-first g.K.Sink.writes _ _ c.args.self.now _ c.args.cut.now c.in-TwoItems.first c.in-TwoItems.second c.in-Err.stop c.in-TwoItems.is c.in-Err.ensures
 
 pub returns-in-TooLong : goal.returns-in-TooLong
-returns-in-TooLong g c = executes-long g.K.Sink.writes _ _ c.args.self.now c.args.cut.now _ c.in-TooLong.is c.end_at_limit.ensures.puts c.end_at_limit.ensures.status
+returns-in-TooLong g c =
+    let line = subst (λ it. Puts g.K.Sink.writes c.args.out.now c.end_at_limit.new.out (stop_extent c.end_at_limit.result) it) c.too_long_line.ensures c.end_at_limit.ensures.puts in
+    executes-long g.K.Sink.writes _ _ c.args.self.now c.args.cut.now _ c.in-TooLong.is line c.end_at_limit.ensures.status

@@ -1,18 +1,18 @@
-use Rattle.cb_actions.specs.contracts.cited.LawsCited.TheImpl as actions_laws
+use Rattle.cb_actions.proofs.ActLaws.{went_quietly}
 use Rattle.cb_session.proofs.AskedLaws.{performed_so}
 use Rattle.cb_session.proofs.engine.Engine.perform.Goals as goal
 
 pub returns-in-Act : goal.returns-in-Act
-returns-in-Act g c = performed_so g.K.Sink.writes _ _ c.args.self.now _ _ _ _ c.in-Act.is c.carry_out.ensures
+returns-in-Act g c = performed_so g.K.Sink.writes _ _ c.args.self.now _ _ _ _ c.in-Act.is c.evaluate.ensures
 
 pub returns-in-DefineTemplate : goal.returns-in-DefineTemplate
-returns-in-DefineTemplate g c = performed_so g.K.Sink.writes _ _ c.args.self.now _ _ _ _ c.in-DefineTemplate.is (actions_laws.ghosts.went_quietly _ _ _ g.K.Sink.writes _ _ _ _ c.requires c.define_template.ensures)
+returns-in-DefineTemplate g c = performed_so g.K.Sink.writes _ _ c.args.self.now _ _ _ _ c.in-DefineTemplate.is (went_quietly g.K.Sink.writes _ _ _ _ c.requires c.define_template.ensures)
 
 pub returns-in-DefineDeffacts : goal.returns-in-DefineDeffacts
-returns-in-DefineDeffacts g c = performed_so g.K.Sink.writes _ _ c.args.self.now _ _ _ _ c.in-DefineDeffacts.is (actions_laws.ghosts.went_quietly _ _ _ g.K.Sink.writes _ _ _ _ c.requires c.define_deffacts.ensures)
+returns-in-DefineDeffacts g c = performed_so g.K.Sink.writes _ _ c.args.self.now _ _ _ _ c.in-DefineDeffacts.is (went_quietly g.K.Sink.writes _ _ _ _ c.requires c.define_deffacts.ensures)
 
 pub returns-in-DefineGlobals : goal.returns-in-DefineGlobals
-returns-in-DefineGlobals g c = performed_so g.K.Sink.writes _ _ c.args.self.now _ _ _ _ c.in-DefineGlobals.is (actions_laws.ghosts.went_quietly _ _ _ g.K.Sink.writes _ _ _ _ c.requires c.define_globals.ensures)
+returns-in-DefineGlobals g c = performed_so g.K.Sink.writes _ _ c.args.self.now _ _ _ _ c.in-DefineGlobals.is (went_quietly g.K.Sink.writes _ _ _ _ c.requires c.define_globals.ensures)
 
 pub returns-in-DefineRule : goal.returns-in-DefineRule
 returns-in-DefineRule g c = performed_so g.K.Sink.writes _ _ c.args.self.now _ _ _ _ c.in-DefineRule.is c.define_rule.ensures
@@ -42,7 +42,7 @@ pub returns-in-Undefine : goal.returns-in-Undefine
 returns-in-Undefine g c = performed_so g.K.Sink.writes _ _ c.args.self.now _ _ _ _ c.in-Undefine.is c.undefine.ensures
 
 pub returns-in-Watch : goal.returns-in-Watch
-returns-in-Watch g c = performed_so g.K.Sink.writes _ _ c.args.self.now _ _ _ _ c.in-Watch.is (actions_laws.ghosts.went_quietly _ _ _ g.K.Sink.writes _ _ _ _ c.requires c.watch.ensures)
+returns-in-Watch g c = performed_so g.K.Sink.writes _ _ c.args.self.now _ _ _ _ c.in-Watch.is (went_quietly g.K.Sink.writes _ _ _ _ c.requires c.watch.ensures)
 
 pub returns-in-SetStrategy : goal.returns-in-SetStrategy
-returns-in-SetStrategy g c = performed_so g.K.Sink.writes _ _ c.args.self.now _ _ _ _ c.in-SetStrategy.is (actions_laws.ghosts.went_quietly _ _ _ g.K.Sink.writes _ _ _ _ c.requires c.set_strategy.ensures)
+returns-in-SetStrategy g c = performed_so g.K.Sink.writes _ _ c.args.self.now _ _ _ _ c.in-SetStrategy.is (went_quietly g.K.Sink.writes _ _ _ _ c.requires c.set_strategy.ensures)

@@ -1,5 +1,5 @@
 use Rattle.std.proofs.Common.{refl, ap, sym}
-use Rattle.cb_actions.specs.contracts.cited.LawsCited.TheImpl as actions_laws
+use Rattle.cb_actions.proofs.ActLaws.{went_as}
 use Rattle.cb_session.proofs.WorldLaws.{went_on_world}
 use Rattle.cb_session.specs.Actions.{on_world, reset_to}
 use Rattle.cb_session.specs.States.{State}
@@ -11,5 +11,5 @@ returns g c =
     let inside = c.self.inside in
     let s : State = record { world = inside.world; deffacts = inside.deffacts; globals = inside.globals; is_faulted = inside.is_faulted } in
     let act = reset_to inside.globals (kept_facts inside.deffacts) in
-    let went = actions_laws.ghosts.went_as _ _ _ g.K.Sink.writes _ _ _ _ _ _ _ refl (ap (λ gs. reset_to gs (kept_facts inside.deffacts) inside.world) (sym c.as_slice.ensures)) c.reset_world.ensures in
-    actions_laws.ghosts.went_as _ _ _ g.K.Sink.writes _ _ _ _ _ _ _ refl (ap (λ (it : State). on_world (reset_to it.globals (kept_facts it.deffacts)) it) (sym c.self.view_is)) (went_on_world g.K.Sink.writes _ _ s _ _ act went)
+    let went = went_as g.K.Sink.writes _ _ _ _ _ _ _ refl (ap (λ gs. reset_to gs (kept_facts inside.deffacts) inside.world) (sym c.as_slice.ensures)) c.reset_world.ensures in
+    went_as g.K.Sink.writes _ _ _ _ _ _ _ refl (ap (λ (it : State). on_world (reset_to it.globals (kept_facts it.deffacts)) it) (sym c.self.view_is)) (went_on_world g.K.Sink.writes _ _ s _ _ act went)

@@ -1,6 +1,6 @@
 use Rattle.std.proofs.Common.{ap, option_map, refl, sym}
 use Rattle.cb_actions.specs.Commands.{ran_as}
-use Rattle.cb_actions.specs.contracts.cited.LawsCited.TheImpl as actions_laws
+use Rattle.cb_actions.proofs.ActLaws.{went_as}
 use Rattle.cb_exprs.specs.Terms.{term_of}
 use Rattle.cb_session.proofs.WorldLaws.{lent_term, went_inside}
 use Rattle.cb_session.specs.Actions.{on_world}
@@ -9,5 +9,5 @@ use Rattle.cb_session.proofs.engine.Engine.run.Goals as goal
 pub returns : goal.returns
 returns g c =
     let lent = lent_term c.as_ref.result c.args.count c.as_ref.ensures.value in
-    actions_laws.ghosts.went_as _ _ _ g.K.Sink.writes _ _ _ _ _ _ _ refl (ap (λ it. on_world (ran_as it) c.args.self.now) (sym lent))
+    went_as g.K.Sink.writes _ _ _ _ _ _ _ refl (ap (λ it. on_world (ran_as it) c.args.self.now) (sym lent))
     (went_inside g.K.Sink.writes _ _ _ _ _ _ (ran_as (option_map (λ e. term_of e.now) c.as_ref.result)) c.self.view_is c.run_as.ensures)

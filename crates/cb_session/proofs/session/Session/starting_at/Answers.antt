@@ -1,4 +1,4 @@
-use Rattle.cb_session.specs.Lemmas.ScriptLaws.{way-start_of}
+use Rattle.cb_session.proofs.ScriptLaws.{way-start_of}
 use Rattle.cb_session.specs.Setups.{setup_of}
 use Rattle.cb_session.proofs.session.Session.starting_at.Goals as goal
 

@@ -8,7 +8,7 @@ use Rattle.cb_forms.specs.Internal.Cuts.{cut_readings}
 use Rattle.cb_forms.specs.Cutter.{Progress, fresh_progress, readings_in}
 use Rattle.cb_forms.specs.Items.{items, parts, whole, over, fitting}
 use Rattle.cb_forms.specs.Trees.{Reading, reading_of}
-use Rattle.cb_forms.specs.contracts.cited.LawsCited.TheImpl as forms_laws
+use Rattle.cb_forms.proofs.FittingLaws.{fitting-whole}
 use Rattle.cb_forms.specs.declared.cut.Cut.{Cut}
 use Rattle.cb_forms.specs.declared.form.Item.{Item}
 use Rattle.cb_session.specs.Setups.{Setup}
@@ -17,7 +17,7 @@ use Rattle.cb_session.specs.Lines.{too_long_line}
 use Rattle.cb_session.specs.Internal.Scripts.{from, cut_run, IsUnderWay}
 use Rattle.cb_session.specs.Transcripts.{Run, begun, runs_joined, executed, after_status, after, after_all, too_long_status, too_long, so_far, complete, transcript, added, added_at_end}
 use Rattle.cb_session.specs.declared.status.Status.{Status}
-use Rattle.cb_session.specs.Lemmas.{Grows, after_all-append, complete-fits, so_far-fits, so_far-long, so_far-ended, so_far-grows, so_far-grows_far}
+use Rattle.cb_session.proofs.SoFarLaws.{Grows, after_all-append, complete-fits, so_far-fits, so_far-long, so_far-ended, so_far-grows, so_far-grows_far}
 
 joined-status : (o : Option Status) (run next : Run) (x : Reading) → runs_joined run (after_status o next x) ≡ after_status o (runs_joined run next) x
 joined-status None run next x = ap (λ w. record { state = (executed next.state x).state; written = w; status = (executed next.state x).status }) (sym (append_assoc run.written next.written (executed next.state x).written))
@@ -105,7 +105,7 @@ module _ (l : Setup) (fed : List ℕ) (cutter : Progress) (state : State) (way :
         | inl e ↦
             let long : over n (p ++ b ∷ []) ≡ true = sym over_is ∙ (sym long_is ∙ e) in
             let run_is : cut_run state given ≡ too_long (from state) = ap (λ t. if t then too_long (from state) else after_all (from state) (cut_readings given)) e in
-            so_far-long l (p ++ b ∷ []) long ∙ (ap (λ xs. too_long (after_all (begun l) xs)) (forms_laws.ghosts.fitting_whole n p b way.some way.fits long)
+            so_far-long l (p ++ b ∷ []) long ∙ (ap (λ xs. too_long (after_all (begun l) xs)) (fitting-whole n p b way.some way.fits long)
             ∙ (ap too_long (sym way-start) ∙ (sym (joined-long_status (from state).status here (from state)) ∙ (ap (runs_joined here) (sym run_is) ∙ sym far))))
         | inr e ↦
             let fits : over n (p ++ b ∷ []) ≡ false = sym over_is ∙ (sym long_is ∙ e) in

@@ -1,18 +1,17 @@
--- Lemmas under the laws that other crates cite; no contract names what is here. How a run grows with its script.
-pub mod ScriptLaws
+-- How a run grows with its script.
 use Rattle.std.proofs.Common.{◌≡◌, ◌≢◌, ℕ, Bool, true, false, List, [], ◌∷◌, ◌++◌, Option, Some, None, Result, Ok, Err, refl, sym, ap, ◌∙◌, subst, inl, inr, if◌then◌else◌}
 use Rattle.std.proofs.lemmas.Bool.{cases_Bool}
 use Rattle.std.proofs.lemmas.List.{append-nil, append_assoc}
 use Rattle.cb_forms.specs.Items.{items, parts, whole, over, fitting}
 use Rattle.cb_forms.specs.Trees.{Reading}
-use Rattle.cb_forms.specs.contracts.cited.LawsCited.TheImpl as forms_laws
+use Rattle.cb_forms.proofs.FittingLaws.{fitting-items, fitting-kept, over-kept_all, whole-fitting, whole-more}
 use Rattle.cb_session.specs.Actions.{acted}
 use Rattle.cb_session.specs.Setups.{Setup}
 use Rattle.cb_session.specs.States.{State}
 use Rattle.cb_session.specs.Lines.{too_long_line}
 use Rattle.cb_session.specs.Transcripts.{Run, begun, concluded, executed, exit_status, limit_status, after_status, after, after_all, too_long_status, too_long, so_far, complete}
-use Rattle.cb_actions.specs.declared.act.Ended.{Ended}
-use Rattle.cb_actions.specs.declared.act.Ended.TheVariants as ended
+use Rattle.cb_actions.specs.declared.act.EarlyEnd.{EarlyEnd}
+use Rattle.cb_actions.specs.declared.act.EarlyEnd.TheVariants as ended
 use Rattle.cb_session.specs.declared.status.Ending.TheVariants as ending
 use Rattle.cb_session.specs.declared.status.Status.{Status}
 
@@ -67,7 +66,7 @@ so_far-long l p h = ap (λ t. if t then too_long (after_all (begun l) (fitting l
 
 pub complete-fits : (l : Setup) (s : List ℕ) → over l.max_form s ≡ false → complete l s ≡ after_all (begun l) (items s)
 unfolding complete
-complete-fits l s h = ap (λ t. if t then too_long (after_all (begun l) (fitting l.max_form s)) else after_all (begun l) (fitting l.max_form s)) h ∙ ap (after_all (begun l)) (forms_laws.ghosts.fitting_items l.max_form s h)
+complete-fits l s h = ap (λ t. if t then too_long (after_all (begun l) (fitting l.max_form s)) else after_all (begun l) (fitting l.max_form s)) h ∙ ap (after_all (begun l)) (fitting-items l.max_form s h)
 
 pub complete-long : (l : Setup) (s : List ℕ) → over l.max_form s ≡ true → complete l s ≡ too_long (after_all (begun l) (fitting l.max_form s))
 unfolding complete
@@ -76,15 +75,15 @@ complete-long l s h = ap (λ t. if t then too_long (after_all (begun l) (fitting
 -- what fits, after what has ended
 fitting-run : (l : Setup) (p r : List ℕ) → over l.max_form p ≡ false → (more : List Reading) × (after_all (begun l) (fitting l.max_form (p ++ r)) ≡ after_all (after_all (begun l) (whole p)) more)
 fitting-run l p r fits =
-    let begins = forms_laws.ghosts.whole_fitting l.max_form p r fits in (begins.0, ap (after_all (begun l)) begins.1 ∙ after_all-append (begun l) (whole p) begins.0)
+    let begins = whole-fitting l.max_form p r fits in (begins.more, ap (after_all (begun l)) begins.is ∙ after_all-append (begun l) (whole p) begins.more)
 
 -- however the script goes on, what is written so far is a beginning of all
 pub so_far-grows : (l : Setup) (p r : List ℕ) → Grows (so_far l p).written (complete l (p ++ r)).written
 unfolding so_far complete
 so_far-grows l p r = elim (cases_Bool (over l.max_form p)) [
   | inl long ↦
-      let long' = forms_laws.ghosts.over_kept_all l.max_form p r long in
-      let same : complete l (p ++ r) ≡ so_far l p = complete-long l (p ++ r) long' ∙ (ap (λ xs. too_long (after_all (begun l) xs)) (forms_laws.ghosts.fitting_kept l.max_form p r long) ∙ sym (so_far-long l p long)) in
+      let long' = over-kept_all l.max_form p r long in
+      let same : complete l (p ++ r) ≡ so_far l p = complete-long l (p ++ r) long' ∙ (ap (λ xs. too_long (after_all (begun l) xs)) (fitting-kept l.max_form p r long) ∙ sym (so_far-long l p long)) in
       grows-same (so_far l p).written (complete l (p ++ r)).written (ap (λ it. it.written) same)
   | inr fits ↦
       let more = fitting-run l p r fits in
@@ -103,8 +102,8 @@ pub so_far-ended : (l : Setup) (p r : List ℕ) (status : Status) → (so_far l 
 unfolding so_far complete
 so_far-ended l p r status ended = elim (cases_Bool (over l.max_form p)) [
   | inl long ↦
-      let long' = forms_laws.ghosts.over_kept_all l.max_form p r long in
-      let same = ap (λ xs. too_long (after_all (begun l) xs)) (forms_laws.ghosts.fitting_kept l.max_form p r long) ∙ sym (so_far-long l p long) in
+      let long' = over-kept_all l.max_form p r long in
+      let same = ap (λ xs. too_long (after_all (begun l) xs)) (fitting-kept l.max_form p r long) ∙ sym (so_far-long l p long) in
       (so_far-long l (p ++ r) long' ∙ same, complete-long l (p ++ r) long' ∙ same)
   | inr fits ↦
       let here = after_all (begun l) (whole p) in
@@ -113,8 +112,8 @@ so_far-ended l p r status ended = elim (cases_Bool (over l.max_form p)) [
       let more = fitting-run l p r fits in
       let rest : after_all (begun l) (fitting l.max_form (p ++ r)) ≡ here = more.1 ∙ after_all-ended here status more.0 over_here in
       let long_rest : too_long (after_all (begun l) (fitting l.max_form (p ++ r))) ≡ here = ap too_long rest ∙ too_long-ended here status over_here in
-      let wholes = forms_laws.ghosts.whole_more p r in
-      let whole_rest : after_all (begun l) (whole (p ++ r)) ≡ here = ap (after_all (begun l)) wholes.1 ∙ (after_all-append (begun l) (whole p) wholes.0 ∙ after_all-ended here status wholes.0 over_here) in
+      let wholes = whole-more p r in
+      let whole_rest : after_all (begun l) (whole (p ++ r)) ≡ here = ap (after_all (begun l)) wholes.is ∙ (after_all-append (begun l) (whole p) wholes.more ∙ after_all-ended here status wholes.more over_here) in
       let P : Bool → Type 0 = λ t. ((if t then too_long (after_all (begun l) (fitting l.max_form (p ++ r))) else after_all (begun l) (whole (p ++ r))) ≡ here) × ((if t then too_long (after_all (begun l) (fitting l.max_form (p ++ r))) else after_all (begun l) (fitting l.max_form (p ++ r))) ≡ here) in
       let both : P (over l.max_form (p ++ r)) = elim (over l.max_form (p ++ r)) as P [ true ↦ (long_rest, long_rest) | false ↦ (whole_rest, rest) ] in
       (both.0 ∙ sym is, both.1 ∙ sym is)
@@ -125,16 +124,16 @@ pub so_far-grows_far : (l : Setup) (p r : List ℕ) → Grows (so_far l p).writt
 unfolding so_far
 so_far-grows_far l p r = elim (cases_Bool (over l.max_form p)) [
   | inl long ↦
-      let long' = forms_laws.ghosts.over_kept_all l.max_form p r long in
-      let same : so_far l (p ++ r) ≡ so_far l p = so_far-long l (p ++ r) long' ∙ (ap (λ xs. too_long (after_all (begun l) xs)) (forms_laws.ghosts.fitting_kept l.max_form p r long) ∙ sym (so_far-long l p long)) in
+      let long' = over-kept_all l.max_form p r long in
+      let same : so_far l (p ++ r) ≡ so_far l p = so_far-long l (p ++ r) long' ∙ (ap (λ xs. too_long (after_all (begun l) xs)) (fitting-kept l.max_form p r long) ∙ sym (so_far-long l p long)) in
       grows-same (so_far l p).written (so_far l (p ++ r)).written (ap (λ it. it.written) same)
   | inr fits ↦
       let more = fitting-run l p r fits in
-      let wholes = forms_laws.ghosts.whole_more p r in
+      let wholes = whole-more p r in
       let here = after_all (begun l) (whole p) in
-      let whole_is : after_all (begun l) (whole (p ++ r)) ≡ after_all here wholes.0 = ap (after_all (begun l)) wholes.1 ∙ after_all-append (begun l) (whole p) wholes.0 in
+      let whole_is : after_all (begun l) (whole (p ++ r)) ≡ after_all here wholes.more = ap (after_all (begun l)) wholes.is ∙ after_all-append (begun l) (whole p) wholes.more in
       let one : Grows here.written (too_long (after_all (begun l) (fitting l.max_form (p ++ r)))).written = grows-trans here.written (after_all (begun l) (fitting l.max_form (p ++ r))).written (too_long (after_all (begun l) (fitting l.max_form (p ++ r)))).written (subst (λ (it : Run). Grows here.written it.written) (sym more.1) (grows-all here more.0)) (grows-long (after_all (begun l) (fitting l.max_form (p ++ r)))) in
-      let two : Grows here.written (after_all (begun l) (whole (p ++ r))).written = subst (λ (it : Run). Grows here.written it.written) (sym whole_is) (grows-all here wholes.0) in
+      let two : Grows here.written (after_all (begun l) (whole (p ++ r))).written = subst (λ (it : Run). Grows here.written it.written) (sym whole_is) (grows-all here wholes.more) in
       let P : Bool → Type 0 = λ t. Grows here.written (if t then too_long (after_all (begun l) (fitting l.max_form (p ++ r))) else after_all (begun l) (whole (p ++ r))).written in
       let all : P (over l.max_form (p ++ r)) = elim (over l.max_form (p ++ r)) as P [ true ↦ one | false ↦ two ] in
       subst (λ (it : Run). Grows it.written (so_far l (p ++ r)).written) (sym (so_far-fits l p fits)) all
@@ -148,7 +147,7 @@ so_far-none l = refl
 abbrev IsEarly : Option Status → Type 0
 IsEarly o = (status : Status) → o ≡ Some status → status.ending ≢ ending.Done
 
-concluded-early : (s : State) (w : List ℕ) (r : Result (Unit {0}) Ended) → IsEarly (concluded s w r).status
+concluded-early : (s : State) (w : List ℕ) (r : Result (Unit {0}) EarlyEnd) → IsEarly (concluded s w r).status
 concluded-early s w (Ok _) status h = absurd (cc)
 concluded-early s w (Err (ended.Fault f)) status h = absurd (cc)
 concluded-early s w (Err (ended.Limit limit)) status h = let is : limit_status ≡ status = cc in λ done. (let no : limit_status.ending ≡ ending.Done = ap (λ it. it.ending) is ∙ done in cc)

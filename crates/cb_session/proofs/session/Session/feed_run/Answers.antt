@@ -4,9 +4,9 @@ use Rattle.cb_session.specs.Internal.Scripts.{IsUnderWay}
 use Rattle.cb_session.specs.Sessions.{SessionState}
 use Rattle.cb_session.specs.Setups.{setup_of}
 use Rattle.cb_session.specs.Transcripts.{so_far}
-use Rattle.cb_session.specs.Lemmas.ScriptLaws.{run-nothing, way-status, way-taken}
+use Rattle.cb_session.proofs.ScriptLaws.{run-nothing, way-status, way-taken}
 use Rattle.cb_session.proofs.StepLaws.{after-end-adds, taken-after-end}
-use Rattle.cb_session.proofs.session.Session.take_run.Goals as goal
+use Rattle.cb_session.proofs.session.Session.feed_run.Goals as goal
 
 pub returns-in-Some-clause-fed : goal.returns-in-Some-clause-fed
 returns-in-Some-clause-fed g c =

@@ -2,7 +2,7 @@ use Rattle.std.proofs.Common.{◌≡◌, ◌≤◌, ◌-◌, ◌++◌, length, t
 use Rattle.cb_io.specs.Output.{all_put, Puts}
 use Rattle.cb_session.specs.Sessions.{session_after}
 use Rattle.cb_session.specs.Transcripts.{added, so_far}
-use Rattle.cb_session.proofs.session.Session.take_all.Given as goal
+use Rattle.cb_session.proofs.session.Session.feed_all.Given as goal
 
 abbrev pub invariant-loop-done : goal.invariant-loop-done
 invariant-loop-done g l = record {
