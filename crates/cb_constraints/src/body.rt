@@ -1,6 +1,8 @@
 //! What a pattern asks, with the places of its variables.
 ghost use Rattle.std.specs.Prelude.{◌≡◌, IfOk, map, slice_get};
+ghost use Rattle.std.specs.Map.{lookup};
 ghost use Rattle.std.specs.Option.{option_and_then, option_map};
+ghost use Rattle.std.specs.Str.{bytes_eq};
 ghost use Rattle.cb_constraints.specs.Binders.{constraints_in};
 ghost use Rattle.cb_constraints.specs.Internal.Places.{first_place, places, sites_in};
 ghost use Rattle.cb_constraints.specs.Internal.{HasTable};
@@ -18,6 +20,9 @@ use cb_facts::{Name, Places};
 use cb_forms::NoMemory;
 use std::alloc::Global;
 use std::marker::Model;
+
+/// So many variables at most are looked for one by one, which is faster than a search among few. More are searched for by their names.
+const FEW: usize = 8;
 
 /// What a pattern asks of the content of a fact, with the places where its variables may first take values and the sites of its
 /// constraints.
@@ -65,7 +70,11 @@ impl Body {
     pub fn first(&self, name: &Name) -> Option<Place>
         ensures { result ≡ first_place name.now (constraints_in self.now) }
     {
-        find_place(&self.table.names, self.table.variables.as_slice(), name)
+        let variables = self.table.variables.as_slice();
+        if variables.len() <= FEW {
+            return place_among(variables, name);
+        }
+        find_place(&self.table.names, variables, name)
     }
 
     /// The variables that may take a value, each once with its first place, in the order in which they are written.
@@ -109,6 +118,18 @@ fn table_of_rows(alloc: Global, rows: &[SlotRow]) -> Result<Table, NoMemory>
     let mut table = Table::new(alloc);
     table.add_rows(rows)?;
     Ok(table)
+}
+
+/// The place of the variable with a name, looked for one by one.
+fn place_among(variables: &[(Name, Place)], name: &Name) -> Option<Place>
+    ensures { result ≡ lookup (bytes_eq name.now) variables.now }
+{
+    for variable in variables {
+        if *name == variable.0 {
+            return Some(variable.1);
+        }
+    }
+    None
 }
 
 /// The place of the variable with the number of a name.

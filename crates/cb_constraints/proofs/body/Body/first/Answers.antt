@@ -13,8 +13,15 @@ use Rattle.cb_facts.specs.Places.{place_in}
 pub returns : goal.returns
 returns c =
     c.find_place.ensures
-    ∙ (ap (λ es. option_and_then (λ i. option_map (λ e. e.1) (slice_get es i)) (place_in c.self.inside.table.names c.args.name.now)) c.as_slice.ensures.value
+    ∙ (ap (λ es. option_and_then (λ i. option_map (λ e. e.1) (slice_get es i)) (place_in c.self.inside.table.names c.args.name.now)) c.as_slice-variables.ensures.value
     ∙ (found c.args.name.now c.self.inside.table.names c.self.inside.table.variables.items c.self.invariant.0
     ∙ (ap (lookup (bytes_eq c.args.name.now)) c.self.invariant.1
     ∙ (looked_up c.args.name.now (places 0 (constraints_in (asked_parts c.self.inside.parts)))
     ∙ ap (λ p. first_place c.args.name.now (constraints_in p)) c.self.view_is))))
+
+pub returns-then-variables-le-FEW : goal.returns-then-variables-le-FEW
+returns-then-variables-le-FEW c =
+    c.place_among.ensures
+    ∙ (ap (lookup (bytes_eq c.args.name.now)) (c.as_slice-variables.ensures.value ∙ c.self.invariant.1)
+    ∙ (looked_up c.args.name.now (places 0 (constraints_in (asked_parts c.self.inside.parts)))
+    ∙ ap (λ p. first_place c.args.name.now (constraints_in p)) c.self.view_is))
