@@ -1,5 +1,5 @@
 -- What is found in the table of what rules ask for, and what it has after one entry more or less.
-use Rattle.std.proofs.Common.{◌≡◌, ◌≢◌, ◌∙◌, ◌&&◌, ◌⊎◌, ℕ, Bool, true, false, List, [], ◌∷◌, None, Ordering, Less, Equal, Greater, ap, cond, filter, inl, inr, is_eq, is_le, nat_cmp, nat_eq, refl, subst, sym}
+use Rattle.std.proofs.Common.{◌≡◌, ◌≢◌, ◌∙◌, ◌&&◌, ◌⊎◌, ℕ, Bool, true, false, List, [], ◌∷◌, None, Ordering, Less, Equal, ap, cond, filter, inl, inr, is_le, nat_cmp, nat_eq, refl, subst, sym}
 use Rattle.std.specs.BTreeMap.{is_at}
 use Rattle.std.specs.BTreeMap.Range.{range_contains}
 use Rattle.std.specs.BTreeSet.{insert_key}
@@ -20,9 +20,9 @@ use Rattle.cb_joins.specs.declared.asked.AskedBy.{AskedBy}
 use Rattle.cb_joins.specs.declared.asked.Spot.{Spot}
 use Rattle.cb_joins.specs.declared.asked.Wanted.{Wanted}
 use Rattle.cb_facts.specs.Facts.{FactValue}
-use Rattle.cb_joins.specs.Internal.Asked.{IsEntered, wanted_at}
+use Rattle.cb_joins.specs.Internal.Asked.{wanted_at}
 use Rattle.cb_matches.proofs.Lists.{by_test, filter_in}
-use Rattle.cb_matches.specs.Chains.{Chain, In}
+use Rattle.cb_matches.specs.Chains.{In}
 
 -- ---- a set with one key more
 

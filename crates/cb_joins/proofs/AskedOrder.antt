@@ -2,14 +2,14 @@
 use Rattle.std.proofs.Common.{◌≡◌, ◌∙◌, ℕ, Bool, true, false, not, List, Option, Some, None, Ordering, Less, Equal, Greater, ap, ap₂, is_eq, is_le, nat_cmp, refl, subst, sym}
 use Rattle.std.proofs.lemmas.Map.Lookups.{exact_bytes, exact_unsigned}
 use Rattle.std.specs.Cmp.{Equal-is, IsTotalOrder, tied_itself}
-use Rattle.std.specs.Cmp.Lexicographic.{nat_list_cmp_total, options_total, slice_cmp}
+use Rattle.std.specs.Cmp.Lexicographic.{slice_cmp}
 use Rattle.std.specs.Option.{option_cmp}
-use Rattle.std.specs.Ordering.{ordering_reverse, ordering_then}
+use Rattle.std.specs.Ordering.{ordering_then}
 use Rattle.cb_facts.proofs.Equality.{value-Decides}
 use Rattle.cb_facts.specs.contracts.value.ValueOrd.TheImpl as value_ord
 use Rattle.cb_facts.specs.contracts.value.ValueOrd.TheImpl.Laws as value_laws
 use Rattle.cb_facts.specs.declared.value.Value.{Value}
-use Rattle.cb_joins.proofs.IndexKeys.{le_both, least_index, then_equal, then_le}
+use Rattle.cb_joins.proofs.IndexKeys.{least_index, then_equal}
 use Rattle.cb_joins.specs.contracts.asked.AskedByOrd.TheImpl as asked_ord
 use Rattle.cb_joins.specs.contracts.asked.SpotOrd.TheImpl as spot_ord
 use Rattle.cb_joins.specs.contracts.asked.SpotOrd.TheImpl.Laws as spot_laws

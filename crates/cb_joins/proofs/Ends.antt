@@ -17,6 +17,7 @@ use Rattle.cb_joins.specs.Internal.Nodes.{AreKept, AreMoved, AreWhole, HaveIndic
 use Rattle.cb_joins.specs.Internal.Rules.{IsBranch, IsPlanned, branch_elements, keys_at}
 use Rattle.cb_joins.specs.declared.branch.Branch.{Branch}
 use Rattle.cb_joins.specs.declared.moved.Moved.{Moved}
+use Rattle.cb_matches.specs.Chains.{In}
 use Rattle.cb_matches.specs.Order.{IsRising, WaysRise}
 use Rattle.cb_matches.specs.Matches.{Partial, matches_of}
 use Rattle.cb_partials.specs.Partials.{partial_cmp}
@@ -80,6 +81,16 @@ module _ (rise : WaysRise) (es : Elements) (fs fs' : IndexedFacts) (ns : List Fl
   pub probes_within : (added : Option FactValue) → flat_probes added fs' (branch_lists ns fs) (branch_lists ns fs') ns ≤ branch_probes added fs fs' es
   probes_within added =
       subst (λ it. flat_probes added fs' (branch_lists it fs) (branch_lists it fs') it ≤ branch_probes added fs fs' es) (sym are) (branch_probes_within rise added es fs fs' indices indices')
+
+-- what came to a list that is kept is in it
+pub came_kept : (ns : List FlatNode) (fs fs' : IndexedFacts) (lists : List (BTreeSet Partial)) (moved : List Moved) (k : ℕ) → k < suc (length ns)
+    → AreKept ns fs' lists → AreMoved ns fs fs' moved → (m : Moved) → m ≡ get_or moved k m → (z : Partial) → In z m.come.items → In z (keys_at lists k)
+came_kept ns fs fs' lists moved k within kept all m at z h =
+    let long = all.long in
+    let there = kept.long in
+    let its : IsMoved (branch_lists ns fs k) (branch_lists ns fs' k) m =
+    subst (IsMoved (branch_lists ns fs k) (branch_lists ns fs' k)) (sym at) (all.each k m (omega (arith, within, long))) in
+    (holds_at lists (branch_lists ns fs' k) k (omega (arith, within, there)) (λ d. kept.each k d (omega (arith, within, there)))).same.1 z (its.moves.come_new z h)
 
 module _ {T : Type 0} where
   pub whole_of : (b : Branch T) → IsPlanned b → AreWhole (flat_nodes b.nodes.items)

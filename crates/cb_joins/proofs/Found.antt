@@ -1,9 +1,11 @@
 -- The match with a key is among those of its branch alone.
-use Rattle.std.proofs.Common.{◌≡◌, ◌≢◌, ℕ, ◌+◌, ◌<◌, zero, suc, Bool, true, List, [], ◌∷◌, Option, None, Some, map, nat_eq, inl, inr, refl, sym, ◌∙◌, ap, ap₂, subst, arith, cond, length, get_or}
+use Rattle.std.proofs.Common.{◌≡◌, ◌≢◌, ℕ, ◌+◌, ◌<◌, ◌≤◌, zero, suc, Bool, true, List, [], ◌∷◌, Option, None, Some, Bor, map, nat_eq, inl, inr, refl, sym, ◌∙◌, ap, ap₂, subst, arith, cond, length, get_or, drop}
 use Rattle.std.proofs.lemmas.Bool.Decides.{Decides-eqb}
-use Rattle.std.specs.List.{All, flat_map, slice_get}
+use Rattle.std.proofs.lemmas.List.{at_drop_more}
+use Rattle.std.proofs.lemmas.Option.{slice_get-get_or, slice_get_past}
+use Rattle.std.specs.List.{All, HoldsAt, flat_map, slice_get}
 use Rattle.std.specs.Map.{lookup}
-use Rattle.std.specs.Option.{option_map_or}
+use Rattle.std.specs.Option.{MatchOption, option_copied, option_map_or}
 use Rattle.cb_exprs.specs.Bindings.{Bindings, no_bindings}
 use Rattle.cb_facts.specs.FactLists.{IndexedFacts}
 use Rattle.cb_joins.proofs.Deltas.{key_Decides}
@@ -83,7 +85,21 @@ by_parts k ms (Some m) once is =
     sym (ap (λ o. option_map_or (λ env. env) o no_bindings)
     (in_found k (map (keyed k.rule k.branch) ms) m.env once (subst (λ it. In it (map (keyed k.rule k.branch) ms)) (sym own) (map_in (keyed k.rule k.branch) ms m is.0))))
 
+-- what is got at a place of a list is what stands there
+pub copied_is : {A : Type 0} (xs : List A) (n : ℕ) (o : Option (Bor A)) → MatchOption o (length xs ≤ n) (λ x. (n < length xs) × HoldsAt (λ y. x.now ≡ y) xs n)
+    → option_copied o ≡ slice_get xs n
+copied_is xs n None h = sym (slice_get_past xs n h)
+copied_is xs n (Some x) h = sym (slice_get-get_or xs n x.now h.0 ∙ ap (λ y. Some y) (sym (h.1 x.now)))
+
 module _ {T : Type 0} where
+  -- what is kept under a number, from the rule on that has it
+  pub kept_here : (rule n : ℕ) (rules : List (Rule T)) (i : ℕ) (r : Rule T) → (i < length rules) × (r ≡ get_or rules i r) → rule ≡ r.id
+      → kept_partials rule n (drop i rules) ≡ partials_at (slice_get r.branches.items n)
+  kept_here rule n rules i r at is =
+      at_drop_more (kept_partials rule n) rules i r at.0
+      ∙ ap (λ it. kept_partials rule n (it ∷ drop (i + 1) rules)) (sym at.1)
+      ∙ ap (λ b. cond b (partials_at (slice_get r.branches.items n)) (kept_partials rule n (drop (i + 1) rules))) ((Decides-eqb rule r.id).1 is)
+
   -- a match of a branch from a place on: which it is of
   pub record IsOf (rule n : ℕ) (bs : List (Branch T)) (fs : IndexedFacts) (z : Match) : Type 0 where
     pub place : ℕ

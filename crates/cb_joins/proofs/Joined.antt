@@ -1,13 +1,16 @@
 -- Facts and partial matches whose values differ go on in no way.
-use Rattle.std.proofs.Common.{◌≡◌, ◌≢◌, ◌≤◌, ◌∙◌, ◌&&◌, ℕ, suc, Bool, true, false, List, [], ◌∷◌, ◌++◌, Option, Some, None, ap, ap₂, arith, cond, filter, inl, inr, length, map, refl, subst, sym}
+use Rattle.std.proofs.Common.{◌≡◌, ◌≢◌, ◌≤◌, ◌∙◌, ◌&&◌, ℕ, suc, Bool, true, false, List, [], ◌∷◌, ◌++◌, Option, Some, None, append-nil, ap, ap₂, arith, cond, filter, inl, inr, length, map, not, refl, subst, sym}
 use Rattle.std.specs.Cmp.Lexicographic.{bytes_decides, pointwise}
+use Rattle.std.proofs.lemmas.List.Elements.{filter-append}
 use Rattle.std.specs.List.{flat_map}
+use Rattle.std.specs.Bool.{if◌then◌else◌}
 use Rattle.std.specs.List.Sorted.{IsStrictlySortedBy}
 use Rattle.std.specs.Str.{bytes_eq}
 use Rattle.cb_constraints.specs.PatternValues.{PatternValue}
 use Rattle.cb_exprs.specs.Bindings.{Bindings, value_at}
 use Rattle.cb_exprs.proofs.ValueLaws.{value_at-with_value}
-use Rattle.cb_facts.specs.FactLists.{IndexedFacts}
+use Rattle.cb_exprs.specs.Terms.{Term}
+use Rattle.cb_facts.specs.FactLists.{IndexedFacts, with_fact}
 use Rattle.cb_facts.proofs.Equality.{value-Decides}
 use Rattle.cb_facts.specs.declared.value.Value.{Value}
 use Rattle.cb_facts.specs.declared.value.Value.TheVariants as value
@@ -16,8 +19,9 @@ use Rattle.cb_fit.specs.declared.join_fields.JoinField.{JoinField}
 use Rattle.cb_functions.specs.Comparison.{same}
 use Rattle.cb_joins.proofs.Beginnings.{true_false}
 use Rattle.cb_joins.specs.Internal.Changes.{IsMoved}
+use Rattle.cb_joins.specs.Internal.Flat.{all_hold, next_where, tests_of}
 use Rattle.cb_joins.specs.Internal.Indexes.{HasIndex, IsIndex, KeepsFields, are_values, binds_values, field_values, has_values, index_fields, variable_values, with_first}
-use Rattle.cb_joins.specs.Internal.Nodes.{AreEnough, AreFound, AreJoinFields, FieldsAgree, IsJoined}
+use Rattle.cb_joins.specs.Internal.Nodes.{AreEnough, AreFound, AreJoinFields, FieldsAgree, IsJoined, candidates_with, filed_facts, found_with}
 use Rattle.cb_joins.specs.declared.index.Index.{Index}
 use Rattle.cb_joins.specs.declared.moved.Moved.{Moved}
 use Rattle.cb_joins.specs.declared.node.Place.{Place}
@@ -27,6 +31,7 @@ use Rattle.cb_matches.specs.Chains.{AreSame, In}
 use Rattle.cb_matches.specs.Order.{IsOnce, IsRising}
 use Rattle.cb_matches.specs.Matches.{Partial, extended, grown, next, with_address}
 use Rattle.cb_partials.specs.Partials.{partial_cmp}
+use Rattle.cb_partials.specs.Probes.{is_candidate}
 
 -- these values are those
 all_same : (vs : List Value) → pointwise same vs vs ≡ true
@@ -161,31 +166,50 @@ have_all i cs ms is m h =
     let z = is.in_partials m h in
     (z.0.values, ap (λ (it : Partial). variable_values i.fields.items it.env) (sym z.2) ∙ (is.partials_in z.0 z.1).1)
 
+-- facts of which all are filed, or none
+module _ (i : Option Index) (cs : IndexedFacts) (ms : List Partial) (b : Bool) where
+  pub all_filed : b ≡ true → HasIndex i cs ms → HasIndex i (cond b cs []) ms
+  all_filed t is = subst (λ it. HasIndex i (cond it cs []) ms) (sym t) is
+
+  pub were_filed : b ≡ true → HasIndex i (cond b cs []) ms → HasIndex i cs ms
+  were_filed t is = subst (λ it. HasIndex i (cond it cs []) ms) t is
+
+  pub none_filed : b ≡ false → HasIndex i [] ms → HasIndex i (cond b cs []) ms
+  none_filed t is = subst (λ it. HasIndex i (cond it cs []) ms) (sym t) is
+
+  pub none_were_filed : b ≡ false → HasIndex i (cond b cs []) ms → HasIndex i [] ms
+  none_were_filed t is = subst (λ it. HasIndex i (cond it cs []) ms) t is
+
+-- where there are none they are filed either way
+pub filed_or_none : (i : Option Index) (cs : IndexedFacts) (ms : List Partial) (empty : Bool) → (empty ≡ true → cs ≡ []) → HasIndex i cs ms → HasIndex i (cond (not empty) cs []) ms
+filed_or_none i cs ms true none is = subst (λ it. HasIndex i it ms) (none refl) is
+filed_or_none i cs ms false none is = is
+
 -- what the index finds at a pattern
 module _ {T : Type 0} (agree : FieldsAgree) (place : Place T) (ms : List Partial) (joined : IsJoined place ms) (i : Index) (is : place.index ≡ Some i) where
   fields : AreJoinFields i.fields.items place.address place.pattern
   fields = subst (λ it. AreJoinFields (index_fields it) place.address place.pattern) is joined.fields
 
-  index : IsIndex i place.candidates.entries ms
-  index = subst (λ it. HasIndex it place.candidates.entries ms) is joined.index
+  pub index : IsIndex i (filed_facts place) ms
+  index = subst (λ it. HasIndex it (filed_facts place) ms) is joined.index
 
   -- the facts for a partial match
-  pub found_for : (m : Partial) (vs : List Value) → variable_values i.fields.items m.env ≡ Some vs → (found : IndexedFacts)
+  pub found_for : place.is_filed ≡ true → (m : Partial) (vs : List Value) → variable_values i.fields.items m.env ≡ Some vs → (found : IndexedFacts)
       → ((cs : IndexedFacts) (ns : List Partial) → IsRising cs → IsIndex i cs ns → found ≡ filter (has_values i.fields.items vs) cs) → AreFound place m found
-  found_for m vs e found h =
+  found_for all_filed m vs e found h =
       let cs = place.candidates.entries in
-      let found_is : found ≡ filter (has_values i.fields.items vs) cs = h cs ms joined.rising index in
+      let filed : IsIndex i cs ms = subst (λ b. IsIndex i (cond b cs []) ms) all_filed index in
+      let found_is : found ≡ filter (has_values i.fields.items vs) cs = h cs ms joined.rising filed in
       record {
         same = ap (flat_map (extended place.address place.pattern m)) found_is ∙ facts_enough agree place.address place.pattern i.fields.items fields m vs e cs;
         fewer = subst (λ it. length it ≤ length cs) (sym found_is) (no_longer (has_values i.fields.items vs) cs);
       }
 
   -- the partial matches for a fact
-  pub enough_for : (f : Fact) (vs : List Value) → field_values i.fields.items f.1.content ≡ Some vs → IsStrictlySortedBy partial_cmp ms → (found : List Partial)
-      → ((cs : IndexedFacts) (ns : List Partial) → IsStrictlySortedBy partial_cmp ns → IsIndex i cs ns → found ≡ filter (binds_values i.fields.items vs) ns) → AreEnough place.address place.pattern f ms found
-  enough_for f vs e sorted found h =
-      let have = have_all i place.candidates.entries ms index in
-      let found_is : found ≡ filter (binds_values i.fields.items vs) ms = h place.candidates.entries ms sorted index in
+  pub enough_of : (f : Fact) (vs : List Value) → field_values i.fields.items f.1.content ≡ Some vs → (found : List Partial)
+      → found ≡ filter (binds_values i.fields.items vs) ms → AreEnough place.address place.pattern f ms found
+  enough_of f vs e found found_is =
+      let have = have_all i (filed_facts place) ms index in
       record {
         same = ap (next place.address place.pattern (f ∷ [])) found_is ∙ partials_enough agree place.address place.pattern i.fields.items fields f vs e ms have;
         fewer = subst (λ it. length it ≤ length ms) (sym found_is) (no_longer (binds_values i.fields.items vs) ms);
@@ -195,6 +219,10 @@ module _ {T : Type 0} (agree : FieldsAgree) (place : Place T) (ms : List Partial
             subst (In m) (sym found_is) (filter_in (binds_values i.fields.items vs) m ms k (bound_enough agree place.address place.pattern i.fields.items fields f vs e m us.0 us.1 w l));
       }
 
+  pub enough_for : (f : Fact) (vs : List Value) → field_values i.fields.items f.1.content ≡ Some vs → IsStrictlySortedBy partial_cmp ms → (found : List Partial)
+      → ((cs : IndexedFacts) (ns : List Partial) → IsStrictlySortedBy partial_cmp ns → IsIndex i cs ns → found ≡ filter (binds_values i.fields.items vs) ns) → AreEnough place.address place.pattern f ms found
+  enough_for f vs e sorted found h = enough_of f vs e found (h (filed_facts place) ms sorted index)
+
 module _ {T : Type 0} (place : Place T) where
   -- after what moved before the pattern
   pub joined_moved : (i : Option Index) (old new : List Partial) (m : Moved) → IsJoined place old → IsOnce old → IsMoved old new m → KeepsFields (index_fields place.index) i
@@ -202,12 +230,49 @@ module _ {T : Type 0} (place : Place T) where
   joined_moved i old new m is once moved keeps filed = record {
     rising = is.rising;
     fields = still_join_fields place.address place.pattern (index_fields place.index) i keeps is.fields;
-    index = filed place.candidates.entries old new is.index once moved;
+    index = filed (filed_facts place) old new is.index once moved;
   }
+
+  -- where its candidates and those that are filed change, in an index that is right
+  pub joined_with : (ms : List Partial) (q : Place T) → q.address ≡ place.address → q.pattern ≡ place.pattern → IsRising q.candidates.entries
+      → (AreJoinFields (index_fields place.index) place.address place.pattern → AreJoinFields (index_fields q.index) place.address place.pattern)
+      → (HasIndex place.index (filed_facts place) ms → HasIndex q.index (filed_facts q) ms) → IsJoined place ms → IsJoined q ms
+  joined_with ms q address pattern rising fields index is = record {
+    rising = rising;
+    fields = subst (λ it. AreJoinFields (index_fields q.index) it q.pattern) (sym address)
+        (subst (AreJoinFields (index_fields q.index) place.address) (sym pattern) (fields is.fields));
+    index = index is.index;
+  }
+
+  -- a pattern with the same candidates finds the same
+  pub found_same : (q : Place T) → q.address ≡ place.address → q.pattern ≡ place.pattern → tests_of q ≡ tests_of place → q.candidates.entries ≡ place.candidates.entries
+      → (f : Fact) (came before : List Partial) → found_with q f came before ≡ found_with place f came before
+  found_same q address pattern tests candidates f came before =
+      ap (λ it. found it q.pattern (tests_of q) q.candidates.entries) address
+      ∙ (ap (λ it. found place.address it (tests_of q) q.candidates.entries) pattern
+      ∙ (ap (λ it. found place.address place.pattern it q.candidates.entries) tests
+      ∙ ap (λ it. found place.address place.pattern (tests_of place) it) candidates))
+    where
+      found : Option (List ℕ) → PatternValue → List Term → IndexedFacts → List Partial
+      found x p ts cs = next_where x p ts cs came ++ (if is_candidate p f then next_where x p ts (f ∷ []) before else [])
+
+  pub candidates_same : (q : Place T) → q.pattern ≡ place.pattern → q.candidates.entries ≡ place.candidates.entries → (f : Fact) → candidates_with q f ≡ candidates_with place f
+  candidates_same q pattern candidates f =
+      ap (λ it. if is_candidate it f then with_fact q.candidates.entries f.0 f.1 else q.candidates.entries) pattern
+      ∙ ap (λ it. if is_candidate place.pattern f then with_fact it f.0 f.1 else it) candidates
+
+  -- one partial match more goes on with a fact
+  pub joined_more : (f : Fact) (m : Partial) (ms : List Partial) → next_where place.address place.pattern (tests_of place) (f ∷ []) (m ∷ ms)
+      ≡ filter (all_hold (tests_of place)) (extended place.address place.pattern m f) ++ next_where place.address place.pattern (tests_of place) (f ∷ []) ms
+  joined_more f m ms =
+      let q = all_hold (tests_of place) in
+      let first = extended place.address place.pattern m f in
+      let others = next place.address place.pattern (f ∷ []) ms in
+      ap (λ it. filter q (it ++ others)) (append-nil first) ∙ filter-append q first others
 
   -- and for the same partial matches in any order
   pub joined_alike : (ms ns : List Partial) → AreSame ms ns → IsJoined place ms → IsJoined place ns
-  joined_alike ms ns same is = record { rising = is.rising; fields = is.fields; index = index_alike place.index place.candidates.entries ms ns same is.index }
+  joined_alike ms ns same is = record { rising = is.rising; fields = is.fields; index = index_alike place.index (filed_facts place) ms ns same is.index }
 
 -- all are enough
 pub all_enough : (x : Option (List ℕ)) (p : PatternValue) (f : Fact) (ms : List Partial) → AreEnough x p f ms ms

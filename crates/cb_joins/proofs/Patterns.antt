@@ -24,14 +24,14 @@ use Rattle.cb_joins.proofs.Origins.{same_begin}
 use Rattle.cb_joins.proofs.Counts.{as_long, same_length}
 use Rattle.cb_joins.proofs.Deltas.{any_parts, parts_any}
 use Rattle.cb_joins.proofs.Facts.{added_fact, indices_of, left_in, looked, none_of_some, put, rising_with, rising_without}
-use Rattle.cb_joins.proofs.Joined.{joined_moved, still_join_fields}
+use Rattle.cb_joins.proofs.Joined.{joined_moved}
 use Rattle.cb_joins.proofs.Moves.{behind, fact_more, first_leaves, held_after, leaves_apart, Leaves, place_moves, second_leaves, swapped}
 use Rattle.cb_joins.proofs.Steps.{and_both, and_second, moved as moved_in, not_true, regrown, same_parents}
 use Rattle.cb_joins.specs.Internal.Changes.{Added, Holds, IsMoved, PartialMoves, index_of_fact}
 use Rattle.cb_joins.specs.Internal.Flat.{all_hold, begins, next_where, tests_of}
 use Rattle.cb_joins.specs.Internal.Indexes.{HasIndex, KeepsFields, index_fields}
 use Rattle.cb_joins.specs.Internal.Memories.{begins_with, ends_with}
-use Rattle.cb_joins.specs.Internal.Nodes.{AreEnough, AreJoinFields, IsJoined, Shapeless, candidates_with, found_with}
+use Rattle.cb_joins.specs.Internal.Nodes.{AreEnough, AreJoinFields, IsJoined, Shapeless, candidates_with, filed_facts, found_with}
 use Rattle.cb_joins.specs.Internal.Steps.{IsAfter, IsBefore, IsTaken, IsTakenWith, IsWith, pattern_probes}
 use Rattle.cb_joins.specs.declared.index.Index.{Index}
 use Rattle.cb_joins.specs.declared.moved.Moved.{Moved}
@@ -179,7 +179,7 @@ module _ {T : Type 0} (rise : WaysRise) (shapeless : Shapeless) (place : Place T
   in_candidates g h t = b.is_place.candidates.1 g (filter_in (is_candidate p) g fs h t)
 
   -- the index of what the pattern is afterwards
-  joined_now : (q : Place T) → q.address ≡ x → q.pattern ≡ p → AreJoinFields (index_fields q.index) x p → IsRising q.candidates.entries → HasIndex q.index q.candidates.entries new → IsJoined q new
+  joined_now : (q : Place T) → q.address ≡ x → q.pattern ≡ p → AreJoinFields (index_fields q.index) x p → IsRising q.candidates.entries → HasIndex q.index (filed_facts q) new → IsJoined q new
   joined_now q address pattern fields rising index = record {
     rising = rising;
     fields = subst (λ it. AreJoinFields (index_fields q.index) it q.pattern) (sym address) (subst (AreJoinFields (index_fields q.index) x) (sym pattern) fields);
@@ -335,7 +335,7 @@ module _ {T : Type 0} (rise : WaysRise) (shapeless : Shapeless) (place : Place T
     -- afterwards
     module _ (q : Place T) (address : q.address ≡ x) (pattern : q.pattern ≡ p) (tests : tests_of q ≡ ts)
         (is_loose : q.loose ≡ place.loose) (candidates : q.candidates.entries ≡ candidates_with place f)
-        (fields : AreJoinFields (index_fields q.index) x p) (index : HasIndex q.index q.candidates.entries new)
+        (fields : AreJoinFields (index_fields q.index) x p) (index : HasIndex q.index (filed_facts q) new)
         (r : Moved) (left own' : List Partial) (taken : IsTaken behind_gone own left [] r.gone.items)
         (came : r.come.items ≡ found_with place f m.come.items before) (more : IsWith left r.come.items own')
       where
@@ -421,15 +421,13 @@ module _ {T : Type 0} (rise : WaysRise) (shapeless : Shapeless) (place : Place T
     pub joined_without : (i : Option Index) (q : Place T) → q.address ≡ x → q.pattern ≡ p → q.candidates.entries ≡ without
         → KeepsFields (index_fields place.index) i
         → ((es : IndexedFacts) (was are : List Partial) → HasIndex place.index es was → IsOnce was → IsMoved was are m → HasIndex i es are)
-        → KeepsFields (index_fields i) q.index
-        → ((es : IndexedFacts) (ms : List Partial) → HasIndex i es ms → IsRising es → ((g : Fact) → In g es → g.0 ≡ f.0 → g ≡ f)
-        → HasIndex q.index (without_fact es f.0) ms)
+        → (AreJoinFields (index_fields i) x p → AreJoinFields (index_fields q.index) x p)
+        → (IsRising cs → ((g : Fact) → In g cs → g.0 ≡ f.0 → g ≡ f) → (ms : List Partial) → HasIndex i (filed_facts place) ms → HasIndex q.index (filed_facts q) ms)
         → IsJoined q new
     joined_without i q address pattern candidates keeps filed still_keeps unfiled =
         let joined = joined_moved place i old new m b.is_place.joined b.once b.is_moved keeps filed in
-        joined_now q address pattern (still_join_fields x p (index_fields i) q.index still_keeps joined.fields)
-        (subst IsRising (sym candidates) without_rising)
-        (subst (λ it. HasIndex q.index it new) (sym candidates) (unfiled cs new joined.index joined.rising only_fact))
+        joined_now q address pattern (still_keeps joined.fields)
+        (subst IsRising (sym candidates) without_rising) (unfiled joined.rising only_fact new joined.index)
 
     without_in : (g : Fact) → In g without → In g (filter (is_candidate p) fs')
     without_in g h =

@@ -44,7 +44,7 @@ one_out test old rest m s h =
     let out = first_out partial_cmp partial_total test old m s (ap (λ it. slice_get it 0) h) in
     record { passing = ap (drop 1) (sym out.taken ∙ h); others = out.others }
 
-pub none_long : (xs : List Partial) → length xs ≡ 0 → xs ≡ []
+pub none_long : {A : Type 0} (xs : List A) → length xs ≡ 0 → xs ≡ []
 none_long [] h = refl
 none_long (x ∷ xs) h = absurd (omega (arith, h))
 

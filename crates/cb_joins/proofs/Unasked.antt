@@ -172,6 +172,7 @@ module _ {T : Type 0} where
       planned = is.planned;
       ready = ready_unasked shapeless b.nodes.items c fs made none is.ready;
       kept = kept_unasked shapeless (flat_nodes b.nodes.items) c fs made none b.lists.items is.kept;
+      latest = is.latest;
     }
 
     matches_unasked : WaysRise → HaveIndices (facts_before c fs) → HaveIndices fs → IsPlanned b → matches_of (branch_elements b) (facts_before c fs) ≡ matches_of (branch_elements b) fs

@@ -33,6 +33,9 @@ pub(crate) struct Branch<T> {
     pub(crate) last: usize,
     /// The list before the first node, and the one that each node makes.
     pub(crate) lists: Vec<BTreeSet<Partial>>,
+    /// One of the matches that came last, if any came with the last change of the branch. It most often fires next, and then needn't be
+    /// looked up.
+    pub(crate) latest: Option<Partial>,
 }
 
 /// What is to be kept for branches, before anything is found.
@@ -64,6 +67,7 @@ fn plan_branch<T>(alloc: Global, branch: Vec<Ce<T>>) -> Result<Branch<T>, NoMemo
         nodes: plan.nodes,
         last: plan.last,
         lists: Vec::new(alloc),
+        latest: None,
     })
 }
 
@@ -107,14 +111,17 @@ pub(crate) fn change_branch<T>(
     if !nodes_ask_for(branch.nodes.as_slice(), change.fact().relation()) {
         return Ok(());
     }
-    let moved = change_nodes(
+    let mut all = change_nodes(
         setting,
         branch.nodes.as_mut_slice(),
         branch.lists.as_mut_slice(),
         change,
         meter,
     )?;
-    tell_moved(setting.alloc, rule, number, &moved[branch.last], delta)
+    let mut moved = all.swap_remove(branch.last);
+    tell_moved(setting.alloc, rule, number, &moved, delta)?;
+    branch.latest = moved.come.pop();
+    Ok(())
 }
 
 /// Finds all matches of a branch, and what is kept for it, in place of what was. Their keys stand behind those that are told of
@@ -136,6 +143,7 @@ pub(crate) fn fill_branch<T>(
     the_ways_rise_by_their_cuts();
     let _facts = setting.facts.len();
     branch.lists = fill_nodes(setting, branch.nodes.as_mut_slice(), meter)?;
+    branch.latest = None;
     tell_list(rule, number, &branch.lists[branch.last], come)
 }
 

@@ -131,6 +131,7 @@ fn fill_place<T>(
 {
     no_shape_gives_no_ways();
     place.candidates = find_candidates(setting, &place.loose, meter)?;
+    place.is_filed = !place.candidates.is_empty();
     place.index = fill_index(
         setting.alloc,
         place.index.take(),

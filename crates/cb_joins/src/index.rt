@@ -177,6 +177,35 @@ pub(crate) fn partials_with(
     Ok(all)
 }
 
+/// Adds these facts, those without the fields of the index aside, if there is an index. It has none yet.
+pub(crate) fn file_facts(
+    alloc: Global,
+    index: &mut Option<Index>,
+    facts: &BTreeMap<u64, Fact>,
+) -> Result<(), NoMemory>
+    ensures fields { OnOk result (KeepsFields (index_fields index.old) index.new) }
+    ensures index { OnOk result ((ms : List Partial)
+        → HasIndex index.old [] ms → HasIndex index.new facts.now.entries ms) }
+{
+    match index {
+        Some(index) => file_all(alloc, index, facts),
+        None => Ok(()),
+    }
+}
+
+/// The same where there is one.
+fn file_all(alloc: Global, index: &mut Index, facts: &BTreeMap<u64, Fact>) -> Result<(), NoMemory>
+    ensures fields { OnOk result (index.new.fields.items ≡ index.old.fields.items) }
+    ensures index { OnOk result ((ms : List Partial)
+        → IsIndex index.old [] ms → IsIndex index.new facts.now.entries ms) }
+{
+    for (ix, fact) in facts.iter() {
+        let fact = fact.clone()?;
+        file_in(alloc, index, &Indexed { ix: *ix, fact })?;
+    }
+    Ok(())
+}
+
 /// Adds a fact, if there is an index and the fact has its fields.
 pub(crate) fn file_fact(
     alloc: Global,
@@ -308,10 +337,7 @@ pub(crate) fn fill_index(
         return Ok(None);
     };
     let mut filled = new_index(alloc, old.fields);
-    for (ix, fact) in facts.iter() {
-        let fact = fact.clone()?;
-        file_in(alloc, &mut filled, &Indexed { ix: *ix, fact })?;
-    }
+    file_all(alloc, &mut filled, facts)?;
     if !file_partials(alloc, &mut filled, partials)? {
         return Ok(None);
     }

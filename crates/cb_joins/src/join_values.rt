@@ -99,6 +99,9 @@ impl Ord for JoinValues {
     ghost matches_eq = { λ x y. lists_ties ⟦<Value as Ord>⟧.cmp value_ord.matches_eq-law x y };
 
     fn cmp(&self, other: &JoinValues) -> Ordering {
-        self.as_slice().cmp(other.as_slice())
+        match (&self.kept, &other.kept) {
+            (Kept::One([one]), Kept::One([another])) => one.cmp(another),
+            _ => self.as_slice().cmp(other.as_slice()),
+        }
     }
 }

@@ -1,16 +1,21 @@
 //! Partial matches joined with facts.
 ghost use Rattle.std.specs.Prelude.{◌≡◌, ◌≤◌, ◌+◌, ◌*◌, ◌++◌, ◌∷◌, [], IfOk, IfSome, List, OnOk, flat_map, length, map};
 ghost use Rattle.std.specs.List.{filter};
+ghost use Rattle.std.specs.List.Sorted.{IsStrictlySortedBy};
 ghost use Rattle.cb_exprs.specs.Bindings.{no_bindings};
 ghost use Rattle.cb_exprs.specs.Terms.{term_of};
+ghost use Rattle.cb_facts.specs.FactLists.{IndexedFacts};
 ghost use Rattle.cb_fit.specs.Shapes.{has_way};
 ghost use Rattle.cb_fit.specs.Ways.{ways};
 ghost use Rattle.cb_joins.specs.Internal.Flat.{all_hold, next_where, tests_of};
-ghost use Rattle.cb_joins.specs.Internal.Nodes.{AreEnough, AreFound, IsJoined};
+ghost use Rattle.cb_joins.specs.Internal.Indexes.{IsIndex, binds_values};
+ghost use Rattle.cb_joins.specs.Internal.Nodes.{AreEnough, AreFound, AreJoined, IsJoined};
 ghost use Rattle.cb_matches.specs.Matches.{Partial, extended};
+ghost use Rattle.cb_partials.specs.Partials.{partial_cmp};
 
-use crate::index::{facts_with, partials_with, values_of_fact, values_of_partial};
+use crate::index::{Filed, Index, facts_with, partials_with, values_of_fact, values_of_partial};
 use crate::indexed::Indexed;
+use crate::join_values::JoinValues;
 use crate::node::Place;
 use cb_exprs::{Env, Expr};
 use cb_facts::Fact;
@@ -20,6 +25,7 @@ use cb_forms::NoMemory;
 use cb_partials::{Partial, Setting, extend, satisfy_test};
 use std::alloc::Global;
 use std::collections::{BTreeMap, BTreeSet};
+use std::ops::Bound;
 
 /// Adds each of these partial matches with each of the facts of a pattern, where the tests behind it hold.
 pub(crate) fn join<T>(
@@ -42,7 +48,8 @@ pub(crate) fn join<T>(
     Ok(())
 }
 
-/// The facts of a pattern that a partial match can be joined with: by the values of variables, if there is an index, else all.
+/// The facts of a pattern that a partial match can be joined with: by the values of variables, if there is an index that has
+/// them, else all.
 fn facts_for<T>(
     alloc: Global,
     place: &Place<T>,
@@ -51,6 +58,9 @@ fn facts_for<T>(
     ensures { IfOk result (λ all. (ms : List Partial) → IsJoined place.now ms → AreFound place.now partial.now all.items) }
 {
     a_fact_that_fits_has_the_values_of_variables();
+    if !place.is_filed {
+        return all_facts(alloc, &place.candidates);
+    }
     if let Some(index) = &place.index {
         if let Some(values) = values_of_partial(alloc, index.fields.as_slice(), partial)? {
             return facts_with(alloc, index, values);
@@ -63,7 +73,7 @@ fn facts_for<T>(
 fn all_facts(alloc: Global, facts: &BTreeMap<u64, Fact>) -> Result<Vec<Indexed>, NoMemory>
     ensures { IfOk result (λ all. all.items ≡ facts.now.entries) }
 {
-    let mut all = Vec::new(alloc);
+    let mut all = Vec::with_capacity(alloc, facts.len())?;
     for (ix, fact) in facts.iter() {
         all.push(Indexed {
             ix: *ix,
@@ -178,27 +188,43 @@ pub(crate) fn join_fact<T>(
     if before.is_empty() {
         return Ok(());
     }
-    match partials_for(setting.alloc, place, before, one)? {
-        Some(partials) => join_each(setting, place, one, partials.as_slice(), found, meter),
+    let _count = before.len();
+    a_fact_that_fits_has_the_values_of_variables();
+    let Some(index) = &place.index else {
+        return join_all(setting, place, one, before, found, meter);
+    };
+    match values_of_fact(setting.alloc, index.fields.as_slice(), &one.fact)? {
+        Some(values) => join_filed(setting, place, index, values, one, found, meter),
         None => join_all(setting, place, one, before, found, meter),
     }
 }
 
-/// Adds each of these partial matches with one fact, where the tests hold.
-fn join_each<T>(
+/// Adds each partial match of an index with these values with one fact, where the tests hold.
+fn join_filed<T>(
     setting: &Setting<'_>,
     place: &Place<T>,
+    index: &Index,
+    values: JoinValues,
     one: &Indexed,
-    partials: &[Partial],
     found: &mut Vec<Partial>,
     meter: &mut Meter<T>,
 ) -> Result<(), NoMemory>
-    ensures found { OnOk result (found.new.items
-        ≡ found.old.items ++ next_where place.now.address place.now.pattern (tests_of place.now) (one.now ∷ []) partials.now) }
-    ensures probes { meter.new ≤ meter.old + length partials.now }
+    ensures { OnOk result ((cs : IndexedFacts) (ms : List Partial) → IsStrictlySortedBy partial_cmp ms → IsIndex index.now cs ms
+        → AreJoined place.now one.now (filter (binds_values index.now.fields.items values) ms)
+        found.old.items found.new.items meter.old meter.new) }
 {
-    for partial in partials {
-        join_pair(setting, place, one, partial, found, meter)?;
+    let probe = Filed {
+        values,
+        partial: Partial::new(setting.alloc),
+    };
+    for filed in index
+        .partials
+        .range((Bound::Included(&probe), Bound::Unbounded))
+    {
+        if filed.values != probe.values {
+            return Ok(());
+        }
+        join_pair(setting, place, one, &filed.partial, found, meter)?;
     }
     Ok(())
 }

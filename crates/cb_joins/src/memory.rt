@@ -96,6 +96,7 @@ pub(crate) fn take_whole(
     ensures list { OnOk result (list.new.keys ≡ []) }
     ensures gone { OnOk result (gone.new.items ≡ gone.old.items ++ list.old.keys) }
 {
+    gone.reserve(list.len())?;
     for partial in mem::replace(list, BTreeSet::new(alloc)) {
         gone.push(partial)?;
     }
@@ -124,7 +125,7 @@ pub(crate) fn copy_list(alloc: Global, list: &BTreeSet<Partial>) -> Result<Vec<P
     ensures items { IfOk result (λ all. all.items ≡ list.now.keys) }
     ensures once { IfOk result (λ all. IsOnce all.items) }
 {
-    let mut all = Vec::new(alloc);
+    let mut all = Vec::with_capacity(alloc, list.len())?;
     for partial in list.iter() {
         all.push(partial.clone()?)?;
     }

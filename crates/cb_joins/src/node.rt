@@ -17,9 +17,12 @@ pub(crate) struct Place<T> {
     pub(crate) loose: Pattern<T>,
     /// The facts that have the pattern's shape, by their indices.
     pub(crate) candidates: BTreeMap<u64, Fact>,
-    /// These facts and the partial matches before the pattern by the values of the variables that they are joined on, if there are
-    /// such variables and each of the partial matches has values for them.
+    /// The partial matches before the pattern, and these facts once they are filed, by the values of the variables that they are
+    /// joined on, if there are such variables and each of the partial matches has values for them.
     pub(crate) index: Option<Index>,
+    /// Whether the index has these facts. They are filed when partial matches first come before the pattern while there are some:
+    /// until then nothing looks them up.
+    pub(crate) is_filed: bool,
 }
 
 /// A group of one pattern that stands alone, so that it holds for all partial matches before it or for none.

@@ -1,19 +1,21 @@
 //! A pattern of a branch, and what a change does at it.
-ghost use Rattle.std.specs.Prelude.{◌≡◌, ◌≤◌, ◌+◌, ◌*◌, [], IfOk, List, OnOk, None, Some, length, true};
+ghost use Rattle.std.specs.Prelude.{◌≡◌, ◌≤◌, ◌+◌, ◌*◌, ℕ, [], IfOk, List, OnOk, None, Some, length, true};
 ghost use Rattle.std.specs.List.{list_any};
 ghost use Rattle.cb_facts.specs.FactLists.{IsFactBase, fact_at, with_fact, without_fact};
+ghost use Rattle.cb_facts.specs.Facts.{FactValue};
 ghost use Rattle.cb_fit.specs.Shapes.{loose};
 ghost use Rattle.cb_joins.specs.Internal.Changes.{IsMade, fact_added, facts_before};
 ghost use Rattle.cb_joins.specs.Internal.Flat.{begins, tests_of};
-ghost use Rattle.cb_joins.specs.Internal.Indexes.{HasIndex, KeepsFields, index_fields};
-ghost use Rattle.cb_joins.specs.Internal.Nodes.{IsJoined, candidates_with, found_with};
+ghost use Rattle.cb_joins.specs.Internal.Indexes.{HasIndex, index_fields};
+ghost use Rattle.cb_joins.specs.Internal.Nodes.{AreJoinFields, IsJoined, candidates_with, filed_facts, found_with};
 ghost use Rattle.cb_joins.specs.Internal.Steps.{IsChanged, IsTaken, IsTakenWith, IsWithinProbes};
 ghost use Rattle.cb_matches.specs.Chains.{In};
 ghost use Rattle.cb_matches.specs.Matches.{Partial};
+ghost use Rattle.cb_matches.specs.Order.{IsRising};
 ghost use Rattle.cb_partials.specs.Probes.{added_probes};
 
 use crate::fact_change::FactChange;
-use crate::index::{file_fact, file_moved, unfile_fact};
+use crate::index::{file_fact, file_facts, file_moved, unfile_fact};
 use crate::indexed::Indexed;
 use crate::joining::{fits_loosely, join, join_fact, partials_for};
 use crate::memory::take_whole;
@@ -78,6 +80,7 @@ fn assert_place<T>(
     no_shape_gives_no_ways();
     the_ways_rise_by_their_cuts();
     file_moved(setting.alloc, &mut place.index, moved)?;
+    file_candidates(setting.alloc, place, moved.come.as_slice())?;
     let mut gone = Vec::new(setting.alloc);
     take_gone(setting.alloc, before, moved, own, &mut gone)?;
     let come = find_with(setting, place, before, moved.come.as_slice(), one, meter)?;
@@ -117,12 +120,13 @@ fn find_with<T>(
     ensures pattern { OnOk result (place.new.pattern ≡ place.old.pattern) }
     ensures tests { OnOk result (tests_of place.new ≡ tests_of place.old) }
     ensures loose { OnOk result (place.new.loose ≡ place.old.loose) }
-    ensures fields { OnOk result (KeepsFields (index_fields place.old.index) place.new.index) }
+    ensures fields { OnOk result (AreJoinFields (index_fields place.old.index) place.old.address place.old.pattern
+        → AreJoinFields (index_fields place.new.index) place.old.address place.old.pattern) }
     ensures candidates { OnOk result (place.old.loose ≡ loose place.old.pattern
         → place.new.candidates.entries ≡ candidates_with place.old one.now) }
     ensures index { OnOk result (place.old.loose ≡ loose place.old.pattern → fact_at place.old.candidates.entries one.now.0 ≡ None
-        → (ms : List Partial) → HasIndex place.old.index place.old.candidates.entries ms
-        → HasIndex place.new.index place.new.candidates.entries ms) }
+        → (ms : List Partial) → HasIndex place.old.index (filed_facts place.old) ms
+        → HasIndex place.new.index (filed_facts place.new) ms) }
     ensures come { IfOk result (λ all. place.old.loose ≡ loose place.old.pattern → IsJoined place.old before.now.keys
         → all.items ≡ found_with place.old one.now came.now before.now.keys) }
     ensures probes { OnOk result (place.old.loose ≡ loose place.old.pattern → IsJoined place.old before.now.keys
@@ -135,9 +139,72 @@ fn find_with<T>(
         return Ok(come);
     }
     join_fact(setting, place, one, before, &mut come, meter)?;
-    file_fact(setting.alloc, &mut place.index, one)?;
-    place.candidates.insert(one.ix, one.fact.clone()?)?;
+    add_candidate(setting.alloc, place, one)?;
     Ok(come)
+}
+
+/// Files the facts that have the shape of a pattern in its index, where partial matches came that are to be joined with them, unless
+/// they are filed or there are none yet.
+fn file_candidates<T>(alloc: Global, place: &mut Place<T>, came: &[Partial]) -> Result<(), NoMemory>
+    ensures address { OnOk result (place.new.address ≡ place.old.address) }
+    ensures pattern { OnOk result (place.new.pattern ≡ place.old.pattern) }
+    ensures tests { OnOk result (tests_of place.new ≡ tests_of place.old) }
+    ensures loose { OnOk result (place.new.loose ≡ place.old.loose) }
+    ensures candidates { OnOk result (place.new.candidates.entries ≡ place.old.candidates.entries) }
+    ensures fields { OnOk result (AreJoinFields (index_fields place.old.index) place.old.address place.old.pattern
+        → AreJoinFields (index_fields place.new.index) place.old.address place.old.pattern) }
+    ensures index { OnOk result ((ms : List Partial) → HasIndex place.old.index (filed_facts place.old) ms
+        → HasIndex place.new.index (filed_facts place.new) ms) }
+{
+    if came.is_empty() || place.is_filed || place.candidates.is_empty() {
+        return Ok(());
+    }
+    file_facts(alloc, &mut place.index, &place.candidates)?;
+    place.is_filed = true;
+    Ok(())
+}
+
+/// Keeps a fact that has the shape of a pattern.
+fn add_candidate<T>(alloc: Global, place: &mut Place<T>, one: &Indexed) -> Result<(), NoMemory>
+    ensures address { OnOk result (place.new.address ≡ place.old.address) }
+    ensures pattern { OnOk result (place.new.pattern ≡ place.old.pattern) }
+    ensures tests { OnOk result (tests_of place.new ≡ tests_of place.old) }
+    ensures loose { OnOk result (place.new.loose ≡ place.old.loose) }
+    ensures candidates { OnOk result (place.new.candidates.entries
+        ≡ with_fact place.old.candidates.entries one.now.0 one.now.1) }
+    ensures fields { OnOk result (AreJoinFields (index_fields place.old.index) place.old.address place.old.pattern
+        → AreJoinFields (index_fields place.new.index) place.old.address place.old.pattern) }
+    ensures index { OnOk result (fact_at place.old.candidates.entries one.now.0 ≡ None
+        → (ms : List Partial) → HasIndex place.old.index (filed_facts place.old) ms
+        → HasIndex place.new.index (filed_facts place.new) ms) }
+{
+    if place.is_filed {
+        file_fact(alloc, &mut place.index, one)?;
+    }
+    place.candidates.insert(one.ix, one.fact.clone()?)?;
+    Ok(())
+}
+
+/// Drops a fact that is taken out.
+fn drop_candidate<T>(alloc: Global, place: &mut Place<T>, one: &Indexed) -> Result<(), NoMemory>
+    ensures address { OnOk result (place.new.address ≡ place.old.address) }
+    ensures pattern { OnOk result (place.new.pattern ≡ place.old.pattern) }
+    ensures tests { OnOk result (tests_of place.new ≡ tests_of place.old) }
+    ensures loose { OnOk result (place.new.loose ≡ place.old.loose) }
+    ensures candidates { OnOk result (place.new.candidates.entries
+        ≡ without_fact place.old.candidates.entries one.now.0) }
+    ensures fields { OnOk result (AreJoinFields (index_fields place.old.index) place.old.address place.old.pattern
+        → AreJoinFields (index_fields place.new.index) place.old.address place.old.pattern) }
+    ensures index { OnOk result (IsRising place.old.candidates.entries
+        → ((g : ℕ × FactValue) → In g place.old.candidates.entries → g.0 ≡ one.now.0 → g ≡ one.now)
+        → (ms : List Partial) → HasIndex place.old.index (filed_facts place.old) ms
+        → HasIndex place.new.index (filed_facts place.new) ms) }
+{
+    if place.is_filed {
+        unfile_fact(alloc, &mut place.index, one)?;
+    }
+    place.candidates.remove(&one.ix);
+    Ok(())
 }
 
 /// The same where a fact is taken out.
@@ -166,8 +233,8 @@ fn retract_place<T>(
     let mut gone = Vec::new(setting.alloc);
     take_gone(setting.alloc, before, moved, own, &mut gone)?;
     take_joined(setting.alloc, place, before, one, own, &mut gone)?;
-    unfile_fact(setting.alloc, &mut place.index, one)?;
-    place.candidates.remove(&one.ix);
+    drop_candidate(setting.alloc, place, one)?;
+    file_candidates(setting.alloc, place, moved.come.as_slice())?;
     let mut come = Vec::new(setting.alloc);
     join(setting, place, moved.come.as_slice(), &mut come, meter)?;
     add_all(own, come.as_slice())?;

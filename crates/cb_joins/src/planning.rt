@@ -270,6 +270,7 @@ fn pattern_node<T>(
             loose,
             candidates: BTreeMap::new(alloc),
             index,
+            is_filed: false,
         },
     })
 }

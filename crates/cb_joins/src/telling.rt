@@ -15,6 +15,7 @@ use cb_matches::{Delta, Key};
 use cb_partials::Partial;
 use std::alloc::Global;
 use std::collections::BTreeSet;
+use std::mem;
 
 /// Tells the keys of the partial matches of a list, in its order, behind those that are told of before.
 pub(crate) fn tell_list(
@@ -47,8 +48,20 @@ pub(crate) fn tell_moved(
 {
     let mut gone = sorted_keys(alloc, rule, number, moved.gone.as_slice())?;
     let mut come = sorted_keys(alloc, rule, number, moved.come.as_slice())?;
-    delta.gone.append(&mut gone)?;
-    delta.come.append(&mut come)?;
+    add_keys(&mut delta.gone, &mut gone)?;
+    add_keys(&mut delta.come, &mut come)?;
+    Ok(())
+}
+
+/// Adds keys behind those that are there. Where none are, it takes no memory.
+fn add_keys(keys: &mut Vec<Key>, more: &mut Vec<Key>) -> Result<(), NoMemory>
+    ensures { OnOk result (keys.new.items ≡ keys.old.items ++ more.old.items) }
+{
+    if keys.is_empty() {
+        mem::swap(keys, more);
+        return Ok(());
+    }
+    keys.append(more)?;
     Ok(())
 }
 
@@ -77,7 +90,7 @@ fn keys_of(
 ) -> Result<Vec<Key>, NoMemory>
     ensures { IfOk result (λ keys. keys.items ≡ map (key_of rule number) partials.now) }
 {
-    let mut keys = Vec::new(alloc);
+    let mut keys = Vec::with_capacity(alloc, partials.len())?;
     for partial in partials {
         keys.push(key_of(rule, number, partial)?)?;
     }

@@ -26,6 +26,7 @@ pub fn extend<T>(
 {
     let env = partial.env_before(address, ix)?;
     let ways = fit(setting.alloc, setting.constants, pattern, fact, &env, meter)?;
+    all.reserve(ways.len())?;
     for way in ways {
         all.push(partial.grow(setting.alloc, &env, ix, way)?)?;
     }

@@ -1,5 +1,5 @@
 -- What is kept for each node of a branch.
-use Rattle.std.specs.Prelude.{◌≡◌, ◌≢◌, ◌<◌, ◌≤◌, ◌++◌, ℕ, suc, Bool, true, false, Contains, List, [], ◌∷◌, Option, Some, filter, flat_map, length, slice_index_or, if◌then◌else◌}
+use Rattle.std.specs.Prelude.{◌≡◌, ◌≢◌, ◌<◌, ◌≤◌, ◌+◌, ◌++◌, ℕ, suc, Bool, true, false, Contains, List, [], ◌∷◌, Option, Some, filter, flat_map, length, slice_index_or, if◌then◌else◌}
 use Rattle.std.specs.BTreeSet.{BTreeSet}
 use Rattle.cb_constraints.specs.PatternValues.{PatternValue}
 use Rattle.cb_exprs.specs.Bindings.{Bindings, value_at}
@@ -61,11 +61,15 @@ abbrev pub branch_lists : List FlatNode → IndexedFacts → Lists
 branch_lists ns fs = lists_of ns fs (no_parts ∷ [])
 
 module _ {T : Type 0} where
+  -- the facts that are filed by their values
+  abbrev pub filed_facts : Place T → IndexedFacts
+  filed_facts place = if place.is_filed then place.candidates.entries else []
+
   -- the index of a pattern, if there is one, is right, where these are the partial matches before the pattern
   pub record IsJoined (place : Place T) (ms : List Partial) : Type 0 where
     pub rising : IsRising place.candidates.entries
     pub fields : AreJoinFields (index_fields place.index) place.address place.pattern
-    pub index : HasIndex place.index place.candidates.entries ms
+    pub index : HasIndex place.index (filed_facts place) ms
 
   -- the facts that have the shape of the pattern, in the order of their indices, and their index
   pub record IsPlace (place : Place T) (fs : IndexedFacts) (ms : List Partial) : Type 0 where
@@ -90,6 +94,11 @@ module _ {T : Type 0} where
   pub record AreFound (place : Place T) (m : Partial) (found : IndexedFacts) : Type 0 where
     pub same : flat_map (extended place.address place.pattern m) found ≡ flat_map (extended place.address place.pattern m) place.candidates.entries
     pub fewer : length found ≤ length place.candidates.entries
+
+  -- these partial matches were joined with the fact: what they go on to was found, and each was tested once at most
+  pub record AreJoined (place : Place T) (f : ℕ × FactValue) (ms old new : List Partial) (meter meter' : ℕ) : Type 0 where
+    pub found : new ≡ old ++ next_where place.address place.pattern (tests_of place) (f ∷ []) ms
+    pub tested : meter' ≤ meter + length ms
 
   -- what is kept at a node for its facts, where these are the lists
   abbrev pub IsReady : IndexedFacts → Lists → Node T → Type 0

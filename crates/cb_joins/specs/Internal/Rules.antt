@@ -8,7 +8,7 @@ use Rattle.cb_joins.specs.Internal.Nodes.{AreKept, AreReady, IsPrepared}
 use Rattle.cb_joins.specs.declared.branch.Branch.{Branch}
 use Rattle.cb_joins.specs.declared.rules.Rule.{Rule}
 use Rattle.cb_matches.specs.Keys.{KeyValue}
-use Rattle.cb_matches.specs.Chains.{Chain}
+use Rattle.cb_matches.specs.Chains.{Chain, In}
 use Rattle.cb_matches.specs.Matches.{Partial}
 use Rattle.cb_matches.specs.Networks.{Conditions, keyed}
 use Rattle.cb_rules.specs.Elements.{Elements, element_of, elements}
@@ -55,11 +55,20 @@ module _ {T : Type 0} where
     pub planned : IsPlanned b
     pub prepared : All IsPrepared b.nodes.items
 
+  -- the partial matches at the end of a branch
+  abbrev pub end_partials : Branch T → List Partial
+  end_partials b = keys_at b.lists.items b.last
+
+  -- the match that came last, if there is one, is at the end of the branch
+  abbrev pub HasLatest : Branch T → Type 0
+  HasLatest b = (m : Partial) → b.latest ≡ Some m → In m (end_partials b)
+
   -- what is kept for a branch over these facts
   pub record IsBranch (fs : IndexedFacts) (b : Branch T) : Type 0 where
     pub planned : IsPlanned b
     pub ready : AreReady fs b.nodes.items
     pub kept : AreKept (flat_nodes b.nodes.items) fs b.lists.items
+    pub latest : HasLatest b
 
   -- each branch of a rule has what is kept for it
   abbrev pub IsRule : IndexedFacts → Rule T → Type 0
@@ -70,10 +79,10 @@ module _ {T : Type 0} where
     pub numbers : HaveOwnNumbers (kept_rules rules)
     pub kept : All (IsRule fs) rules
 
-  -- the partial matches at the end of the branch at this place, and of that of the rule with this number
+  -- those at the end of the branch at this place, and of that of the rule with this number
   abbrev pub partials_at : Option (Branch T) → List Partial
   partials_at None = []
-  partials_at (Some b) = keys_at b.lists.items b.last
+  partials_at (Some b) = end_partials b
 
   abbrev pub kept_partials : ℕ → ℕ → List (Rule T) → List Partial
   kept_partials rule n [] = []

@@ -1,4 +1,5 @@
-use Rattle.std.proofs.Common.{List, arith, false, length, rules, subst, sym, ◌+◌, ◌≡◌, ◌≤◌}
+use Rattle.std.proofs.Common.{List, ap, arith, false, inl, length, refl, rules, subst, sym, ◌+◌, ◌∙◌, ◌≡◌, ◌≤◌}
+use Rattle.std.specs.BTreeSet.{BTreeSet}
 use Rattle.std.specs.Cmp.Lexicographic.{slice_cmp}
 use Rattle.std.specs.Ordering.{nat_cmp}
 use Rattle.std.specs.declared.cmp.Ordering.TheVariants.{Less}
@@ -9,16 +10,18 @@ use Rattle.cb_joins.proofs.Unasked.{branch_unasked, keys_unasked, none_for_relat
 use Rattle.cb_joins.specs.Internal.Asked.{ask_for}
 use Rattle.cb_joins.specs.Internal.Changes.{fact_added, fact_changed, facts_before}
 use Rattle.cb_joins.specs.Internal.Flat.{FlatNode, flat_nodes, flat_probes}
-use Rattle.cb_matches.proofs.Lists.{chain_from_pairs}
+use Rattle.cb_matches.proofs.Lists.{chain_from_pairs, in_right}
 use Rattle.cb_matches.specs.Order.{IsRising, WaysRise}
-use Rattle.std.proofs.lemmas.Result.{on_ok_weaker}
-use Rattle.std.specs.Vec.{vec_len}
-use Rattle.cb_joins.proofs.Ends.{end_moved, last_within, probes_within, whole_of}
+use Rattle.std.proofs.lemmas.List.{with_items_is}
+use Rattle.std.specs.Option.{option_to_list}
+use Rattle.std.specs.Vec.{vec_len, with_items}
+use Rattle.cb_joins.proofs.Ends.{came_kept, end_moved, last_within, probes_within, whole_of}
 use Rattle.cb_joins.proofs.Ordered.{sorted_matches}
 use Rattle.cb_joins.specs.Internal.Keys.{keys_in_branch}
-use Rattle.cb_joins.specs.Internal.Nodes.{AreMoved, AreWhole, branch_lists}
-use Rattle.cb_joins.specs.Internal.Rules.{branch_elements}
-use Rattle.cb_matches.specs.Matches.{matches_of}
+use Rattle.cb_joins.specs.Internal.Nodes.{AreKept, AreMoved, AreReady, AreWhole, branch_lists}
+use Rattle.cb_joins.specs.Internal.Rules.{branch_elements, keys_at}
+use Rattle.cb_matches.specs.Chains.{In}
+use Rattle.cb_matches.specs.Matches.{Partial, matches_of}
 use Rattle.cb_rules.specs.Elements.{Elements}
 use Rattle.cb_joins.proofs.branch.change_branch.Goals as goal
 
@@ -44,15 +47,40 @@ returns-then-not-nodes_ask_for-clause-delta g c =
 pub change_nodes-requires-clause-whole : goal.change_nodes-requires-clause-whole
 change_nodes-requires-clause-whole g c = subst (λ it. AreWhole (flat_nodes it)) (sym c.as_mut_slice.ensures.value) (whole_of c.args.branch.now c.requires.branch.planned)
 
-pub index-requires : goal.index-requires
-index-requires g c =
+pub swap_remove-moved-requires : goal.swap_remove-moved-requires
+swap_remove-moved-requires g c =
     let fs' : IndexedFacts = c.args.setting.now.facts.now in
-    let moved = c.in_ok-moved.moved in
-    let all = subst (λ it. AreMoved (flat_nodes it) (facts_before c.args.change.now fs') fs' moved.items) c.as_mut_slice.ensures.value c.in_ok-moved.ensures.moved in
+    let moved = c.in_ok-all.all in
+    let all = subst (λ it. AreMoved (flat_nodes it) (facts_before c.args.change.now fs') fs' moved.items) c.as_mut_slice.ensures.value c.in_ok-all.ensures.moved in
     let long = all.long in
     let within = last_within c.args.branch.now c.requires.branch.planned in
     let len : vec_len moved ≡ length moved.items = search rules in
     omega (arith, len, long, within)
+
+pub returns-clause-branch : goal.returns-clause-branch
+returns-clause-branch g c =
+    let fs' : IndexedFacts = c.args.setting.now.facts.now in
+    let fs : IndexedFacts = facts_before c.args.change.now fs' in
+    let b = c.args.branch.now in
+    let ns : List FlatNode = flat_nodes b.nodes.items in
+    let planned = c.requires.branch.planned in
+    let now = c.in_ok-all.ensures in
+    let lists : List (BTreeSet Partial) = c.change_nodes.new.lists in
+    let nodes = c.change_nodes.new.nodes in
+    let same : flat_nodes nodes ≡ ns = now.nodes ∙ ap flat_nodes c.as_mut_slice.ensures.value in
+    let kept : AreKept ns fs' lists = subst (λ it. AreKept (flat_nodes it) fs' lists) c.as_mut_slice.ensures.value now.kept in
+    let all = subst (λ it. AreMoved (flat_nodes it) fs fs' c.in_ok-all.all.items) c.as_mut_slice.ensures.value now.moved in
+    let nodes_are = with_items_is b.nodes nodes (c.change_nodes.auto.nodes ∙ c.as_mut_slice.ensures.len) in
+    let lists_are = with_items_is b.lists lists (c.change_nodes.auto.lists ∙ c.as_mut_slice-2.ensures.len) in
+    let popped = c.pop.ensures.items in
+    record {
+      planned = record { nodes = ap flat_nodes nodes_are ∙ (same ∙ planned.nodes); last = planned.last };
+      ready = subst (AreReady fs') (sym nodes_are) now.ready;
+      kept = subst (AreKept (flat_nodes (with_items b.nodes nodes).items) fs') (sym lists_are) (subst (λ it. AreKept it fs' lists) (sym (ap flat_nodes nodes_are ∙ same)) kept);
+      latest = λ m at. subst (λ it. In m (keys_at it b.last)) (sym lists_are)
+          (came_kept ns fs fs' lists c.in_ok-all.all.items b.last (last_within b planned) kept all c.swap_remove-moved.result c.swap_remove-moved.ensures.value m
+          (subst (In m) (sym popped) (in_right m c.pop.new.self.items (option_to_list c.pop.result) (subst (λ it. In m (option_to_list it)) (sym at) (inl refl)))));
+    }
 
 pub returns-clause-delta : goal.returns-clause-delta
 returns-clause-delta g c =
@@ -65,11 +93,9 @@ returns-clause-delta g c =
     let rise : WaysRise = λ p f b. chain_from_pairs (λ (v : WayValue) (w : WayValue). slice_cmp nat_cmp v.cuts w.cuts ≡ Less) (ways p f b) (c.the_ways_rise_by_their_cuts.ensures p f b) in
     let rising' : IsRising fs' = rising_base fs' c.requires.base in
     let rising : IsRising fs = rising_before c.args.change.now fs' rising' c.requires.made in
-    let all = subst (λ it. AreMoved (flat_nodes it) fs fs' c.in_ok-moved.moved.items) c.as_mut_slice.ensures.value c.in_ok-moved.ensures.moved in
-    on_ok_weaker c.tell_moved.result
-    (λ told. told (matches_of es fs) (matches_of es fs') (sorted_matches rise es fs rising) (sorted_matches rise es fs' rising')
-    (end_moved rise es fs fs' ns (indices_of fs rising) (indices_of fs' rising') planned.nodes b.last planned.last c.in_ok-moved.moved.items all c.index.result.now c.index.ensures))
-    c.tell_moved.ensures
+    let all = subst (λ it. AreMoved (flat_nodes it) fs fs' c.in_ok-all.all.items) c.as_mut_slice.ensures.value c.in_ok-all.ensures.moved in
+    c.in_ok-tell_moved.ensures (matches_of es fs) (matches_of es fs') (sorted_matches rise es fs rising) (sorted_matches rise es fs' rising')
+    (end_moved rise es fs fs' ns (indices_of fs rising) (indices_of fs' rising') planned.nodes b.last planned.last c.in_ok-all.all.items all c.swap_remove-moved.result c.swap_remove-moved.ensures.value)
 
 pub returns-clause-probes : goal.returns-clause-probes
 returns-clause-probes g c =
@@ -83,7 +109,5 @@ returns-clause-probes g c =
     let rising' : IsRising fs' = rising_base fs' c.requires.base in
     let rising : IsRising fs = rising_before c.args.change.now fs' rising' c.requires.made in
     let bound : c.change_nodes.new.meter ≤ c.args.meter.now + flat_probes added fs' (branch_lists ns fs) (branch_lists ns fs') ns =
-    subst (λ it. c.change_nodes.new.meter ≤ c.args.meter.now + flat_probes added fs' (branch_lists (flat_nodes it) fs) (branch_lists (flat_nodes it) fs') (flat_nodes it)) c.as_mut_slice.ensures.value c.in_ok-moved.ensures.probes in
-    on_ok_weaker c.tell_moved.result
-    (λ told. let most = probes_within rise es fs fs' ns (indices_of fs rising) (indices_of fs' rising') c.requires.branch.planned.nodes added in omega (arith, most, bound))
-    c.tell_moved.ensures
+    subst (λ it. c.change_nodes.new.meter ≤ c.args.meter.now + flat_probes added fs' (branch_lists (flat_nodes it) fs) (branch_lists (flat_nodes it) fs') (flat_nodes it)) c.as_mut_slice.ensures.value c.in_ok-all.ensures.probes in
+    let most = probes_within rise es fs fs' ns (indices_of fs rising) (indices_of fs' rising') c.requires.branch.planned.nodes added in omega (arith, most, bound)

@@ -1,29 +1,36 @@
-use Rattle.std.proofs.Common.{◌≡◌, ◌≤◌, ◌∙◌, ◌∷◌, ◌++◌, ◌+◌, [], List, ap, append-nil, arith, filter, length, rules, sym}
-use Rattle.cb_joins.proofs.Results.{if_some, on_ok}
+use Rattle.std.proofs.Common.{◌≡◌, ◌∙◌, ◌∷◌, ◌++◌, [], List, Some, ap, append-nil, arith, filter, length, refl, rules, subst, sym}
+use Rattle.cb_joins.proofs.Joined.{enough_of, index}
+use Rattle.cb_joins.proofs.Results.{on_ok}
 use Rattle.cb_joins.proofs.TakenOut.{none_long}
 use Rattle.cb_joins.specs.Internal.Flat.{all_hold, next_where, tests_of}
-use Rattle.cb_joins.specs.Internal.Nodes.{AreEnough, IsJoined}
+use Rattle.cb_joins.specs.Internal.Indexes.{IsIndex, binds_values, field_values}
+use Rattle.cb_joins.specs.Internal.Nodes.{AreEnough, IsJoined, filed_facts}
 use Rattle.cb_matches.specs.Matches.{Partial}
 use Rattle.cb_joins.proofs.joining.join_fact.Goals as goal
 
-pub returns-in-Some : goal.returns-in-Some
-returns-in-Some g c =
+pub returns-in-Some-2 : goal.returns-in-Some-2
+returns-in-Some-2 g c =
     let place = c.args.place.now in
     let f = c.args.one.now in
     let before = c.args.before.now.keys in
     let old : List Partial = c.args.found.now.items in
-    let partials : List Partial = c.in-Some.partials.items in
+    let i = c.in-Some.index in
+    let js = i.fields.items in
+    let vs = c.in-Some-2.values in
     let q = all_hold (tests_of place) in
-    let enough : IsJoined place before → AreEnough place.address place.pattern f before partials =
-    if_some _ _ c.in-Some.partials c.in-Some.is c.in_ok-partials.ensures in
-    let now : c.as_slice.result.now ≡ partials = search rules in
-    let probes : c.join_each.new.meter ≤ c.args.meter.now + length c.as_slice.result.now = c.join_each.ensures.probes in
+    let some : List Partial = filter (binds_values js vs) before in
+    let fact : c.one.inside.fact ≡ f.1 = ap (λ it. it.1) c.one.view_is in
+    let values : field_values js c.one.inside.fact.content ≡ Some vs = search rules in
+    let enough : IsJoined place before → AreEnough place.address place.pattern f before some = λ joined.
+    enough_of c.a_fact_that_fits_has_the_values_of_variables.ensures place before joined i c.in-Some.is f vs
+    (subst (λ it. field_values js it.content ≡ Some vs) fact values) some refl in
+    let has : IsJoined place before → IsIndex i (filed_facts place) before = λ joined. index c.a_fact_that_fits_has_the_values_of_variables.ensures place before joined i c.in-Some.is in
     record {
-      found = on_ok c.join_each.result c.join_each.ensures.found c.join_each.ensures.found
-          (λ found _ joined. found ∙ (ap (λ it. old ++ next_where place.address place.pattern (tests_of place) (f ∷ []) it) now
-          ∙ ap (λ it. old ++ filter q it) (enough joined).same));
-      probes = on_ok c.join_each.result c.join_each.ensures.found c.join_each.ensures.found
-          (λ _ _ joined. let fewer = (enough joined).fewer in let long = ap length now in omega (arith, probes, long, fewer));
+      found = on_ok c.join_filed.result c.join_filed.ensures c.join_filed.ensures
+          (λ done _ joined. (done (filed_facts place) before c.len-count.ensures.ordered (has joined)).found ∙ ap (λ it. old ++ filter q it) (enough joined).same);
+      probes = on_ok c.join_filed.result c.join_filed.ensures c.join_filed.ensures
+          (λ done _ joined.
+          let tested = (done (filed_facts place) before c.len-count.ensures.ordered (has joined)).tested in let fewer = (enough joined).fewer in omega (arith, tested, fewer));
     }
 
 pub returns-then-is_empty-clause-found : goal.returns-then-is_empty-clause-found

@@ -1,4 +1,4 @@
-use Rattle.std.proofs.Common.{◌≡◌, ◌⊎◌, ◌∙◌, ◌∷◌, List, [], ap, false, inl, inr, nat_cmp, rules, subst, sym}
+use Rattle.std.proofs.Common.{◌≡◌, ◌⊎◌, ◌∙◌, ◌∷◌, List, [], false, inl, inr, nat_cmp, rules, subst, sym}
 use Rattle.std.proofs.lemmas.Map.Lookups.{exact_unsigned}
 use Rattle.std.specs.BTreeSet.{insert_key}
 use Rattle.cb_joins.proofs.AskedFound.{has_wanted, in_wanted, key_kept, key_there, none_further, one_further}

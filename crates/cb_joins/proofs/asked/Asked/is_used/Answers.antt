@@ -1,4 +1,4 @@
-use Rattle.std.proofs.Common.{◌≡◌, ◌∙◌, [], false, rules, subst, sym}
+use Rattle.std.proofs.Common.{◌≡◌, ◌∙◌, false, subst, sym}
 use Rattle.cb_joins.proofs.AskedFound.{has_spot, in_spot, none_further}
 use Rattle.cb_joins.proofs.IndexLists.{run}
 use Rattle.cb_joins.proofs.asked.Asked.is_used.Goals as goal

@@ -1,4 +1,4 @@
-use Rattle.std.proofs.Common.{◌≡◌, false, rules, subst, sym}
+use Rattle.std.proofs.Common.{subst, sym}
 use Rattle.cb_joins.proofs.AskedFound.{entry_stays, spot_stays}
 use Rattle.cb_joins.proofs.asked.Asked.remove.Goals as goal
 use Rattle.cb_matches.specs.Chains.{In}

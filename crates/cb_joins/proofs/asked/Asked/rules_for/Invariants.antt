@@ -1,4 +1,4 @@
-use Rattle.std.proofs.Common.{◌≡◌, ◌⊎◌}
+use Rattle.std.proofs.Common.{◌⊎◌}
 use Rattle.std.specs.BTreeSet.{keys_between}
 use Rattle.std.specs.declared.ops.Bound.TheVariants.{Included, Unbounded}
 use Rattle.cb_joins.proofs.AskedFound.{AreAdded, has_relation}

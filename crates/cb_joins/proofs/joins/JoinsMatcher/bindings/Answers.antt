@@ -1,5 +1,6 @@
 use Rattle.std.proofs.Common.{◌≡◌, false, ap, subst, sym, ◌∙◌}
 use Rattle.std.specs.Cmp.Lexicographic.{slice_cmp}
+use Rattle.std.specs.List.{All}
 use Rattle.std.specs.Map.{lookup}
 use Rattle.std.specs.Option.{option_map_or}
 use Rattle.std.specs.Ordering.{nat_cmp}
@@ -11,7 +12,7 @@ use Rattle.cb_fit.specs.Ways.{WayValue, ways}
 use Rattle.cb_joins.proofs.Facts.{rising_base}
 use Rattle.cb_joins.proofs.Found.{bindings_kept, kept_once}
 use Rattle.cb_joins.proofs.joins.JoinsMatcher.bindings.Goals as goal
-use Rattle.cb_joins.specs.Internal.Rules.{HaveOwnKeys, IsKeeping, kept_matches}
+use Rattle.cb_joins.specs.Internal.Rules.{HasLatest, HaveOwnKeys, IsKeeping, kept_matches}
 use Rattle.cb_matches.specs.Keys.{key_eq}
 use Rattle.cb_matches.proofs.Lists.{chain_from_pairs}
 use Rattle.cb_matches.specs.Order.{WaysRise}
@@ -29,8 +30,8 @@ returns g c =
     ∙ (bindings_kept rise fs (rising_base fs c.len-facts.ensures.base) key rules keeping ∙ ap (λ v. bindings_of v.network key) c.self.view_is) in
     subst (λ it. IfOk c.find_env.result (λ env. env ≡ it)) is c.find_env.ensures
 
-pub find_env-requires : goal.find_env-requires
-find_env-requires g c =
+pub find_env-requires-clause-keys : goal.find_env-requires-clause-keys
+find_env-requires-clause-keys g c =
     let key = c.args.key.now in
     let fs : IndexedFacts = c.self.inside.facts in
     let rules = c.self.inside.rules.items in
@@ -39,3 +40,10 @@ find_env-requires g c =
     let keeping : IsKeeping fs rules = (c.self.invariant works).0 in
     subst (λ xs. HaveOwnKeys (kept_matches key.rule key.branch xs)) (sym c.as_slice.ensures.value)
     (kept_once rise fs (rising_base fs c.len-facts.ensures.base) key rules keeping.kept)
+
+pub find_env-requires-clause-latest : goal.find_env-requires-clause-latest
+find_env-requires-clause-latest g c =
+    let rules = c.self.inside.rules.items in
+    let works : c.self.inside.failed ≡ false = ap (λ v. v.is_failed) c.self.view_is ∙ c.requires in
+    let keeping : IsKeeping c.self.inside.facts rules = (c.self.invariant works).0 in
+    subst (All (λ r. All HasLatest r.branches.items)) (sym c.as_slice.ensures.value) (λ i r h j b k. (keeping.kept i r h j b k).latest)
