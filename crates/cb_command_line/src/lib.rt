@@ -3,11 +3,11 @@
 #![tactic(auto)]
 
 mod arguments; // `run_program`: the words that the system has for the program, and the report of how it went
-mod program; // `run_words`: the words read, and then `run`; refused words leave the script alone
+mod program; // `run_words`: the words read, and then `run_once`; refused words leave the script alone
 mod reports; // what is reported outside the transcript, with the exit status that goes with it
 mod words; // the limits, read from the program's words
 
 pub use arguments::run_program;
-pub use cb_script::{Cause, Outcome, StandardInput, StandardOutput, run};
+pub use cb_script::{Cause, Outcome, StandardInput, StandardOutput, run, run_once};
 pub use program::run_words;
 pub use words::read_words;

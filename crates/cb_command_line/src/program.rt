@@ -7,14 +7,15 @@ ghost use Rattle.cb_command_line.specs.RanBy.{RanBy};
 
 use crate::words::read_words;
 use cb_forms::{Out, Sink, Source};
-use cb_script::{Outcome, run};
+use cb_script::{Outcome, run_once};
 use clap::Error;
 use clap::error::ErrorKind;
 use std::alloc::Global;
 
 /// Runs the script with the options on the command line, the program's name first, and returns how the run went.
 ///
-/// An error comes as in `read_words`. Then nothing was read of the script, and nothing written.
+/// An error comes as in `read_words`. Then nothing was read of the script, and nothing written. As after `run_once`, what the script built
+/// is left to the system.
 pub fn run_words<'a, S: Source, K: Sink>(
     alloc: Global,
     words: &'a [&'a str],
@@ -38,5 +39,5 @@ pub fn run_words<'a, S: Source, K: Sink>(
         Ok(limits) => limits,
         Err(error) => return Err(error),
     };
-    Ok(run(alloc, source, out, limits))
+    Ok(run_once(alloc, source, out, limits))
 }

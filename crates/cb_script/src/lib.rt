@@ -4,9 +4,9 @@
 #![tactic(auto)]
 
 mod outcome; // how a run ended: its exit status, and its line on standard error
-mod script; // `run`: a whole script from a source to a sink
+mod script; // a whole script from a source to a sink: `run`, and `run_once` for a program that ends with it
 mod standard; // standard input as a source, standard output as a sink, and their histories
 
 pub use outcome::{Cause, Outcome};
-pub use script::run;
+pub use script::{run, run_once};
 pub use standard::{StandardInput, StandardOutput};

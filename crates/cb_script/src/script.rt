@@ -10,6 +10,7 @@ use cb_joins::Joins;
 use cb_matches::Matcher;
 use cb_session::{Flow, Limits, Mark, Session};
 use std::alloc::Global;
+use std::mem;
 
 /// Carries out the script that the source gives, and writes its transcript.
 ///
@@ -30,6 +31,25 @@ pub fn run<S: Source, K: Sink>(
 {
     let mut session = Session::new(alloc, Joins::new(alloc), limits);
     follow(&mut session, source, out)
+}
+
+/// The same for a program that ends with the script: what the session keeps isn't freed, but left to the system, which takes it back
+/// at once when the program ends.
+pub fn run_once<S: Source, K: Sink>(
+    alloc: Global,
+    source: &mut S,
+    out: &mut Out<K>,
+    limits: Limits,
+) -> Outcome
+    requires { IsReady out.old }
+    ensures { Ran limits result
+        (S.left source.old) (S.left source.new) (S.reads source.old) (S.reads source.new)
+        (K.writes out.old.sink) (K.writes out.new.sink) }
+{
+    let mut session = Session::new(alloc, Joins::new(alloc), limits);
+    let outcome = follow(&mut session, source, out);
+    mem::forget(session);
+    outcome
 }
 
 // Feeds the session, which is new, until the script ends or something fails.
