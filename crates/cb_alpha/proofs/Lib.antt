@@ -1,0 +1,4 @@
+mod Filings
+mod Numbers
+pub mod ValuesFound
+pub mod ValuesOrder

@@ -1,0 +1,40 @@
+-- The numbers of buckets by their values, and who stands in them.
+use Rattle.std.specs.Prelude.{◌≡◌, ◌≢◌, ◌↔◌, ℕ, List, Option, Some, None, map}
+use Rattle.std.specs.BTreeMap as tree
+use Rattle.std.specs.BTreeMap.{BTreeMap}
+use Rattle.std.specs.Cmp.Lexicographic.{slice_cmp}
+use Rattle.std.specs.Option.{option_and_then}
+use Rattle.std.specs.declared.cmp.Ordering.{Ordering}
+use Rattle.cb_alpha.specs.Buckets.{Filing, values_at}
+use Rattle.cb_facts.specs.contracts.value.ValueOrd.TheImpl as value_ord
+use Rattle.cb_facts.specs.declared.value.Value.{Value}
+use Rattle.cb_groups.specs.Groups.{Membership, group_of}
+
+-- values compare value by value
+abbrev pub values_cmp : List Value → List Value → Ordering
+values_cmp = slice_cmp value_ord.ghosts.cmp
+
+-- the map has the number of each bucket under its values
+abbrev pub AreNumbered : BTreeMap (List Value) ℕ → Filing → Type 0
+AreNumbered numbers buckets = (values : List Value) (n : ℕ) → (tree.get values_cmp numbers values ≡ Some n) ↔ (values_at buckets n ≡ Some values)
+
+-- the values of a member, by those of its bucket
+abbrev pub values_in_bucket : Filing → Option ℕ → Option (List Value)
+values_in_bucket buckets bucket = option_and_then (values_at buckets) bucket
+
+abbrev pub filing : Filing → Membership → Filing
+filing buckets members = map (values_in_bucket buckets) members
+
+-- each bucket in which a member stands has values
+abbrev pub HaveValues : Filing → Membership → Type 0
+HaveValues buckets members = (member n : ℕ) → group_of members member ≡ Some n → values_at buckets n ≢ None
+
+-- and the values that it had
+abbrev pub KeepsValues : Filing → Filing → Membership → Type 0
+KeepsValues old new members = (member n : ℕ) → group_of members member ≡ Some n → values_at new n ≡ values_at old n
+
+-- the numbers of buckets are those of their values, and who stands in one has its values
+pub record AreBuckets (numbers : BTreeMap (List Value) ℕ) (buckets : Filing) (facts partials : Membership) : Type 0 where
+  pub numbered : AreNumbered numbers buckets
+  pub facts_have : HaveValues buckets facts
+  pub partials_have : HaveValues buckets partials

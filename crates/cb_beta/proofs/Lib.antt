@@ -1,0 +1,4 @@
+mod FoundBy
+pub mod Live
+pub mod Losses
+pub mod Members

@@ -1,0 +1,2 @@
+-- How tokens are found by their parents and their facts: Filed.
+pub mod Filed

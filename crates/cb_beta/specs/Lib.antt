@@ -1,0 +1,3 @@
+pub mod BetaMemories
+pub mod Internal
+pub mod Tokens

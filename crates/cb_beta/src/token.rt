@@ -1,0 +1,55 @@
+//! A token: what a partial match adds to the one that it goes on from.
+ghost use Rattle.std.specs.Prelude.{◌≡◌};
+ghost use Rattle.cb_beta.specs.Tokens.{candidate_of};
+
+use cb_fit::Way;
+use std::marker::Model;
+
+/// What a pattern took.
+#[derive(Drop)]
+pub struct Taken {
+    /// The number of the fact among the candidates of the pattern.
+    pub candidate: u32,
+    /// The index of the fact.
+    pub index: u64,
+    /// The way in which the pattern fits the fact.
+    pub way: Way,
+}
+
+impl Model for Taken {
+    ghost use Rattle.cb_beta.specs.Tokens.{TakenValue};
+    ghost use Rattle.cb_fit.specs.WayValues.{way_of};
+
+    ghost Value = { TakenValue };
+
+    ghost view = { λ t. record { candidate = t.candidate; index = t.index; way = way_of t.way } };
+}
+
+/// What a partial match adds to the one that it goes on from.
+#[derive(Drop)]
+pub struct Token {
+    /// The number of the token that it goes on from, in the list before.
+    pub parent: u32,
+    /// What was taken there; a test and a group take nothing.
+    pub taken: Option<Taken>,
+}
+
+impl Model for Token {
+    ghost use Rattle.cb_beta.specs.Tokens.{TokenValue};
+
+    ghost Value = { TokenValue };
+
+    ghost view = { λ t. record { parent = t.parent; taken = t.taken } };
+}
+
+impl Token {
+    /// The number of the fact that it took, if it took one.
+    pub fn candidate(&self) -> Option<u32>
+        ensures { result ≡ candidate_of self.now }
+    {
+        match &self.taken {
+            Some(taken) => Some(taken.candidate),
+            None => None,
+        }
+    }
+}

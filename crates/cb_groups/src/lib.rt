@@ -1,0 +1,9 @@
+//! Which members belong to which group, where each is a number and a member belongs to one group at most.
+//!
+//! `docs/ARCHITECTURE.md` says where it belongs.
+#![tactic(auto)]
+
+mod groups; // the groups
+mod lists; // the members of each group in a list, and the place of each member
+
+pub use groups::Groups;
