@@ -42,7 +42,12 @@ FILES = {
     "commands.rt": (
         LANGUAGE,
         "commands",
-        {"COMMANDS": "assert, facts and printing", "RUNNING": "run and halt", "WATCHING": "watch and unwatch"},
+        {
+            "COMMANDS": "assert, facts and printing",
+            "MODIFYING": "modify",
+            "RUNNING": "run and halt",
+            "WATCHING": "watch and unwatch",
+        },
     ),
     "clips.rt": (
         "docs/CLIPS.md",

@@ -54,19 +54,25 @@ Options:
 # An item of 24 bytes and one of 25.
 ITEMS = b'(println "twelve bytes")(println "thirteen byte")'
 BOTH_ITEMS = Ended(b"twelve bytes\nthirteen byte\n", b"", 0)
-ONE_ITEM = Ended(b"twelve bytes\n[CB91] form too long\n", b"", 4)
-NO_ITEM = Ended(b"[CB91] form too long\n", b"", 4)
+LIMIT = b"clipsbatch: limit at line 1\n"
+ONE_ITEM = Ended(b"twelve bytes\n[CB91] form too long\n", LIMIT, 4)
+NO_ITEM = Ended(b"[CB91] form too long\n", LIMIT, 4)
 
 # A rule that fires three times.
 RULES = b'(defrule r (n ?x) => (println ?x))(assert (n 1) (n 2) (n 3))(run)'
 THREE_FIRINGS = Ended(b"<Fact-3>\n3\n2\n1\n", b"", 0)
-TWO_FIRINGS = Ended(b"<Fact-3>\n3\n2\n[CB92] firing limit reached\n", b"", 4)
+TWO_FIRINGS = Ended(b"<Fact-3>\n3\n2\n[CB92] firing limit reached\n", LIMIT, 4)
 
 # A loop of five turns.
 LOOP = b'(bind ?i 0) (while (< ?i 5) do (bind ?i (+ ?i 1)) (println "turn " ?i))'
 FIVE_TURNS = Ended(b"0\nturn 1\nturn 2\nturn 3\nturn 4\nturn 5\nFALSE\n", b"", 0)
-THREE_TURNS = Ended(b"0\nturn 1\nturn 2\nturn 3\n[CB93] loop limit reached\n", b"", 4)
-NO_TURN = Ended(b"0\n[CB93] loop limit reached\n", b"", 4)
+THREE_TURNS = Ended(b"0\nturn 1\nturn 2\nturn 3\n[CB93] loop limit reached\n", LIMIT, 4)
+NO_TURN = Ended(b"0\n[CB93] loop limit reached\n", LIMIT, 4)
+
+# A script with one fault, on its first line, and what is said of it.
+FAULTY = b"(bogus)\n"
+ONE_FAULT = b"clipsbatch: 1 fault: line 1\n"
+BOGUS = b"[CB06] unknown function\n"
 
 HELLO = b'(println "hello")'
 WROTE_HELLO = Ended(b"hello\n", b"", 0)
@@ -86,19 +92,48 @@ RUNS = [
     (["--max-firings=2"], RULES, TWO_FIRINGS),
     (["--max-firings=1000000000000"], RULES, THREE_FIRINGS),
     ([], b'(println "a")(exit 7)(println "b")', Ended(b"a\n", b"", 7)),
-    ([], b'(+ 1 a)(exit)(println "b")', Ended(b"[CB17] wrong type\n", b"", 1)),
+    ([], b'(+ 1 a)(exit)(println "b")', Ended(b"[CB17] wrong type\n", ONE_FAULT, 1)),
     (["--max-turns=3", "--max-firings", "1", "--max-form=100"], LOOP, THREE_TURNS),
     ([], ITEMS, BOTH_ITEMS),
     ([], LOOP, FIVE_TURNS),
     ([], b"", Ended(b"", b"", 0)),
-    ([], b'(println "one") (div 1 0) (println "two")', Ended(b"one\n[CB19] division by zero\ntwo\n", b"", 1)),
-    ([], b'(println "one") (println "two"', Ended(b"one\n[CB01] form not closed\n", b"", 1)),
+    ([], b'(println "one") (div 1 0) (println "two")', Ended(b"one\n[CB19] division by zero\ntwo\n", ONE_FAULT, 1)),
+    ([], b'(println "one") (println "two"', Ended(b"one\n[CB01] form not closed\n", ONE_FAULT, 1)),
     ([], b'(println "\xe9\xff \x80")', Ended(b"\xe9\xff \x80\n", b"", 0)),
     # The index of a fact may have any number of digits.
     (
         [],
         b"(bind ?i 1) (while (< ?i 99999) (retract (assert (a ?i))) (bind ?i (+ ?i 1))) (assert (b) (c)) (facts)",
         Ended(b"1\nFALSE\n<Fact-100000>\nf-99999 (b)\nf-100000 (c)\nFor a total of 2 facts.\n", b"", 0),
+    ),
+]
+
+# A rule whose action is wrong, on lines 1 to 4, and a fact for it; and one with a loop that divides by zero in its second turn.
+HEAT = b"(defrule heat\n  (n ?x)\n  =>\n  (+ ?x a))\n(assert (n 1))\n"
+COUNT = b"(defrule count (n ?x) => (bind ?i 0)\n(while (< ?i 3) do (bind ?i (+ ?i 1)) (div 1 (- ?i 2))))(assert (n 1))\n"
+
+# Options, a script, and how the run should go, with what standard error says of where faults arose.
+PLACES = [
+    ([], b"(foo\n\n bar) 1\n(foo)", Ended(BOGUS + b"1\n" + BOGUS, b"clipsbatch: 2 faults: line 1, line 4\n", 1)),
+    ([], b"(foo)\r\n; (foo)\r\n(foo)\r\n", Ended(BOGUS * 2, b"clipsbatch: 2 faults: line 1, line 3\n", 1)),
+    ([], b'; a\n"b\nc"\n(foo', Ended(b'"b\nc"\n[CB01] form not closed\n', b"clipsbatch: 1 fault: line 4\n", 1)),
+    ([], b"\n1)\n)", Ended(b"1\n" + b"[CB02] unmatched closing parenthesis\n" * 2, b"clipsbatch: 2 faults: line 2, line 3\n", 1)),
+    (
+        [],
+        HEAT + b"(run)\n(foo)\n(undefrule heat)",
+        Ended(b"<Fact-1>\n[CB17] wrong type\n" + BOGUS, b"clipsbatch: 2 faults: line 6 in rule heat, line 7\n", 1),
+    ),
+    ([], COUNT + b"\n(run)", Ended(b"<Fact-1>\n[CB19] division by zero\n", b"clipsbatch: 1 fault: line 4 in rule count\n", 1)),
+    ([], HEAT.replace(b"heat", b"\xff") + b"(run)", Ended(b"<Fact-1>\n[CB17] wrong type\n", b"clipsbatch: 1 fault: line 6 in rule \xef\xbf\xbd\n", 1)),
+    ([], FAULTY * 8, Ended(BOGUS * 8, b"clipsbatch: 8 faults: %s\n" % b", ".join(b"line %d" % it for it in range(1, 9)), 1)),
+    ([], FAULTY * 9, Ended(BOGUS * 9, b"clipsbatch: 9 faults: %s, ..\n" % b", ".join(b"line %d" % it for it in range(1, 9)), 1)),
+    ([], FAULTY + b"(exit 3)", Ended(BOGUS, ONE_FAULT, 3)),
+    (["--max-turns=2"], b"\n(while TRUE do)", Ended(b"[CB93] loop limit reached\n", b"clipsbatch: limit at line 2\n", 4)),
+    (["--max-form=8"], FAULTY + b"\n(foo\nfoo) 1", Ended(BOGUS + b"[CB91] form too long\n", b"clipsbatch: 1 fault: line 1; limit at line 3\n", 4)),
+    (
+        ["--max-firings=0"],
+        HEAT + b"\n\n(run)\n(foo)",
+        Ended(b"<Fact-1>\n[CB92] firing limit reached\n", b"clipsbatch: limit at line 8\n", 4),
     ),
 ]
 
@@ -177,6 +212,11 @@ def run_unheard(program, words, script):
     os.close(reader)
     with os.fdopen(writer, "wb") as stdout:
         return run(program, words, script, stdout)
+
+
+def run_muted(program, script, **how):
+    """A run whose standard error takes nothing: what it wrote, and its status."""
+    return run(program, [], script, **how)._replace(err=b"")
 
 
 def limit(kind, bytes):
@@ -302,6 +342,16 @@ def cases():
         yield name, lambda program: run(program, words, script), wanted
     for words, named in REFUSED:
         yield f"refused: {words}", lambda program: run_unread(program, words), Ended(b"", (named,), 2)
+    for words, script, wanted in PLACES:
+        name = f"where faults arose: {' '.join(words)} < {script[-40:].decode('latin-1')}"
+        yield name, lambda program: run(program, words, script), wanted
+    muted = Ended(BOGUS, b"", 1)
+    full = lambda program: run_muted(program, FAULTY, stderr=os.open("/dev/full", os.O_WRONLY))
+    yield "a fault, standard error > /dev/full", full, muted
+    closed = lambda program: run_muted(program, FAULTY, preexec_fn=lambda: os.close(2))
+    yield "a fault, standard error closed", closed, muted
+    unwritten = Ended(b"", ONE_FAULT + WRITE_FAILED, 3)
+    yield "a fault > /dev/full", lambda program: run_to_file(program, [], FAULTY, "/dev/full"), unwritten
     failed = Ended(b"", WRITE_FAILED, 3)
     for words in (["-h"], ["--help"], []):
         name = words[0] if words else "a script"

@@ -1,11 +1,12 @@
 -- Turns: they never rise, and the number of tests that a loop is defined by does not matter.
 use Rattle.std.proofs.Common.{◌≡◌, ◌<◌, ◌≤◌, ℕ, zero, suc, Bool, true, false, List, [], ◌∷◌, ◌++◌, if◌then◌else◌, codes, length, nat_lt, is_some, ◌+◌, ◌-◌, option_map, Option, Some, None, Result, Ok, Err, refl, ap, arith}
 use Rattle.std.specs.List.{list_all}
+use Rattle.std.specs.Option.{ok_or}
 use Rattle.cb_actions.specs.Acts.{Act, Effect, after_writing, become, each, follow, give, stop, give_or_fault, ◌>>=◌}
 use Rattle.cb_actions.specs.Actions.{carried, carried_all, carried_values, round, rounds}
 use Rattle.cb_actions.proofs.FallLaws.{falls_then}
 use Rattle.cb_actions.specs.Definitions.{all_asserted, all_evaluated, globals_after, globals_defined, one_evaluated, template_defined}
-use Rattle.cb_actions.specs.Effects.{found, wanted, valued, truth_of, ends, called, fact_added, fact_gone, gone_if, added_beside, added_next, asserted, retracted, retracted_one, index_named, taken_by, joined, bound, global_bound, effected, chosen, turn, turn_of}
+use Rattle.cb_actions.specs.Effects.{found, wanted, valued, truth_of, ends, called, fact_added, fact_gone, gone_if, added_beside, added_next, asserted, changed_to, fact_back, fact_replaced, fact_said, index_said, modified, modified_at, replaced_beside, replaced_if_new, shared_out, retracted, retracted_one, index_named, taken_by, joined, bound, global_bound, effected, chosen, turn, turn_of}
 use Rattle.cb_actions.specs.Internal.{Falls, turns_left}
 use Rattle.cb_lines.specs.Lines.{rule_numbered}
 use Rattle.cb_actions.specs.Runs.{acted, actions_of, added_rule, all_gone, cleared_world, defined_rule, dropped_rule, due_by, fire_line, fired, forgotten, in_scope, next_due, numbered, ran, replaced, restarted_world, rule_named, run, spent, started_anew, unless_halted, with_variables_of, without_all, without_facts}
@@ -20,14 +21,15 @@ use Rattle.cb_eval.specs.Evaluation.{value_of}
 use Rattle.cb_exprs.specs.Bindings.{Bindings, value_at}
 use Rattle.cb_exprs.specs.FactTerms.{FactTerm}
 use Rattle.cb_exprs.specs.GlobalTerms.{GlobalTerm}
+use Rattle.cb_exprs.specs.Shapes.{SlotCounts}
 use Rattle.cb_exprs.specs.Terms.{Term, constant, variable, global, call, effect, choose, repeat, actions, Terms, no_terms, term}
 use Rattle.cb_facts.specs.declared.value.Value.{Value}
 use Rattle.cb_forms.specs.declared.fault.Fault.{Fault}
-use Rattle.cb_forms.specs.declared.fault.Fault.TheVariants.{UnboundVariable, UnknownGlobal, WrongType}
+use Rattle.cb_forms.specs.declared.fault.Fault.TheVariants.{NoSuchFact, UnboundVariable, UnknownGlobal, WrongType}
 use Rattle.cb_functions.specs.Applied.{applied}
 use Rattle.cb_functions.specs.Constants.{false_symbol}
 use Rattle.cb_functions.specs.Logic.{is_true}
-use Rattle.cb_templates.specs.Building.{built}
+use Rattle.cb_templates.specs.Building.{Given, built, changed}
 use Rattle.cb_templates.specs.Slots.{SlotShape}
 use Rattle.cb_words.specs.declared.words.Function.{Function}
 use Rattle.cb_words.specs.declared.words.Function.TheVariants as function
@@ -40,7 +42,7 @@ use Rattle.cb_facts.specs.Facts.{FactValue}
 use Rattle.cb_facts.specs.declared.value.Value.TheVariants as value
 use Rattle.cb_matches.specs.Changes.{keys_come, keys_gone}
 use Rattle.cb_matches.specs.Keys.{KeyValue}
-use Rattle.cb_working_memory.specs.WorkingMemory.{Memory, grown, restarted, with_next_rule, without, without_one_rule}
+use Rattle.cb_working_memory.specs.WorkingMemory.{Memory, grown, put_back, restarted, with_next_rule, without, without_one_rule}
 use Rattle.cb_facts.specs.FactLists.{fact_at}
 use Rattle.std.specs.Map.{keys_of}
 use Rattle.cb_actions.specs.Effects.{is_retractable, parts_of}
@@ -136,6 +138,34 @@ one_retracted_falls (value.Multi x) s = each_falls fact_gone (keys_of s.memory.n
 retracted_falls : (vs : List Value) → Falls turns_left (retracted vs)
 retracted_falls vs s = if_falls (list_all is_retractable vs) _ _ s (falls_then turns_left (each retracted_one vs) (λ _. give None) (each_falls retracted_one vs one_retracted_falls) (λ _ u. omega arith) s) (omega arith)
 
+back_falls : (ix : ℕ) (fact : FactValue) → Falls turns_left (fact_back ix fact)
+back_falls ix fact s = moved_falls (put_back ix fact s.memory) (come_line s ix fact) s
+
+replaced_falls_too : (ix : ℕ) (fact : FactValue) → Falls turns_left (fact_replaced ix fact)
+replaced_falls_too ix fact =
+    falls_then turns_left (fact_gone ix) (λ _. fact_back ix fact >>= (λ _. give (Some (value.Fact ix)))) (gone_falls ix)
+    (λ _. falls_then turns_left (fact_back ix fact) (λ _. give (Some (value.Fact ix))) (back_falls ix fact) (λ _ u. omega arith))
+
+replaced_beside_falls : (ix : ℕ) (fact : FactValue) (o : Option ℕ) → Falls turns_left (replaced_beside ix fact o)
+replaced_beside_falls ix fact (Some there) s = omega arith
+replaced_beside_falls ix fact None s = replaced_falls_too ix fact s
+
+if_new_falls : (ix : ℕ) (fact : FactValue) → Falls turns_left (replaced_if_new ix fact)
+if_new_falls ix fact s = replaced_beside_falls ix fact (index_of s.memory.network.facts fact) s
+
+changed_falls : (ix : ℕ) (given : Given) (old : FactValue) → Falls turns_left (changed_to ix given old)
+changed_falls ix given old s = falls_then turns_left (give_or_fault (changed s.templates old given)) (replaced_if_new ix) (read_falls (changed s.templates old given)) (if_new_falls ix) s
+
+said_falls : (ix : ℕ) → Falls turns_left (fact_said ix)
+said_falls ix s = read_falls (ok_or (fact_at s.memory.network.facts ix) NoSuchFact) s
+
+at_falls : (given : Given) (ix : ℕ) → Falls turns_left (modified_at given ix)
+at_falls given ix = falls_then turns_left (fact_said ix) (changed_to ix given) (said_falls ix) (changed_falls ix given)
+
+modified_falls : (slots : SlotCounts) (vs : List Value) → Falls turns_left (modified slots vs)
+modified_falls slots [] s = omega arith
+modified_falls slots (v ∷ vs) s = falls_then turns_left (give_or_fault (index_said v)) (modified_at (shared_out slots vs)) (read_falls (index_said v)) (at_falls (shared_out slots vs)) s
+
 asserted_falls : (shape : _) (vs : List Value) → Falls turns_left (asserted shape vs)
 asserted_falls shape vs s =
     let r = built s.templates shape.relation (parts_of shape.slots vs) in
@@ -149,6 +179,7 @@ joined_falls (v ∷ w ∷ vs) s = read_falls (applied function.Create (v ∷ w �
 effected_falls : (e : Kind) (vs : List Value) → Falls turns_left (effected e vs)
 effected_falls (kind.Assert shape) vs s = asserted_falls shape vs s
 effected_falls kind.Retract vs s = retracted_falls vs s
+effected_falls (kind.Modify slots) vs s = modified_falls slots vs s
 effected_falls (kind.Bind x) vs s = falls_then turns_left (joined vs) (bound x) (joined_falls vs) (λ v u. omega arith) s
 effected_falls (kind.BindGlobal x) vs s = falls_then turns_left (joined vs) (global_bound x) (joined_falls vs) (λ v u. omega arith) s
 effected_falls e vs s = omega arith

@@ -1,7 +1,8 @@
 -- What a call does with the values of its arguments.
-use Rattle.std.specs.Prelude.{ℕ, ℤ, pos, negsuc, is_some, ◌+◌, nat_lt, zero, suc, Bool, true, false, List, [], ◌∷◌, ◌++◌, Option, Some, None, codes, if◌then◌else◌}
+use Rattle.std.specs.Prelude.{ℕ, ℤ, pos, negsuc, is_some, ◌+◌, nat_eq, nat_lt, zero, suc, Bool, true, false, List, [], ◌∷◌, ◌++◌, Option, Some, None, Result, Ok, Err, codes, drop, take, if◌then◌else◌}
 use Rattle.std.specs.List.{list_all}
 use Rattle.std.specs.Map.{keys_of}
+use Rattle.std.specs.Option.{ok_or}
 use Rattle.std.specs.Str.{bytes_eq}
 use Rattle.cb_actions.specs.Acts.{Act, each, give, stop, give_or_fault, become, write, ◌>>=◌}
 use Rattle.cb_actions.specs.Changes.{come_line, gone_line, moved}
@@ -10,7 +11,7 @@ use Rattle.cb_actions.specs.Worlds.{World}
 use Rattle.cb_actions.specs.declared.act.EarlyEnd.TheVariants as ended
 use Rattle.cb_actions.specs.declared.act.Limit.TheVariants.{Numbers, Turns}
 use Rattle.cb_exprs.specs.Bindings.{value_at, with_variable, with_global}
-use Rattle.cb_exprs.specs.Shapes.{Shape}
+use Rattle.cb_exprs.specs.Shapes.{Shape, SlotCounts}
 use Rattle.cb_exprs.specs.declared.effect.Effect.{Effect}
 use Rattle.cb_exprs.specs.declared.effect.Effect.TheVariants as kind
 use Rattle.cb_facts.specs.FactLists.{fact_at}
@@ -20,11 +21,12 @@ use Rattle.cb_facts.specs.declared.value.Value.TheVariants as value
 use Rattle.cb_forms.specs.declared.fault.Fault.{Fault}
 use Rattle.cb_forms.specs.declared.fault.Fault.TheVariants.{NoSuchFact, UnboundVariable, UnknownGlobal, WrongType}
 use Rattle.cb_functions.specs.Applied.{applied}
+use Rattle.cb_functions.specs.Constants.{false_symbol}
 use Rattle.cb_functions.specs.Logic.{is_true, decides}
-use Rattle.cb_templates.specs.Building.{Given, PartValues, field_values, slot_values, built}
+use Rattle.cb_templates.specs.Building.{Given, PartValues, field_values, slot_values, built, changed}
 use Rattle.cb_words.specs.declared.words.Function.{Function}
 use Rattle.cb_words.specs.declared.words.Function.TheVariants as function
-use Rattle.cb_working_memory.specs.WorkingMemory.{greatest_index, grown, index_of, without}
+use Rattle.cb_working_memory.specs.WorkingMemory.{greatest_index, grown, index_of, put_back, without}
 
 -- a value that is there, or this fault
 abbrev pub found : Fault → Option Value → Act World (Option Value)
@@ -131,6 +133,54 @@ is_retractable v = false
 abbrev pub retracted : List Value → Act World (Option Value)
 retracted vs s = if list_all is_retractable vs then (each retracted_one vs >>= (λ _. give None)) s else stop (ended.Fault WrongType) s
 
+-- a fact comes under an index that a fact had before
+abbrev pub fact_back : ℕ → FactValue → Act World (Unit {0})
+fact_back ix fact s = moved (put_back ix fact s.memory) (come_line s ix fact) s
+
+-- The fact with an index goes, and then this one comes under the same index. The value is its address.
+abbrev pub fact_replaced : ℕ → FactValue → Act World (Option Value)
+fact_replaced ix fact = fact_gone ix >>= (λ _. fact_back ix fact >>= (λ _. give (Some (value.Fact ix))))
+
+-- the value where a fact equal to the new one has this index: the address if it is the fact itself, else FALSE
+abbrev pub unchanged_value : ℕ → ℕ → Value
+unchanged_value ix there = if nat_eq ix there then value.Fact ix else false_symbol
+
+-- Where an equal fact is there, nothing changes.
+abbrev pub replaced_beside : ℕ → FactValue → Option ℕ → Act World (Option Value)
+replaced_beside ix fact (Some there) s = give (Some (unchanged_value ix there)) s
+replaced_beside ix fact None s = fact_replaced ix fact s
+
+abbrev pub replaced_if_new : ℕ → FactValue → Act World (Option Value)
+replaced_if_new ix fact s = replaced_beside ix fact (index_of s.memory.network.facts fact) s
+
+-- the index that a value says: that of an address, or a number
+abbrev pub index_said : Value → Result ℕ Fault
+index_said (value.Fact ix) = Ok ix
+index_said (value.Int n) = ok_or (index_named n) NoSuchFact
+index_said v = Err WrongType
+
+-- the fact with an index, which is to be there
+abbrev pub fact_said : ℕ → Act World FactValue
+fact_said ix s = give_or_fault (ok_or (fact_at s.memory.network.facts ix) NoSuchFact) s
+
+-- slots, each with as many of these values as it has expressions
+abbrev pub shared_out : SlotCounts → List Value → Given
+shared_out [] vs = []
+shared_out (slot ∷ slots) vs = (slot.0, take slot.1 vs) ∷ shared_out slots (drop slot.1 vs)
+
+-- the fact that it is with these slots is put in its place
+abbrev pub changed_to : ℕ → Given → FactValue → Act World (Option Value)
+changed_to ix given old s = (give_or_fault (changed s.templates old given) >>= replaced_if_new ix) s
+
+-- the slots of the fact with an index are given these values
+abbrev pub modified_at : Given → ℕ → Act World (Option Value)
+modified_at given ix = fact_said ix >>= changed_to ix given
+
+-- The first value says which fact, and the others are for its slots.
+abbrev pub modified : SlotCounts → List Value → Act World (Option Value)
+modified slots [] = stop (ended.Fault WrongType)
+modified slots (v ∷ vs) = give_or_fault (index_said v) >>= modified_at (shared_out slots vs)
+
 -- one value of several: a multifield of them, as `create$` makes, unless there is one
 abbrev pub joined : List Value → Act World Value
 joined (v ∷ []) = give v
@@ -156,6 +206,7 @@ printed_line vs = printed_values vs ++ codes "\n"
 abbrev pub effected : Effect → List Value → Act World (Option Value)
 effected (kind.Assert shape) vs = asserted shape vs
 effected kind.Retract vs = retracted vs
+effected (kind.Modify slots) vs = modified slots vs
 effected (kind.Bind x) vs = joined vs >>= bound x
 effected (kind.BindGlobal x) vs = joined vs >>= global_bound x
 effected (kind.Printout on) vs = write (printed on vs)

@@ -2,7 +2,7 @@
 use Rattle.std.specs.Prelude.{◌≤◌, ℕ, List, Result, Ok, Err, Vec, Bool, ℤ, refl}
 use Rattle.std.specs.Coded.{Coded, code_by, coded_bool, coded_list, coded_ℕ, coded_ℤ, coded×}
 use Rattle.std.specs.declared.alloc.Global.{Global}
-use Rattle.cb_actions.specs.Acts.{Act}
+use Rattle.cb_actions.specs.Acts.{Act, end_in_rule}
 use Rattle.cb_actions.specs.Worlds.{World}
 use Rattle.cb_actions.specs.declared.act.Break.{Break}
 use Rattle.cb_actions.specs.declared.act.Break.TheVariants as break
@@ -23,6 +23,11 @@ use Rattle.cb_templates.specs.Templates.{Templates}
 abbrev pub broken_by : Refused → Break
 broken_by (refused.Fault f) = break.Ended (ended.Fault f)
 broken_by refused.NoMemory = break.Stop stop.NoMemory
+
+-- what breaks off where a fault is one of the rule with this number
+abbrev pub break_in_rule : ℕ → Break → Break
+break_in_rule id (break.Ended e) = break.Ended (end_in_rule id e)
+break_in_rule id (break.Stop s) = break.Stop s
 
 -- the items of what is answered
 abbrev pub items_answered : {A : Type 0} → Result (Vec A Global) Break → Result (List A) Break

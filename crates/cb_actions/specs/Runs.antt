@@ -3,7 +3,7 @@ use Rattle.std.specs.Prelude.{ℕ, zero, suc, ◌+◌, ◌-◌, Bool, false, tru
 use Rattle.std.specs.List.{filter}
 use Rattle.std.specs.Str.{bytes_eq}
 use Rattle.cb_actions.specs.Actions.{carried_all}
-use Rattle.cb_actions.specs.Acts.{Act, Effect, give, stop, ◌>>=◌}
+use Rattle.cb_actions.specs.Acts.{Act, Effect, give, in_rule, stop, ◌>>=◌}
 use Rattle.cb_actions.specs.Changes.{if_watched, moved, rescheduled, tell}
 use Rattle.cb_lines.specs.Lines.{fact_line, firing_line, rule_numbered}
 use Rattle.cb_actions.specs.Worlds.{World}
@@ -36,9 +36,9 @@ in_scope env act s =
     let e = act (with_variables_of env s) in
     record { state = with_variables_of s.env e.state; written = e.written; answer = e.answer }
 
--- the actions of the rule of a match, with the variables of the match
+-- the actions of the rule of a match, with the variables of the match; a fault in them is one of that rule
 abbrev pub acted : KeyValue → Act World (Option Value)
-acted k s = in_scope (bindings_of s.memory.network k) (carried_all (Some false_symbol) (actions_of (rule_numbered k.rule s.rules))) s
+acted k s = in_rule k.rule (in_scope (bindings_of s.memory.network k) (carried_all (Some false_symbol) (actions_of (rule_numbered k.rule s.rules)))) s
 
 -- the line of a firing, with its number in the run, if it is watched
 abbrev pub fire_line : ℕ → KeyValue → World → List ℕ

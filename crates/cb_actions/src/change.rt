@@ -32,7 +32,7 @@ impl<M: Matcher<Mark>> World<M> {
         requires { out.old.fault ≡ false }
         ensures { Went K.writes out.old out.new self.new result (fact_added fact self.old) }
     {
-        let line = self.come_line(&fact)?;
+        let line = self.next_line(&fact)?;
         match self.memorize(fact)? {
             Asserted::There(ix) => Ok(Some(Value::Fact(ix))),
             Asserted::NoIndex => Err(Break::Ended(EarlyEnd::Limit(Limit::Numbers))),
@@ -43,17 +43,25 @@ impl<M: Matcher<Mark>> World<M> {
         }
     }
 
-    /// The line of a fact that comes, if it is watched and an index is left.
-    fn come_line(&self, fact: &Fact) -> Result<Vec<u8>, NoMemory>
+    /// The line of a fact that comes under the next index, if an index is left.
+    fn next_line(&self, fact: &Fact) -> Result<Vec<u8>, NoMemory>
         ensures { IfOk result (λ line. self.now.memory.last < greatest_index
             → line.items ≡ come_line self.now (self.now.memory.last + 1) fact.now) }
     {
+        match self.memory.next_index() {
+            Some(ix) => self.come_line(ix, fact),
+            None => Ok(Vec::new(self.alloc)),
+        }
+    }
+
+    /// The line of a fact that comes under an index, if it is watched.
+    pub(crate) fn come_line(&self, ix: u64, fact: &Fact) -> Result<Vec<u8>, NoMemory>
+        ensures { IfOk result (λ line. line.items ≡ come_line self.now ix fact.now) }
+    {
         let mut line = Vec::new(self.alloc);
         if self.watched.facts {
-            if let Some(ix) = self.memory.next_index() {
-                line.extend_from_slice(b"==> ")?;
-                add_fact_line(self.alloc, &mut line, ix, fact)?;
-            }
+            line.extend_from_slice(b"==> ")?;
+            add_fact_line(self.alloc, &mut line, ix, fact)?;
         }
         Ok(line)
     }

@@ -11,6 +11,7 @@ mod deffacts; // the facts of each `deffacts`, asserted
 mod define; // rules defined and dropped
 mod globals; // globals defined, all or none of them, and evaluated anew
 pub mod laws; // laws of carrying out expressions
+mod modify; // facts that are modified
 mod numbers; // the numbers that were given last
 mod perform; // what a call with an effect does with the values of its arguments: one arm for each effect
 mod print; // what printed values put

@@ -27,6 +27,7 @@ impl<M: Matcher<Mark>> World<M> {
         match effect {
             Effect::Assert(shape) => self.assert(shape, values, out),
             Effect::Retract => self.retract(values.as_slice(), out),
+            Effect::Modify(slots) => self.modify(slots, values.as_slice(), out),
             Effect::Bind(name) => self.bind_all(name, values),
             Effect::BindGlobal(name) => self.bind_global_all(name, values),
             Effect::Printout(channel) => self.print(*channel, values.as_slice(), out),

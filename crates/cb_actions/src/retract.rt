@@ -103,7 +103,7 @@ impl<M: Matcher<Mark>> World<M> {
     }
 
     /// Retracts the fact with an index, if there is one.
-    fn drop_fact<K: Sink>(&mut self, ix: u64, out: &mut Out<K>) -> Result<(), Break>
+    pub(crate) fn drop_fact<K: Sink>(&mut self, ix: u64, out: &mut Out<K>) -> Result<(), Break>
         requires { out.old.fault ≡ false }
         ensures { Went K.writes out.old out.new self.new result (fact_gone ix self.old) }
     {
@@ -156,7 +156,7 @@ fn is_retractable(value: &Value) -> bool
 }
 
 /// The index that a number is.
-fn index_named(number: i64) -> Option<u64>
+pub(crate) fn index_named(number: i64) -> Option<u64>
     ensures { result ≡ index_named number }
 {
     match u64::try_from(number) {

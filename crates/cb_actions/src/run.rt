@@ -139,7 +139,7 @@ impl<M: Matcher<Mark>> World<M> {
         Ok(line)
     }
 
-    /// The actions of the rule of a match, with the variables of the match.
+    /// The actions of the rule of a match, with the variables of the match. A fault in them is one of that rule.
     fn act<K: Sink>(&mut self, key: &Key, out: &mut Out<K>) -> Result<Option<Value>, Break>
         requires { out.old.fault ≡ false }
         ensures went { Went K.writes out.old out.new self.new result (acted key.now self.old) }
@@ -147,7 +147,10 @@ impl<M: Matcher<Mark>> World<M> {
     {
         let env = self.memory.bindings(key)?;
         let actions = actions_of(self.alloc, self.rules.as_slice(), key)?;
-        self.act_in(env, actions.as_slice(), out)
+        match self.act_in(env, actions.as_slice(), out) {
+            Ok(value) => Ok(value),
+            Err(end) => Err(end.in_rule(key.rule())),
+        }
     }
 
     /// Actions, in which the variables have these values. Afterwards they have the ones that they had.

@@ -1,4 +1,5 @@
 pub mod Commands
 pub mod Internal
+pub mod PlaceTexts
 pub mod RanBy
 pub mod Statuses

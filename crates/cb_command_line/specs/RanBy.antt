@@ -5,6 +5,7 @@ use Rattle.cb_io.specs.Histories.{PastReads, PastWrites}
 use Rattle.cb_command_line.specs.Commands.{limit_of}
 use Rattle.cb_script.specs.Ran.{Ran}
 use Rattle.cb_script.specs.declared.outcome.Outcome.{Outcome}
+use Rattle.cb_session.specs.Places.{FaultPlaces}
 use Rattle.cb_session.specs.declared.limits.Limits.{Limits}
 
 -- each limit is the number that its option has among the words, or the default
@@ -14,7 +15,7 @@ pub record AreLimitsOf (words : List Text) (limits : Limits) : Type 0 where
   pub max_turns : limits.max_turns ≡ limit_of (codes "max-turns") 10000000 words
 
 -- a run with these limits
-pub record RanBy (words : List Text) (result : Outcome) (left left' : Option (List ℕ)) (reads reads' : PastReads) (writes writes' : PastWrites) : Type 0 where
+pub record RanBy (words : List Text) (result : Outcome) (places : FaultPlaces) (left left' : Option (List ℕ)) (reads reads' : PastReads) (writes writes' : PastWrites) : Type 0 where
   pub limits : Limits
   pub are_limits : AreLimitsOf words limits
-  pub ran : Ran limits result left left' reads reads' writes writes'
+  pub ran : Ran limits result places left left' reads reads' writes writes'

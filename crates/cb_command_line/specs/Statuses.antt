@@ -7,6 +7,7 @@ use Rattle.cb_io.specs.Histories.{PastReads, PastWrites}
 use Rattle.cb_command_line.specs.Commands.{limits_app}
 use Rattle.cb_command_line.specs.RanBy.{RanBy}
 use Rattle.cb_script.specs.declared.outcome.Outcome.{Outcome}
+use Rattle.cb_session.specs.Places.{FaultPlaces}
 
 -- The exit status for an error of this kind: memory was refused; help was asked for, and could be written or could not; or the
 -- words are wrong. The options have no version to ask for.
@@ -19,7 +20,8 @@ pub record IsStatusFor (k : ErrorKind) (status : ℕ) : Type 0 where
 pub record EndedByRun (words : List Text) (status : ℕ) (left left' : Option (List ℕ)) (reads reads' : PastReads) (writes writes' : PastWrites) : Type 0 where
   pub faultless : fault_of limits_app words ≡ []
   pub outcome : Outcome
-  pub ran : RanBy words outcome left left' reads reads' writes writes'
+  pub places : FaultPlaces
+  pub ran : RanBy words outcome places left left' reads reads' writes writes'
   pub status_is : status ≡ outcome.status
 
 -- Nothing was read of the script and nothing written: `clap` refuses the words, and this is the status for that, or memory

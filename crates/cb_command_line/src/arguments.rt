@@ -6,7 +6,7 @@ ghost use Rattle.cb_io.specs.Output.{IsReady};
 ghost use Rattle.cb_command_line.specs.Statuses.{EndedBefore, EndedByRun, HadNoWords};
 
 use crate::program::run_words;
-use crate::reports::{ended, no_memory, not_text, refused};
+use crate::reports::{ended, faulted, no_memory, not_text, refused};
 use cb_forms::{NoMemory, Out, Sink, Source};
 use std::alloc::Global;
 use std::env::{self, Env};
@@ -72,7 +72,10 @@ pub fn run_and_report<R: AllocGlobal + Print + Eprint, S: Source, K: Sink>(
         Err(_) => return no_memory(rt),
     };
     match run_words(rt.alloc(), words.as_slice(), source, out) {
-        Ok(outcome) => ended(rt, outcome),
+        Ok(report) => {
+            faulted(rt, &report.places);
+            ended(rt, report.outcome)
+        }
         Err(error) => refused(rt, error),
     }
 }

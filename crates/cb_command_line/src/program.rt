@@ -7,12 +7,12 @@ ghost use Rattle.cb_command_line.specs.RanBy.{RanBy};
 
 use crate::words::read_words;
 use cb_forms::{Out, Sink, Source};
-use cb_script::{Outcome, run_once};
+use cb_script::{Report, run_once};
 use clap::Error;
 use clap::error::ErrorKind;
 use std::alloc::Global;
 
-/// Runs the script with the options on the command line, the program's name first, and returns how the run went.
+/// Runs the script with the options on the command line, the program's name first, and returns how the run went and where its faults arose.
 ///
 /// An error comes as in `read_words`. Then nothing was read of the script, and nothing written. As after `run_once`, what the script built
 /// is left to the system.
@@ -21,10 +21,10 @@ pub fn run_words<'a, S: Source, K: Sink>(
     words: &'a [&'a str],
     source: &mut S,
     out: &mut Out<K>,
-) -> Result<Outcome, Error>
+) -> Result<Report, Error>
     requires { IsReady out.old }
     // All that `run` promises, with the limits that the words give.
-    ensures ran { IfOk result (λ outcome. RanBy (map (λ w. w.now) words.entry.now) outcome
+    ensures ran { IfOk result (λ report. RanBy (map (λ w. w.now) words.entry.now) report.outcome report.places
         (S.left source.old) (S.left source.new) (S.reads source.old) (S.reads source.new)
         (K.writes out.old.sink) (K.writes out.new.sink)) }
 

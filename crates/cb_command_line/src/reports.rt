@@ -3,7 +3,9 @@ ghost use Rattle.std.specs.Prelude.{◌≡◌, OnErr, OnOk};
 ghost use Rattle.clap.specs.Words.{kind_of};
 ghost use Rattle.cb_command_line.specs.Statuses.{IsStatusFor};
 
+use crate::places::places_line;
 use cb_script::{Cause, Outcome};
+use cb_session::Places;
 use clap::Error;
 use clap::error::ErrorKind;
 use std::io::{self, Eprint, Print};
@@ -51,6 +53,20 @@ pub(crate) fn no_memory<R: Eprint>(rt: &R) -> u8
     ensures { result ≡ 3 }
 {
     ended(rt, Outcome::failed(Cause::NoMemory))
+}
+
+/// Reports where faults arose, where there is something to report. Where memory for that is refused, or standard error takes nothing,
+/// it isn't reported.
+pub(crate) fn faulted<R: AllocGlobal + Eprint>(rt: &R, places: &Places) {
+    let Ok(line) = places_line(rt.alloc(), places) else {
+        return;
+    };
+    if line.is_empty() {
+        return;
+    }
+    if let Ok(text) = String::from_utf8_lossy(rt.alloc(), line.as_slice()) {
+        let _ = eprintln!(rt; "{text}");
+    }
 }
 
 /// Reports how a run ended, where there is something to report; its exit status.

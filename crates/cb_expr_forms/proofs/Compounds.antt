@@ -3,7 +3,8 @@ use Rattle.std.proofs.Common.{◌≡◌, ℕ, Bool, true, false, List, [], ◌�
 use Rattle.std.specs.List.{list_any}
 use Rattle.std.specs.Option.{unwrap_or}
 use Rattle.cb_expr_forms.specs.Actions.{is_this_word, branches, after_else, is_else, bind_of, if_of, while_of, retract_of, printout_of, halt_of, named_channel, action_of}
-use Rattle.cb_expr_forms.specs.ExprForms.{no_expr, list_expr, call_expr, exprs_of, assertions}
+use Rattle.cb_expr_forms.specs.ExprForms.{no_expr, list_expr, call_expr, exprs_of, assertions, modification}
+use Rattle.cb_exprs.specs.Shapes.{SlotCounts}
 use Rattle.cb_exprs.specs.Terms.{Term, constant, variable, global, call, effect, choose, repeat, actions}
 use Rattle.cb_exprs.specs.declared.channel.Channel.{Channel}
 use Rattle.cb_facts.specs.declared.value.Value.TheVariants as value
@@ -82,36 +83,37 @@ action-compound action.Printout ts = printout-compound ts
 action-compound action.Halt ts = halt-compound ts
 action-compound a ts = tt
 
-other-compound : (a : Action) (ts facts : List Term) → IsCompound (call_expr (Some (head.Action a)) ts facts)
-other-compound action.Assert ts facts = tt
-other-compound a ts facts = unwraps (action_of a ts) (action-compound a ts)
+other-compound : (a : Action) (ts facts : List Term) (change : SlotCounts × List Term) → IsCompound (call_expr (Some (head.Action a)) ts facts change)
+other-compound action.Assert ts facts change = tt
+other-compound action.Modify ts facts change = tt
+other-compound a ts facts change = unwraps (action_of a ts) (action-compound a ts)
 
-call-compound : (h : Option Head) (ts facts : List Term) → IsCompound (call_expr h ts facts)
-call-compound None ts facts = tt
-call-compound (Some (head.Function f)) ts facts = tt
-call-compound (Some (head.Action a)) ts facts = other-compound a ts facts
-call-compound (Some (head.Construct c)) ts facts = tt
-call-compound (Some (head.Command c)) ts facts = tt
-call-compound (Some head.Refused) ts facts = tt
+call-compound : (h : Option Head) (ts facts : List Term) (change : SlotCounts × List Term) → IsCompound (call_expr h ts facts change)
+call-compound None ts facts change = tt
+call-compound (Some (head.Function f)) ts facts change = tt
+call-compound (Some (head.Action a)) ts facts change = other-compound a ts facts change
+call-compound (Some (head.Construct c)) ts facts change = tt
+call-compound (Some (head.Command c)) ts facts change = tt
+call-compound (Some head.Refused) ts facts change = tt
 
 -- a list is none of them
-pub list-compound : (templates : Templates) (ts : Trees) → IsCompound (list_expr templates ts)
-list-compound templates no_trees = tt
-list-compound templates (tree (branch us) ts) = tt
-list-compound templates (tree (atom (token.Symbol name)) ts) = call-compound (head_of name) (exprs_of templates ts) (assertions templates ts)
-list-compound templates (tree (atom t) ts) = tt
+pub list_compound : (templates : Templates) (ts : Trees) → IsCompound (list_expr templates ts)
+list_compound templates no_trees = tt
+list_compound templates (tree (branch us) ts) = tt
+list_compound templates (tree (atom (token.Symbol name)) ts) = call-compound (head_of name) (exprs_of templates ts) (assertions templates ts) (modification templates ts)
+list_compound templates (tree (atom t) ts) = tt
 
 -- such an expression is no word, and names nothing
 pub compound-word : (word : List ℕ) (t : Term) → IsCompound t → is_this_word word t ≡ false
 compound-word word (constant v) h = absurd h
 compound-word word t h = refl
 
-pub compound-bind : (t : Term) (ts : List Term) → IsCompound t → bind_of (t ∷ ts) ≡ None
-compound-bind (constant v) ts h = absurd h
-compound-bind (variable x) ts h = absurd h
-compound-bind (global x) ts h = absurd h
-compound-bind t ts h = refl
+pub compound_bind : (t : Term) (ts : List Term) → IsCompound t → bind_of (t ∷ ts) ≡ None
+compound_bind (constant v) ts h = absurd h
+compound_bind (variable x) ts h = absurd h
+compound_bind (global x) ts h = absurd h
+compound_bind t ts h = refl
 
-pub compound-printout : (t : Term) (ts : List Term) → IsCompound t → printout_of (t ∷ ts) ≡ None
-compound-printout (constant v) ts h = absurd h
-compound-printout t ts h = refl
+pub compound_printout : (t : Term) (ts : List Term) → IsCompound t → printout_of (t ∷ ts) ≡ None
+compound_printout (constant v) ts h = absurd h
+compound_printout t ts h = refl

@@ -1,7 +1,7 @@
 -- A part that has a fault.
 use Rattle.std.proofs.Common.{◌≡◌, ◌≤◌, ◌<◌, ◌+◌, ◌∙◌, ℕ, suc, zero, List, [], ◌∷◌, Some, Err, arith, drop, get_or, length, sym, ap}
 use Rattle.std.proofs.lemmas.List.{at_drop_more}
-use Rattle.cb_expr_forms.specs.ExprFaults.{slot_faults, slots_faults}
+use Rattle.cb_expr_forms.specs.ExprFaults.{change_faults, changes_faults, slot_faults, slots_faults}
 use Rattle.cb_facts.specs.FaultLists.{ReadsAs, first_of}
 use Rattle.cb_expr_forms.specs.Scopes.{Scope}
 use Rattle.cb_expr_forms.specs.Internal.Sizes.{tree_size, trees_size}
@@ -33,3 +33,11 @@ pub next_slot : (s : Scope) (slots : List SlotShape) (given : List (List ℕ)) (
 next_slot s slots given forms i form f within is inv h =
     ap first_of (sym inv ∙ at_drop_more (λ fs. slots_faults s slots given (members fs)) forms i form within ∙ ap (λ it. slots_faults s slots given (members (it ∷ drop (i + 1) forms))) is)
     ∙ first_append (slot_faults s slots given (tree_of form)) _ f h
+
+-- the next of the slots that a `modify` names
+pub next_change : (s : Scope) (given first : List (List ℕ)) (forms : List Form) (i : ℕ) (form : Form) (f : Fault)
+    → i < length forms → get_or forms i form ≡ form → changes_faults s given (members (drop i forms)) ≡ changes_faults s first (members forms)
+    → first_of (change_faults s given (tree_of form)) ≡ Some f → first_of (changes_faults s first (members forms)) ≡ Some f
+next_change s given first forms i form f within is inv h =
+    ap first_of (sym inv ∙ at_drop_more (λ fs. changes_faults s given (members fs)) forms i form within ∙ ap (λ it. changes_faults s given (members (it ∷ drop (i + 1) forms))) is)
+    ∙ first_append (change_faults s given (tree_of form)) _ f h

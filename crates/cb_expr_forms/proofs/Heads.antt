@@ -1,10 +1,10 @@
 -- Forms by the symbol that they begin with.
 use Rattle.std.proofs.Common.{◌≡◌, ℕ, suc, List, [], ◌∷◌, Option, Some, None, length, refl, ap}
 use Rattle.cb_expr_forms.specs.Actions.{is_this_word}
-use Rattle.cb_expr_forms.specs.ExprFaults.{count, fact_faults, is_this_symbol, list_faults, slot_faults}
-use Rattle.cb_expr_forms.specs.ExprForms.{expr_of, list_expr}
+use Rattle.cb_expr_forms.specs.ExprFaults.{change_faults, fact_faults, is_this_symbol, list_faults, slot_faults}
+use Rattle.cb_expr_forms.specs.ExprForms.{count, expr_of, list_expr}
 use Rattle.cb_expr_forms.specs.Scopes.{Scope}
-use Rattle.cb_expr_forms.proofs.Compounds.{compound-word, list-compound}
+use Rattle.cb_expr_forms.proofs.Compounds.{compound-word, list_compound}
 use Rattle.cb_forms.specs.Members.{call_of, head_and_rest, members}
 use Rattle.cb_forms.specs.Trees.{Tree, atom, branch, Trees, no_trees, tree}
 use Rattle.cb_forms.specs.declared.fault.Fault.TheVariants.{MalformedForm, FactDoesNotFit}
@@ -85,9 +85,25 @@ unslotted_faults s slots given (branch (tree (atom token.And) ts)) h = refl
 unslotted_faults s slots given (branch (tree (atom token.Or) ts)) h = refl
 unslotted_faults s slots given (branch (tree (atom token.Not) ts)) h = refl
 
+pub unchanged_faults : (s : Scope) (given : List (List ℕ)) (t : Tree) → call_of t ≡ None → change_faults s given t ≡ FactDoesNotFit ∷ []
+unchanged_faults s given (atom k) h = refl
+unchanged_faults s given (branch no_trees) h = refl
+unchanged_faults s given (branch (tree (branch vs) ts)) h = refl
+unchanged_faults s given (branch (tree (atom (token.Symbol bytes)) ts)) h = absurd (cc)
+unchanged_faults s given (branch (tree (atom (token.Str bytes)) ts)) h = refl
+unchanged_faults s given (branch (tree (atom (token.Int n)) ts)) h = refl
+unchanged_faults s given (branch (tree (atom (token.Var x)) ts)) h = refl
+unchanged_faults s given (branch (tree (atom (token.MultiVar x)) ts)) h = refl
+unchanged_faults s given (branch (tree (atom token.Any) ts)) h = refl
+unchanged_faults s given (branch (tree (atom token.MultiAny) ts)) h = refl
+unchanged_faults s given (branch (tree (atom (token.Global x)) ts)) h = refl
+unchanged_faults s given (branch (tree (atom token.And) ts)) h = refl
+unchanged_faults s given (branch (tree (atom token.Or) ts)) h = refl
+unchanged_faults s given (branch (tree (atom token.Not) ts)) h = refl
+
 -- a word among the expressions is the symbol among the forms
 pub word_symbol : (templates : Templates) (word : List ℕ) (t : Tree) → is_this_word word (expr_of templates t) ≡ is_this_symbol word t
-word_symbol templates word (branch ts) = compound-word word (list_expr templates ts) (list-compound templates ts)
+word_symbol templates word (branch ts) = compound-word word (list_expr templates ts) (list_compound templates ts)
 word_symbol templates word (atom (token.Symbol bytes)) = refl
 word_symbol templates word (atom (token.Str bytes)) = refl
 word_symbol templates word (atom (token.Int n)) = refl

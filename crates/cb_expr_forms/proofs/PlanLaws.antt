@@ -7,7 +7,7 @@ use Rattle.std.specs.Str.{bytes_eq}
 use Rattle.cb_expr_forms.specs.ExprFaults.{given_slot_faults, type_faults, values_faults}
 use Rattle.cb_expr_forms.specs.ExprForms.{slot_expr, exprs_of}
 use Rattle.cb_facts.specs.FaultLists.{first_of, unless}
-use Rattle.cb_expr_forms.specs.Internal.{IsFact, IsSlot, IsSlotFault, IsFilling, IsFillingFault, content_by}
+use Rattle.cb_expr_forms.specs.Internal.{IsChange, IsChangeFault, IsFact, IsSlot, IsSlotFault, IsFilling, IsFillingFault, content_by}
 use Rattle.cb_expr_forms.specs.Scopes.{is_known}
 use Rattle.cb_expr_forms.specs.declared.slot_form.SlotForm.{SlotForm}
 use Rattle.cb_expr_forms.proofs.Heads.{called}
@@ -63,6 +63,23 @@ is_slot slots given t name ts slot is_given (Err (refused.Fault f)) h has known 
     λ s. ap₂ (λ o b. first_of (given_slot_faults o b ts (λ types. values_faults s types ts))) has so ∙ filling s in
     subst (λ it. IsSlotFault slots given it f) (sym (called t name ts h)) there
 is_slot slots given t name ts slot is_given (Err refused.NoMemory) h has known filling = tt
+
+-- a slot that a `modify` names
+pub is_change : (given : List (List ℕ)) (t : Tree) (name : List ℕ) (ts : Trees) → call_of t ≡ Some (name, ts) → is_known given name ≡ false → IsChange given t name ts
+is_change given t name ts h new =
+    let there : IsChange given (branch (tree (atom (token.Symbol name)) ts)) name ts = record {
+      name_is = refl;
+      count_is = refl;
+      exprs_are = λ templates. refl;
+      faults_are = λ s. ap (λ b. unless (not b) FactDoesNotFit ++ values_faults s None ts) new;
+      smaller = omega arith;
+    } in
+    subst (λ it. IsChange given it name ts) (sym (called t name ts h)) there
+
+pub is_change_fault : (given : List (List ℕ)) (t : Tree) (name : List ℕ) (ts : Trees) → call_of t ≡ Some (name, ts) → is_known given name ≡ true → IsChangeFault given t FactDoesNotFit
+is_change_fault given t name ts h known =
+    let there : IsChangeFault given (branch (tree (atom (token.Symbol name)) ts)) FactDoesNotFit = λ s. ap (λ b. first_of (unless (not b) FactDoesNotFit ++ values_faults s None ts)) known in
+    subst (λ it. IsChangeFault given it FactDoesNotFit) (sym (called t name ts h)) there
 
 any_field : (fields : List Single) → list_all (allows None) fields ≡ true
 any_field [] = refl

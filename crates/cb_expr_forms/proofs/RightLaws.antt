@@ -1,7 +1,7 @@
 -- Arguments, calls, facts and fields that have no fault, and the first that has one.
 use Rattle.std.proofs.Common.{◌≡◌, ◌≢◌, ◌↔◌, ◌∙◌, ◌++◌, ◌&&◌, Bool, true, false, not, List, [], ◌∷◌, Option, Some, None, codes, refl, ap, ap₂, sym}
-use Rattle.cb_expr_forms.specs.ExprFaults.{all_faults, begins_with_list, call_faults, count, equals_faults, fact_faults, facts_faults, faults_of, is_equals, type_faults, values_faults}
-use Rattle.cb_expr_forms.specs.ExprForms.{expr_of}
+use Rattle.cb_expr_forms.specs.ExprFaults.{all_faults, begins_with_list, call_faults, equals_faults, fact_faults, facts_faults, faults_of, is_equals, type_faults, values_faults}
+use Rattle.cb_expr_forms.specs.ExprForms.{count, expr_of}
 use Rattle.cb_facts.specs.FaultLists.{first_of, unless}
 use Rattle.cb_expr_forms.specs.Laws.{AreFaultless, AreRight, NoListAfterEquals, followed_by, list_of}
 use Rattle.cb_expr_forms.specs.Scopes.{Scope, effect_fault, may_act}
@@ -86,11 +86,11 @@ retract_right s (tree t ts) may = (
 )
 
 -- a call of a function without an effect, by what its word names
-pub call_right : (s : Scope) (word : Option Head) (f : Function) (args : Trees) (facts : List Fault) → word ≡ Some (head.Function f)
-    → (call_faults s word args (all_faults s args) facts ≡ []) ↔ ((takes (arity_of f) (count args) ≡ true) × AreRight s args)
-call_right s word f args facts is =
+pub call_right : (s : Scope) (word : Option Head) (f : Function) (args : Trees) (facts change : List Fault) → word ≡ Some (head.Function f)
+    → (call_faults s word args (all_faults s args) facts change ≡ []) ↔ ((takes (arity_of f) (count args) ≡ true) × AreRight s args)
+call_right s word f args facts change is =
     let enough = takes (arity_of f) (count args) in
-    let so : call_faults s word args (all_faults s args) facts ≡ unless enough WrongArguments ++ all_faults s args = ap (λ o. call_faults s o args (all_faults s args) facts) is in (
+    let so : call_faults s word args (all_faults s args) facts change ≡ unless enough WrongArguments ++ all_faults s args = ap (λ o. call_faults s o args (all_faults s args) facts change) is in (
       λ h. let parts = both_none (unless enough WrongArguments) (all_faults s args) (sym so ∙ h) in (holds enough WrongArguments parts.0, right_all s args parts.1),
       λ h. so ∙ none_both (unless enough WrongArguments) (all_faults s args) (ap (λ b. unless b WrongArguments) h.0) (all_right s args h.1),
     )

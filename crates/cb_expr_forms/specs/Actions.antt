@@ -75,9 +75,11 @@ abbrev pub halt_of : List Term → Option Term
 halt_of [] = Some (effect kind.Halt (terms []))
 halt_of ts = None
 
--- a call with an effect, where the number and the shape of its arguments are right; an `assert` has facts and no arguments
+-- a call with an effect, where the number and the shape of its arguments are right; an `assert` and a `modify` are no calls of
+-- arguments alone
 abbrev pub action_of : Action → List Term → Option Term
 action_of action.Assert ts = None
+action_of action.Modify ts = None
 action_of action.Retract ts = retract_of ts
 action_of action.Bind ts = bind_of ts
 action_of action.If ts = if_of ts

@@ -1,10 +1,10 @@
 -- What is wrong with a form as an expression, and as a fact, in the order in which it is looked for.
-use Rattle.std.specs.Prelude.{◌&&◌, ◌||◌, ℕ, suc, zero, Bool, true, false, not, List, [], ◌∷◌, ◌++◌, Option, Some, None, is_some, codes}
+use Rattle.std.specs.Prelude.{◌&&◌, ◌||◌, ℕ, Bool, true, false, not, List, [], ◌∷◌, ◌++◌, Option, Some, None, is_some, codes}
 use Rattle.std.specs.List.{list_all}
 use Rattle.std.specs.Option.{option_map_or}
 use Rattle.std.specs.Str.{bytes_eq}
 use Rattle.cb_expr_forms.specs.Actions.{action_of}
-use Rattle.cb_expr_forms.specs.ExprForms.{expr_of, exprs_of, slot_name}
+use Rattle.cb_expr_forms.specs.ExprForms.{count, expr_of, exprs_of, slot_name}
 use Rattle.cb_facts.specs.FaultLists.{unless}
 use Rattle.cb_expr_forms.specs.Scopes.{Scope, effect_fault, is_known, may_act, may_name, may_use_globals}
 use Rattle.cb_exprs.specs.Terms.{Term, constant}
@@ -34,11 +34,6 @@ token_faults s (token.Var name) = unless (may_name s.side s.variables name) Unbo
 token_faults s (token.MultiVar name) = unless (may_name s.side s.variables name) UnboundVariable
 token_faults s (token.Global name) = unless (may_use_globals s.side) NotOnLeftSide ++ unless (is_known s.globals name) UnknownGlobal
 token_faults s t = MalformedForm ∷ []
-
--- how many there are
-abbrev pub count : Trees → ℕ
-count no_trees = zero
-count (tree t ts) = suc (count ts)
 
 -- wrong arguments of a call with an effect: `printout` to what is no channel is not in the profile
 abbrev pub arguments_fault : Action → Fault
@@ -71,17 +66,18 @@ abbrev pub are_filled : List SlotShape → List (List ℕ) → Bool
 are_filled slots given = list_all (λ s. is_known given s.name || is_some s.default) slots
 
 -- What is wrong with a call with an effect: the number and the shape of its arguments, and then these faults of the
--- arguments, or of the facts that it asserts.
-abbrev pub action_faults : Scope → Action → Trees → List Fault → List Fault → List Fault
-action_faults s action.Assert ts args facts = unless (not (is_no_form ts)) WrongArguments ++ facts
-action_faults s a ts args facts = unless (is_some (action_of a (exprs_of s.templates ts))) (arguments_fault a) ++ args
+-- arguments, of the facts that it asserts, or of what it modifies.
+abbrev pub action_faults : Scope → Action → Trees → List Fault → List Fault → List Fault → List Fault
+action_faults s action.Assert ts args facts change = unless (not (is_no_form ts)) WrongArguments ++ facts
+action_faults s action.Modify ts args facts change = unless (not (is_no_form ts)) WrongArguments ++ change
+action_faults s a ts args facts change = unless (is_some (action_of a (exprs_of s.templates ts))) (arguments_fault a) ++ args
 
 -- What is wrong with a call: its word is that of a function, an effect may stand there, and so on.
-abbrev pub call_faults : Scope → Option Head → Trees → List Fault → List Fault → List Fault
-call_faults s None ts args facts = UnknownFunction ∷ []
-call_faults s (Some (head.Function f)) ts args facts = unless (takes (arity_of f) (count ts)) WrongArguments ++ args
-call_faults s (Some (head.Action a)) ts args facts = unless (may_act s.side) (effect_fault s.side) ++ action_faults s a ts args facts
-call_faults s (Some h) ts args facts = NotInProfile ∷ []
+abbrev pub call_faults : Scope → Option Head → Trees → List Fault → List Fault → List Fault → List Fault
+call_faults s None ts args facts change = UnknownFunction ∷ []
+call_faults s (Some (head.Function f)) ts args facts change = unless (takes (arity_of f) (count ts)) WrongArguments ++ args
+call_faults s (Some (head.Action a)) ts args facts change = unless (may_act s.side) (effect_fault s.side) ++ action_faults s a ts args facts change
+call_faults s (Some h) ts args facts change = NotInProfile ∷ []
 
 -- what is wrong with a fact after its relation, by the slots of its template, if it has one
 abbrev pub content_faults : Option (List SlotShape) → List Fault → (List SlotShape → List Fault) → List Fault
@@ -102,7 +98,7 @@ abbrev mutual
 
   -- a list begins with a word
   pub list_faults : Scope → Trees → List Fault
-  list_faults s (tree (atom (token.Symbol name)) ts) = call_faults s (head_of name) ts (all_faults s ts) (facts_faults s ts)
+  list_faults s (tree (atom (token.Symbol name)) ts) = call_faults s (head_of name) ts (all_faults s ts) (facts_faults s ts) (modify_faults s ts)
   list_faults s ts = MalformedForm ∷ []
 
   -- The faults of forms, one after another.
@@ -137,3 +133,18 @@ abbrev mutual
   pub values_faults : Scope → Types → Trees → List Fault
   values_faults s types no_trees = []
   values_faults s types (tree t ts) = (equals_faults t ts ++ (faults_of s t ++ type_faults types (expr_of s.templates t))) ++ values_faults s types ts
+
+  -- what is wrong with a `modify`: with the expression that says which fact, and then with the slots that it names
+  pub modify_faults : Scope → Trees → List Fault
+  modify_faults s no_trees = []
+  modify_faults s (tree t ts) = faults_of s t ++ changes_faults s [] ts
+
+  -- what is wrong with the slots that it names after those with these names
+  pub changes_faults : Scope → List (List ℕ) → Trees → List Fault
+  changes_faults s given no_trees = []
+  changes_faults s given (tree t ts) = change_faults s given t ++ changes_faults s (given ++ slot_name t ∷ []) ts
+
+  -- Such a slot is a list that begins with its name, which is written once. Its values may be of any type.
+  pub change_faults : Scope → List (List ℕ) → Tree → List Fault
+  change_faults s given (branch (tree (atom (token.Symbol name)) ts)) = unless (not (is_known given name)) FactDoesNotFit ++ values_faults s None ts
+  change_faults s given t = FactDoesNotFit ∷ []

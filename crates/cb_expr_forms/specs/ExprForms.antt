@@ -1,8 +1,9 @@
 -- Which expression a form is, and which fact. Where the form has a fault, it is an arbitrary one.
-use Rattle.std.specs.Prelude.{ℕ, List, [], ◌∷◌, Option, Some, None, if◌then◌else◌}
+use Rattle.std.specs.Prelude.{ℕ, suc, zero, List, [], ◌∷◌, ◌++◌, Option, Some, None, if◌then◌else◌}
 use Rattle.std.specs.Option.{unwrap_or}
 use Rattle.cb_expr_forms.specs.Actions.{action_of}
 use Rattle.cb_exprs.specs.FactTerms.{FactTerm}
+use Rattle.cb_exprs.specs.Shapes.{SlotCounts}
 use Rattle.cb_exprs.specs.Terms.{Term, constant, variable, global, call, effect, actions, no_terms, terms}
 use Rattle.cb_exprs.specs.declared.effect.Effect.TheVariants as kind
 use Rattle.cb_facts.specs.declared.value.Value.TheVariants as value
@@ -59,12 +60,28 @@ abbrev pub slot_names : Trees → List (List ℕ)
 slot_names no_trees = []
 slot_names (tree t ts) = slot_name t ∷ slot_names ts
 
--- a call, by the word that it begins with, and by its arguments or the facts that it asserts
-abbrev pub call_expr : Option Head → List Term → List Term → Term
-call_expr (Some (head.Function f)) ts facts = call f (terms ts)
-call_expr (Some (head.Action action.Assert)) ts facts = actions (terms facts)
-call_expr (Some (head.Action a)) ts facts = unwrap_or (action_of a ts) no_expr
-call_expr h ts facts = no_expr
+-- how many there are
+abbrev pub count : Trees → ℕ
+count no_trees = zero
+count (tree t ts) = suc (count ts)
+
+-- a slot that a `modify` names, with the number of its expressions
+abbrev pub slot_count : Tree → List ℕ × ℕ
+slot_count (branch (tree (atom (token.Symbol name)) ts)) = (name, count ts)
+slot_count t = ([], 0)
+
+abbrev pub slot_counts : Trees → SlotCounts
+slot_counts no_trees = []
+slot_counts (tree t ts) = slot_count t ∷ slot_counts ts
+
+-- a call, by the word that it begins with, and by its arguments, the facts that it asserts, or the slots that it modifies with its
+-- arguments
+abbrev pub call_expr : Option Head → List Term → List Term → SlotCounts × List Term → Term
+call_expr (Some (head.Function f)) ts facts change = call f (terms ts)
+call_expr (Some (head.Action action.Assert)) ts facts change = actions (terms facts)
+call_expr (Some (head.Action action.Modify)) ts facts change = effect (kind.Modify change.0) (terms change.1)
+call_expr (Some (head.Action a)) ts facts change = unwrap_or (action_of a ts) no_expr
+call_expr h ts facts change = no_expr
 
 -- a fact, by its relation and the slots of its template, if it has one
 abbrev pub fact_with : List ℕ → Option (List SlotShape) → List Term → List (List ℕ) → (List SlotShape → List Term) → FactTerm
@@ -79,7 +96,7 @@ abbrev mutual
 
   -- a list, by the word that it begins with
   pub list_expr : Templates → Trees → Term
-  list_expr templates (tree (atom (token.Symbol name)) ts) = call_expr (head_of name) (exprs_of templates ts) (assertions templates ts)
+  list_expr templates (tree (atom (token.Symbol name)) ts) = call_expr (head_of name) (exprs_of templates ts) (assertions templates ts) (modification templates ts)
   list_expr templates ts = no_expr
 
   -- The expressions that forms are.
@@ -107,3 +124,18 @@ abbrev mutual
   pub given_slot : Templates → List SlotShape → Tree → Term
   given_slot templates slots (branch (tree (atom (token.Symbol name)) ts)) = slot_expr (slot_named slots name) (exprs_of templates ts)
   given_slot templates slots t = no_expr
+
+  -- What a `modify` names and has as arguments: the expression that says which fact, and the expressions of its slots.
+  pub modification : Templates → Trees → SlotCounts × List Term
+  modification templates no_trees = ([], [])
+  modification templates (tree t ts) = (slot_counts ts, expr_of templates t ∷ change_exprs templates ts)
+
+  -- the expressions of all slots that a `modify` names
+  pub change_exprs : Templates → Trees → List Term
+  change_exprs templates no_trees = []
+  change_exprs templates (tree t ts) = exprs_in_slot templates t ++ change_exprs templates ts
+
+  -- those of one slot
+  pub exprs_in_slot : Templates → Tree → List Term
+  exprs_in_slot templates (branch (tree (atom (token.Symbol name)) ts)) = exprs_of templates ts
+  exprs_in_slot templates t = []

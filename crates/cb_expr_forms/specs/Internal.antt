@@ -1,9 +1,9 @@
 -- What a call with an effect is and what is wrong with its arguments, once their number and shape are known to be right.
 pub mod Sizes
-use Rattle.std.specs.Prelude.{◌≡◌, ◌≤◌, ◌<◌, ◌+◌, ℕ, Bool, List, [], ◌++◌, Option, Some, None}
+use Rattle.std.specs.Prelude.{◌≡◌, ◌≤◌, ◌<◌, ◌+◌, ℕ, Bool, List, [], ◌∷◌, ◌++◌, Option, Some, None}
 use Rattle.cb_expr_forms.specs.Actions.{action_of, after_else, before_else}
-use Rattle.cb_expr_forms.specs.ExprFaults.{call_faults, token_faults, equals_faults, faults_of, all_faults, list_faults, facts_faults, fact_faults, content_faults, slot_faults, given_slot_faults, slots_faults, type_faults, values_faults}
-use Rattle.cb_expr_forms.specs.ExprForms.{call_expr, expr_of, exprs_of, list_expr, assertions, fact_of, fact_with, given_slot, slot_expr, slot_exprs, slot_name, slot_names}
+use Rattle.cb_expr_forms.specs.ExprFaults.{call_faults, token_faults, equals_faults, faults_of, all_faults, list_faults, change_faults, changes_faults, facts_faults, modify_faults, fact_faults, content_faults, slot_faults, given_slot_faults, slots_faults, type_faults, values_faults}
+use Rattle.cb_expr_forms.specs.ExprForms.{call_expr, change_exprs, count, expr_of, exprs_in_slot, exprs_of, list_expr, assertions, modification, fact_of, fact_with, given_slot, slot_counts, slot_count, slot_expr, slot_exprs, slot_name, slot_names}
 use Rattle.cb_facts.specs.FaultLists.{first_of}
 use Rattle.cb_expr_forms.specs.Scopes.{Scope}
 use Rattle.cb_expr_forms.specs.Internal.Sizes.{tree_size, trees_size, plan_size, called_size, filling_size}
@@ -79,27 +79,36 @@ HasPlan a ts (Some plan) =
     ((t : Templates) → action_of a (exprs_of t ts) ≡ Some (plan_expr t plan)) × ((s : Scope) → all_faults s ts ≡ plan_faults s plan)
     × (plan_size plan ≤ trees_size ts)
 
+-- a `modify`, and what is wrong with one, by its parts
+abbrev pub modify_expr : Templates → Tree → Trees → Term
+modify_expr templates t slots = effect (kind.Modify (slot_counts slots)) (terms (expr_of templates t ∷ change_exprs templates slots))
+
+abbrev pub what_modify_faults : Scope → Tree → Trees → List Fault
+what_modify_faults s t slots = faults_of s t ++ changes_faults s [] slots
+
 -- what a call is, and what is wrong with its arguments or facts
 abbrev pub called_expr : Templates → CallForm → Term
 called_expr templates (called.Function f args) = call f (terms (exprs_of templates (members args.now)))
 called_expr templates (called.Assert facts) = actions (terms (assertions templates (members facts.now)))
+called_expr templates (called.Modify t slots) = modify_expr templates (tree_of t.now) (members slots.now)
 called_expr templates (called.Action plan) = plan_expr templates plan
 
 abbrev pub called_faults : Scope → CallForm → List Fault
 called_faults s (called.Function f args) = all_faults s (members args.now)
 called_faults s (called.Assert facts) = facts_faults s (members facts.now)
+called_faults s (called.Modify t slots) = what_modify_faults s (tree_of t.now) (members slots.now)
 called_faults s (called.Action plan) = plan_faults s plan
 
 -- where it stands on this side, what begins with this word and goes on so is this call
 abbrev pub IsHeaded : Side → Option Head → Trees → CallForm → Type 0
 IsHeaded side h ts c =
-    ((t : Templates) → call_expr h (exprs_of t ts) (assertions t ts) ≡ called_expr t c)
-    × ((s : Scope) → s.side ≡ side → call_faults s h ts (all_faults s ts) (facts_faults s ts) ≡ called_faults s c)
+    ((t : Templates) → call_expr h (exprs_of t ts) (assertions t ts) (modification t ts) ≡ called_expr t c)
+    × ((s : Scope) → s.side ≡ side → call_faults s h ts (all_faults s ts) (facts_faults s ts) (modify_faults s ts) ≡ called_faults s c)
     × (called_size c ≤ trees_size ts)
 
 -- this is its first fault there
 abbrev pub IsHeadedFault : Side → Option Head → Trees → Fault → Type 0
-IsHeadedFault side h ts f = (s : Scope) → s.side ≡ side → first_of (call_faults s h ts (all_faults s ts) (facts_faults s ts)) ≡ Some f
+IsHeadedFault side h ts f = (s : Scope) → s.side ≡ side → first_of (call_faults s h ts (all_faults s ts) (facts_faults s ts) (modify_faults s ts)) ≡ Some f
 
 -- the list is this call where it stands on this side
 abbrev pub IsCall : Side → Trees → CallForm → Type 0
@@ -166,3 +175,15 @@ pub record IsFilling (slot : SlotShape) (is_given : Bool) (ts : Trees) (c : Slot
 -- this is their first fault
 abbrev pub IsFillingFault : SlotShape → Bool → Trees → Fault → Type 0
 IsFillingFault slot is_given ts f = (s : Scope) → first_of (given_slot_faults (Some slot) is_given ts (λ types. values_faults s types ts)) ≡ Some f
+
+-- the form is a slot that a `modify` names after those with these names, with what follows its name
+pub record IsChange (given : List (List ℕ)) (t : Tree) (name : List ℕ) (ts : Trees) : Type 0 where
+  pub name_is : slot_name t ≡ name
+  pub count_is : slot_count t ≡ (name, count ts)
+  pub exprs_are : (templates : Templates) → exprs_in_slot templates t ≡ exprs_of templates ts
+  pub faults_are : (s : Scope) → change_faults s given t ≡ values_faults s None ts
+  pub smaller : trees_size ts < tree_size t
+
+-- this is its first fault
+abbrev pub IsChangeFault : List (List ℕ) → Tree → Fault → Type 0
+IsChangeFault given t f = (s : Scope) → first_of (change_faults s given t) ≡ Some f

@@ -43,7 +43,7 @@ pub(crate) fn split_action<'a>(action: Action, args: &'a [Form]) -> Option<Actio
     ensures { HasPlan action (members args.now) result }
 {
     match action {
-        Action::Assert => None,
+        Action::Assert | Action::Modify => None,
         Action::Retract => split_retract(args),
         Action::Bind => split_bind(args),
         Action::If => split_if(args),
@@ -74,6 +74,7 @@ fn split_retract<'a>(args: &'a [Form]) -> Option<ActionForm<'a>>
     }
 }
 
+#[tactic(auto, using(crate::proofs::Compounds::compound_bind, crate::proofs::Compounds::list_compound))]
 fn split_bind<'a>(args: &'a [Form]) -> Option<ActionForm<'a>>
     ensures { HasPlan Action.Bind (members args.now) result }
 {
@@ -148,6 +149,7 @@ fn split_while<'a>(args: &'a [Form]) -> Option<ActionForm<'a>>
 }
 
 /// The actions of a `while`, before which `do` may stand.
+#[tactic(auto, using(crate::proofs::Heads::word_symbol))]
 fn after_do<'a>(forms: &'a [Form]) -> &'a [Form]
     ensures actions { (t : Templates) → exprs_of t (members result.now)
         ≡ after_do (exprs_of t (members forms.now)) }
@@ -164,6 +166,7 @@ fn after_do<'a>(forms: &'a [Form]) -> &'a [Form]
     forms
 }
 
+#[tactic(auto, using(crate::proofs::Compounds::compound_printout, crate::proofs::Compounds::list_compound))]
 fn split_printout<'a>(args: &'a [Form]) -> Option<ActionForm<'a>>
     ensures { HasPlan Action.Printout (members args.now) result }
 {

@@ -18,6 +18,8 @@ pub(crate) enum CallForm<'a> {
     Function(Function, &'a [Form]),
     /// `(assert fact ..)`
     Assert(&'a [Form]),
+    /// `(modify fact slot ..)`
+    Modify(&'a Form, &'a [Form]),
     /// Of another function with an effect.
     Action(ActionForm<'a>),
 }
@@ -60,13 +62,15 @@ fn split_acting<'a>(side: Side, action: Action, args: &'a [Form]) -> Result<Call
     }
     match action {
         Action::Assert => split_assert(args),
+        Action::Modify => split_modify(args),
         _ => split_other(action, args),
     }
 }
 
-/// A call with an effect other than `assert`.
+/// A call with an effect other than `assert` and `modify`.
 fn split_other<'a>(action: Action, args: &'a [Form]) -> Result<CallForm<'a>, Refused>
-    requires { action ≢ Action.Assert }
+    requires assert { action ≢ Action.Assert }
+    requires modify { action ≢ Action.Modify }
     ensures { (side : Side) → may_act side ≡ true → MatchResult result
         (IsHeaded side (Some (Head.Action action)) (members args.now))
         (λ r. Reports r (IsHeadedFault side (Some (Head.Action action)) (members args.now))) }
@@ -84,6 +88,17 @@ fn split_assert<'a>(args: &'a [Form]) -> Result<CallForm<'a>, Refused>
 {
     match args.split_first() {
         Some(_) => Ok(CallForm::Assert(args)),
+        None => Err(Refused::Fault(Fault::WrongArguments)),
+    }
+}
+
+fn split_modify<'a>(args: &'a [Form]) -> Result<CallForm<'a>, Refused>
+    ensures { (side : Side) → may_act side ≡ true → MatchResult result
+        (IsHeaded side (Some (Head.Action Action.Modify)) (members args.now))
+        (λ r. Reports r (IsHeadedFault side (Some (Head.Action Action.Modify)) (members args.now))) }
+{
+    match args.split_first() {
+        Some((fact, slots)) => Ok(CallForm::Modify(fact, slots)),
         None => Err(Refused::Fault(Fault::WrongArguments)),
     }
 }

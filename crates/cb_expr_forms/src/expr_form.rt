@@ -1,10 +1,11 @@
 //! Expressions and facts as they are written.
 ghost use Rattle.std.specs.Prelude.{◌≡◌, ◌++◌, ◌∷◌, ℕ, List, [], map};
 ghost use Rattle.std.specs.Option.{option_and_then};
-ghost use Rattle.cb_expr_forms.specs.ExprFaults.{all_faults, fact_faults, facts_faults, faults_of, list_faults, slot_faults, slots_faults, values_faults};
-ghost use Rattle.cb_expr_forms.specs.ExprForms.{assertions, expr_of, exprs_of, fact_of, given_slot, list_expr, slot_exprs, slot_name, slot_names};
+ghost use Rattle.cb_expr_forms.specs.ExprFaults.{all_faults, change_faults, changes_faults, fact_faults, facts_faults, faults_of, list_faults, slot_faults, slots_faults, values_faults};
+ghost use Rattle.cb_expr_forms.specs.ExprForms.{assertions, change_exprs, expr_of, exprs_in_slot, exprs_of, fact_of, given_slot, list_expr, slot_count, slot_counts, slot_exprs, slot_name, slot_names};
 ghost use Rattle.cb_facts.specs.FaultLists.{ReadsAs};
-ghost use Rattle.cb_expr_forms.specs.Internal.{binding, bound_faults, filling_expr, filling_faults, if_expr, if_faults, plan_expr, plan_faults, value_faults, while_expr, while_faults};
+ghost use Rattle.cb_expr_forms.specs.Internal.{binding, bound_faults, filling_expr, filling_faults, if_expr, if_faults, modify_expr, plan_expr, plan_faults, value_faults, what_modify_faults, while_expr, while_faults};
+ghost use Rattle.cb_exprs.specs.Shapes.{SlotCounts};
 ghost use Rattle.cb_exprs.specs.Terms.{Term, effect as effect_of, term_of, terms};
 ghost use Rattle.cb_forms.specs.Members.{members};
 ghost use Rattle.cb_forms.specs.Trees.{tree_of};
@@ -13,6 +14,7 @@ use crate::action_form::{ActionForm, Bound};
 use crate::build::{add, boxed, build_if, build_while, know_bound};
 use crate::call_form::{CallForm, split_call};
 use crate::scope::Scope;
+use crate::slot_changes::SlotChanges;
 use crate::slot_form::{SlotForm, split_fact};
 use crate::slot_values::SlotValues;
 use crate::token_form::read_token;
@@ -45,6 +47,7 @@ fn read_list(names: &mut Names, scope: &Scope<'_>, forms: &[Form]) -> Result<Exp
             Ok(Expr::Call(function, read_exprs(names, scope, args)?))
         }
         CallForm::Assert(facts) => Ok(Expr::Actions(read_facts(names, scope, facts)?)),
+        CallForm::Modify(fact, slots) => read_modify(names, scope, fact, slots),
         CallForm::Action(action) => read_action(names, scope, action),
     }
 }
@@ -138,6 +141,68 @@ fn read_while(
     let test = read_boxed(names, scope, test)?;
     let actions = read_exprs(names, scope, actions)?;
     build_while(names.alloc(), test, actions)
+}
+
+/// A `modify` of the fact that a form says, with the slots that forms are.
+#[cycle(reading)]
+fn read_modify(
+    names: &mut Names,
+    scope: &Scope<'_>,
+    fact: &Form,
+    slots: &[Form],
+) -> Result<Expr, Refused>
+    ensures { ReadsAs term_of result
+        (what_modify_faults scope.now (tree_of fact.now) (members slots.now))
+        (modify_expr scope.now.templates (tree_of fact.now) (members slots.now)) }
+{
+    let fact = read_expr(names, scope, fact)?;
+    let mut changes = SlotChanges::of(names.alloc(), fact)?;
+    read_changes(names, scope, &mut changes, slots)?;
+    changes.into_expr()
+}
+
+/// Adds the slots that forms are to a `modify`, and their expressions.
+#[cycle(reading)]
+fn read_changes(
+    names: &mut Names,
+    scope: &Scope<'_>,
+    changes: &mut SlotChanges,
+    forms: &[Form],
+) -> Result<(), Refused>
+    ensures { ReadsAs {V = SlotCounts × List Term}
+        (λ _. (changes.new.slots.items, map term_of changes.new.values.items)) result
+        (changes_faults scope.now changes.old.names (members forms.now)) (
+          changes.old.slots.items ++ slot_counts (members forms.now),
+          map term_of changes.old.values.items
+              ++ change_exprs scope.now.templates (members forms.now),
+        ) }
+{
+    for form in forms {
+        read_change(names, scope, changes, form)?;
+    }
+    Ok(())
+}
+
+/// Adds the slot that a form is, and its expressions.
+#[cycle(reading)]
+fn read_change(
+    names: &mut Names,
+    scope: &Scope<'_>,
+    changes: &mut SlotChanges,
+    form: &Form,
+) -> Result<(), Refused>
+    ensures { ReadsAs {V = List (List ℕ) × SlotCounts × List Term}
+        (λ _. (changes.new.names, changes.new.slots.items, map term_of changes.new.values.items))
+        result (change_faults scope.now changes.old.names (tree_of form.now)) (
+          changes.old.names ++ slot_name (tree_of form.now) ∷ [],
+          changes.old.slots.items ++ slot_count (tree_of form.now) ∷ [],
+          map term_of changes.old.values.items
+              ++ exprs_in_slot scope.now.templates (tree_of form.now),
+        ) }
+{
+    let forms = changes.next(names, form)?;
+    let values = read_values(names, scope, None, forms)?;
+    changes.add(values)
 }
 
 /// The expressions that forms are in this scope, or the first fault.

@@ -1,7 +1,7 @@
 //! Laws of expressions and facts as they are written, each the contract of a function that does nothing.
 ghost use Rattle.std.specs.Prelude.{◌≡◌, ◌≢◌, ◌↔◌, ℕ, List, [], Contains, None, Some, codes, false, true, IsPermutation};
-ghost use Rattle.cb_expr_forms.specs.ExprFaults.{all_faults, are_filled, count, fact_faults, facts_faults, faults_of, slot_faults};
-ghost use Rattle.cb_expr_forms.specs.ExprForms.{expr_of, fact_of, slot_names};
+ghost use Rattle.cb_expr_forms.specs.ExprFaults.{all_faults, are_filled, fact_faults, facts_faults, faults_of, slot_faults};
+ghost use Rattle.cb_expr_forms.specs.ExprForms.{count, expr_of, fact_of, slot_names};
 ghost use Rattle.cb_facts.specs.FaultLists.{first_of};
 ghost use Rattle.cb_expr_forms.specs.Laws.{AreFaultless, AreRight, GiveSlots, GiveTheSame, IsPlain, NoListAfterEquals, followed_by, list_of};
 ghost use Rattle.cb_expr_forms.specs.Scopes.{Scope, may_act, scope_on};

@@ -12,6 +12,7 @@ mod expr_form; // `read_expr`, `read_exprs` and `read_fact`: reading, by recursi
 pub mod laws; // laws of expressions and facts as they are written
 mod name_list; // names in order, each found in logarithmic time
 mod scope; // where an expression stands, and what is allowed and known there
+mod slot_changes; // the slots that a `modify` names, with their expressions
 mod slot_form; // a fact and its slots, split into what of them is read next
 mod slot_values; // the slots that a fact gives so far, and the value of each
 mod token_form; // an atom as an expression, and the names of variables that are known

@@ -5,3 +5,7 @@ use Rattle.std.specs.Prelude.{ℕ, List, Option}
 pub record Shape : Type 0 where
   pub relation : List ℕ
   pub slots : Option (List (List ℕ))
+
+-- the slots that a `modify` names as they are written, each with the number of its expressions
+abbrev pub SlotCounts : Type 0
+SlotCounts = List (List ℕ × ℕ)

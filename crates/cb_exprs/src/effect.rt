@@ -1,6 +1,7 @@
 //! What calls with an effect do.
 use crate::channel::Channel;
 use crate::fact_shape::FactShape;
+use crate::modified_slots::ModifiedSlots;
 use cb_facts::Name;
 
 /// What a call with an effect does with the values of its arguments (`docs/LANGUAGE.md`, "Commands").
@@ -12,6 +13,9 @@ pub enum Effect {
     Assert(FactShape),
     /// `(retract value ..)`
     Retract,
+    /// `(modify fact (slot value ..) ..)`: these slots of a fact get new values. The arguments are the expression that says which
+    /// fact, and then those of all slots, in the order in which they are written.
+    Modify(ModifiedSlots),
     /// `(bind ?name value ..)`. Several values are joined to a multifield, as `create$` does.
     Bind(Name),
     /// `(bind ?*name* value ..)`, likewise.

@@ -14,6 +14,7 @@ mod frames; // names, each with its value, in frames that are shared
 mod global_expr; // a global that was read: its name and its initial expression
 pub mod laws; // laws of expressions as terms, and of the values that names have
 mod lookup; // the trait `Lookup`: what says which values variables have; an `Env` is one
+mod modified_slots; // the slots that a `modify` names, each with the number of its expressions
 mod tree; // a balanced search tree of names, each with its value, whose nodes are shared
 mod values; // many names, each with its value, in a tree of `tree.rt`
 
@@ -25,3 +26,4 @@ pub use fact_expr::FactExpr;
 pub use fact_shape::FactShape;
 pub use global_expr::GlobalExpr;
 pub use lookup::Lookup;
+pub use modified_slots::{ModifiedSlot, ModifiedSlots};

@@ -6,6 +6,7 @@ mod FirstFaultLaws
 pub mod FittingLaws
 mod FormLaws
 pub mod Lasts
+pub mod LineLaws
 mod ListLaws
 pub mod ListStackLaws
 pub mod Modes

@@ -24,7 +24,7 @@ pub state-start : IsStateIn [] Ended 0
 unfolding mode_in depth_in
 state-start = record { mode_is = refl; depth_is = refl; closed = λ _ _. refl }
 
-pub kept-start : (part : OpenPart) → part.spelled.items ≡ [] → part.bytes.items ≡ [] → part.state.mode ≡ Ended → part.state.depth ≡ 0 → IsKept part
+pub kept-start : (part : OpenPart) → part.spelled.items ≡ [] → part.bytes ≡ [] → part.state.mode ≡ Ended → part.state.depth ≡ 0 → IsKept part
 kept-start part spelled bytes mode depth = record {
   state_is = rw (spelled, mode, depth) state-start;
   bytes_are = rw (spelled, bytes) refl;
@@ -105,7 +105,7 @@ kept-open w bytes are some = elim (cases_Bool (is_open w)) [
 ]
 
 -- a byte more in an item, or the first byte of one: it is kept, or the item has ended
-pub reaches-item : (limit : ℕ) (w : List ℕ) (before item : List Reading) (given : Cut) (part : OpenPart) → is_gap w ≡ false → length w ≤ limit → IsStateIn w part.state.mode part.state.depth → part.spelled.items ≡ w → part.bytes.items ≡ open_bytes w → part.state.depth ≤ length w → is_too_long given ≡ false → cut_readings given ≡ before ++ item → item ≡ ended_readings w → Reaches limit w before given part
+pub reaches-item : (limit : ℕ) (w : List ℕ) (before item : List Reading) (given : Cut) (part : OpenPart) → is_gap w ≡ false → length w ≤ limit → IsStateIn w part.state.mode part.state.depth → part.spelled.items ≡ w → part.bytes ≡ open_bytes w → part.state.depth ≤ length w → is_too_long given ≡ false → cut_readings given ≡ before ++ item → item ≡ ended_readings w → Reaches limit w before given part
 reaches-item limit w before item given part no_gap fits at spelled bytes deep short gives is_item =
     let open_is = state-open w part.state.mode part.state.depth at in record {
       too_long = short ∙ sym (ap (λ t. not t && nat_lt limit (length w)) no_gap ∙ le-ltb limit (length w) fits);
@@ -122,8 +122,18 @@ reaches-item limit w before item given part no_gap fits at spelled bytes deep sh
       };
     }
 
+-- a byte more in an item, which gets longer than the limit
+pub reaches-longer : (limit : ℕ) (w : List ℕ) (part : OpenPart) → is_gap w ≡ false → limit < length w → part.bytes ≡ [] → Reaches limit w [] cut.TooLong part
+reaches-longer limit w part no_gap long none = record {
+  too_long = sym (ap (λ t. not t && nat_lt limit (length w)) no_gap ∙ lt-ltb limit (length w) long);
+  cleared = λ _. none;
+  items = λ h. absurd (true≢false h);
+  spelled = λ h. absurd (true≢false h);
+  kept = λ h. absurd (true≢false h);
+}
+
 -- a byte more in a comment
-pub reaches-comment : (limit : ℕ) (w : List ℕ) (b : ℕ) (old new : OpenPart) → old.spelled.items ≡ w → IsKept old → part_takes w b ≡ true → old.bytes.items ≡ [] → new.bytes.items ≡ [] → new.state.mode ≡ next_mode old.state.mode b → new.state.depth ≡ next_depth old.state.mode old.state.depth b
+pub reaches-comment : (limit : ℕ) (w : List ℕ) (b : ℕ) (old new : OpenPart) → old.spelled.items ≡ w → IsKept old → part_takes w b ≡ true → old.bytes ≡ [] → new.bytes ≡ [] → new.state.mode ≡ next_mode old.state.mode b → new.state.depth ≡ next_depth old.state.mode old.state.depth b
     → new.spelled.items ≡ w ++ b ∷ [] → Reaches limit (w ++ b ∷ []) [] cut.More new
 reaches-comment limit [] b old new was kept takes none bytes mode depth spelled = absurd (false≢true takes)
 reaches-comment limit (c ∷ cs) b old new was kept takes none bytes mode depth spelled =
@@ -163,7 +173,7 @@ gap_says b gap shut =
     rw (shut, plain, gap) refl
 
 -- a blank or the beginning of a comment
-pub reaches-gap : (limit : ℕ) (b : ℕ) (before : List Reading) (given : Cut) (part : OpenPart) → is_gap (b ∷ []) ≡ true → part.state.mode ≡ fresh_mode b → part.state.depth ≡ fresh_depth b → part.spelled.items ≡ b ∷ [] → part.bytes.items ≡ [] → is_too_long given ≡ false → cut_readings given ≡ before ++ [] → Reaches limit (b ∷ []) before given part
+pub reaches-gap : (limit : ℕ) (b : ℕ) (before : List Reading) (given : Cut) (part : OpenPart) → is_gap (b ∷ []) ≡ true → part.state.mode ≡ fresh_mode b → part.state.depth ≡ fresh_depth b → part.spelled.items ≡ b ∷ [] → part.bytes ≡ [] → is_too_long given ≡ false → cut_readings given ≡ before ++ [] → Reaches limit (b ∷ []) before given part
 reaches-gap limit b before given part gap mode depth spelled bytes short gives =
     let shut : is_open (b ∷ []) ≡ false = elim (cases_Bool (is_open (b ∷ []))) [ inl e ↦ absurd (true≢false (sym gap ∙ open-no_gap (b ∷ []) e)) | inr e ↦ e ] in
     let zero : fresh_depth b ≡ 0 = elim (cases_eq b 40) as (λ _. fresh_depth b ≡ 0) [ inl e ↦ absurd (false≢true (sym (ap (λ it. is_gap (it ∷ [])) e) ∙ gap)) | inr e ↦ rw (ne_eqb b 40 e) refl ] in record {
@@ -179,26 +189,26 @@ reaches-gap limit b before given part gap mode depth spelled bytes short gives =
     }
 
 -- where an item is open, its bytes are kept
-pub kept-state : (part : OpenPart) → IsKept part → (nat_lt 0 part.state.depth || mode_is_open part.state.mode) ≡ true → IsStateIn part.bytes.items part.state.mode part.state.depth
+pub kept-state : (part : OpenPart) → IsKept part → (nat_lt 0 part.state.depth || mode_is_open part.state.mode) ≡ true → IsStateIn part.bytes part.state.mode part.state.depth
 kept-state part kept h =
     let P : List ℕ → Type 0 = λ w. IsStateIn w part.state.mode part.state.depth in
-    let same : part.spelled.items ≡ part.bytes.items = sym (kept.bytes_are ∙ open_bytes-open part.spelled.items (state-open part.spelled.items part.state.mode part.state.depth kept.state_is ∙ h)) in
+    let same : part.spelled.items ≡ part.bytes = sym (kept.bytes_are ∙ open_bytes-open part.spelled.items (state-open part.spelled.items part.state.mode part.state.depth kept.state_is ∙ h)) in
     subst P same kept.state_is
 
 -- what the kept bytes say is what the part says
-pub opened-says : (part : OpenPart) (says : List Reading) → IsKept part → says ≡ (if nat_lt 0 part.state.depth || mode_is_open part.state.mode then readings_of part.bytes.items else []) → says ≡ opened_readings part.spelled.items
+pub opened-says : (part : OpenPart) (says : List Reading) → IsKept part → says ≡ (if nat_lt 0 part.state.depth || mode_is_open part.state.mode then readings_of part.bytes else []) → says ≡ opened_readings part.spelled.items
 opened-says part says kept h =
     let open_is = state-open part.spelled.items part.state.mode part.state.depth kept.state_is in
-    h ∙ (ap (λ t. if t then readings_of part.bytes.items else []) (sym open_is) ∙ elim (cases_Bool (is_open part.spelled.items)) as (λ _. (if is_open part.spelled.items then readings_of part.bytes.items else []) ≡ opened_readings part.spelled.items) [
+    h ∙ (ap (λ t. if t then readings_of part.bytes else []) (sym open_is) ∙ elim (cases_Bool (is_open part.spelled.items)) as (λ _. (if is_open part.spelled.items then readings_of part.bytes else []) ≡ opened_readings part.spelled.items) [
       | inl e ↦ ap (λ w. if is_open part.spelled.items then readings_of w else []) (kept.bytes_are ∙ open_bytes-open part.spelled.items e)
       | inr e ↦ rw e refl
     ])
 
 -- a byte more in the kept bytes of an open item
-pub state-goes : (part : OpenPart) (b : ℕ) (bytes : List ℕ) → IsKept part → part_takes part.spelled.items b ≡ true → 0 < length part.bytes.items → bytes ≡ part.bytes.items ++ b ∷ [] → (bytes ≡ part.spelled.items ++ b ∷ []) × IsStateIn bytes (next_mode part.state.mode b) (next_depth part.state.mode part.state.depth b)
+pub state-goes : (part : OpenPart) (b : ℕ) (bytes : List ℕ) → IsKept part → part_takes part.spelled.items b ≡ true → 0 < length part.bytes → bytes ≡ part.bytes ++ b ∷ [] → (bytes ≡ part.spelled.items ++ b ∷ []) × IsStateIn bytes (next_mode part.state.mode b) (next_depth part.state.mode part.state.depth b)
 state-goes part b bytes kept takes some is =
     let w = part.spelled.items in
-    let same : bytes ≡ w ++ b ∷ [] = is ∙ ap (λ it. it ++ b ∷ []) (kept-open w part.bytes.items kept.bytes_are some).1 in
+    let same : bytes ≡ w ++ b ∷ [] = is ∙ ap (λ it. it ++ b ∷ []) (kept-open w part.bytes kept.bytes_are some).1 in
     let P : List ℕ → Type 0 = λ it. IsStateIn it (next_mode part.state.mode b) (next_depth part.state.mode part.state.depth b) in
     (same, subst P (sym same) (state-push w part.state.mode part.state.depth b kept.state_is takes))
 

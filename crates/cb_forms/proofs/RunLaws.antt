@@ -4,16 +4,18 @@ use Rattle.std.proofs.lemmas.Bool.{false≢true, true≢false, cases_Bool, cases
 use Rattle.std.proofs.lemmas.List.{append-nil, length_push, length-append, nil_from_length}
 use Rattle.cb_forms.specs.Bytes.{is_line_end}
 use Rattle.cb_forms.specs.Internal.Cuts.{opened_readings, open_bytes, part_with, readings_before}
-use Rattle.cb_forms.specs.Internal.{IsInStep}
+use Rattle.cb_forms.specs.Internal.{IsInStep, line_with}
 use Rattle.cb_forms.specs.Items.{part_takes, is_gap, readings_of, is_open, ended_readings, whole, is_longer, over}
 use Rattle.cb_forms.specs.Internal.OpenParts.{IsKept, Reaches, part_after, CompletesNone, HasPassed, TakesOrLeaves}
 use Rattle.cb_forms.specs.Internal.ScanStates.{mode_takes, fresh_mode, continued_mode, next_mode, mode_is_open, next_depth, fresh_depth, StaysIn, IsOpenStep, StaysOpen, IsStateIn}
+use Rattle.cb_forms.specs.Lines.{line_feeds}
 use Rattle.cb_forms.specs.Trees.{Reading}
 use Rattle.cb_forms.specs.declared.cut.Cut.TheVariants as cut
 use Rattle.cb_forms.specs.declared.lex_mode.LexMode.{LexMode}
 use Rattle.cb_forms.specs.declared.lex_mode.LexMode.TheVariants.{Ended, Comment, Word, Quoted, Escaped}
 use Rattle.cb_forms.specs.declared.open_part.OpenPart.{OpenPart}
 use Rattle.cb_forms.proofs.CutterLaws.{whole-push}
+use Rattle.cb_forms.proofs.LineLaws.{line-kept}
 use Rattle.cb_forms.proofs.OpenPartLaws.{depth-next, kept-open, open_bytes-open, open-no_gap, reaches-gap, reaches-item, depth-fresh}
 use Rattle.cb_forms.proofs.PartLaws.{tail, tail-push, over-push}
 use Rattle.cb_forms.proofs.ScanStateLaws.{state-takes, state-open, state-push, state-fresh}
@@ -92,17 +94,20 @@ after-run limit p (b ∷ bs) fits h =
     }
 
 -- a cutter after a run that completes nothing
-pub in_step-run : (limit : ℕ) (p p' run : List ℕ) (given : List Reading) (part part' : OpenPart) (is_over : Bool) → is_over ≡ false → IsInStep limit p given part is_over → HasPassed limit part.spelled.items run part' → p' ≡ p ++ run → IsInStep limit p' given part' is_over
-in_step-run limit p p' run given part part' is_over fits was goes next =
+pub in_step-run : (limit : ℕ) (p p' run : List ℕ) (given : List Reading) (part part' : OpenPart) (is_over : Bool) (line line' : ℕ) → is_over ≡ false → IsInStep limit p given part is_over line → HasPassed limit part.spelled.items run part' → p' ≡ p ++ run
+    → line' ≡ line_with line (line_feeds part.bytes + line_feeds run - line_feeds part'.bytes) → IsInStep limit p' given part' is_over line'
+in_step-run limit p p' run given part part' is_over line line' fits was goes next further =
     let P : List ℕ → Type 0 = λ w. CompletesNone limit w run in
     let same = was.spelled fits in
     let after = after-run limit p run (sym was.over_is ∙ fits) (subst P same goes.completes) in
+    let spells = goes.spelled ∙ (ap (λ w. part_after w run) same ∙ sym after.tail_is) in
     rw next (record {
       over_is = fits ∙ sym after.fits;
       cleared = λ h. absurd (false≢true (sym fits ∙ h));
       given_is = λ h. was.given_is h ∙ sym after.whole_is;
-      spelled = λ _. goes.spelled ∙ (ap (λ w. part_after w run) same ∙ sym after.tail_is);
+      spelled = λ _. spells;
       kept = λ _. goes.kept;
+      line_is = λ _. further ∙ line-kept p run line part part' (was.line_is fits) (was.kept fits) same goes.kept spells;
     })
 
 -- an open item with a run of bytes more, through all of which it stays open
@@ -149,17 +154,17 @@ open-deep m d (b ∷ bs) last deep stays =
     let one = depth-next m d b in omega arith
 
 -- the same of the open part that keeps the item
-pub passed-open : (limit : ℕ) (run : List ℕ) (old new : OpenPart) → IsKept old → 0 < length old.bytes.items → length run ≤ limit - length old.bytes.items → StaysOpen old.state.mode old.state.depth run new.state.mode new.state.depth → new.bytes.items ≡ old.bytes.items ++ run → new.spelled.items ≡ old.spelled.items ++ run → HasPassed limit old.spelled.items run new
+pub passed-open : (limit : ℕ) (run : List ℕ) (old new : OpenPart) → IsKept old → 0 < length old.bytes → length run ≤ limit - length old.bytes → StaysOpen old.state.mode old.state.depth run new.state.mode new.state.depth → new.bytes ≡ old.bytes ++ run → new.spelled.items ≡ old.spelled.items ++ run → HasPassed limit old.spelled.items run new
 passed-open limit run old new kept some short stays bytes spelled =
     let w = old.spelled.items in
-    let open_is = kept-open w old.bytes.items kept.bytes_are some in
+    let open_is = kept-open w old.bytes kept.bytes_are some in
     let same = ap length open_is.1 in
     let after = open-run limit w old.state.mode old.state.depth run new.state.mode new.state.depth kept.state_is open_is.0 stays (omega (arith, short, same)) in
-    let all : new.bytes.items ≡ w ++ run = bytes ∙ ap (λ it. it ++ run) open_is.1 in
+    let all : new.bytes ≡ w ++ run = bytes ∙ ap (λ it. it ++ run) open_is.1 in
     let P : List ℕ → Type 0 = λ v. IsStateIn v new.state.mode new.state.depth in
     let deep = open-deep old.state.mode old.state.depth run new.state.mode new.state.depth stays in
     let was = kept.depth_fits in
-    let long : length new.bytes.items ≡ length old.bytes.items + length run = ap length bytes ∙ length-append old.bytes.items run in record {
+    let long : length new.bytes ≡ length old.bytes + length run = ap length bytes ∙ length-append old.bytes run in record {
       completes = after.completes;
       spelled = spelled ∙ sym after.part_is;
       kept = record {
@@ -170,7 +175,7 @@ passed-open limit run old new kept some short stays bytes spelled =
     }
 
 -- where no bytes are kept, no item is open, and no list
-pub none-shut : (part : OpenPart) → IsKept part → part.bytes.items ≡ [] → is_open part.spelled.items ≡ false
+pub none-shut : (part : OpenPart) → IsKept part → part.bytes ≡ [] → is_open part.spelled.items ≡ false
 none-shut part kept none = elim (cases_Bool (is_open part.spelled.items)) [
   | inl e ↦
       let w = part.spelled.items in
@@ -179,22 +184,22 @@ none-shut part kept none = elim (cases_Bool (is_open part.spelled.items)) [
   | inr e ↦ e
 ]
 
-pub none-deep : (part : OpenPart) → IsKept part → part.bytes.items ≡ [] → part.state.depth ≡ 0
+pub none-deep : (part : OpenPart) → IsKept part → part.bytes ≡ [] → part.state.depth ≡ 0
 none-deep part kept none = let fits = kept.depth_fits in let length_is = ap length none in omega arith
 
-none-mode : (part : OpenPart) → IsKept part → part.bytes.items ≡ [] → mode_is_open part.state.mode ≡ false
+none-mode : (part : OpenPart) → IsKept part → part.bytes ≡ [] → mode_is_open part.state.mode ≡ false
 none-mode part kept none =
     (or_parts (nat_lt 0 part.state.depth) (mode_is_open part.state.mode) (sym (state-open part.spelled.items part.state.mode part.state.depth kept.state_is) ∙ none-shut part kept none)).1
 
 -- there the part goes on with a byte only where its mode does
-pub none-takes : (part : OpenPart) (b : ℕ) → IsKept part → part.bytes.items ≡ [] → part_takes part.spelled.items b ≡ mode_takes part.state.mode b
+pub none-takes : (part : OpenPart) (b : ℕ) → IsKept part → part.bytes ≡ [] → part_takes part.spelled.items b ≡ mode_takes part.state.mode b
 none-takes part b kept none = state-takes part.spelled.items part.state.mode part.state.depth b kept.state_is ∙ ap (λ d. nat_lt 0 d || mode_takes part.state.mode b) (none-deep part kept none)
 
 taken-byte : (limit : ℕ) (old : OpenPart) (b : ℕ) (new : OpenPart) → Reaches limit (part_with old.spelled.items b) (readings_before old.spelled.items b) cut.More new → TakesOrLeaves limit old b true new
 taken-byte limit old b new goes = record { taken = λ _. goes; untouched = λ h. absurd (true≢false h) }
 
 -- a comment goes on
-pub takes-comment : (limit b : ℕ) (old new : OpenPart) → IsKept old → old.bytes.items ≡ [] → old.state.mode ≡ Comment → is_line_end b ≡ false → new.bytes.items ≡ old.bytes.items → new.state.mode ≡ old.state.mode → new.state.depth ≡ old.state.depth → new.spelled.items ≡ old.spelled.items ++ b ∷ [] → TakesOrLeaves limit old b true new
+pub takes-comment : (limit b : ℕ) (old new : OpenPart) → IsKept old → old.bytes ≡ [] → old.state.mode ≡ Comment → is_line_end b ≡ false → new.bytes ≡ old.bytes → new.state.mode ≡ old.state.mode → new.state.depth ≡ old.state.depth → new.spelled.items ≡ old.spelled.items ++ b ∷ [] → TakesOrLeaves limit old b true new
 takes-comment limit b old new kept none is inside bytes mode depth spelled =
     let goes : mode_takes old.state.mode b ≡ true = ap (λ m. mode_takes m b) is ∙ ap not inside in
     let same : continued_mode old.state.mode b ≡ old.state.mode = ap (λ m. continued_mode m b) is ∙ sym is in
@@ -215,19 +220,19 @@ gap-depth b gap = elim (cases_eq b 40) as (λ _. 0 ≡ fresh_depth b) [
 ]
 
 -- a blank, or a comment that begins
-pub takes-gap : (limit b : ℕ) (old new : OpenPart) → IsKept old → old.bytes.items ≡ [] → (old.state.mode ≡ Comment → is_line_end b ≡ true) → is_gap (b ∷ []) ≡ true → new.bytes.items ≡ old.bytes.items → new.state.mode ≡ fresh_mode b → new.state.depth ≡ 0 → new.spelled.items ≡ b ∷ [] → TakesOrLeaves limit old b true new
+pub takes-gap : (limit b : ℕ) (old new : OpenPart) → IsKept old → old.bytes ≡ [] → (old.state.mode ≡ Comment → is_line_end b ≡ true) → is_gap (b ∷ []) ≡ true → new.bytes ≡ old.bytes → new.state.mode ≡ fresh_mode b → new.state.depth ≡ 0 → new.spelled.items ≡ b ∷ [] → TakesOrLeaves limit old b true new
 takes-gap limit b old new kept none out gap bytes mode depth spelled =
     let fresh = mode-fresh old.state.mode b (none-mode old kept none) out in
     taken-byte limit old b new (begins limit old.spelled.items b new (none-takes old b kept none ∙ fresh) (none-shut old kept none) (reaches-gap limit b [] cut.More new gap mode (depth ∙ gap-depth b gap) spelled (bytes ∙ none) refl refl))
 
 -- the first byte of an item that stays open
-pub takes-first : (limit b : ℕ) (old new : OpenPart) → IsKept old → old.bytes.items ≡ [] → mode_takes old.state.mode b ≡ false → 1 ≤ limit → new.bytes.items ≡ old.bytes.items ++ b ∷ [] → new.state.mode ≡ fresh_mode b → new.state.depth ≡ fresh_depth b → new.spelled.items ≡ b ∷ [] → (nat_lt 0 new.state.depth || mode_is_open new.state.mode) ≡ true → TakesOrLeaves limit old b true new
+pub takes-first : (limit b : ℕ) (old new : OpenPart) → IsKept old → old.bytes ≡ [] → mode_takes old.state.mode b ≡ false → 1 ≤ limit → new.bytes ≡ old.bytes ++ b ∷ [] → new.state.mode ≡ fresh_mode b → new.state.depth ≡ fresh_depth b → new.spelled.items ≡ b ∷ [] → (nat_lt 0 new.state.depth || mode_is_open new.state.mode) ≡ true → TakesOrLeaves limit old b true new
 takes-first limit b old new kept none fresh room bytes mode depth spelled opens =
     let P : LexMode → Type 0 = λ m. IsStateIn (b ∷ []) m new.state.depth in
     let Q : ℕ → Type 0 = λ d. IsStateIn (b ∷ []) (fresh_mode b) d in
     let at : IsStateIn (b ∷ []) new.state.mode new.state.depth = subst P (sym mode) (subst Q (sym depth) (state-fresh b)) in
     let is : is_open (b ∷ []) ≡ true = state-open (b ∷ []) new.state.mode new.state.depth at ∙ opens in
-    let kept_now : new.bytes.items ≡ open_bytes (b ∷ []) = bytes ∙ (ap (λ it. it ++ b ∷ []) none ∙ sym (open_bytes-open (b ∷ []) is)) in
+    let kept_now : new.bytes ≡ open_bytes (b ∷ []) = bytes ∙ (ap (λ it. it ++ b ∷ []) none ∙ sym (open_bytes-open (b ∷ []) is)) in
     let D : ℕ → Type 0 = λ d. d ≤ 1 in
     taken-byte limit old b new (begins limit old.spelled.items b new (none-takes old b kept none ∙ fresh) (none-shut old kept none) (reaches-item limit (b ∷ []) [] [] cut.More new (open-no_gap (b ∷ []) is) room at spelled kept_now (subst D (sym depth) (depth-fresh b)) refl refl (sym (ended-open (b ∷ []) is))))
 

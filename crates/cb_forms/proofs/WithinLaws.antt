@@ -40,7 +40,7 @@ stay-depth : (m : LexMode) (d b : ℕ) → mode_takes m b ≡ true → d ≡ nex
 stay-depth m d b goes = sym (ap (λ t. if t then d else (if b == 40 then d + 1 else (if b == 41 then d - 1 else d))) goes)
 
 -- a comment goes on, and its state stays
-pub stays-comment : (limit : ℕ) (b : ℕ) (old new : OpenPart) → IsKept old → mode_takes old.state.mode b ≡ true → continued_mode old.state.mode b ≡ old.state.mode → old.bytes.items ≡ [] → new.bytes.items ≡ [] → new.state.mode ≡ old.state.mode → new.state.depth ≡ old.state.depth
+pub stays-comment : (limit : ℕ) (b : ℕ) (old new : OpenPart) → IsKept old → mode_takes old.state.mode b ≡ true → continued_mode old.state.mode b ≡ old.state.mode → old.bytes ≡ [] → new.bytes ≡ [] → new.state.mode ≡ old.state.mode → new.state.depth ≡ old.state.depth
     → new.spelled.items ≡ old.spelled.items ++ b ∷ [] → Reaches limit (part_with old.spelled.items b) (readings_before old.spelled.items b) cut.More new
 stays-comment limit b old new kept goes same none bytes mode depth spelled =
     let takes = stay-takes old b kept goes in

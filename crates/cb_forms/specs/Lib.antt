@@ -7,6 +7,7 @@ pub mod FirstFaults
 pub mod Internal
 pub mod Items
 pub mod Laws
+pub mod Lines
 pub mod Lists
 pub mod Members
 pub mod Pieces

@@ -1,11 +1,14 @@
 //! Cutting a script into items while its bytes come.
-ghost use Rattle.std.specs.Prelude.{◌≡◌, ◌≤◌, ◌<◌, List, [], ◌∷◌, ◌++◌, true, false, None, Ok, IfOk, OnOk, OnErr, IsErr, length, take};
+ghost use Rattle.std.specs.Prelude.{◌≡◌, ◌≤◌, ◌<◌, ◌+◌, ◌-◌, ◌^◌, List, [], ◌∷◌, ◌++◌, true, false, None, Ok, IfOk, OnOk, OnErr, IsErr, length, take};
 ghost use Rattle.cb_forms.specs.Cuts.{item_readings, cut_items, is_too_long};
 ghost use Rattle.cb_forms.specs.Cutter.{readings_in};
+ghost use Rattle.cb_forms.specs.Internal.{line_with};
 ghost use Rattle.cb_forms.specs.Items.{items, whole, rest, over};
+ghost use Rattle.cb_forms.specs.Lines.{line_feeds, open_line};
 
 use crate::cut::Cut;
 use crate::form::Item;
+use crate::item_bytes::{ItemBytes, count_line_feeds};
 use crate::open_part::{OpenPart, with_run};
 use cb_io::{History, NoMemory};
 use std::alloc::Global;
@@ -25,6 +28,8 @@ pub struct Cutter {
     limit: usize,
     part: OpenPart,
     over: bool,
+    /// That of the open item, or of the next byte; after a `TooLong` it stays.
+    line: u64,
     failed: bool,
     stepped: History<u8>,
     given: History<Item>,
@@ -43,7 +48,7 @@ impl Model for Cutter {
 
     ghost view = { λ c. record { limit = c.limit; stepped = c.stepped.items; given = c.given.items; failed = c.failed } };
 
-    ghost invariant = { λ c. c.failed ≡ false → IsInStep c.limit c.stepped.items (readings_in c.given.items) c.part c.over };
+    ghost invariant = { λ c. c.failed ≡ false → IsInStep c.limit c.stepped.items (readings_in c.given.items) c.part c.over c.line };
 }
 
 impl Cutter {
@@ -59,6 +64,7 @@ impl Cutter {
             limit,
             part: OpenPart::new(alloc),
             over: false,
+            line: 1,
             failed: false,
             stepped: History::new(),
             given: History::new(),
@@ -90,8 +96,10 @@ impl Cutter {
             return Ok(Cut::TooLong);
         }
         self.failed = true;
+        let inside = self.part.bytes.line_feeds();
         let cut = self.part.step(self.alloc, self.limit, byte)?;
         self.over = cut.is_too_long();
+        self.line = line_past(self.line, inside, &[byte], &self.part.bytes);
         self.stepped = self.stepped.and(&byte);
         self.given = noted(&self.given, &cut);
         self.failed = false;
@@ -125,8 +133,10 @@ impl Cutter {
             return Ok(0);
         }
         self.failed = true;
+        let inside = self.part.bytes.line_feeds();
         let taken = self.part.step_run(self.limit, bytes)?;
         let (run, _) = bytes.split_at(taken);
+        self.line = line_past(self.line, inside, run, &self.part.bytes);
         self.stepped = with_run(&self.stepped, run);
         self.failed = false;
         Ok(taken)
@@ -159,6 +169,7 @@ impl Cutter {
         let item = self.part.finish(self.alloc)?;
         self.stepped = History::new();
         self.given = History::new();
+        self.line = 1;
         self.failed = false;
         Ok(item)
     }
@@ -175,12 +186,32 @@ impl Cutter {
         self.part.bytes.as_slice()
     }
 
+    /// The line on which the item that is open begins; where none is open, that of the next byte. Lines are counted by
+    /// line feeds, from 1 to 2^64 - 1. Just before `step` takes a byte it is the line of each item that the byte completes,
+    /// and of one that it makes too long. After a `TooLong` or a `NoMemory` it may be any.
+    pub fn line(&self) -> u64
+        ensures { self.now.failed ≡ false → over self.now.limit self.now.stepped ≡ false
+            → result ≡ open_line self.now.stepped }
+    {
+        self.line
+    }
+
     /// Whether a call has returned `NoMemory`.
     pub fn failed(&self) -> bool
         ensures { result ≡ self.now.failed }
     {
         self.failed
     }
+}
+
+/// The line of the open item, or of the next byte, after a run of bytes: `line` was it before, when so many line feeds
+/// were inside the open item, and this is the open item now.
+fn line_past(line: u64, inside: usize, run: &[u8], item: &ItemBytes) -> u64
+    requires { inside < 2 ^ 63 }
+    ensures { result ≡ line_with line (inside + line_feeds run.now - line_feeds item.now) }
+{
+    let passed = (inside + count_line_feeds(run)).saturating_sub(item.line_feeds());
+    line.saturating_add(passed as u64)
 }
 
 /// The items given, with those of one more step.

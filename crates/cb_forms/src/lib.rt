@@ -11,6 +11,7 @@ mod cut; // what a byte gave
 mod cutter; // the cutter: the open part, the limit, and what contracts see
 mod fault; // the faults, each with its number and its text
 mod form; // forms and items; the symbol that a form is, and the one that a list begins with
+mod item_bytes; // the bytes of the open item, and how many line feeds are among them
 mod kept_bytes; // bytes in a value where they are few, and else in an allocation
 pub mod laws; // laws of texts and their items
 mod lex_mode; // what the last piece waits for, as a line end, a quote or an escaped byte

@@ -10,6 +10,7 @@ use crate::byte_kinds::is_blank;
 use crate::cut::Cut;
 use crate::fault::Fault;
 use crate::form::Item;
+use crate::item_bytes::ItemBytes;
 use crate::lex_mode::LexMode;
 use crate::part::read_part;
 use crate::scan_state::ScanState;
@@ -19,7 +20,7 @@ use std::alloc::Global;
 /// A part that may go on: its bytes where it is an item, and the state after its last byte.
 #[derive(Drop)]
 pub(crate) struct OpenPart {
-    pub(crate) bytes: Vec<u8>,
+    pub(crate) bytes: ItemBytes,
     pub(crate) state: ScanState,
     /// All its bytes, those of a comment too.
     pub(crate) spelled: History<u8>,
@@ -32,7 +33,7 @@ impl OpenPart {
         ensures spelled { result.spelled.items ≡ [] }
     {
         OpenPart {
-            bytes: Vec::new(alloc),
+            bytes: ItemBytes::new(alloc),
             state: ScanState::START,
             spelled: History::new(),
         }
@@ -69,11 +70,11 @@ impl OpenPart {
     /// Takes the blanks and comments that these bytes begin with, where no item is open.
     fn pass_gaps(&mut self, bytes: &[u8]) -> usize
         requires kept { IsKept self.old }
-        requires none { self.old.bytes.items ≡ [] }
+        requires none { self.old.bytes ≡ [] }
         ensures within { result ≤ length bytes.now }
         ensures passed { (limit : ℕ)
             → HasPassed limit self.old.spelled.items (take result bytes.now) self.new }
-        ensures none { self.new.bytes.items ≡ [] }
+        ensures none { self.new.bytes ≡ [] }
     {
         let mut end = 0;
         while end < bytes.len() && self.pass_gap(bytes[end]) {
@@ -85,9 +86,9 @@ impl OpenPart {
     /// Takes a byte of a blank or a comment, where no item is open, and says whether it is one.
     fn pass_gap(&mut self, byte: u8) -> bool
         requires kept { IsKept self.old }
-        requires none { self.old.bytes.items ≡ [] }
+        requires none { self.old.bytes ≡ [] }
         ensures passed { (limit : ℕ) → TakesOrLeaves limit self.old byte result self.new }
-        ensures none { self.new.bytes.items ≡ [] }
+        ensures none { self.new.bytes ≡ [] }
     {
         if self.state.mode.is_comment_with(byte) {
             self.spelled = self.spelled.and(&byte);
@@ -104,7 +105,7 @@ impl OpenPart {
     /// Begins an item with the first of these bytes, where none is open, and goes on while it stays open.
     fn open(&mut self, limit: usize, bytes: &[u8]) -> Result<usize, NoMemory>
         requires kept { IsKept self.old }
-        requires none { self.old.bytes.items ≡ [] }
+        requires none { self.old.bytes ≡ [] }
         ensures { IfOk result (λ n. TakesRun limit self.old bytes.now n self.new) }
     {
         let [first, rest @ ..] = bytes else {
@@ -120,10 +121,10 @@ impl OpenPart {
     /// Begins an item where none is open, if its first byte leaves it open, and says whether it did.
     fn begin_item(&mut self, limit: usize, byte: u8) -> Result<bool, NoMemory>
         requires kept { IsKept self.old }
-        requires none { self.old.bytes.items ≡ [] }
+        requires none { self.old.bytes ≡ [] }
         ensures begun { IfOk result
             (λ is_begun. TakesOrLeaves limit self.old byte is_begun self.new) }
-        ensures some { IfOk result (λ is_begun. is_begun ≡ true → 0 < length self.new.bytes.items) }
+        ensures some { IfOk result (λ is_begun. is_begun ≡ true → 0 < length self.new.bytes) }
     {
         let state = ScanState::fresh(byte);
         if limit == 0 || self.state.mode.takes(byte) || !state.is_open() {
@@ -138,14 +139,14 @@ impl OpenPart {
     /// Goes on with the first of these bytes, while the item that is open stays open and within the limit.
     fn stay_open(&mut self, limit: usize, bytes: &[u8]) -> Result<usize, NoMemory>
         requires kept { IsKept self.old }
-        requires some { 0 < length self.old.bytes.items }
+        requires some { 0 < length self.old.bytes }
         ensures { IfOk result (λ n. TakesRun limit self.old bytes.now n self.new) }
     {
         let room = limit.saturating_sub(self.bytes.len()).min(bytes.len());
         let (inside, _) = bytes.split_at(room);
         let (end, state) = self.state.open_run(inside);
         let (run, _) = inside.split_at(end);
-        self.bytes.extend_from_slice(run)?;
+        self.bytes.extend(run)?;
         self.state = state;
         self.spelled = with_run(&self.spelled, run);
         Ok(end)
@@ -157,13 +158,15 @@ impl OpenPart {
         ensures { IfOk result
             (λ cut. Reaches limit (self.old.spelled.items ++ byte ∷ []) [] cut self.new) }
     {
+        let kept = self.bytes.len();
+        let is_full = kept >= limit;
         self.state = self.state.after(byte);
         self.spelled = self.spelled.and(&byte);
-        if self.bytes.is_empty() {
+        if kept == 0 {
             // a comment
             return Ok(Cut::More);
         }
-        if self.bytes.len() >= limit {
+        if is_full {
             self.bytes.clear();
             return Ok(Cut::TooLong);
         }
@@ -209,12 +212,12 @@ impl OpenPart {
 /// The item of these bytes, if it has ended with the last of them. Then the bytes are let go.
 fn take_ended(
     alloc: Global,
-    bytes: &mut Vec<u8>,
+    bytes: &mut ItemBytes,
     state: ScanState,
 ) -> Result<Option<Item>, NoMemory>
-    requires { IsStateIn bytes.old.items state.mode state.depth }
-    ensures item { IfOk result (λ item. item_readings item ≡ ended_readings bytes.old.items) }
-    ensures bytes { OnOk result (bytes.new.items ≡ open_bytes bytes.old.items) }
+    requires { IsStateIn bytes.old state.mode state.depth }
+    ensures item { IfOk result (λ item. item_readings item ≡ ended_readings bytes.old) }
+    ensures bytes { OnOk result (bytes.new ≡ open_bytes bytes.old) }
 {
     if state.is_open() {
         return Ok(None);
@@ -225,12 +228,16 @@ fn take_ended(
 }
 
 /// The item of these bytes, if one is open at their end. Then the bytes are let go.
-fn take_open(alloc: Global, bytes: &mut Vec<u8>, state: ScanState) -> Result<Option<Item>, NoMemory>
+fn take_open(
+    alloc: Global,
+    bytes: &mut ItemBytes,
+    state: ScanState,
+) -> Result<Option<Item>, NoMemory>
     requires { (nat_lt 0 state.depth || mode_is_open state.mode) ≡ true
-        → IsStateIn bytes.old.items state.mode state.depth }
+        → IsStateIn bytes.old state.mode state.depth }
     ensures item { IfOk result (λ item. item_readings item
-        ≡ (if nat_lt 0 state.depth || mode_is_open state.mode then readings_of bytes.old.items else [])) }
-    ensures bytes { OnOk result (bytes.new.items ≡ []) }
+        ≡ (if nat_lt 0 state.depth || mode_is_open state.mode then readings_of bytes.old else [])) }
+    ensures bytes { OnOk result (bytes.new ≡ []) }
 {
     let item = if !state.is_open() {
         None

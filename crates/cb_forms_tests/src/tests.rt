@@ -4,6 +4,7 @@ mod faults;
 mod forms;
 mod held;
 mod limits;
+mod lines;
 mod memory;
 mod output;
 mod reading;

@@ -26,6 +26,7 @@ mod Joined
 mod Last
 mod Lone
 mod Memories
+mod Missed
 mod Moves
 mod Named
 mod Networks

@@ -46,12 +46,12 @@ use Rattle.cb_matches.proofs.PartOrder.{part}
 use Rattle.cb_matches.specs.Matches.{Partial, next}
 use Rattle.cb_partials.specs.Probes.{added_probes, has_parts, is_candidate, partials_come, partials_kept}
 
-empty : (ws : List WayValue) → has_way ws ≡ false → ws ≡ []
+pub empty : (ws : List WayValue) → has_way ws ≡ false → ws ≡ []
 empty [] e = refl
 empty (v ∷ ws) e = cc
 
 -- a fact without the shape has no way
-no_way_without_shape : Shapeless → (p : PatternValue) (f : Fact) (env : Bindings) → is_candidate p f ≡ false → (w : WayValue) → In w (ways p f.1 env) → ⊥
+pub no_way_without_shape : Shapeless → (p : PatternValue) (f : Fact) (env : Bindings) → is_candidate p f ≡ false → (w : WayValue) → In w (ways p f.1 env) → ⊥
 no_way_without_shape shapeless p f env none w h =
     subst (λ it. In w it) (shapeless p f.1 env no_bindings (empty (ways (loose p) f.1 no_bindings) none)) h
 
@@ -63,7 +63,7 @@ only_one g f (inl e) = e
 only_one g f (inr h) = absurd h
 
 -- the facts but for one with an index
-not_at : (ix : ℕ) (e : Fact) → is_at (nat_cmp ix) e.0 ≡ false → e.0 ≡ ix → ⊥
+pub not_at : (ix : ℕ) (e : Fact) → is_at (nat_cmp ix) e.0 ≡ false → e.0 ≡ ix → ⊥
 not_at ix e h d = let t : is_at (nat_cmp ix) e.0 ≡ true = unsigned_tied ix e.0 ∙ eq-eqb ix e.0 (sym d) in true_false (is_at (nat_cmp ix) e.0) t h
 
 at_it : (ix : ℕ) (e : Fact) → is_at (nat_cmp ix) e.0 ≡ true → ix ≡ e.0

@@ -7,7 +7,7 @@ ghost use Rattle.cb_fit.specs.Shapes.{loose};
 ghost use Rattle.cb_joins.specs.Internal.Changes.{IsMade, fact_added, facts_before};
 ghost use Rattle.cb_joins.specs.Internal.Flat.{begins, tests_of};
 ghost use Rattle.cb_joins.specs.Internal.Indexes.{HasIndex, index_fields};
-ghost use Rattle.cb_joins.specs.Internal.Nodes.{AreJoinFields, IsJoined, candidates_with, filed_facts, found_with};
+ghost use Rattle.cb_joins.specs.Internal.Nodes.{AreEnough, AreJoinFields, IsJoined, candidates_with, filed_facts, found_with};
 ghost use Rattle.cb_joins.specs.Internal.Steps.{IsChanged, IsTaken, IsTakenWith, IsWithinProbes};
 ghost use Rattle.cb_matches.specs.Chains.{In};
 ghost use Rattle.cb_matches.specs.Matches.{Partial};
@@ -241,8 +241,9 @@ fn retract_place<T>(
     Ok(Moved { gone, come })
 }
 
-/// Takes what goes on with a fact out of the list behind a pattern. A short list is looked through; for a longer one the partial
-/// matches that the fact can be joined with are looked up, if there is an index.
+/// Takes what goes on with a fact out of the list behind a pattern. Nothing does with a fact that has not the shape of the pattern. A
+/// short list is looked through; for a longer one the partial matches that the fact can be joined with are looked up, if there is an
+/// index.
 fn take_joined<T>(
     alloc: Global,
     place: &Place<T>,
@@ -252,9 +253,14 @@ fn take_joined<T>(
     gone: &mut Vec<Partial>,
 ) -> Result<(), NoMemory>
     ensures { OnOk result (IsJoined place.now before.now.keys
+        → (fact_at place.now.candidates.entries one.now.0 ≡ None
+        → AreEnough place.now.address place.now.pattern one.now before.now.keys [])
         → IsTakenWith place.now.address place.now.pattern one.now before.now.keys
         own.old.keys own.new.keys gone.old.items gone.new.items) }
 {
+    if !place.candidates.contains_key(&one.ix) {
+        return Ok(());
+    }
     if own.len() < 32 {
         return take_ending(own, one.ix, gone);
     }

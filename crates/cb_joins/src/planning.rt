@@ -40,6 +40,45 @@ pub(crate) struct End {
     pub(crate) is_pattern: bool,
 }
 
+/// The variables to which the elements before give values.
+#[derive(Drop)]
+pub(crate) struct Bound {
+    names: BTreeSet<Name>,
+    /// The same in the order in which they came, so that those of a group can be taken away again.
+    order: Vec<Name>,
+}
+
+impl Bound {
+    /// None. It takes no memory yet.
+    fn new(alloc: Global) -> Bound {
+        Bound {
+            names: BTreeSet::new(alloc),
+            order: Vec::new(alloc),
+        }
+    }
+
+    /// Adds a variable.
+    fn add(&mut self, name: Name) -> Result<(), NoMemory> {
+        if self.names.insert(name.clone()?)? {
+            self.order.push(name)?;
+        }
+        Ok(())
+    }
+
+    /// How many they are.
+    fn count(&self) -> usize {
+        self.order.len()
+    }
+
+    /// Takes away all but so many that came first.
+    fn keep_first(&mut self, count: usize) {
+        for name in self.order.iter().skip(count) {
+            self.names.remove(name);
+        }
+        self.order.truncate(count);
+    }
+}
+
 /// What is to be kept for a branch of these elements, before anything is found.
 pub(crate) fn plan_nodes<T>(alloc: Global, branch: Vec<Ce<T>>) -> Result<Plan<T>, NoMemory>
     ensures nodes { IfOk result (λ plan. flat_nodes plan.nodes.items
@@ -49,7 +88,7 @@ pub(crate) fn plan_nodes<T>(alloc: Global, branch: Vec<Ce<T>>) -> Result<Plan<T>
     ensures prepared { IfOk result (λ plan. All IsPrepared plan.nodes.items) }
 {
     let mut nodes = Vec::new(alloc);
-    let mut bound = BTreeSet::new(alloc);
+    let mut bound = Bound::new(alloc);
     let start = End {
         list: 0,
         width: 0,
@@ -60,8 +99,8 @@ pub(crate) fn plan_nodes<T>(alloc: Global, branch: Vec<Ce<T>>) -> Result<Plan<T>
     Ok(Plan { nodes, last })
 }
 
-/// Adds the nodes of elements that stand behind `start`. `bound` has variables to which the elements before give values, and gets
-/// those of these elements. The answer is the number of the list behind them.
+/// Adds the nodes of elements that stand behind `start`. `bound` gets the variables of these elements. The answer is the number of the
+/// list behind them.
 ///
 /// It calls itself as deep as groups are nested.
 #[cycle(planning)]
@@ -69,7 +108,7 @@ fn add_nodes<T>(
     alloc: Global,
     branch: Vec<Ce<T>>,
     start: End,
-    bound: &mut BTreeSet<Name>,
+    bound: &mut Bound,
     nodes: &mut Vec<Node<T>>,
 ) -> Result<usize, NoMemory>
     requires width { start.width ≤ length nodes.old.items }
@@ -94,7 +133,7 @@ fn add_node<T>(
     alloc: Global,
     element: Ce<T>,
     end: End,
-    bound: &mut BTreeSet<Name>,
+    bound: &mut Bound,
     nodes: &mut Vec<Node<T>>,
 ) -> Result<End, NoMemory>
     requires width { end.width ≤ length nodes.old.items }
@@ -127,7 +166,7 @@ fn add_group<T>(
     positive: bool,
     inner: Vec<Ce<T>>,
     end: End,
-    bound: &BTreeSet<Name>,
+    bound: &mut Bound,
     nodes: &mut Vec<Node<T>>,
 ) -> Result<End, NoMemory>
     requires width { end.width ≤ length nodes.old.items }
@@ -149,8 +188,9 @@ fn add_group<T>(
             ..start
         });
     }
-    let mut within = bound.clone()?;
-    let last = add_nodes(alloc, inner, start, &mut within, nodes)?;
+    let count = bound.count();
+    let last = add_nodes(alloc, inner, start, bound, nodes)?;
+    bound.keep_first(count);
     nodes.push(Node::Group {
         from: end.list,
         inner: last,
@@ -254,7 +294,7 @@ fn pattern_node<T>(
     from: usize,
     address: Option<Name>,
     pattern: Pattern<T>,
-    bound: &mut BTreeSet<Name>,
+    bound: &mut Bound,
 ) -> Result<Node<T>, NoMemory>
     ensures node { IfOk result (λ node. flat_node node ≡ joining from address pattern []) }
     ensures prepared { IfOk result IsPrepared }
@@ -281,7 +321,7 @@ fn plan_index<T>(
     alloc: Global,
     address: &Option<Name>,
     pattern: &Pattern<T>,
-    bound: &mut BTreeSet<Name>,
+    bound: &mut Bound,
 ) -> Result<Option<Index>, NoMemory>
     ensures { IfOk result
         (λ index. AreJoinFields (index_fields index) address.now pattern.now) }
@@ -295,10 +335,10 @@ fn plan_index<T>(
         }
     }
     for name in names {
-        bound.insert(name)?;
+        bound.add(name)?;
     }
     if let Some(name) = address {
-        bound.insert(name.clone()?)?;
+        bound.add(name.clone()?)?;
     }
     if fields.is_empty() {
         return Ok(None);
@@ -307,11 +347,11 @@ fn plan_index<T>(
 }
 
 /// Whether a variable has a value before a pattern, and is not that of the pattern's own address.
-fn is_bound(bound: &BTreeSet<Name>, address: &Option<Name>, variable: &Name) -> bool
+fn is_bound(bound: &Bound, address: &Option<Name>, variable: &Name) -> bool
     ensures { result ≡ true → address.now ≢ Some variable.now }
 {
     match address {
         Some(name) if name == variable => false,
-        _ => bound.contains(variable),
+        _ => bound.names.contains(variable),
     }
 }

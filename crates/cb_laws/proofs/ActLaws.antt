@@ -2,13 +2,13 @@
 use Rattle.std.proofs.Common.{◌≡◌, ◌∙◌, ℕ, ℤ, true, List, [], ◌∷◌, Option, Some, None, Result, Ok, Err, map, refl, sym, ap}
 use Rattle.cb_actions.specs.Actions.{carried, carried_values}
 use Rattle.cb_actions.specs.Acts.{after_writing, follow, give_or_fault, stop, ◌>>=◌}
-use Rattle.cb_actions.specs.Effects.{each_given, fact_added, asserted, is_retractable, parts_of, retracted}
+use Rattle.cb_actions.specs.Effects.{each_given, fact_added, asserted, is_retractable, modified, parts_of, retracted}
 use Rattle.cb_actions.specs.Laws.{with_answer}
 use Rattle.cb_actions.specs.Worlds.{World}
 use Rattle.cb_actions.specs.declared.act.EarlyEnd.{EarlyEnd}
 use Rattle.cb_actions.specs.declared.act.EarlyEnd.TheVariants as ended
 use Rattle.cb_actions.specs.declared.act.Limit.TheVariants.{Numbers}
-use Rattle.cb_exprs.specs.Shapes.{Shape}
+use Rattle.cb_exprs.specs.Shapes.{Shape, SlotCounts}
 use Rattle.cb_exprs.specs.Terms.{Terms, effect}
 use Rattle.cb_exprs.specs.declared.effect.Effect.TheVariants as kind
 use Rattle.cb_facts.specs.FactLists.{fact_at}
@@ -82,6 +82,13 @@ module _ (ts : Terms) (s : World) where
 
   pub retract_ends : (e : EarlyEnd) → (carried_values None [] ts s).answer ≡ Err e → carried (effect kind.Retract ts) s ≡ with_answer (carried_values None [] ts s) (Err e)
   retract_ends e h = ap (λ r. follow (carried_values None [] ts s).state (carried_values None [] ts s).written r retracted) h
+
+  pub modify_acts : (slots : SlotCounts) (vs : List Value) → (carried_values None [] ts s).answer ≡ Ok vs
+      → carried (effect (kind.Modify slots) ts) s ≡ after_writing (carried_values None [] ts s).written (modified slots vs (carried_values None [] ts s).state)
+  modify_acts slots vs h = ap (λ r. follow (carried_values None [] ts s).state (carried_values None [] ts s).written r (modified slots)) h
+
+  pub modify_ends : (slots : SlotCounts) (e : EarlyEnd) → (carried_values None [] ts s).answer ≡ Err e → carried (effect (kind.Modify slots) ts) s ≡ with_answer (carried_values None [] ts s) (Err e)
+  modify_ends slots e h = ap (λ r. follow (carried_values None [] ts s).state (carried_values None [] ts s).written r (modified slots)) h
 
 -- what names a fact, and every integer, may be retracted
 pub named_taken : (ix : ℕ) (v : Value) → names_fact ix v ≡ true → is_retractable v ≡ true

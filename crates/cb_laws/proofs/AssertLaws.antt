@@ -1,9 +1,5 @@
 -- What is asserted is there.
 use Rattle.std.proofs.Common.{◌≡◌, ◌≢◌, ◌↔◌, ◌⊎◌, inl, inr, ◌∙◌, ◌+◌, ◌++◌, ◌<◌, ◌≤◌, ℕ, true, false, List, [], ◌∷◌, Option, Some, None, Result, Ok, Err, Contains, refl, sym, ap, subst, arith, nat_lt, rules}
-use Rattle.std.proofs.lemmas.Bool.{cases_eq}
-use Rattle.std.proofs.lemmas.Cmp.{nat_cmp_total}
-use Rattle.std.specs.BTreeMap.{is_at}
-use Rattle.std.specs.Ordering.{nat_cmp}
 use Rattle.cb_actions.specs.Acts.{Effect, follow, give, stop}
 use Rattle.cb_actions.specs.Changes.{come_line}
 use Rattle.cb_actions.specs.Effects.{added_beside, fact_added}
@@ -11,16 +7,16 @@ use Rattle.cb_actions.specs.Worlds.{World}
 use Rattle.cb_actions.specs.declared.act.EarlyEnd.{EarlyEnd}
 use Rattle.cb_actions.specs.declared.act.EarlyEnd.TheVariants as ended
 use Rattle.cb_actions.specs.declared.act.Limit.TheVariants.{Numbers}
-use Rattle.cb_facts.specs.FactLists.{IsAbsent, fact_at, with_fact}
+use Rattle.cb_facts.specs.FactLists.{IsAbsent, fact_at}
 use Rattle.cb_facts.specs.Facts.{FactValue}
-use Rattle.cb_facts.proofs.MemberLaws.{contains_here, contains_there, is_at-Decides}
+use Rattle.cb_facts.proofs.MemberLaws.{contains_here, contains_there}
 use Rattle.cb_facts.specs.declared.value.Value.{Value}
 use Rattle.cb_facts.specs.declared.value.Value.TheVariants as value
 use Rattle.cb_laws.proofs.AgendaLaws.{moved_proper}
-use Rattle.cb_laws.proofs.EntryLaws.{put_here, put_elsewhere, rising_put}
 use Rattle.cb_laws.proofs.Members.{first_or_other}
 use Rattle.cb_laws.proofs.MemoryBasics.{base_of, found_there, not_found}
 use Rattle.cb_laws.proofs.MoveLaws.{Moved, added_cases, memory_is, quiet_line}
+use Rattle.cb_laws.proofs.PutLaws.{at_new, at_old, distinct_with, only_there, rising_with}
 use Rattle.cb_laws.specs.Firing.{IsProper}
 use Rattle.cb_laws.specs.Memories.{AreAsserted, ChangesFactsOnly, IsSound, IsThere, IsUnwatched, has_stamps_for}
 use Rattle.cb_working_memory.specs.WorkingMemory.{Memory, greatest_index, grown, index_of}
@@ -37,49 +33,27 @@ there_already : (m : Memory) (f : FactValue) (ix : ℕ) → IsSound m → index_
 there_already m f ix sound e = record { here = found_there m f ix sound e; stays = λ q g at. at; only = λ q g at. inl at; sound = sound }
 
 module _ (m : Memory) (f : FactValue) (sound : IsSound m) (absent : index_of m.network.facts f ≡ None) where
-  new : ℕ
-  new = m.last + 1
-
-  at_new : fact_at (with_fact m.network.facts (m.last + 1) f) (m.last + 1) ≡ Some f
-  at_new = put_here nat_cmp (λ i j. is_at (nat_cmp i) j) is_at-Decides is_at-Decides m.network.facts (m.last + 1) f
-
-  at_old : (q : ℕ) → q ≢ m.last + 1 → fact_at (with_fact m.network.facts (m.last + 1) f) q ≡ fact_at m.network.facts q
-  at_old q n = put_elsewhere nat_cmp (λ i j. is_at (nat_cmp i) j) is_at-Decides is_at-Decides m.network.facts (m.last + 1) q f n
-
   was_free : (q : ℕ) (g : FactValue) → fact_at m.network.facts q ≡ Some g → q ≢ m.last + 1
   was_free q g at e =
       let gone : fact_at m.network.facts q ≡ None = sound.none_after q (omega arith) in
       cc
 
-  only_by : (q : ℕ) (g : FactValue) → fact_at (with_fact m.network.facts (m.last + 1) f) q ≡ Some g → (q ≡ m.last + 1) ⊎ (q ≢ m.last + 1) → (fact_at m.network.facts q ≡ Some g) ⊎ ((q ≡ m.last + 1) × (f ≡ g))
-  only_by q g at (inl e) =
-      let is : Some f ≡ Some g = sym at_new ∙ ap (fact_at (with_fact m.network.facts (m.last + 1) f)) (sym e) ∙ at in
-      let same : f ≡ g = cc in
-      inr (e, same)
-  only_by q g at (inr n) = inl (sym (at_old q n) ∙ at)
-
-  only_there : (q : ℕ) (g : FactValue) → fact_at (with_fact m.network.facts (m.last + 1) f) q ≡ Some g → (fact_at m.network.facts q ≡ Some g) ⊎ ((q ≡ m.last + 1) × (f ≡ g))
-  only_there q g at = only_by q g at (cases_eq q (m.last + 1))
-
   either : (q : ℕ) (g : FactValue) → (fact_at m.network.facts q ≡ Some g) ⊎ ((q ≡ m.last + 1) × (f ≡ g)) → (fact_at m.network.facts q ≡ Some g) ⊎ (f ≡ g)
   either q g (inl at) = inl at
   either q g (inr b) = inr b.1
 
-  distinct_by : (g : FactValue) (i j : ℕ) → (fact_at m.network.facts i ≡ Some g) ⊎ ((i ≡ m.last + 1) × (f ≡ g)) → (fact_at m.network.facts j ≡ Some g) ⊎ ((j ≡ m.last + 1) × (f ≡ g)) → i ≡ j
-  distinct_by g i j (inl p) (inl q) = sound.distinct g i j p q
-  distinct_by g i j (inl p) (inr q) = absurd (not_found m f i sound absent (p ∙ ap Some (sym q.1)))
-  distinct_by g i j (inr p) (inl q) = absurd (not_found m f j sound absent (q ∙ ap Some (sym p.1)))
-  distinct_by g i j (inr p) (inr q) = p.0 ∙ sym q.0
+  is_new : IsAbsent m.network.facts f
+  is_new ix at = not_found m f ix sound absent at
 
   pub one_new : OneMore m f (grown f m) (m.last + 1)
   one_new = record {
-    here = at_new;
-    stays = λ q g at. at_old q (was_free q g at) ∙ at;
-    only = λ q g at. either q g (only_there q g at);
+    here = at_new m f (m.last + 1);
+    stays = λ q g at. at_old m f (m.last + 1) q (was_free q g at) ∙ at;
+    only = λ q g at. either q g (only_there m f (m.last + 1) q g at);
     sound = record {
-      rising = rising_put nat_cmp nat_cmp_total m.network.facts (m.last + 1) f sound.rising;
-      distinct = λ g i j p q. distinct_by g i j (only_there i g p) (only_there j g q);
-      none_after = λ ix above. at_old ix (λ e. omega arith) ∙ sound.none_after ix (omega arith);
+      rising = rising_with m f (m.last + 1) sound is_new;
+      distinct = distinct_with m f (m.last + 1) sound is_new;
+      none_after = λ ix above. at_old m f (m.last + 1) ix (λ e. omega arith) ∙ sound.none_after ix (omega arith);
     };
   }
 

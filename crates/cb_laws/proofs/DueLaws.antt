@@ -1,10 +1,10 @@
 -- What is due is a match that is there.
-use Rattle.std.proofs.Common.{◌≡◌, ◌≢◌, ◌⊎◌, inl, inr, ◌∙◌, ◌||◌, ◌+◌, ℕ, ℤ, Bool, true, false, cond, not, List, [], ◌∷◌, Option, Some, None, Result, Ok, Err, is_some, length, nat_lt, refl, sym, ap, subst, if◌then◌else◌}
+use Rattle.std.proofs.Common.{◌≡◌, ◌≢◌, ◌⊎◌, inl, inr, ◌∙◌, ◌||◌, ◌+◌, ℕ, ℤ, Bool, true, false, cond, not, List, [], ◌∷◌, Option, Some, None, Result, Ok, Err, is_some, length, refl, sym, ap, subst, if◌then◌else◌}
 use Rattle.std.specs.BTreeMap.{is_at}
 use Rattle.std.specs.List.{Contains, list_all, list_any}
 use Rattle.std.specs.Map.{keys_of, remove_entry}
 use Rattle.cb_actions.specs.Actions.{carried}
-use Rattle.cb_actions.specs.Acts.{Effect, each, follow, give, give_or_fault, stop, ◌>>=◌}
+use Rattle.cb_actions.specs.Acts.{Effect, each, give, give_or_fault, stop, ◌>>=◌}
 use Rattle.cb_actions.specs.Changes.{activation_lines, gone_line, moved, saliences, scheduled, tell}
 use Rattle.cb_actions.specs.Effects.{asserted, fact_added, fact_gone, gone_if, index_named, is_retractable, parts_of, retracted, retracted_one, taken_by}
 use Rattle.cb_actions.specs.Runs.{started_anew, without_all, without_facts}
@@ -26,6 +26,7 @@ use Rattle.cb_forms.specs.declared.fault.Fault.TheVariants.{NoSuchFact, WrongTyp
 use Rattle.cb_laws.proofs.AgendaLaws.{Among, among, due_changed, either, has, has_come, has_less, key_same, or_second, top_among}
 use Rattle.cb_laws.proofs.ExpressionLaws.{IsKept, expression_keeps}
 use Rattle.cb_laws.proofs.Keeping.{After, Keeps, follow_keeps, keeps_each, keeps_then}
+use Rattle.cb_laws.proofs.ModifyKeeping.{moves_keep}
 use Rattle.cb_laws.proofs.MoveLaws.{Moved, added_cases, memory_is, moved_so}
 use Rattle.cb_laws.proofs.WorldLaws.{IsKeptByAll, runs_keep, with_rules}
 use Rattle.cb_laws.specs.Firing.{AreMatches, IsThere}
@@ -139,6 +140,7 @@ acts_due = record {
   halted = λ s b h. h;
   asserts = asserted_due;
   retracts = retracted_due;
+  modifies = moves_keep AreMatches Anything moved_due;
 }
 
 -- what fires
@@ -221,6 +223,7 @@ due_kept = record {
 holds_after : {A : Type 0} (s : World) (r : Result A EarlyEnd) → After AreMatches Anything s r → r ≢ Err (ended.Limit Numbers) → AreMatches s
 holds_after s (Ok a) h n = h
 holds_after s (Err (ended.Fault f)) h n = h
+holds_after s (Err (ended.FaultIn f id)) h n = h
 holds_after s (Err (ended.Limit Numbers)) h n = absurd (n refl)
 holds_after s (Err (ended.Limit Firings)) h n = h
 holds_after s (Err (ended.Limit Turns)) h n = h

@@ -1,15 +1,15 @@
--- What holds of a world however an expression is carried out, where values, turns and `halt` don't matter to it, and asserts and retracts keep it.
+-- What holds of a world however an expression is carried out, where values, turns and `halt` don't matter to it, and what changes facts keeps it.
 use Rattle.std.proofs.Common.{ℕ, zero, suc, Bool, true, false, List, [], ◌∷◌, ◌++◌, Option, Some, None, Result, Ok, Err}
 use Rattle.cb_actions.specs.Actions.{carried, carried_all, carried_values, round, rounds}
 use Rattle.cb_actions.specs.Acts.{Act, become, give, give_or_fault, ◌>>=◌}
 use Rattle.cb_actions.specs.Definitions.{all_asserted, all_evaluated, globals_after, globals_defined, one_evaluated}
-use Rattle.cb_actions.specs.Effects.{asserted, bound, called, chosen, effected, ends, found, global_bound, joined, retracted, truth_of, turn, turn_of, valued, wanted}
+use Rattle.cb_actions.specs.Effects.{asserted, bound, called, chosen, effected, ends, found, global_bound, joined, modified, retracted, truth_of, turn, turn_of, valued, wanted}
 use Rattle.cb_actions.specs.Worlds.{World}
 use Rattle.cb_eval.specs.Evaluation.{value_of}
 use Rattle.cb_exprs.specs.Bindings.{Bindings, value_at, with_global, with_variable}
 use Rattle.cb_exprs.specs.FactTerms.{FactTerm}
 use Rattle.cb_exprs.specs.GlobalTerms.{GlobalTerm}
-use Rattle.cb_exprs.specs.Shapes.{Shape}
+use Rattle.cb_exprs.specs.Shapes.{Shape, SlotCounts}
 use Rattle.cb_exprs.specs.Terms.{Term, constant, variable, global, call, effect, choose, repeat, actions, Terms, no_terms, term}
 use Rattle.cb_facts.specs.declared.value.Value.{Value}
 use Rattle.cb_forms.specs.declared.fault.Fault.{Fault}
@@ -31,6 +31,7 @@ pub record IsKept (P Q : World → Type 0) : Type 0 where
   pub halted : (s : World) (b : Bool) → P s → P (record s { is_halted = b })
   pub asserts : (shape : Shape) (vs : List Value) → Keeps P Q (asserted shape vs)
   pub retracts : (vs : List Value) → Keeps P Q (retracted vs)
+  pub modifies : (slots : SlotCounts) (vs : List Value) → Keeps P Q (modified slots vs)
 
 module _ (P Q : World → Type 0) (kept : IsKept P Q) where
   chosen_keeps : {A : Type 0} (b : Bool) (p q : Act World A) → Keeps P Q p → Keeps P Q q → Keeps P Q (chosen b p q)
@@ -70,6 +71,7 @@ module _ (P Q : World → Type 0) (kept : IsKept P Q) where
   effected_keeps : (e : Effect) (vs : List Value) → Keeps P Q (effected e vs)
   effected_keeps (kind.Assert shape) vs s h = kept.asserts shape vs s h
   effected_keeps kind.Retract vs s h = kept.retracts vs s h
+  effected_keeps (kind.Modify slots) vs s h = kept.modifies slots vs s h
   effected_keeps (kind.Bind x) vs s h = keeps_then P Q (joined vs) (bound x) (joined_keeps vs) (λ v u k. kept.env u (with_variable x v u.env) k) s h
   effected_keeps (kind.BindGlobal x) vs s h = keeps_then P Q (joined vs) (global_bound x) (joined_keeps vs) (λ v u k. kept.env u (with_global x v u.env) k) s h
   effected_keeps kind.Halt vs s h = kept.halted s true h

@@ -3,6 +3,7 @@ use Rattle.std.proofs.Common.{◌≡◌, ◌≤◌, ◌+◌, ◌-◌, ◌∙◌,
 use Rattle.cb_actions.specs.Actions.{carried_all}
 use Rattle.cb_actions.specs.Effects.{asserted, retracted}
 use Rattle.cb_actions.specs.Acts.{Act, follow, give, stop, ◌>>=◌}
+use Rattle.cb_actions.specs.Changes.{moved}
 use Rattle.cb_actions.specs.Runs.{actions_of, due_by, ran, run, spent, unless_halted, with_variables_of}
 use Rattle.cb_actions.specs.Worlds.{World}
 use Rattle.cb_actions.specs.declared.act.EarlyEnd.{EarlyEnd}
@@ -14,6 +15,8 @@ use Rattle.cb_functions.specs.Constants.{false_symbol}
 use Rattle.cb_laws.proofs.ActLaws.{asserts_only}
 use Rattle.cb_laws.proofs.ExpressionLaws.{IsKept, all_keep}
 use Rattle.cb_laws.proofs.Keeping.{after_any, from_any}
+use Rattle.cb_laws.proofs.ModifyKeeping.{moves_keep}
+use Rattle.cb_laws.proofs.MoveLaws.{moved_so}
 use Rattle.cb_laws.proofs.RetractedLaws.{retracted_takes}
 use Rattle.cb_lines.specs.Lines.{rule_numbered}
 use Rattle.cb_matches.specs.Keys.{KeyValue}
@@ -32,6 +35,7 @@ has_kept n = record {
   halted = λ s b h. h;
   asserts = λ shape vs s h. after_any (Has n) (asserted shape vs s).state (asserted shape vs s).answer (ap (λ (w : World). w.firings) (asserts_only shape vs s).only ∙ h);
   retracts = λ vs s h. after_any (Has n) (retracted vs s).state (retracted vs s).answer (ap (λ (w : World). w.firings) (retracted_takes vs s).changes.only ∙ h);
+  modifies = moves_keep (Has n) (Has n) (λ next line s h. after_any (Has n) (moved next line s).state (moved next line s).answer (ap (λ (w : World). w.firings) (moved_so s next line).only ∙ h));
 }
 
 pub one_spent : (left n : ℕ) (k : KeyValue) (s : World) → (spent left n k s).state.firings ≡ left

@@ -1,7 +1,7 @@
 -- What an item of a script does.
 use Rattle.std.proofs.Common.{◌≡◌, ◌∙◌, ◌++◌, ℕ, List, [], ◌∷◌, Option, Some, None, Result, Ok, Err, codes, map, refl, sym, ap, ap₂, subst, false, true, if◌then◌else◌}
 use Rattle.cb_actions.specs.Actions.{carried}
-use Rattle.cb_actions.specs.Acts.{follow, give_or_fault, ◌>>=◌}
+use Rattle.cb_actions.specs.Acts.{fault_of, follow, give_or_fault, ◌>>=◌}
 use Rattle.cb_actions.specs.Worlds.{World}
 use Rattle.cb_actions.specs.declared.act.EarlyEnd.{EarlyEnd}
 use Rattle.cb_actions.specs.declared.act.EarlyEnd.TheVariants as ended
@@ -57,12 +57,14 @@ by_expression s r t h = executed_by s r (Ok (asked.act t)) h
 world_by : (s : State) (w : World) (bytes : List ℕ) (answer : Result (Option Value) EarlyEnd) → (run_after s w bytes answer).state.world ≡ w
 world_by s w bytes (Ok v) = refl
 world_by s w bytes (Err (ended.Fault f)) = refl
+world_by s w bytes (Err (ended.FaultIn f id)) = refl
 world_by s w bytes (Err (ended.Limit limit)) = refl
 world_by s w bytes (Err (ended.Exit code)) = refl
 
 only_by : (s : State) (w : World) (bytes : List ℕ) (answer : Result (Option Value) EarlyEnd) → ((run_after s w bytes answer).state.deffacts ≡ s.deffacts) × ((run_after s w bytes answer).state.globals ≡ s.globals)
 only_by s w bytes (Ok v) = (refl, refl)
 only_by s w bytes (Err (ended.Fault f)) = (refl, refl)
+only_by s w bytes (Err (ended.FaultIn f id)) = (refl, refl)
 only_by s w bytes (Err (ended.Limit limit)) = (refl, refl)
 only_by s w bytes (Err (ended.Exit code)) = (refl, refl)
 
@@ -82,9 +84,20 @@ pub value_shown : (s : State) (r : Reading) (t : Term) (v : Option Value) → re
     → (executed s r).written ≡ (carried t s.world).written ++ shown_line v
 value_shown s r t v h is = written_by s r t (Ok v) h is
 
-pub fault_shown : (s : State) (r : Reading) (t : Term) (f : Fault) → requested s r ≡ Ok (asked.act t) → (carried t s.world).answer ≡ Err (ended.Fault f)
+fault_last : (s : State) (w : World) (bytes : List ℕ) (answer : Result (Option Value) EarlyEnd) (f : Fault) → fault_of answer ≡ Some f → (run_after s w bytes answer).written ≡ bytes ++ fault_line f
+fault_last s w bytes (Ok v) f h = absurd (cc)
+fault_last s w bytes (Err (ended.Fault g)) f h =
+    let same : g ≡ f = cc in
+    ap (λ it. bytes ++ fault_line it) same
+fault_last s w bytes (Err (ended.FaultIn g id)) f h =
+    let same : g ≡ f = cc in
+    ap (λ it. bytes ++ fault_line it) same
+fault_last s w bytes (Err (ended.Limit limit)) f h = absurd (cc)
+fault_last s w bytes (Err (ended.Exit code)) f h = absurd (cc)
+
+pub fault_shown : (s : State) (r : Reading) (t : Term) (f : Fault) → requested s r ≡ Ok (asked.act t) → fault_of (carried t s.world).answer ≡ Some f
     → (executed s r).written ≡ (carried t s.world).written ++ fault_line f
-fault_shown s r t f h is = written_by s r t (Err (ended.Fault f)) h is
+fault_shown s r t f h is = ap (λ run. run.written) (by_expression s r t h) ∙ fault_last s (carried t s.world).state (carried t s.world).written (carried t s.world).answer f is
 
 pub limit_shown : (s : State) (r : Reading) (t : Term) (limit : Limit) → requested s r ≡ Ok (asked.act t) → (carried t s.world).answer ≡ Err (ended.Limit limit)
     → (executed s r).written ≡ (carried t s.world).written ++ limit_line limit

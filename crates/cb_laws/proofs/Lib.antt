@@ -2,6 +2,9 @@ mod EntryLaws
 mod Members
 mod MemoryBasics
 mod MoveLaws
+mod PutLaws
+mod ModifyKeeping
+mod ModifyLaws
 mod NameFirst
 mod AssertLaws
 mod RetractLaws

@@ -30,7 +30,7 @@ use Rattle.cb_templates.specs.Templates.{Templates, slots_of}
 use Rattle.cb_working_memory.specs.WorkingMemory.{Memory, greatest_index}
 
 -- each relation that has a template has one whose slots are right
-abbrev AreTemplates : Templates → Type 0
+abbrev pub AreTemplates : Templates → Type 0
 AreTemplates templates = (relation : List ℕ) (slots : List SlotShape) → slots_of templates relation ≡ Some slots → IsTemplate slots
 
 no_indices : IsStrictlySortedBy nat_cmp []
@@ -72,7 +72,7 @@ filled_slots (s ∷ slots) given pairs fine h =
         subst (FillSlots (s ∷ slots)) same (refl, value_kind s (given_for given s.name) v (All-head HasItsDefault s slots fine) e, more others refl)
 
 -- a fact that was built has the slots of its template
-has_its_slots : (templates : Templates) (relation : List ℕ) (parts : PartValues) (fact : FactValue) → AreTemplates templates → built templates relation parts ≡ Ok fact → HasItsSlots templates fact
+pub has_its_slots : (templates : Templates) (relation : List ℕ) (parts : PartValues) (fact : FactValue) → AreTemplates templates → built templates relation parts ≡ Ok fact → HasItsSlots templates fact
 has_its_slots templates relation parts fact are h = by (slots_of templates relation) refl parts h
   where
     by : (o : Option (List SlotShape)) → slots_of templates relation ≡ o → (parts : PartValues) → built templates relation parts ≡ Ok fact → HasItsSlots templates fact

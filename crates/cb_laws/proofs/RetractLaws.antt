@@ -58,7 +58,7 @@ pub record Takes (s t : World) (w : List ℕ) : Type 0 where
   pub proper : IsProper s.agenda → IsProper t.agenda
   pub quiet : IsUnwatched s → w ≡ []
 
-abbrev Ends : Result (Unit {0}) EarlyEnd → Type 0
+abbrev pub Ends : Result (Unit {0}) EarlyEnd → Type 0
 Ends r = (r ≡ Ok tt) ⊎ (r ≡ Err (ended.Limit Numbers))
 
 same_rest : (s : World) → ChangesFactsOnly s s
@@ -67,10 +67,10 @@ same_rest s = record { only = refl; rules = refl; last_rule = refl }
 pub takes_none : (s : World) → Takes s s []
 takes_none s = record { kept = λ sound ix fact at. at; last = refl; sound = λ sound. sound; changes = same_rest s; proper = λ p. p; quiet = λ h. refl }
 
-still_unwatched : (s t : World) → ChangesFactsOnly s t → IsUnwatched s → IsUnwatched t
+pub still_unwatched : (s t : World) → ChangesFactsOnly s t → IsUnwatched s → IsUnwatched t
 still_unwatched s t c h = (ap (λ (u : World). u.watched.facts) c.only ∙ h.0, ap (λ (u : World). u.watched.activations) c.only ∙ h.1)
 
-both_change : (s t u : World) → ChangesFactsOnly s t → ChangesFactsOnly t u → ChangesFactsOnly s u
+pub both_change : (s t u : World) → ChangesFactsOnly s t → ChangesFactsOnly t u → ChangesFactsOnly s u
 both_change s t u c d = record {
   only = d.only ∙ ap (λ (v : World). record v { memory = u.memory; agenda = u.agenda }) c.only;
   rules = d.rules ∙ c.rules;
@@ -98,7 +98,7 @@ takes_each act [] s one = takes_none s
 takes_each act (x ∷ xs) s one = takes_then s (act x s).state (act x s).written (act x s).answer (each act xs) (one x s) (takes_each act xs (act x s).state one)
 
 -- one fact
-gone_takes : (i : ℕ) (s : World) → Takes s (fact_gone i s).state (fact_gone i s).written
+pub gone_takes : (i : ℕ) (s : World) → Takes s (fact_gone i s).state (fact_gone i s).written
 gone_takes i s = by (fact_at s.memory.network.facts i)
   where
     takes : (f : FactValue) (t : World) (w : List ℕ) (r : Result (Unit {0}) EarlyEnd) → Moved s (without i s.memory) (gone_line s i (Some f)) t w r → Takes s t w
@@ -122,14 +122,14 @@ gone_takes i s = by (fact_at s.memory.network.facts i)
     by (Some f) = takes f (moved (without i s.memory) (gone_line s i (Some f)) s).state (moved (without i s.memory) (gone_line s i (Some f)) s).written
         (moved (without i s.memory) (gone_line s i (Some f)) s).answer (moved_so s (without i s.memory) (gone_line s i (Some f)))
 
-gone_ends : (i : ℕ) (s : World) → Ends (fact_gone i s).answer
+pub gone_ends : (i : ℕ) (s : World) → Ends (fact_gone i s).answer
 gone_ends i s = by (fact_at s.memory.network.facts i)
   where
     by : (o : Option FactValue) → Ends (gone_if i o s).answer
     by None = inl refl
     by (Some f) = (moved_so s (without i s.memory) (gone_line s i (Some f))).ends
 
-gone_left : (i : ℕ) (s : World) → IsSound s.memory → (ix : ℕ) → fact_at (fact_gone i s).state.memory.network.facts ix ≡ (if i == ix then None else fact_at s.memory.network.facts ix)
+pub gone_left : (i : ℕ) (s : World) → IsSound s.memory → (ix : ℕ) → fact_at (fact_gone i s).state.memory.network.facts ix ≡ (if i == ix then None else fact_at s.memory.network.facts ix)
 gone_left i s sound ix = by (fact_at s.memory.network.facts i) refl
   where
     was_none : fact_at s.memory.network.facts i ≡ None → (t : Bool) → (i == ix) ≡ t → fact_at s.memory.network.facts ix ≡ (if t then None else fact_at s.memory.network.facts ix)

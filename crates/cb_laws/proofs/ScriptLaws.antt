@@ -197,6 +197,7 @@ module _ (P Q : World → Type 0) (kept : IsKeptByAll P Q)
   concluded_keeps : (s : State) (w : List ℕ) (r : Result (Unit {0}) EarlyEnd) → After InWorld AtLimit s r → Lasts (concluded s w r).status (concluded s w r).state
   concluded_keeps s w (Ok v) h = h
   concluded_keeps s w (Err (ended.Fault f)) h = h
+  concluded_keeps s w (Err (ended.FaultIn f id)) h = h
   concluded_keeps s w (Err (ended.Limit Numbers)) h = h
   concluded_keeps s w (Err (ended.Limit Firings)) h = kept.acts.weaken s.world h
   concluded_keeps s w (Err (ended.Limit Turns)) h = kept.acts.weaken s.world h

@@ -6,7 +6,7 @@ use Rattle.cb_actions.specs.Actions.{carried, carried_all}
 use Rattle.cb_actions.specs.Acts.{Act, each, give, stop, ◌>>=◌}
 use Rattle.cb_actions.specs.Changes.{activation_lines, moved, rescheduled, saliences, scheduled, tell}
 use Rattle.cb_actions.specs.Commands.{asked_by, exited, exited_with, ran_as, rule_defined, status_in, undefined, undefined_if, without_value}
-use Rattle.cb_actions.specs.Effects.{asserted, retracted, valued}
+use Rattle.cb_actions.specs.Effects.{asserted, replaced_if_new, retracted, valued}
 use Rattle.cb_actions.specs.Runs.{actions_of, acted, added_rule, all_gone, cleared_world, defined_rule, dropped_rule, due_by, fire_line, forgotten, next_due, numbered, ran, replaced, restarted_world, rule_named, run, spent, started_anew, unless_halted, with_variables_of, without_all, without_facts}
 use Rattle.cb_actions.specs.Worlds.{World}
 use Rattle.cb_actions.specs.declared.act.EarlyEnd.TheVariants as ended
@@ -22,7 +22,9 @@ use Rattle.cb_laws.proofs.ActLaws.{asserts_only, asserts_proper}
 use Rattle.cb_laws.proofs.AgendaLaws.{changed_proper, moved_proper, popped_proper}
 use Rattle.cb_laws.proofs.ExpressionLaws.{IsKept, all_keep, expression_keeps, valued_keeps}
 use Rattle.cb_laws.proofs.FiringLaws.{never_rise}
-use Rattle.cb_laws.proofs.Keeping.{After, Keeps, after_any, after_map, follow_keeps, keeps_each, keeps_then}
+use Rattle.cb_laws.proofs.Keeping.{After, Keeps, after_any, after_in_rule, after_map, follow_keeps, keeps_each, keeps_then}
+use Rattle.cb_laws.proofs.ModifyKeeping.{modified_keeps, moves_keep}
+use Rattle.cb_laws.proofs.ModifyLaws.{modified_kept}
 use Rattle.cb_laws.proofs.MoveLaws.{moved_so}
 use Rattle.cb_laws.proofs.ReachedLaws.{asserted_kept, none_kept, retracted_kept, rules_kept}
 use Rattle.cb_laws.proofs.RetractedLaws.{retracted_takes}
@@ -48,9 +50,10 @@ module _ (P Q : World → Type 0) (acts : IsKept P Q) (fires : (s : World) (n : 
   acted_keeps k s h =
       let before : World = with_variables_of (bindings_of s.memory.network k) s in
       let act : Act World (Option Value) = carried_all (Some false_symbol) (actions_of (rule_numbered k.rule s.rules)) in
-      after_map P Q (λ t. with_variables_of s.env t) (act before).state (act before).answer (λ t m. acts.env t (record { variables = s.env.variables; globals = t.env.globals }) m)
+      after_in_rule P Q k.rule (with_variables_of s.env (act before).state) (act before).answer
+      (after_map P Q (λ t. with_variables_of s.env t) (act before).state (act before).answer (λ t m. acts.env t (record { variables = s.env.variables; globals = t.env.globals }) m)
       (λ t m. acts.env_limit t (record { variables = s.env.variables; globals = t.env.globals }) m)
-      (all_keep P Q acts (Some false_symbol) (actions_of (rule_numbered k.rule s.rules)) before (acts.env s (record { variables = (bindings_of s.memory.network k).variables; globals = s.env.globals }) h))
+      (all_keep P Q acts (Some false_symbol) (actions_of (rule_numbered k.rule s.rules)) before (acts.env s (record { variables = (bindings_of s.memory.network k).variables; globals = s.env.globals }) h)))
 
   spent_keeps : (left n : ℕ) (k : KeyValue) → Keeps P Q (spent left n k)
   spent_keeps left n k s h =
@@ -190,6 +193,7 @@ acts_well = record {
   halted = λ s b h. h;
   asserts = λ shape vs s h. after_any WellKept (asserted shape vs s).state (asserted shape vs s).answer (asserted_kept shape vs s h);
   retracts = λ vs s h. after_any WellKept (retracted vs s).state (retracted vs s).answer (retracted_kept vs s h);
+  modifies = modified_keeps WellKept WellKept (λ ix given old fact s h at e. after_any WellKept (replaced_if_new ix fact s).state (replaced_if_new ix fact s).answer (modified_kept ix given old fact s h at e));
 }
 
 pub no_templates : (relation : List ℕ) (slots : List SlotShape) → slots_of [] relation ≡ Some slots → IsTemplate slots
@@ -220,8 +224,8 @@ same_firings n s t e h = omega arith
 still_below : (n m r : ℕ) → r ≤ m → m ≤ n → r ≤ n
 still_below n m r f g = omega arith
 
-move_few : (n : ℕ) (s : World) (next : Memory) → HasAtMost n s → After (HasAtMost n) (HasAtMost n) (moved next [] s).state (moved next [] s).answer
-move_few n s next h = after_any (HasAtMost n) (moved next [] s).state (moved next [] s).answer (subst (HasAtMost n) (sym (moved_so s next []).only) h)
+move_few : (n : ℕ) (next : Memory) (line : List ℕ) → Keeps (HasAtMost n) (HasAtMost n) (moved next line)
+move_few n next line s h = after_any (HasAtMost n) (moved next line s).state (moved next line s).answer (subst (HasAtMost n) (sym (moved_so s next line).only) h)
 
 pub firings_kept : (n : ℕ) → IsKeptByAll (HasAtMost n) (HasAtMost n)
 firings_kept n = record {
@@ -234,9 +238,10 @@ firings_kept n = record {
     asserts = λ shape vs s h. after_any (HasAtMost n) (asserted shape vs s).state (asserted shape vs s).answer
         (same_firings n s (asserted shape vs s).state (ap (λ (w : World). w.firings) (asserts_only shape vs s).only) h);
     retracts = λ vs s h. after_any (HasAtMost n) (retracted vs s).state (retracted vs s).answer (same_firings n s (retracted vs s).state (ap (λ (w : World). w.firings) (retracted_takes vs s).changes.only) h);
+    modifies = moves_keep (HasAtMost n) (HasAtMost n) (move_few n);
   };
   ruled = λ s rules h. h;
-  moves = λ s rules last_rule h. move_few n s (with_rules rules last_rule s.memory) h;
+  moves = λ s rules last_rule h. move_few n (with_rules rules last_rule s.memory) [] s h;
   restarts = λ s h. agenda_only (HasAtMost n) (HasAtMost n) [] (all_keys (restarted s.memory).network) (λ t ss k. k) (λ t k. k) (without_facts s) h;
   clears = λ s h. h;
   runs = λ asked s h. after_any (HasAtMost n) (run asked s).state (run asked s).answer (still_below n s.firings (run asked s).state.firings (never_rise asked s) h);
@@ -252,6 +257,10 @@ pub none_due : (last : ℕ) (strategy : Strategy) (failed : Bool) → IsProper (
 unfolding IsStrictlySortedBy
 none_due last strategy failed = record { rising = tt; once = tt }
 
+proper_moved : (next : Memory) (line : List ℕ) → Keeps HasProperAgenda HasProperAgenda (moved next line)
+proper_moved next line s h =
+    after_any HasProperAgenda (moved next line s).state (moved next line s).answer (moved_proper s next line (moved next line s).state (moved next line s).written (moved next line s).answer (moved_so s next line) h)
+
 acts_proper : IsKept HasProperAgenda HasProperAgenda
 acts_proper = record {
   weaken = λ s h. h;
@@ -261,17 +270,14 @@ acts_proper = record {
   halted = λ s b h. h;
   asserts = λ shape vs s h. after_any HasProperAgenda (asserted shape vs s).state (asserted shape vs s).answer (asserts_proper shape vs s h);
   retracts = λ vs s h. after_any HasProperAgenda (retracted vs s).state (retracted vs s).answer ((retracted_takes vs s).proper h);
+  modifies = moves_keep HasProperAgenda HasProperAgenda proper_moved;
 }
-
-proper_moved : (s : World) (next : Memory) → HasProperAgenda s → After HasProperAgenda HasProperAgenda (moved next [] s).state (moved next [] s).answer
-proper_moved s next h =
-    after_any HasProperAgenda (moved next [] s).state (moved next [] s).answer (moved_proper s next [] (moved next [] s).state (moved next [] s).written (moved next [] s).answer (moved_so s next []) h)
 
 pub agenda_kept : IsKeptByAll HasProperAgenda HasProperAgenda
 agenda_kept = record {
   acts = acts_proper;
   ruled = λ s rules h. h;
-  moves = λ s rules last_rule h. proper_moved s (with_rules rules last_rule s.memory) h;
+  moves = λ s rules last_rule h. proper_moved (with_rules rules last_rule s.memory) [] s h;
   restarts = λ s h. agenda_only HasProperAgenda HasProperAgenda [] (all_keys (restarted s.memory).network) (λ t ss k. changed_proper t.agenda [] (all_keys (restarted s.memory).network) ss k) (λ t k. k)
       (without_facts s) (none_due s.agenda.last s.agenda.strategy s.agenda.failed);
   clears = λ s h. none_due s.agenda.last s.agenda.strategy s.agenda.failed;

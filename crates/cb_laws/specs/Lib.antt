@@ -1,4 +1,5 @@
 pub mod Memories
+pub mod Modified
 pub mod Naming
 pub mod Running
 pub mod SlotValues

@@ -3,13 +3,13 @@ ghost use Rattle.std.specs.List.{list_all};
 ghost use Rattle.std.specs.Prelude.{◌≡◌, ◌⊎◌, ◌∷◌, ℕ, ℤ, List, [], Option, Some, None, Ok, Err, false, true, map};
 ghost use Rattle.cb_actions.specs.Actions.{carried, carried_values};
 ghost use Rattle.cb_actions.specs.Acts.{after_writing, stop};
-ghost use Rattle.cb_actions.specs.Effects.{asserted, fact_added, is_retractable, parts_of, retracted};
+ghost use Rattle.cb_actions.specs.Effects.{asserted, fact_added, is_retractable, modified, parts_of, retracted};
 ghost use Rattle.cb_actions.specs.Laws.{with_answer};
 ghost use Rattle.cb_actions.specs.Worlds.{World};
 ghost use Rattle.cb_actions.specs.declared.act.EarlyEnd.{EarlyEnd};
 ghost use Rattle.cb_actions.specs.declared.act.EarlyEnd.TheVariants as ended;
 ghost use Rattle.cb_actions.specs.declared.act.Limit.TheVariants.{Numbers};
-ghost use Rattle.cb_exprs.specs.Shapes.{Shape};
+ghost use Rattle.cb_exprs.specs.Shapes.{Shape, SlotCounts};
 ghost use Rattle.cb_exprs.specs.Terms.{Terms, effect};
 ghost use Rattle.cb_exprs.specs.declared.effect.Effect.TheVariants as kind;
 ghost use Rattle.cb_facts.specs.FactLists.{fact_at};
@@ -82,8 +82,8 @@ pub fn a_retraction_takes_what_is_named()
         → (retracted vs s).written ≡ [] }
 {}
 
-/// `assert` and `retract` carry their arguments out first, and do with the values what the laws above say. Where an argument
-/// ends with a fault or at a limit, the command does so too, and nothing is asserted or retracted.
+/// `assert`, `retract` and `modify` carry their arguments out first, and do with the values what the laws above, and those of
+/// `modifying`, say. Where an argument ends with a fault or at a limit, the command does so too, and no fact changes.
 pub fn a_command_acts_on_the_values_of_its_arguments()
     ensures assert { (shape : Shape) (ts : Terms) (s : World) (vs : List Value)
         → (carried_values None [] ts s).answer ≡ Ok vs
@@ -99,6 +99,13 @@ pub fn a_command_acts_on_the_values_of_its_arguments()
     ensures retract_ended { (ts : Terms) (s : World) (e : EarlyEnd)
         → (carried_values None [] ts s).answer ≡ Err e
         → carried (effect kind.Retract ts) s ≡ with_answer (carried_values None [] ts s) (Err e) }
+    ensures modify { (slots : SlotCounts) (ts : Terms) (s : World) (vs : List Value)
+        → (carried_values None [] ts s).answer ≡ Ok vs
+        → carried (effect (kind.Modify slots) ts) s ≡ after_writing (carried_values None [] ts s).written
+        (modified slots vs (carried_values None [] ts s).state) }
+    ensures modify_ended { (slots : SlotCounts) (ts : Terms) (s : World) (e : EarlyEnd)
+        → (carried_values None [] ts s).answer ≡ Err e
+        → carried (effect (kind.Modify slots) ts) s ≡ with_answer (carried_values None [] ts s) (Err e) }
 {}
 
 /// The values of a fact's expressions go to its fields, or to its slots, in the order in which they are written.

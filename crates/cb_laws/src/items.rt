@@ -1,6 +1,7 @@
 //! What an item of a script does to the facts and the templates.
 ghost use Rattle.std.specs.Prelude.{◌≡◌, ◌++◌, ◌∷◌, ℕ, List, [], Option, None, Some, Ok, Err, codes, false, map, true};
 ghost use Rattle.cb_actions.specs.Actions.{carried};
+ghost use Rattle.cb_actions.specs.Acts.{fault_of};
 ghost use Rattle.cb_actions.specs.declared.act.EarlyEnd.TheVariants as ended;
 ghost use Rattle.cb_actions.specs.declared.act.Limit.{Limit};
 ghost use Rattle.cb_expr_forms.specs.ExprFaults.{faults_of};
@@ -41,7 +42,7 @@ pub fn an_expression_is_carried_out()
         → requested s r ≡ Ok (request.act t) → (carried t s.world).answer ≡ Ok v
         → (executed s r).written ≡ (carried t s.world).written ++ shown_line v }
     ensures fault { (s : State) (r : Reading) (t : Term) (f : Fault)
-        → requested s r ≡ Ok (request.act t) → (carried t s.world).answer ≡ Err (ended.Fault f)
+        → requested s r ≡ Ok (request.act t) → fault_of (carried t s.world).answer ≡ Some f
         → (executed s r).written ≡ (carried t s.world).written ++ fault_line f }
     ensures limit { (s : State) (r : Reading) (t : Term) (limit : Limit)
         → requested s r ≡ Ok (request.act t)

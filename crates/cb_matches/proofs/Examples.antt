@@ -88,6 +88,29 @@ together = unfold all_keys all_matches matches_of in refl
 not_together : all_keys (with_facts apart (a_and_b 2)) ≡ key [] ∷ []
 not_together = unfold all_keys all_matches matches_of in refl
 
+-- (not (not (a))): one match with (a), and none without it
+abbrev doubly : List Element
+doubly = group false (elements (group false (elements (of (codes "a") [] ∷ [])) ∷ [])) ∷ []
+
+doubly_with : all_keys (with_facts doubly ((1, ordered_fact (codes "a") []) ∷ [])) ≡ key [] ∷ []
+doubly_with = unfold all_keys all_matches matches_of in refl
+
+doubly_without : all_keys (with_facts doubly []) ≡ []
+doubly_without = unfold all_keys all_matches matches_of in refl
+
+-- (forall (a ?x) (b ?x)), which is (not (and (a ?x) (not (b ?x)))): a match without facts and with (a 1) and (b 1), and none with (a 1) and (b 2)
+abbrev for_all : List Element
+for_all = group false (elements (of (codes "a") (one (is (variable x) ∷ []) ∷ []) ∷ group false (elements (of (codes "b") (one (is (variable x) ∷ []) ∷ []) ∷ [])) ∷ [])) ∷ []
+
+for_all_of_none : all_keys (with_facts for_all []) ≡ key [] ∷ []
+for_all_of_none = unfold all_keys all_matches matches_of in refl
+
+for_all_of_one : all_keys (with_facts for_all (a_and_b 1)) ≡ key [] ∷ []
+for_all_of_one = unfold all_keys all_matches matches_of in refl
+
+not_for_all : all_keys (with_facts for_all (a_and_b 2)) ≡ []
+not_for_all = unfold all_keys all_matches matches_of in refl
+
 -- (n ?x) (test (> ?x 0)), (n a) and (n 4): the test faults for the one, and holds for the other
 tested : all_matches (with_facts (of (codes "n") (one (is (variable x) ∷ []) ∷ []) ∷ test (expr.call function.Greater (expr.terms (expr.variable x ∷ expr.constant (value.Int (pos 0)) ∷ []))) ∷ [])
     ((1, ordered_fact (codes "n") (symbol (codes "a") ∷ [])) ∷ (2, ordered_fact (codes "n") (single.Int (pos 4) ∷ [])) ∷ []))

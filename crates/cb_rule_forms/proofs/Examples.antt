@@ -289,11 +289,51 @@ groups_wrong : map (λ t. on_left (t ∷ [])) (form "not" [] ∷ form "not" (bar
 unfolding is_reserved
 groups_wrong = refl
 
--- (not ?f <- (a)), (not (or)), (not (not (a))), (exists (exists (a))), (not (and (or))), (forall (a) (b)), ?f <- (not (a))
-groups_left_out : map on_left ((form "not" (var "f" ∷ word "<-" ∷ bare "a" ∷ []) ∷ []) ∷ (form "not" (form "or" [] ∷ []) ∷ []) ∷ (form "not" (form "not" (bare "a" ∷ []) ∷ []) ∷ []) ∷ (form "exists" (form "exists" (bare "a" ∷ []) ∷ []) ∷ []) ∷ (form "not" (form "and" (form "or" [] ∷ []) ∷ []) ∷ []) ∷ (form "forall" (bare "a" ∷ bare "b" ∷ []) ∷ []) ∷ (var "f" ∷ word "<-" ∷ form "not" (bare "a" ∷ []) ∷ []) ∷ [])
-    ≡ Some NotInProfile ∷ Some NotInProfile ∷ Some NotInProfile ∷ Some NotInProfile ∷ Some NotInProfile ∷ Some NotInProfile ∷ Some NotInProfile ∷ []
+-- (forall), (forall (a)), (forall ?f <- (a)), (forall (logical (a))), (exists (not)), (not (not (a) (b))), (not (forall (a))): the same
+groups_in_groups_wrong : map (λ t. on_left (t ∷ [])) (form "forall" [] ∷ form "forall" (bare "a" ∷ []) ∷ form "forall" (var "f" ∷ word "<-" ∷ bare "a" ∷ []) ∷ form "forall" (form "logical" (bare "a" ∷ []) ∷ []) ∷ form "exists" (form "not" [] ∷ []) ∷ form "not" (form "not" (bare "a" ∷ bare "b" ∷ []) ∷ []) ∷ form "not" (form "forall" (bare "a" ∷ []) ∷ []) ∷ [])
+    ≡ Some MalformedForm ∷ Some MalformedForm ∷ Some MalformedForm ∷ Some MalformedForm ∷ Some MalformedForm ∷ Some MalformedForm ∷ Some MalformedForm ∷ []
+unfolding is_reserved
+groups_in_groups_wrong = refl
+
+-- (not ?f <- (a)), (not (or)), (not (and (or))), (not (not (or (a)))), (forall ?f <- (a) (b)), (forall (a) (or (b))), (exists (logical (a))), ?f <- (forall (a) (b))
+groups_left_out : map on_left ((form "not" (var "f" ∷ word "<-" ∷ bare "a" ∷ []) ∷ []) ∷ (form "not" (form "or" [] ∷ []) ∷ []) ∷ (form "not" (form "and" (form "or" [] ∷ []) ∷ []) ∷ []) ∷ (form "not" (form "not" (form "or" (bare "a" ∷ []) ∷ []) ∷ []) ∷ []) ∷ (form "forall" (var "f" ∷ word "<-" ∷ bare "a" ∷ bare "b" ∷ []) ∷ []) ∷ (form "forall" (bare "a" ∷ form "or" (bare "b" ∷ []) ∷ []) ∷ []) ∷ (form "exists" (form "logical" (bare "a" ∷ []) ∷ []) ∷ []) ∷ (var "f" ∷ word "<-" ∷ form "forall" (bare "a" ∷ bare "b" ∷ []) ∷ []) ∷ [])
+    ≡ Some NotInProfile ∷ Some NotInProfile ∷ Some NotInProfile ∷ Some NotInProfile ∷ Some NotInProfile ∷ Some NotInProfile ∷ Some NotInProfile ∷ Some NotInProfile ∷ []
 unfolding is_reserved
 groups_left_out = refl
+
+-- (exists (c) (not (and (a) (exists (c))))): groups in a group, also within an `and`
+groups_in_a_group : branches_in (form "exists" (bare "c" ∷ form "not" (form "and" (bare "a" ∷ form "exists" (bare "c" ∷ []) ∷ []) ∷ []) ∷ []) ∷ [])
+    ≡ Ok (elements (group true (elements (pattern None (of_none "c") ∷ group false (elements (pattern None (of_none "a") ∷ group true (elements (pattern None (of_none "c") ∷ [])) ∷ [])) ∷ [])) ∷ []) ∷ [])
+unfolding is_reserved
+groups_in_a_group = refl
+
+-- (forall (a ?x) (b ?x) (c)) is (not (and (a ?x) (not (and (b ?x) (c))))), which has one place in the layout
+abbrev for_all : List Tree
+for_all = form "forall" (form "a" (var "x" ∷ []) ∷ form "b" (var "x" ∷ []) ∷ bare "c" ∷ []) ∷ []
+
+forall_is_two_groups : branches_in for_all
+    ≡ Ok (elements (group false (elements (pattern None (of_one "a" false) ∷ group false (elements (pattern None (of_one "b" false) ∷ pattern None (of_none "c") ∷ [])) ∷ [])) ∷ []) ∷ [])
+unfolding is_reserved
+forall_is_two_groups = refl
+
+forall_as_written_out : branches_in for_all
+    ≡ branches_in (form "not" (form "and" (form "a" (var "x" ∷ []) ∷ form "not" (form "and" (form "b" (var "x" ∷ []) ∷ bare "c" ∷ []) ∷ []) ∷ []) ∷ []) ∷ [])
+unfolding is_reserved
+forall_as_written_out = refl
+
+layout_of_forall : layouts_in (bare "d" ∷ for_all) ≡ Ok ((true ∷ false ∷ []) ∷ [])
+unfolding is_reserved
+layout_of_forall = refl
+
+relations_of_forall : relations_in for_all [] ≡ Ok (codes "a" ∷ codes "b" ∷ codes "c" ∷ [])
+unfolding is_reserved
+relations_of_forall = refl
+
+-- (forall (a ?x) (b ~?x)), (forall (a ?x) (b)) (c ~?x), (not (and (a) (not (b ?y)) (c ~?y))): each group knows what the groups around it have bound before
+variables_of_groups_in_groups : map on_left ((form "forall" (form "a" (var "x" ∷ []) ∷ form "b" (tilde ∷ var "x" ∷ []) ∷ []) ∷ []) ∷ (form "forall" (form "a" (var "x" ∷ []) ∷ bare "b" ∷ []) ∷ form "c" (tilde ∷ var "x" ∷ []) ∷ []) ∷ (form "not" (form "and" (bare "a" ∷ form "not" (form "b" (var "y" ∷ []) ∷ []) ∷ form "c" (tilde ∷ var "y" ∷ []) ∷ []) ∷ []) ∷ []) ∷ [])
+    ≡ None ∷ Some UnboundVariable ∷ Some UnboundVariable ∷ []
+unfolding is_reserved
+variables_of_groups_in_groups = refl
 
 -- (exists (a ?x)) (b ~?x), (exists (a ?x) (b ~?x)), (a ?x) (not (b ~?x)), (not (a ?x)) ?x <- (b): what a group binds is known in it alone
 variables_of_groups : map on_left ((form "exists" (form "a" (var "x" ∷ []) ∷ []) ∷ form "b" (tilde ∷ var "x" ∷ []) ∷ []) ∷ (form "exists" (form "a" (var "x" ∷ []) ∷ form "b" (tilde ∷ var "x" ∷ []) ∷ []) ∷ []) ∷ (form "a" (var "x" ∷ []) ∷ form "not" (form "b" (tilde ∷ var "x" ∷ []) ∷ []) ∷ []) ∷ (form "not" (form "a" (var "x" ∷ []) ∷ []) ∷ var "x" ∷ word "<-" ∷ bare "b" ∷ []) ∷ [])

@@ -1,12 +1,12 @@
 -- Elements as they are written, one after another and by the word that a list begins with.
-use Rattle.std.proofs.Common.{◌≡◌, ◌≢◌, ◌<◌, ◌+◌, ◌∙◌, ◌++◌, ℕ, Bool, List, [], ◌∷◌, Option, Some, None, false, true, Vec, Global, arith, length, map, option_map, refl, sym, ap}
+use Rattle.std.proofs.Common.{◌≡◌, ◌≢◌, ◌<◌, ◌≤◌, ◌+◌, ◌∙◌, ◌++◌, ℕ, Bool, List, [], ◌∷◌, Option, Some, None, false, true, Vec, Global, arith, drop, length, map, option_map, refl, sym, ap, take}
 use Rattle.cb_expr_forms.specs.Internal.Sizes.{tree_size, trees_size}
 use Rattle.cb_forms.specs.Members.{call_of, symbol_of}
 use Rattle.cb_forms.specs.Trees.{Tree, atom, branch, Trees, no_trees, tree}
 use Rattle.cb_forms.specs.declared.fault.Fault.{Fault}
 use Rattle.cb_forms.specs.declared.fault.Fault.TheVariants.{MalformedForm}
 use Rattle.cb_rule_forms.specs.Internal.{before, writtens, written_seen, written_step}
-use Rattle.cb_rule_forms.specs.WrittenElements.{Written, wrong, all_of, one_of, written_group, Writtens, written, gathered, listed, negated, written_alone, written_in}
+use Rattle.cb_rule_forms.specs.WrittenElements.{Written, wrong, all_of, one_of, written_group, Writtens, written, gathered, listed, negated, quantified, written_alone, written_in}
 use Rattle.cb_rule_forms.specs.declared.written.Kind.TheVariants as kind
 use Rattle.cb_rule_forms.specs.declared.written.Written as declared
 use Rattle.cb_rule_forms.specs.declared.written.Written.TheFolds.{fold-roll-Written}
@@ -95,3 +95,19 @@ pub negated_other : {X : Type 0} (see : X → Written) (xs : List X) → length 
 negated_other see [] h = refl
 negated_other see (x ∷ []) h = absurd (h refl)
 negated_other see (x ∷ y ∷ xs) h = refl
+
+-- two or more members of `forall`, and fewer
+pub forall_gathered : {X : Type 0} (see : X → Written) (xs : List X) → length xs ≢ 0 → gathered kind.Forall (writtens (map see xs)) ≡ quantified (writtens (map see xs))
+forall_gathered see [] h = absurd (h refl)
+forall_gathered see (x ∷ xs) h = refl
+
+pub quantified_few : {X : Type 0} (see : X → Written) (xs : List X) → length xs < 2 → quantified (writtens (map see xs)) ≡ wrong MalformedForm
+quantified_few see [] h = refl
+quantified_few see (x ∷ []) h = refl
+quantified_few see (x ∷ y ∷ xs) h = absurd (omega arith)
+
+pub quantified_two : {X : Type 0} (see : X → Written) (xs : List X) → 2 ≤ length xs
+    → quantified (writtens (map see xs)) ≡ written_group false (writtens (map see (take 1 xs) ++ written_group false (writtens (map see (drop 1 xs))) ∷ []))
+quantified_two see [] h = absurd (omega arith)
+quantified_two see (x ∷ []) h = absurd (omega arith)
+quantified_two see (x ∷ y ∷ xs) h = refl

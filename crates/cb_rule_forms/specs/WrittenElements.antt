@@ -1,5 +1,5 @@
 -- The left side of a rule as it is written: a tree of condition elements.
-use Rattle.std.specs.Prelude.{ℕ, Bool, true, false, List, Option, Some, None, codes, if◌then◌else◌}
+use Rattle.std.specs.Prelude.{◌&&◌, ℕ, Bool, true, false, not, List, Option, Some, None, codes, if◌then◌else◌}
 use Rattle.std.specs.Str.{bytes_eq}
 use Rattle.cb_expr_forms.specs.ExprFaults.{is_this_symbol}
 use Rattle.cb_forms.specs.Members.{call_of, symbol_of}
@@ -33,14 +33,14 @@ mutual
     none_written : Writtens
     written : Written → Writtens → Writtens
 
--- the kind of element that has elements as members, by its word; in a group only `and` may stand
+-- the kind of element that has elements as members, by its word; in a group `or` may not stand
 abbrev pub kind_of : Bool → List ℕ → Option Kind
 kind_of inside word =
     if bytes_eq word (codes "and") then Some kind.And else (
-    if inside then None else (
-    if bytes_eq word (codes "or") then Some kind.Or else (
     if bytes_eq word (codes "not") then Some kind.Not else (
-    if bytes_eq word (codes "exists") then Some kind.Exists else None))))
+    if bytes_eq word (codes "exists") then Some kind.Exists else (
+    if bytes_eq word (codes "forall") then Some kind.Forall else (
+    if bytes_eq word (codes "or") && not inside then Some kind.Or else None))))
 
 -- whether the members stand in a group
 abbrev pub members_inside : Bool → Kind → Bool
@@ -48,6 +48,7 @@ members_inside inside kind.And = inside
 members_inside inside kind.Or = inside
 members_inside inside kind.Not = true
 members_inside inside kind.Exists = true
+members_inside inside kind.Forall = true
 
 -- what `not` makes of its members, which must be one
 abbrev pub negated : Writtens → Written
@@ -55,13 +56,20 @@ negated none_written = wrong MalformedForm
 negated (written w none_written) = written_group false (written w none_written)
 negated (written w (written x ws)) = wrong MalformedForm
 
--- the element of these members, of which there must be one or more, and for `not` one
+-- what `forall` makes of its members, which must be two or more: `(forall A B ..)` is `(not (and A (not (and B ..))))`
+abbrev pub quantified : Writtens → Written
+quantified none_written = wrong MalformedForm
+quantified (written w none_written) = wrong MalformedForm
+quantified (written w (written x ws)) = written_group false (written w (written (written_group false (written x ws)) none_written))
+
+-- the element of these members, of which there must be one or more, for `not` one and for `forall` two or more
 abbrev pub gathered : Kind → Writtens → Written
 gathered k none_written = wrong MalformedForm
 gathered kind.And (written w ws) = all_of (written w ws)
 gathered kind.Or (written w ws) = one_of (written w ws)
 gathered kind.Not (written w ws) = negated (written w ws)
 gathered kind.Exists (written w ws) = written_group true (written w ws)
+gathered kind.Forall (written w ws) = quantified (written w ws)
 
 -- a test, by what follows its word
 abbrev pub test_form : Option Tree → Written

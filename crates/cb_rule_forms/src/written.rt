@@ -4,7 +4,7 @@ ghost use Rattle.cb_expr_forms.specs.Internal.Sizes.{trees_size};
 ghost use Rattle.cb_forms.specs.Members.{members};
 ghost use Rattle.cb_forms.specs.Trees.{tree_of};
 ghost use Rattle.cb_rule_forms.specs.Internal.{next_size, next_seen, writtens, written_seen};
-ghost use Rattle.cb_rule_forms.specs.WrittenElements.{address_of, addressed, gathered, kind_of, listed, members_inside, negated, none_written, plain_form, variable_of, written_in};
+ghost use Rattle.cb_rule_forms.specs.WrittenElements.{address_of, addressed, gathered, kind_of, listed, members_inside, negated, none_written, plain_form, quantified, variable_of, written_in};
 ghost use Rattle.cb_rule_forms.specs.WrittenElements as element;
 
 use crate::sections::only_of;
@@ -41,6 +41,8 @@ pub(crate) enum Kind {
     Not,
     /// `exists`
     Exists,
+    /// `forall`
+    Forall,
 }
 
 /// The next forms of a left side.
@@ -143,29 +145,29 @@ fn write_list<'a>(
         None => Ok(write_plain(word, forms)),
         Some(kind) => {
             let elements = write_elements(alloc, members_inside(inside, kind), forms)?;
-            Ok(gather(kind, elements))
+            gather(kind, elements)
         }
     }
 }
 
-/// The kind of element that has elements as members, by its word; in a group only `and` may stand.
+/// The kind of element that has elements as members, by its word; in a group `or` may not stand.
 fn kind_of(inside: bool, word: &[u8]) -> Option<Kind>
     ensures { result ≡ kind_of inside word.now }
 {
     if word == b"and".as_slice() {
         return Some(Kind::And);
     }
-    if inside {
-        return None;
-    }
-    if word == b"or".as_slice() {
-        return Some(Kind::Or);
-    }
     if word == b"not".as_slice() {
         return Some(Kind::Not);
     }
     if word == b"exists".as_slice() {
         return Some(Kind::Exists);
+    }
+    if word == b"forall".as_slice() {
+        return Some(Kind::Forall);
+    }
+    if word == b"or".as_slice() && !inside {
+        return Some(Kind::Or);
     }
     None
 }
@@ -176,22 +178,24 @@ fn members_inside(inside: bool, kind: Kind) -> bool
 {
     match kind {
         Kind::And | Kind::Or => inside,
-        Kind::Not | Kind::Exists => true,
+        Kind::Not | Kind::Exists | Kind::Forall => true,
     }
 }
 
-/// The element of these members, of which there must be one or more, and for `not` one.
-fn gather<'a>(kind: Kind, elements: Vec<Written<'a>>) -> Written<'a>
-    ensures { written_seen result ≡ gathered kind (writtens (map written_seen elements.entry.items)) }
+/// The element of these members, of which there must be one or more, for `not` one and for `forall` two or more.
+fn gather<'a>(kind: Kind, elements: Vec<Written<'a>>) -> Result<Written<'a>, NoMemory>
+    ensures { IfOk result (λ w. written_seen w
+        ≡ gathered kind (writtens (map written_seen elements.entry.items))) }
 {
     if elements.is_empty() {
-        return Written::Wrong(Fault::MalformedForm);
+        return Ok(Written::Wrong(Fault::MalformedForm));
     }
     match kind {
-        Kind::And => Written::All(elements),
-        Kind::Or => Written::One(elements),
-        Kind::Not => negate(elements),
-        Kind::Exists => Written::Group(true, elements),
+        Kind::And => Ok(Written::All(elements)),
+        Kind::Or => Ok(Written::One(elements)),
+        Kind::Not => Ok(negate(elements)),
+        Kind::Exists => Ok(Written::Group(true, elements)),
+        Kind::Forall => quantify(elements),
     }
 }
 
@@ -204,6 +208,20 @@ fn negate<'a>(elements: Vec<Written<'a>>) -> Written<'a>
     } else {
         Written::Wrong(Fault::MalformedForm)
     }
+}
+
+/// What `forall` makes of its members, which must be two or more: `(forall A B ..)` is `(not (and A (not (and B ..))))`.
+fn quantify<'a>(elements: Vec<Written<'a>>) -> Result<Written<'a>, NoMemory>
+    ensures { IfOk result (λ w. written_seen w
+        ≡ quantified (writtens (map written_seen elements.entry.items))) }
+{
+    if elements.len() < 2 {
+        return Ok(Written::Wrong(Fault::MalformedForm));
+    }
+    let mut members = elements;
+    let others = members.split_off(1)?;
+    members.push(Written::Group(false, others))?;
+    Ok(Written::Group(false, members))
 }
 
 /// What a list is that begins with another reserved word.

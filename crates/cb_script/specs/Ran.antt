@@ -7,17 +7,18 @@ use Rattle.cb_script.specs.Outcomes.{ended_as, HasEnded, HasStopped, HasFailed}
 use Rattle.cb_script.specs.Runs.{IsPrompt}
 use Rattle.cb_script.specs.declared.outcome.Cause.TheVariants.{Done, ReadFault, WriteFault}
 use Rattle.cb_script.specs.declared.outcome.Outcome.{Outcome}
+use Rattle.cb_session.specs.Places.{FaultPlaces, all_places, places_so_far}
 use Rattle.cb_session.specs.Setups.{Setup, fresh_setup}
 use Rattle.cb_session.specs.Transcripts.{so_far, transcript, status_of}
 use Rattle.cb_session.specs.declared.limits.Limits.{Limits}
 
--- the script has written all of its transcript and ended so
-abbrev pub IsTranscript : Setup → Outcome → List ℕ → List ℕ → Type 0
-IsTranscript setup result script wrote = (wrote ≡ transcript setup script) × (result ≡ ended_as (status_of setup script))
+-- the script has written all of its transcript and ended so, and these are the places of its faults and of its limit
+abbrev pub IsTranscript : Setup → Outcome → FaultPlaces → List ℕ → List ℕ → Type 0
+IsTranscript setup result places script wrote = (wrote ≡ transcript setup script) × (result ≡ ended_as (status_of setup script)) × (places ≡ all_places setup script)
 
--- A run from this setup with this outcome. The source had `left` left when the run began and has `left'` now, if it says so; its
+-- A run from this setup with this outcome, which reports these places. The source had `left` left when the run began and has `left'` now, if it says so; its
 -- reads had given `reads` and have given `reads'`; the writes of the sink had taken `writes` and have taken `writes'`.
-pub record RanFrom (setup : Setup) (result : Outcome) (left left' : Option (List ℕ)) (reads reads' : PastReads) (writes writes' : PastWrites) : Type 0 where
+pub record RanFrom (setup : Setup) (result : Outcome) (places : FaultPlaces) (left left' : Option (List ℕ)) (reads reads' : PastReads) (writes writes' : PastWrites) : Type 0 where
   -- what the run read and what it wrote
   pub read : List ℕ
   pub wrote : List ℕ
@@ -26,11 +27,12 @@ pub record RanFrom (setup : Setup) (result : Outcome) (left left' : Option (List
   -- However it went.
   pub prompt : IsPrompt setup read wrote
   -- The script has ended: by its end only where a read reported it; else so, however the script goes on.
-  pub ended : HasEnded result.cause → IsTranscript setup result read wrote
-  pub ended_however : HasEnded result.cause → reads'.ends ≡ reads.ends → (rest : List ℕ) → IsTranscript setup result (read ++ rest) wrote
+  pub ended : HasEnded result.cause → IsTranscript setup result places read wrote
+  pub ended_however : HasEnded result.cause → reads'.ends ≡ reads.ends → (rest : List ℕ) → IsTranscript setup result places (read ++ rest) wrote
   pub end_was_read : result.cause ≡ Done → reads.ends < reads'.ends
   -- The run failed.
   pub after_read_fault : result.cause ≡ ReadFault → wrote ≡ (so_far setup read).written
+  pub places_at_read_fault : result.cause ≡ ReadFault → places ≡ places_so_far setup read
   pub after_stop : HasStopped result.cause → BeginsWith wrote (transcript setup read)
   pub after_stop_however : HasStopped result.cause → reads'.ends ≡ reads.ends → (rest : List ℕ) → BeginsWith wrote (transcript setup (read ++ rest))
   pub read_failed : result.cause ≡ ReadFault → length read < 2 ^ 64 - 1 → reads.failures < reads'.failures
@@ -40,10 +42,10 @@ pub record RanFrom (setup : Setup) (result : Outcome) (left left' : Option (List
   pub status_of_failure : HasFailed result.cause → result.status ≡ 3
   -- A source that says which bytes it has: of all of them, read or not. Where some are unread, it doesn't matter which.
   pub gave : Gave left left' read
-  pub whole_transcript : HasEnded result.cause → IfSome left (λ s. IsTranscript setup result s wrote)
+  pub whole_transcript : HasEnded result.cause → IfSome left (λ s. IsTranscript setup result places s wrote)
   pub after_stop_of_all : HasStopped result.cause → IfSome left (λ s. BeginsWith wrote (transcript setup s))
   pub after_stop_with_more : HasStopped result.cause → IfSome left' (λ unread. unread ≢ [] → (rest : List ℕ) → BeginsWith wrote (transcript setup (read ++ rest)))
 
--- A run of the program with these limits and this outcome: no number was given before.
-abbrev pub Ran : Limits → Outcome → Option (List ℕ) → Option (List ℕ) → PastReads → PastReads → PastWrites → PastWrites → Type 0
-Ran limits result left left' reads reads' writes writes' = RanFrom (fresh_setup limits) result left left' reads reads' writes writes'
+-- A run of the program with these limits, this outcome and these places: no number was given before.
+abbrev pub Ran : Limits → Outcome → FaultPlaces → Option (List ℕ) → Option (List ℕ) → PastReads → PastReads → PastWrites → PastWrites → Type 0
+Ran limits result places left left' reads reads' writes writes' = RanFrom (fresh_setup limits) result places left left' reads reads' writes writes'

@@ -2,7 +2,7 @@
 ghost use Rattle.std.specs.Prelude.{◌≡◌};
 ghost use Rattle.cb_script.specs.Outcomes.{line_of, ended_as, stopped_as, failed_as};
 
-use cb_session::{Ending, Status, Stop};
+use cb_session::{Ending, Places, Status, Stop};
 
 /// Why a run ended.
 #[derive(Clone, Copy, Debug, PartialEq, Eq)]
@@ -19,6 +19,16 @@ pub enum Cause {
     WriteFault,
     /// Memory was refused.
     NoMemory,
+}
+
+/// How a run ended, and where its faults arose.
+#[derive(Drop)]
+pub struct Report {
+    /// How it ended.
+    pub outcome: Outcome,
+    /// Where the faults arose of the items that it carried out, and the limit at which the script ended, if it did. After `WriteFault`
+    /// and `NoMemory` they may be any.
+    pub places: Places,
 }
 
 /// How a run ended, and the exit status that goes with it.

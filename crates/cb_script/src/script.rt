@@ -2,15 +2,15 @@
 ghost use Rattle.std.specs.Prelude.{◌≡◌};
 ghost use Rattle.cb_io.specs.Output.{IsReady};
 ghost use Rattle.cb_script.specs.Ran.{Ran, RanFrom};
-ghost use Rattle.cb_session.specs.Sessions.{fresh_session};
+ghost use Rattle.cb_session.specs.Places.{FaultPlaces};
+ghost use Rattle.cb_session.specs.Sessions.{ArePlacesOf, fresh_session};
 
-use crate::outcome::{Cause, Outcome};
+use crate::outcome::{Cause, Outcome, Report};
 use cb_forms::{Out, ReadFault, Sink, Source};
 use cb_joins::Joins;
 use cb_matches::Matcher;
 use cb_session::{Flow, Limits, Mark, Session};
 use std::alloc::Global;
-use std::mem;
 
 /// Carries out the script that the source gives, and writes its transcript.
 ///
@@ -23,14 +23,18 @@ pub fn run<S: Source, K: Sink>(
     source: &mut S,
     out: &mut Out<K>,
     limits: Limits,
-) -> Outcome
+) -> Report
     requires { IsReady out.old }
-    ensures { Ran limits result
+    ensures { Ran limits result.outcome result.places
         (S.left source.old) (S.left source.new) (S.reads source.old) (S.reads source.new)
         (K.writes out.old.sink) (K.writes out.new.sink) }
 {
     let mut session = Session::new(alloc, Joins::new(alloc), limits);
-    follow(&mut session, source, out)
+    let outcome = follow(&mut session, source, out);
+    Report {
+        outcome,
+        places: session.into_places(),
+    }
 }
 
 /// The same for a program that ends with the script: what the session keeps isn't freed, but left to the system, which takes it back
@@ -40,16 +44,18 @@ pub fn run_once<S: Source, K: Sink>(
     source: &mut S,
     out: &mut Out<K>,
     limits: Limits,
-) -> Outcome
+) -> Report
     requires { IsReady out.old }
-    ensures { Ran limits result
+    ensures { Ran limits result.outcome result.places
         (S.left source.old) (S.left source.new) (S.reads source.old) (S.reads source.new)
         (K.writes out.old.sink) (K.writes out.new.sink) }
 {
     let mut session = Session::new(alloc, Joins::new(alloc), limits);
     let outcome = follow(&mut session, source, out);
-    mem::forget(session);
-    outcome
+    Report {
+        outcome,
+        places: session.leave_places(),
+    }
 }
 
 // Feeds the session, which is new, until the script ends or something fails.
@@ -60,7 +66,8 @@ fn follow<M: Matcher<Mark>, S: Source, K: Sink>(
 ) -> Outcome
     requires fresh { session.old ≡ fresh_session session.old.setup }
     requires ready { IsReady out.old }
-    ensures { RanFrom session.old.setup result
+    ensures { (places : FaultPlaces) → ArePlacesOf session.new places
+        → RanFrom session.old.setup result places
         (S.left source.old) (S.left source.new) (S.reads source.old) (S.reads source.new)
         (K.writes out.old.sink) (K.writes out.new.sink) }
 {

@@ -1,6 +1,6 @@
 -- What an item that ends with a fault leaves as it was.
-use Rattle.std.proofs.Common.{◌≡◌, ◌∙◌, ℕ, true, List, Option, Result, Ok, Err, refl, sym, ap, subst}
-use Rattle.cb_actions.specs.Acts.{Effect, give_or_fault, follow, ◌>>=◌}
+use Rattle.std.proofs.Common.{◌≡◌, ◌∙◌, ℕ, true, List, Option, Some, Result, Ok, Err, refl, sym, ap, subst}
+use Rattle.cb_actions.specs.Acts.{Effect, fault_of, give_or_fault, follow, ◌>>=◌}
 use Rattle.cb_actions.specs.Definitions.{globals_after}
 use Rattle.cb_actions.specs.declared.act.EarlyEnd.{EarlyEnd}
 use Rattle.cb_actions.specs.declared.act.EarlyEnd.TheVariants as ended
@@ -29,19 +29,26 @@ shown_state : (s : State) (w : List ℕ) (r : Result (Option Value) EarlyEnd) �
 shown_state s w (Ok v) = refl
 shown_state s w (Err e) = refl
 
-shown_fault : (s : State) (w : List ℕ) (r : Result (Option Value) EarlyEnd) (f : Fault) → (follow s w r shown).answer ≡ Err (ended.Fault f) → r ≡ Err (ended.Fault f)
+shown_fault : (s : State) (w : List ℕ) (r : Result (Option Value) EarlyEnd) (f : Fault) → fault_of (follow s w r shown).answer ≡ Some f → fault_of r ≡ Some f
 shown_fault s w (Ok v) f h = absurd (cc)
-shown_fault s w (Err e) f h = let same : e ≡ ended.Fault f = cc in ap Err same
+shown_fault s w (Err e) f h = h
 
 done_state : (s : State) (request : Request) → (done s (Ok request)).state ≡ (performed request s).state
 done_state s request = shown_state (performed request s).state (performed request s).written (performed request s).answer
 
-done_fault : (s : State) (request : Request) (f : Fault) → (done s (Ok request)).answer ≡ Err (ended.Fault f) → (performed request s).answer ≡ Err (ended.Fault f)
+done_fault : (s : State) (request : Request) (f : Fault) → fault_of (done s (Ok request)).answer ≡ Some f → fault_of (performed request s).answer ≡ Some f
 done_fault s request f h = shown_fault (performed request s).state (performed request s).written (performed request s).answer f h
 
 -- at a fault the mark is all that the item's line adds
-marked : (m : Effect State (Unit {0})) (f : Fault) → m.answer ≡ Err (ended.Fault f) → (run_of m).state ≡ record m.state { is_faulted = true }
-marked m f h = ap (λ (r : Result (Unit {0}) EarlyEnd). (concluded m.state m.written r).state) h
+marked_by : (s : State) (w : List ℕ) (r : Result (Unit {0}) EarlyEnd) (f : Fault) → fault_of r ≡ Some f → (concluded s w r).state ≡ record s { is_faulted = true }
+marked_by s w (Ok v) f h = absurd (cc)
+marked_by s w (Err (ended.Fault g)) f h = refl
+marked_by s w (Err (ended.FaultIn g id)) f h = refl
+marked_by s w (Err (ended.Limit limit)) f h = absurd (cc)
+marked_by s w (Err (ended.Exit code)) f h = absurd (cc)
+
+marked : (m : Effect State (Unit {0})) (f : Fault) → fault_of m.answer ≡ Some f → (run_of m).state ≡ record m.state { is_faulted = true }
+marked m f h = marked_by m.state m.written m.answer f h
 
 pub fault_refused : (s : State) (r : Reading) (f : Fault) → requested s r ≡ Err f → (executed s r).state ≡ record s { is_faulted = true }
 unfolding executed acted
@@ -52,7 +59,7 @@ fault_leaves : (s : State) (r : Reading) (f : Fault) (request : Request) → Fau
     → (executed s r).state ≡ record s { is_faulted = true }
 unfolding executed acted
 fault_leaves s r f request leaves is h =
-    let ends : (done s (Ok request)).answer ≡ Err (ended.Fault f) = sym (ap (λ (it : Result Request Fault). (done s it).answer) is) ∙ h in
+    let ends : fault_of (done s (Ok request)).answer ≡ Some f = sym (ap (λ (it : Result Request Fault). fault_of (done s it).answer) is) ∙ h in
     ap (λ (it : Result Request Fault). (run_of (done s it)).state) is
     ∙ (marked (done s (Ok request)) f ends ∙ ap (λ (t : State). record t { is_faulted = true }) (done_state s request ∙ leaves f (done_fault s request f ends)))
 
@@ -63,10 +70,10 @@ fault_of_globals s r f gs is h = fault_leaves s r f (asked.define_globals gs) (g
 pub template_is_defined : (s : State) (r : Reading) (f : Fault) (template : List ℕ × List SlotShape) → requested s r ≡ Ok (asked.define_template template) → EndsWithFault s r f → ⊥
 unfolding acted
 template_is_defined s r f template is h =
-    let ends : (done s (Ok (asked.define_template template))).answer ≡ Err (ended.Fault f) = sym (ap (λ (it : Result Request Fault). (done s it).answer) is) ∙ h in
-    let faulty : (performed (asked.define_template template) s).answer ≡ Err (ended.Fault f) = done_fault s (asked.define_template template) f ends in absurd (cc)
+    let ends : fault_of (done s (Ok (asked.define_template template))).answer ≡ Some f = sym (ap (λ (it : Result Request Fault). fault_of (done s it).answer) is) ∙ h in
+    let faulty : fault_of (performed (asked.define_template template) s).answer ≡ Some f = done_fault s (asked.define_template template) f ends in absurd (cc)
 
-done_keeps : (s : State) (request : Result Request Fault) (f : Fault) → (done s request).answer ≡ Err (ended.Fault f) → KeepsDefinitions s (done s request).state
+done_keeps : (s : State) (request : Result Request Fault) (f : Fault) → fault_of (done s request).answer ≡ Some f → KeepsDefinitions s (done s request).state
 done_keeps s (Ok request) f h = subst (KeepsDefinitions s) (sym (done_state s request)) (performed_keeps s request f (done_fault s request f h))
 done_keeps s (Err e) f h = record { deffacts = refl; globals = refl }
 

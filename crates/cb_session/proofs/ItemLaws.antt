@@ -32,6 +32,7 @@ use Rattle.cb_session.specs.Actions.{acted, performed, performed_and_shown, requ
 use Rattle.cb_session.specs.Internal.Executing.{Executes}
 use Rattle.cb_session.specs.Lines.{fault_line, limit_line, too_long_line, value_line}
 use Rattle.cb_session.specs.Internal.Scripts.{from, cut_run}
+use Rattle.cb_session.specs.Places.{FaultPlaces, noted, noted_item}
 use Rattle.cb_session.specs.States.{State}
 use Rattle.cb_session.specs.Transcripts.{Run, runs_joined, after_status, concluded, executed, exit_status, limit_status}
 use Rattle.cb_session.specs.declared.status.Status.{Status}
@@ -41,24 +42,23 @@ pub executed-done : (s t : State) (r : Reading) (v : Unit {0}) → t ≡ (acted 
 unfolding executed
 executed-done s t r v state_is is = ap (concluded (acted r s).state (acted r s).written) is ∙ ap (λ u. record { state = u; written = (acted r s).written; status = None }) (sym state_is)
 
-pub executed-fault : (s t : State) (r : Reading) (f : Fault) → t ≡ (acted r s).state → (acted r s).answer ≡ Err (ended.Fault f)
-    → executed s r ≡ record { state = record t { is_faulted = true }; written = (acted r s).written ++ fault_line f; status = None }
-unfolding executed
-executed-fault s t r f state_is is = ap (concluded (acted r s).state (acted r s).written) is ∙ ap (λ u. record { state = record u { is_faulted = true }; written = (acted r s).written ++ fault_line f; status = None }) (sym state_is)
+-- an item that has ended so, and what its end adds
+joined-concluded : (s : State) (w : List ℕ) (e : EarlyEnd) → concluded s w (Err e) ≡ runs_joined (record { state = s; written = w; status = None }) (concluded s [] (Err e))
+joined-concluded s w (ended.Fault f) = refl
+joined-concluded s w (ended.FaultIn f id) = refl
+joined-concluded s w (ended.Limit limit) = refl
+joined-concluded s w (ended.Exit code) = ap (λ it. record { state = s; written = it; status = Some (exit_status code s.is_faulted) }) (sym (append-nil w))
 
-pub executed-limit : (s t : State) (r : Reading) (limit : Limit) → t ≡ (acted r s).state → (acted r s).answer ≡ Err (ended.Limit limit)
-    → executed s r ≡ record { state = t; written = (acted r s).written ++ limit_line limit; status = Some limit_status }
+executed-ended : (s t : State) (r : Reading) (e : EarlyEnd) → t ≡ (acted r s).state → (acted r s).answer ≡ Err e → executed s r ≡ runs_joined (record { state = t; written = (acted r s).written; status = None }) (concluded t [] (Err e))
 unfolding executed
-executed-limit s t r limit state_is is = ap (concluded (acted r s).state (acted r s).written) is ∙ ap (λ u. record { state = u; written = (acted r s).written ++ limit_line limit; status = Some limit_status }) (sym state_is)
-
-pub executed-exit : (s t : State) (r : Reading) (code : Option ℕ) → t ≡ (acted r s).state → (acted r s).answer ≡ Err (ended.Exit code)
-    → executed s r ≡ record { state = t; written = (acted r s).written; status = Some (exit_status code t.is_faulted) }
-unfolding executed
-executed-exit s t r code state_is is = ap (concluded (acted r s).state (acted r s).written) is ∙ ap (λ (u : State). record { state = u; written = (acted r s).written; status = Some (exit_status code u.is_faulted) }) (sym state_is)
+executed-ended s t r e state_is is =
+    ap (concluded (acted r s).state (acted r s).written) is ∙ (joined-concluded (acted r s).state (acted r s).written e
+    ∙ ap (λ u. runs_joined (record { state = u; written = (acted r s).written; status = None }) (concluded u [] (Err e))) (sym state_is))
 
 concluded_begins : (s : State) (w : List ℕ) (r : Result (Unit {0}) EarlyEnd) → BeginsWith w (concluded s w r).written
 concluded_begins s w (Ok v) = ([], sym (append-nil w))
 concluded_begins s w (Err (ended.Fault f)) = (fault_line f, refl)
+concluded_begins s w (Err (ended.FaultIn f id)) = (fault_line f, refl)
 concluded_begins s w (Err (ended.Limit limit)) = (limit_line limit, refl)
 concluded_begins s w (Err (ended.Exit code)) = ([], sym (append-nil w))
 
@@ -81,47 +81,47 @@ module _ {K : Type 0} (writes : K → PastWrites) (o o1 : OutState K) (s t : Sta
       let is = executed-done s t r v h.answers.0 h.answers.1 in
       record { puts = puts_as writes o o1 _ _ _ _ refl (ap (λ it. it.written) is) h.puts; state_is = sym (ap (λ it. it.state) is); status_is = sym (ap (λ it. it.status) is) }
 
-  -- an item with which the script ends
-  pub executes-exit : (code : Option ℕ) (status : Status) → status ≡ exit_status code t.is_faulted → Went {K = K} {S = State} {A = Unit {0}} writes o o1 t (Err (break.Ended (ended.Exit code))) (acted r s)
-      → Executes writes o o1 t (Ok (Some status)) (executed s r)
-  executes-exit code status ends h =
-      let is = executed-exit s t r code h.answers.0 h.answers.1 in
-      record {
-        puts = puts_as writes o o1 _ _ _ _ refl (ap (λ it. it.written) is) h.puts;
-        state_is = sym (ap (λ it. it.state) is);
-        status_is = ap Some ends ∙ sym (ap (λ it. it.status) is);
-      }
-
 if_ok : {T E : Type 0} (P Q : T → Type 0) (r : Result T E) → ((x : T) → P x → Q x) → IfOk r P → IfOk r Q
 if_ok P Q (Ok x) f h = f x h
 if_ok P Q (Err e) f h = tt
 
-always : {T E : Type 0} (P : Type 0) (r : Result T E) → P → OnOk r P
+pub always : {T E : Type 0} (P : Type 0) (r : Result T E) → P → OnOk r P
 always P (Ok x) h = h
 always P (Err e) h = tt
 
-module _ {K : Type 0} (writes : K → PastWrites) (o o1 o2 : OutState K) (s t : State) (r : Reading) (result : Result (Option Status) Stop) where
-  -- an item that ended with a fault, and the line of the fault
-  pub executes-fault : (f : Fault) → Went {K = K} {S = State} {A = Unit {0}} writes o o1 t (Err (break.Ended (ended.Fault f))) (acted r s) → Puts writes o1 o2 (stop_extent result) (fault_line f) → IfOk result (λ status. status ≡ None)
-      → Executes writes o o2 (record t { is_faulted = true }) result (executed s r)
-  executes-fault f h line none =
-      let is = executed-fault s t r f h.answers.0 h.answers.1 in
-      record {
-        puts = puts_as writes o o2 _ _ _ _ refl (ap (λ it. it.written) is) (puts_then writes o o1 o2 (stop_extent result) (acted r s).written (fault_line f) h.puts line);
-        state_is = always _ result (sym (ap (λ it. it.state) is));
-        status_is = if_ok _ _ result (λ status e. e ∙ sym (ap (λ it. it.status) is)) none;
-      }
+module _ {K : Type 0} (writes : K → PastWrites) (o : OutState K) (t : State) where
+  -- the end of an item, where memory is refused before it
+  pub concludes-refused : (e : EarlyEnd) → o.fault ≡ false → Executes writes o o t (Err stop.NoMemory) (concluded t [] (Err e))
+  concludes-refused e fine = record { puts = puts_nothing writes o (concluded t [] (Err e)).written fine; state_is = tt; status_is = tt }
 
-  -- an item that ended at a limit, and its line
-  pub executes-limit : (limit : Limit) → Went {K = K} {S = State} {A = Unit {0}} writes o o1 t (Err (break.Ended (ended.Limit limit))) (acted r s) → Puts writes o1 o2 (stop_extent result) (limit_line limit) → IfOk result (λ status. status ≡ Some limit_status)
-      → Executes writes o o2 t result (executed s r)
-  executes-limit limit h line ends =
-      let is = executed-limit s t r limit h.answers.0 h.answers.1 in
-      record {
-        puts = puts_as writes o o2 _ _ _ _ refl (ap (λ it. it.written) is) (puts_then writes o o1 o2 (stop_extent result) (acted r s).written (limit_line limit) h.puts line);
-        state_is = always _ result (sym (ap (λ it. it.state) is));
-        status_is = if_ok _ _ result (λ status e. e ∙ sym (ap (λ it. it.status) is)) ends;
-      }
+  -- by `exit`
+  pub concludes-exit : (code : Option ℕ) (status : Status) → o.fault ≡ false → status ≡ exit_status code t.is_faulted → Executes writes o o t (Ok (Some status)) (concluded t [] (Err (ended.Exit code)))
+  concludes-exit code status fine is = record { puts = puts_none writes o fine; state_is = refl; status_is = ap Some is }
+
+module _ {K : Type 0} (writes : K → PastWrites) (o o1 o2 : OutState K) (s t u : State) (r : Reading) where
+  -- an item that has ended before it was done, and its end
+  pub executes-ended : (e : EarlyEnd) (result : Result (Option Status) Stop) → Went {K = K} {S = State} {A = Unit {0}} writes o o1 t (Err (break.Ended e)) (acted r s)
+      → Executes writes o1 o2 u result (concluded t [] (Err e)) → Executes writes o o2 u result (executed s r)
+  executes-ended e result first last =
+      let is = executed-ended s t r e first.answers.0 first.answers.1 in
+      subst (λ (run : Run). Executes writes o o2 u result run) (sym is) (record {
+        puts = puts_then writes o o1 o2 (stop_extent result) (acted r s).written (concluded t [] (Err e)).written first.puts last.puts;
+        state_is = last.state_is;
+        status_is = last.status_is;
+      })
+
+-- what an item adds to the places, by how its act went
+pub noted-done : (line : ℕ) (s : State) (r : Reading) (v : Unit {0}) (ps : FaultPlaces) → (acted r s).answer ≡ Ok v → noted_item line s r ps ≡ ps
+unfolding noted_item
+noted-done line s r v ps is = ap (λ (it : Result (Unit {0}) EarlyEnd). noted line (acted r s).state it ps) is
+
+pub noted-ended : (line : ℕ) (s t : State) (r : Reading) (e : EarlyEnd) (ps : FaultPlaces) → t ≡ (acted r s).state → (acted r s).answer ≡ Err e → noted_item line s r ps ≡ noted line t (Err e) ps
+unfolding noted_item
+noted-ended line s t r e ps state_is is = ap (λ (it : Result (Unit {0}) EarlyEnd). noted line (acted r s).state it ps) is ∙ ap (λ u. noted line u (Err e) ps) (sym state_is)
+
+pub noted-symbol : (line : ℕ) (s : State) (r : Reading) (name : List ℕ) (ps : FaultPlaces) → r ≡ Ok (atom (token.Symbol name)) → noted_item line s r ps ≡ ps
+unfolding noted_item acted
+noted-symbol line s r name ps is = ap (λ it. noted_item line s it ps) is
 
 -- a symbol shows itself
 pub executed-symbol : (s : State) (r : Reading) (name : List ℕ) → r ≡ Ok (atom (token.Symbol name)) → executed s r ≡ record { state = s; written = value_line (value.Symbol name); status = None }

@@ -1,9 +1,13 @@
 mod AskedLaws
 mod CommandTurns
+mod CutOffLaws
 mod Examples
 mod FaultLaws
 mod ItemLaws
+mod ItemLineLaws
+mod KeptPlaces
 mod ListingLaws
+pub mod PlaceLaws
 mod RequestLaws
 pub mod ScriptLaws
 pub mod SoFarLaws

@@ -1,12 +1,11 @@
 -- What each request leaves: the definitions where it ends with a fault, and no more turns than there were.
-use Rattle.std.proofs.Common.{◌≡◌, ℕ, List, Option, Result, Ok, Err, arith, refl, ap}
+use Rattle.std.proofs.Common.{◌≡◌, ℕ, List, Option, Some, Result, Ok, Err, arith, refl, ap}
 use Rattle.cb_actions.specs.Internal.{Falls, turns_left}
-use Rattle.cb_actions.specs.Acts.{Effect, become, give_or_fault, ◌>>=◌}
+use Rattle.cb_actions.specs.Acts.{Effect, become, fault_of, give_or_fault, ◌>>=◌}
 use Rattle.cb_actions.specs.Definitions.{all_asserted, all_evaluated, globals_after, globals_defined}
 use Rattle.cb_actions.specs.Runs.{cleared_world, restarted_world}
 use Rattle.cb_actions.proofs.FallLaws.{falls_then}
 use Rattle.cb_actions.proofs.TurnLaws.{anew_falls, clear_falls, facts_fall, globals_fall, never_rises, restart_falls, template_falls}
-use Rattle.cb_actions.specs.declared.act.EarlyEnd.TheVariants as ended
 use Rattle.cb_exprs.specs.Bindings.{Bindings}
 use Rattle.cb_exprs.specs.FactTerms.{FactTerm}
 use Rattle.cb_exprs.specs.GlobalTerms.{GlobalTerm}
@@ -21,7 +20,7 @@ use Rattle.cb_working_memory.specs.Deffacts.{kept_facts}
 
 -- an effect that ends with a fault leaves this state
 abbrev pub FaultLeaves : {A : Type 0} → State → Effect State A → Type 0
-FaultLeaves s m = (f : Fault) → m.answer ≡ Err (ended.Fault f) → m.state ≡ s
+FaultLeaves s m = (f : Fault) → fault_of m.answer ≡ Some f → m.state ≡ s
 
 -- globals, by the bindings after them
 pub globals_leave : (s : State) (gs : List GlobalTerm) (told : Result Bindings Fault)
@@ -34,7 +33,7 @@ same_kept : (s t : State) → t ≡ s → KeepsDefinitions s t
 same_kept s t is = record { deffacts = ap (λ it. it.deffacts) is; globals = ap (λ it. it.globals) is }
 
 -- a request that ends with a fault leaves the definitions as they are
-pub performed_keeps : (s : State) (request : Request) (f : Fault) → (performed request s).answer ≡ Err (ended.Fault f) → KeepsDefinitions s (performed request s).state
+pub performed_keeps : (s : State) (request : Request) (f : Fault) → fault_of (performed request s).answer ≡ Some f → KeepsDefinitions s (performed request s).state
 performed_keeps s (asked.act t) f h = record { deffacts = refl; globals = refl }
 performed_keeps s (asked.define_template template) f h = absurd (cc)
 performed_keeps s (asked.define_deffacts name facts) f h = absurd (cc)

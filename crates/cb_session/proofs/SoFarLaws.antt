@@ -73,7 +73,7 @@ unfolding complete
 complete-long l s h = ap (λ t. if t then too_long (after_all (begun l) (fitting l.max_form s)) else after_all (begun l) (fitting l.max_form s)) h
 
 -- what fits, after what has ended
-fitting-run : (l : Setup) (p r : List ℕ) → over l.max_form p ≡ false → (more : List Reading) × (after_all (begun l) (fitting l.max_form (p ++ r)) ≡ after_all (after_all (begun l) (whole p)) more)
+pub fitting-run : (l : Setup) (p r : List ℕ) → over l.max_form p ≡ false → (more : List Reading) × (after_all (begun l) (fitting l.max_form (p ++ r)) ≡ after_all (after_all (begun l) (whole p)) more)
 fitting-run l p r fits =
     let begins = whole-fitting l.max_form p r fits in (begins.more, ap (after_all (begun l)) begins.is ∙ after_all-append (begun l) (whole p) begins.more)
 
@@ -150,6 +150,7 @@ IsEarly o = (status : Status) → o ≡ Some status → status.ending ≢ ending
 concluded-early : (s : State) (w : List ℕ) (r : Result (Unit {0}) EarlyEnd) → IsEarly (concluded s w r).status
 concluded-early s w (Ok _) status h = absurd (cc)
 concluded-early s w (Err (ended.Fault f)) status h = absurd (cc)
+concluded-early s w (Err (ended.FaultIn f id)) status h = absurd (cc)
 concluded-early s w (Err (ended.Limit limit)) status h = let is : limit_status ≡ status = cc in λ done. (let no : limit_status.ending ≡ ending.Done = ap (λ it. it.ending) is ∙ done in cc)
 concluded-early s w (Err (ended.Exit code)) status h =
     let is : exit_status code s.is_faulted ≡ status = cc in λ done. (let no : (exit_status code s.is_faulted).ending ≡ ending.Done = ap (λ it. it.ending) is ∙ done in cc)

@@ -36,7 +36,7 @@ ok_and : {T E : Type 0} (P : Type 0) (Q R : T → Type 0) (r : Result T E) → (
 ok_and P Q R (Ok x) f h k = f x h k
 ok_and P Q R (Err e) f h k = tt
 
-on_ok : {T E : Type 0} (P Q : Type 0) (r : Result T E) → (P → Q) → OnOk r P → OnOk r Q
+pub on_ok : {T E : Type 0} (P Q : Type 0) (r : Result T E) → (P → Q) → OnOk r P → OnOk r Q
 on_ok P Q (Ok x) f h = f h
 on_ok P Q (Err e) f h = tt
 

@@ -29,6 +29,7 @@ acted_falls r s =
 concluded_falls : (s : State) (w : List ℕ) (r : Result (Unit {0}) EarlyEnd) → left (concluded s w r).state ≤ left s
 concluded_falls s w (Ok v) = omega arith
 concluded_falls s w (Err (ended.Fault f)) = omega arith
+concluded_falls s w (Err (ended.FaultIn f id)) = omega arith
 concluded_falls s w (Err (ended.Limit limit)) = omega arith
 concluded_falls s w (Err (ended.Exit code)) = omega arith
 

@@ -1,8 +1,10 @@
 pub mod Actions
 pub mod Internal
+pub mod ItemLines
 pub mod Laws
 pub mod Lines
 pub mod Listings
+pub mod Places
 pub mod Sessions
 pub mod Setups
 pub mod States

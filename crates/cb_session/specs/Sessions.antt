@@ -1,5 +1,6 @@
 -- What a session has been fed, and how it goes on.
-use Rattle.std.specs.Prelude.{ℕ, List, [], Option, Some, None}
+use Rattle.std.specs.Prelude.{◌≡◌, ℕ, List, [], Option, Some, None, IsSome}
+use Rattle.cb_session.specs.Places.{FaultPlaces, all_places, places_so_far}
 use Rattle.cb_session.specs.Setups.{Setup}
 use Rattle.cb_session.specs.declared.status.Flow.{Flow}
 use Rattle.cb_session.specs.declared.status.Flow.TheVariants.{GoOn, Ended}
@@ -12,6 +13,11 @@ pub record SessionState : Type 0 where
   pub fed : List ℕ
   pub status : Option Status
   pub stop : Option Stop
+
+-- These are the places that the session knows: while the script goes on, those of the items that have ended; after its end, all.
+pub record ArePlacesOf (s : SessionState) (ps : FaultPlaces) : Type 0 where
+  pub so_far : s.stop ≡ None → s.status ≡ None → ps ≡ places_so_far s.setup s.fed
+  pub all : s.stop ≡ None → IsSome s.status → ps ≡ all_places s.setup s.fed
 
 -- Nothing was fed or returned.
 abbrev pub fresh_session : Setup → SessionState

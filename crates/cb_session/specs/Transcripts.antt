@@ -38,6 +38,7 @@ exit_status code is_faulted = record { code = unwrap_or code (fault_code is_faul
 abbrev pub concluded : State → List ℕ → Result (Unit {0}) EarlyEnd → Run
 concluded s bytes (Ok _) = record { state = s; written = bytes; status = None }
 concluded s bytes (Err (ended.Fault f)) = record { state = record s { is_faulted = true }; written = bytes ++ fault_line f; status = None }
+concluded s bytes (Err (ended.FaultIn f id)) = record { state = record s { is_faulted = true }; written = bytes ++ fault_line f; status = None }
 concluded s bytes (Err (ended.Limit limit)) = record { state = s; written = bytes ++ limit_line limit; status = Some limit_status }
 concluded s bytes (Err (ended.Exit code)) = record { state = s; written = bytes; status = Some (exit_status code s.is_faulted) }
 

@@ -1,23 +1,27 @@
 //! Executing items.
-ghost use Rattle.std.specs.Prelude.{◌≡◌, IfSome, Ok, None, Some, IfOk, false, true};
+ghost use Rattle.std.specs.Prelude.{◌≡◌, IfSome, Ok, None, Some, Err, IfOk, OnOk, [], option_map, false, true};
 ghost use Rattle.cb_actions.specs.Went.{Went};
 ghost use Rattle.cb_actions.specs.Worlds.{first_world, with_numbers};
 ghost use Rattle.cb_forms.specs.Trees.{atom, reading_of};
 ghost use Rattle.cb_io.specs.Output.{Puts, stop_extent};
+ghost use Rattle.cb_lines.specs.Lines.{rule_numbered};
 ghost use Rattle.cb_matches.specs.Networks.{empty_network};
 ghost use Rattle.cb_session.specs.Actions.{acted, shown_line};
 ghost use Rattle.cb_session.specs.Internal.Executing.{Executes};
 ghost use Rattle.cb_session.specs.Lines.{fault_line, value_line};
-ghost use Rattle.cb_session.specs.Internal.Scripts.{cut_run};
+ghost use Rattle.cb_session.specs.Internal.Scripts.{cut_noted, cut_run};
+ghost use Rattle.cb_session.specs.Places.{noted, noted_item};
 ghost use Rattle.cb_session.specs.States.{state_of};
-ghost use Rattle.cb_session.specs.Transcripts.{executed, limit_status};
+ghost use Rattle.cb_session.specs.Transcripts.{concluded, executed, limit_status};
 
 use crate::line::{fault_line, limit_line, put_line, too_long_line, value_line};
+use crate::places::{Place, Places};
 use crate::status::Status;
 use cb_actions::{Break, EarlyEnd, Numbers, World};
-use cb_facts::{Names, Value};
-use cb_forms::{Cut, Fault, Item, Out, Sink, Token};
+use cb_facts::{Name, Names, Value};
+use cb_forms::{Cut, Fault, Item, NoMemory, Out, Sink, Token};
 use cb_io::{Stop, put, put_text};
+use cb_lines::find_rule;
 use cb_matches::Matcher;
 use cb_requests::{Context, read_request};
 use cb_working_memory::{DeffactsTable, GlobalTable, Mark};
@@ -90,50 +94,108 @@ impl<M: Matcher<Mark>> Engine<M> {
         self.is_faulted
     }
 
-    /// Executes what a byte completed: items, one after another, or the end at an item that is too long. The answer is the
-    /// status, where the script ends with it.
+    /// Executes what a byte completed: items, one after another, or the end at an item that is too long. All of them begin on
+    /// this line. The answer is the status, where the script ends with it.
     pub(crate) fn execute_cut<K: Sink>(
         &mut self,
         cut: &Cut,
+        line: u64,
+        places: &mut Places,
         out: &mut Out<K>,
     ) -> Result<Option<Status>, Stop>
         requires { out.old.fault ≡ false }
-        ensures { Executes K.writes out.old out.new self.new result (cut_run self.old cut.now) }
+        ensures run { Executes K.writes out.old out.new self.new result (cut_run self.old cut.now) }
+        ensures places { OnOk result (places.new ≡ cut_noted self.old line cut.now places.old) }
     {
         match cut {
             Cut::More => Ok(None),
-            Cut::Item(item) => self.execute(item, out),
-            Cut::TwoItems(first, second) => match self.execute(first, out) {
-                Ok(None) => self.execute(second, out),
+            Cut::Item(item) => self.execute(item, line, places, out),
+            Cut::TwoItems(first, second) => match self.execute(first, line, places, out) {
+                Ok(None) => self.execute(second, line, places, out),
                 Ok(Some(status)) => Ok(Some(status)),
                 Err(stop) => Err(stop),
             },
-            Cut::TooLong => end_at_limit(too_long_line(), out),
+            Cut::TooLong => {
+                places.end_at(line);
+                end_at_limit(too_long_line(), out)
+            }
         }
     }
 
-    /// Executes an item, and puts what it writes. The answer is the status, where the script ends with the item.
+    /// Executes an item that begins on this line, and puts what it writes. The answer is the status, where the script ends with
+    /// the item.
     pub(crate) fn execute<K: Sink>(
         &mut self,
         item: &Item,
+        line: u64,
+        places: &mut Places,
         out: &mut Out<K>,
     ) -> Result<Option<Status>, Stop>
         requires { out.old.fault ≡ false }
-        ensures { Executes K.writes out.old out.new self.new result
+        ensures run { Executes K.writes out.old out.new self.new result
             (executed self.old (reading_of item.now)) }
+        ensures places { OnOk result
+            (places.new ≡ noted_item line self.old (reading_of item.now) places.old) }
     {
         if let Some(name) = item_symbol(item) {
             return show_symbol(name, out);
         }
         match self.act(item, out) {
             Ok(()) => Ok(None),
-            Err(Break::Ended(EarlyEnd::Fault(fault))) => self.report(fault, out),
-            Err(Break::Ended(EarlyEnd::Limit(limit))) => end_at_limit(limit_line(limit), out),
-            Err(Break::Ended(EarlyEnd::Exit(code))) => Ok(Some(Status::exited(
-                code,
-                self.is_faulted(),
-            ))),
+            Err(Break::Ended(end)) => self.conclude(end, line, places, out),
             Err(Break::Stop(stop)) => Err(stop),
+        }
+    }
+
+    /// Concludes an item that begins on this line and has ended so: notes its fault or its limit, and puts the line of it.
+    fn conclude<K: Sink>(
+        &mut self,
+        end: EarlyEnd,
+        line: u64,
+        places: &mut Places,
+        out: &mut Out<K>,
+    ) -> Result<Option<Status>, Stop>
+        requires { out.old.fault ≡ false }
+        ensures run { Executes K.writes out.old out.new self.new result
+            (concluded self.old [] (Err end)) }
+        ensures places { OnOk result
+            (places.new ≡ noted line self.old (Err end) places.old) }
+    {
+        self.note(end, line, places)?;
+        match end {
+            EarlyEnd::Fault(fault) => self.report(fault, out),
+            EarlyEnd::FaultIn(fault, _) => self.report(fault, out),
+            EarlyEnd::Limit(limit) => end_at_limit(limit_line(limit), out),
+            EarlyEnd::Exit(code) => Ok(Some(Status::exited(code, self.is_faulted()))),
+        }
+    }
+
+    /// Notes the fault or the limit by which an item has ended that begins on this line.
+    fn note(&self, end: EarlyEnd, line: u64, places: &mut Places) -> Result<(), NoMemory>
+        ensures { OnOk result (places.new ≡ noted line self.now (Err end) places.old) }
+    {
+        match end {
+            EarlyEnd::Fault(_) => places.add(Place { line, rule: None }),
+            EarlyEnd::FaultIn(_, number) => {
+                let rule = self.rule_name(number)?;
+                places.add(Place { line, rule })
+            }
+            EarlyEnd::Limit(_) => {
+                places.end_at(line);
+                Ok(())
+            }
+            EarlyEnd::Exit(_) => Ok(()),
+        }
+    }
+
+    /// The name of the rule with this number, if there is one.
+    fn rule_name(&self, number: u64) -> Result<Option<Name>, NoMemory>
+        ensures { IfOk result (λ name. name
+            ≡ option_map (λ r. r.name) (rule_numbered number self.now.world.rules)) }
+    {
+        match find_rule(self.world.rules(), number) {
+            Some(rule) => Ok(Some(rule.name.clone()?)),
+            None => Ok(None),
         }
     }
 

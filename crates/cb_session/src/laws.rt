@@ -1,6 +1,8 @@
 //! Laws of the transcript and of faults. Each is the contract of a function that does nothing.
-ghost use Rattle.std.specs.Prelude.{◌≡◌, ◌≢◌, ◌≤◌, true, ℕ, List, [], ◌++◌, Some, Ok, Err};
+ghost use Rattle.std.specs.Prelude.{◌≡◌, ◌≢◌, ◌≤◌, true, false, ℕ, List, [], ◌∷◌, ◌++◌, Some, Ok, Err, map};
+ghost use Rattle.cb_forms.specs.Items.{items, over, whole, fitting};
 ghost use Rattle.cb_forms.specs.Laws.{BeginsWith};
+ghost use Rattle.cb_forms.specs.Lines.{open_line};
 ghost use Rattle.cb_exprs.specs.GlobalTerms.{GlobalTerm};
 ghost use Rattle.cb_forms.specs.Trees.{Reading};
 ghost use Rattle.cb_forms.specs.declared.fault.Fault.{Fault};
@@ -8,7 +10,9 @@ ghost use Rattle.cb_requests.specs.Requests as request;
 ghost use Rattle.cb_session.specs.Setups.{Setup};
 ghost use Rattle.cb_session.specs.States.{State};
 ghost use Rattle.cb_session.specs.Actions.{acted, requested};
+ghost use Rattle.cb_session.specs.ItemLines.{all_on, placed_fitting, placed_whole, too_long_at};
 ghost use Rattle.cb_session.specs.Laws.{EndsWithFault, KeepsDefinitions};
+ghost use Rattle.cb_session.specs.Places.{all_places, places_so_far};
 ghost use Rattle.cb_session.specs.Transcripts.{added, added_at_end, begun, so_far, complete, executed, transcript};
 ghost use Rattle.cb_session.specs.declared.status.Ending.TheVariants as ending;
 ghost use Rattle.cb_session.specs.declared.status.Status.{Status};
@@ -46,6 +50,33 @@ pub fn what_has_ended_counts_alone()
     ensures whole { (setup : Setup) (p r : List ℕ) (status : Status)
         → (so_far setup p).status ≡ Some status
         → complete setup (p ++ r) ≡ so_far setup p }
+{}
+
+/// Each item of a script has a line. An item that a byte completes, or that is open at the end, begins on the line on which the open
+/// item begins before that, and so does one that a byte makes too long.
+pub fn each_item_has_its_line()
+    ensures whole { (p : List ℕ) → map (λ x. x.1) (placed_whole p) ≡ whole p }
+    ensures fitting { (limit : ℕ) (s : List ℕ)
+        → map (λ x. x.1) (placed_fitting limit s) ≡ fitting limit s }
+    ensures completed { (p : List ℕ) (b : ℕ) (rs : List Reading)
+        → whole (p ++ b ∷ []) ≡ whole p ++ rs
+        → placed_whole (p ++ b ∷ []) ≡ placed_whole p ++ all_on (open_line p) rs }
+    ensures at_the_end { (limit : ℕ) (p : List ℕ) (rs : List Reading) → over limit p ≡ false
+        → items p ≡ whole p ++ rs
+        → placed_fitting limit p ≡ placed_whole p ++ all_on (open_line p) rs }
+    ensures too_long { (limit : ℕ) (p : List ℕ) (b : ℕ) → 1 ≤ limit → over limit p ≡ false
+        → over limit (p ++ b ∷ []) ≡ true
+        → too_long_at limit (p ++ b ∷ []) ≡ open_line p }
+{}
+
+/// The places of a script that has ended are those, whatever follows.
+pub fn known_places_stay()
+    ensures so_far { (setup : Setup) (p r : List ℕ) (status : Status)
+        → (so_far setup p).status ≡ Some status
+        → places_so_far setup (p ++ r) ≡ places_so_far setup p }
+    ensures whole { (setup : Setup) (p r : List ℕ) (status : Status)
+        → (so_far setup p).status ≡ Some status
+        → all_places setup (p ++ r) ≡ places_so_far setup p }
 {}
 
 /// An item that is refused, be it a `deftemplate` or another, changes nothing but the mark for status 1. Nor does a

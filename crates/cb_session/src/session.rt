@@ -3,7 +3,8 @@ ghost use Rattle.std.specs.Prelude.{◌≡◌, ◌≤◌, List, ℕ, ◌++◌, [
 ghost use Rattle.cb_forms.specs.Items.{rest};
 ghost use Rattle.cb_io.specs.Output.{IsReady, OutState, Puts, extent_at, stop_extent};
 ghost use Rattle.cb_session.specs.Internal.Scripts.{Ends, IsUnderWay};
-ghost use Rattle.cb_session.specs.Sessions.{flow_of, fresh_session, session_after};
+ghost use Rattle.cb_session.specs.Places.{all_places, places_so_far};
+ghost use Rattle.cb_session.specs.Sessions.{ArePlacesOf, flow_of, fresh_session, session_after};
 ghost use Rattle.cb_session.specs.Internal.{WasFed};
 ghost use Rattle.cb_session.specs.Setups.{Setup, fresh_setup, setup_of};
 ghost use Rattle.cb_session.specs.Transcripts.{added, added_at_end, so_far, status_at_end, status_of};
@@ -11,6 +12,7 @@ ghost use Rattle.cb_matches.specs.Networks.{empty_network};
 
 use crate::engine::Engine;
 use crate::limits::Limits;
+use crate::places::Places;
 use crate::status::{Ending, Flow, Status, fault_code};
 use cb_actions::Numbers;
 use cb_forms::{Cutter, History, Out, Sink};
@@ -19,6 +21,7 @@ use cb_matches::Matcher;
 use cb_working_memory::Mark;
 use std::alloc::Global;
 use std::marker::Model;
+use std::mem;
 
 /// Carries out a script item by item, while its bytes come, and writes its transcript.
 ///
@@ -30,6 +33,7 @@ pub struct Session<M: Matcher<Mark>> {
     numbers: Numbers,
     cutter: Cutter,
     engine: Engine<M>,
+    places: Places,
     status: Option<Status>,
     stop: Option<Stop>,
     fed: History<u8>,
@@ -37,7 +41,7 @@ pub struct Session<M: Matcher<Mark>> {
 
 impl<M: Matcher<Mark>> Model for Session<M> {
     ghost use Rattle.std.specs.Prelude.{◌≡◌, None};
-    ghost use Rattle.cb_session.specs.Internal.Scripts.{IsUnderWay};
+    ghost use Rattle.cb_session.specs.Internal.Scripts.{AreNoted, IsUnderWay};
     ghost use Rattle.cb_session.specs.Sessions.{SessionState};
     ghost use Rattle.cb_session.specs.Setups.{setup_of};
 
@@ -45,7 +49,8 @@ impl<M: Matcher<Mark>> Model for Session<M> {
 
     ghost view = { λ s. record { setup = setup_of s.limits s.numbers; fed = s.fed.items; status = s.status; stop = s.stop } };
 
-    ghost invariant = { λ s. s.stop ≡ None → s.status ≡ None → IsUnderWay (setup_of s.limits s.numbers) s.fed.items s.cutter s.engine };
+    ghost invariant = { λ s. (s.stop ≡ None → s.status ≡ None → IsUnderWay (setup_of s.limits s.numbers) s.fed.items s.cutter s.engine)
+        × (s.stop ≡ None → AreNoted (setup_of s.limits s.numbers) s.fed.items s.status s.places) };
 }
 
 impl<M: Matcher<Mark>> Session<M> {
@@ -76,6 +81,7 @@ impl<M: Matcher<Mark>> Session<M> {
                 limits.max_turns,
                 limits.max_firings,
             ),
+            places: Places::new(alloc),
             limits,
             numbers,
             status: None,
@@ -191,8 +197,9 @@ impl<M: Matcher<Mark>> Session<M> {
             return Ok(());
         }
         self.stop = Some(Stop::NoMemory);
+        let line = self.cutter.line();
         let cut = self.cutter.step(byte)?;
-        let status = self.engine.execute_cut(&cut, out)?;
+        let status = self.engine.execute_cut(&cut, line, &mut self.places, out)?;
         self.fed = self.fed.and(&byte);
         self.status = status;
         self.stop = None;
@@ -259,7 +266,7 @@ impl<M: Matcher<Mark>> Session<M> {
             (added_at_end self.old.setup self.old.fed) }
     {
         self.stop = Some(Stop::NoMemory);
-        let status = execute_last(&mut self.cutter, &mut self.engine, out)?;
+        let status = execute_last(&mut self.cutter, &mut self.engine, &mut self.places, out)?;
         let status = status_at_end(status, self.engine.is_faulted());
         self.status = Some(status);
         self.stop = None;
@@ -286,6 +293,14 @@ impl<M: Matcher<Mark>> Session<M> {
         self.engine.probes()
     }
 
+    /// Where the faults arose of the items that have ended, and the limit at which the script ended, if it did. After a `Stop` they
+    /// may be any.
+    pub fn places(&self) -> &Places
+        ensures { ArePlacesOf self.now result.now }
+    {
+        &self.places
+    }
+
     /// Whether a call has returned a `Stop`.
     pub fn failed(&self) -> bool
         ensures { result ≡ is_some self.now.stop }
@@ -294,19 +309,43 @@ impl<M: Matcher<Mark>> Session<M> {
     }
 }
 
+impl<M: Matcher<Mark> + Drop> Session<M> {
+    /// What `places` gives, where the session is done with.
+    pub fn into_places(self) -> Places
+        ensures { ArePlacesOf self result }
+    {
+        self.places
+    }
+
+    /// The same, but all else that the session keeps isn't freed: for a program that ends with it, since the system takes it back at
+    /// once then.
+    pub fn leave_places(self) -> Places
+        ensures { ArePlacesOf self result }
+    {
+        mem::forget(self.cutter);
+        mem::forget(self.engine);
+        self.places
+    }
+}
+
 /// Executes the item that is open at the end of a script, if there is one. The answer is the status, where the script
 /// ends with it.
 fn execute_last<M: Matcher<Mark>, K: Sink>(
     cutter: &mut Cutter,
     engine: &mut Engine<M>,
+    places: &mut Places,
     out: &mut Out<K>,
 ) -> Result<Option<Status>, Stop>
     requires { out.old.fault ≡ false }
-    ensures { (setup : Setup) (fed : List ℕ) → IsUnderWay setup fed cutter.old engine.old
+    ensures run { (setup : Setup) (fed : List ℕ) → IsUnderWay setup fed cutter.old engine.old
         → Ends K.writes out.old out.new setup fed engine.new result }
+    ensures places { (setup : Setup) (fed : List ℕ) → IsUnderWay setup fed cutter.old engine.old
+        → places.old ≡ places_so_far setup fed
+        → OnOk result (places.new ≡ all_places setup fed) }
 {
+    let line = cutter.line();
     match cutter.end() {
-        Ok(Some(item)) => engine.execute(&item, out),
+        Ok(Some(item)) => engine.execute(&item, line, places, out),
         Ok(None) => Ok(None),
         Err(_) => Err(Stop::NoMemory),
     }

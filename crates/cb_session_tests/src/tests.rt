@@ -15,6 +15,7 @@ mod globals;
 mod groups;
 mod heads;
 mod loops;
+mod modify;
 mod printout;
 mod retract;
 mod rules;

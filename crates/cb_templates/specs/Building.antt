@@ -1,11 +1,11 @@
 -- Facts from the values that they are given.
-use Rattle.std.specs.Prelude.{◌&&◌, ◌||◌, ℕ, Bool, true, false, not, List, [], ◌∷◌, Option, Some, None, Result, Ok, Err, map, is_some, if◌then◌else◌}
+use Rattle.std.specs.Prelude.{◌&&◌, ◌||◌, ℕ, Bool, true, false, not, List, [], ◌∷◌, ◌++◌, Option, Some, None, Result, Ok, Err, map, is_some, if◌then◌else◌}
 use Rattle.std.specs.List.{list_all}
 use Rattle.std.specs.Option.{ok_or}
 use Rattle.std.specs.Str.{bytes_eq}
 use Rattle.cb_forms.specs.declared.fault.Fault.{Fault}
 use Rattle.cb_forms.specs.declared.fault.Fault.TheVariants.{FactDoesNotFit, OneValueWanted}
-use Rattle.cb_facts.specs.Facts.{FactValue, ordered_fact, template_fact}
+use Rattle.cb_facts.specs.Facts.{FactContent, FactValue, fields, ordered_fact, slots as slot_pairs, template_fact}
 use Rattle.cb_facts.specs.Values.{spliced, is_multifield}
 use Rattle.cb_facts.specs.declared.value.Value.{Value}
 use Rattle.cb_facts.specs.declared.value.Value.TheVariants as value
@@ -87,3 +87,21 @@ built_by relation (Some slots) (slot_values given) = slots_built relation slots 
 -- the fact of a relation, by its template if it has one
 abbrev pub built : Templates → List ℕ → PartValues → Result FactValue Fault
 built templates relation parts = built_by relation (slots_of templates relation) parts
+
+-- a slot of a fact is given the value that it has, unless it is given already
+abbrev pub with_kept_slot : Given → List ℕ × Value → Given
+with_kept_slot given s = if is_some (given_for given s.0) then given else given ++ (s.0, s.1 ∷ []) ∷ []
+
+-- What is given, and each other slot of a fact with the value that it has.
+abbrev pub with_kept_slots : Given → List (List ℕ × Value) → Given
+with_kept_slots given [] = given
+with_kept_slots given (s ∷ slots) = with_kept_slots (with_kept_slot given s) slots
+
+-- a fact of a relation with this content, of which these slots are given new values
+abbrev pub content_changed : Templates → List ℕ → FactContent → Given → Result FactValue Fault
+content_changed templates relation (fields xs) given = Err FactDoesNotFit
+content_changed templates relation (slot_pairs pairs) given = built templates relation (slot_values (with_kept_slots given pairs))
+
+-- The fact that a template's fact becomes where these slots are given new values, and its other slots keep theirs; or its fault.
+abbrev pub changed : Templates → FactValue → Given → Result FactValue Fault
+changed templates fact given = content_changed templates fact.relation fact.content given

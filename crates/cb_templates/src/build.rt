@@ -1,9 +1,9 @@
 //! Facts from the values that they are given.
-ghost use Rattle.std.specs.Prelude.{◌≡◌, None, Ok, Err, IfOk, IfErr, is_some, option_map};
+ghost use Rattle.std.specs.Prelude.{◌≡◌, None, Ok, Err, IfOk, IfErr, OnOk, is_some, option_map};
 ghost use Rattle.std.specs.List.{list_all};
 ghost use Rattle.cb_facts.specs.Facts.{ordered_fact};
 ghost use Rattle.cb_facts.specs.Values.{spliced};
-ghost use Rattle.cb_templates.specs.Building.{built, filled, fits, given_for, is_one_value, one_value, part_values, value_or_default, slots_built, can_take};
+ghost use Rattle.cb_templates.specs.Building.{built, changed, filled, fits, given_for, is_one_value, one_value, part_values, value_or_default, slots_built, can_take, with_kept_slot, with_kept_slots};
 ghost use Rattle.cb_facts.specs.Results.{Returns, Settles};
 ghost use Rattle.cb_templates.specs.Slots.{slot_named};
 
@@ -11,7 +11,7 @@ use crate::parts::{GivenSlot, GivenSlots, Parts};
 use crate::relations::Relations;
 use crate::slot::Slot;
 use crate::template::Template;
-use cb_facts::{Fact, Multifield, Name, Refused, Value, is_multifield, splice};
+use cb_facts::{Content, Fact, Multifield, Name, Refused, Value, is_multifield, splice};
 use cb_forms::{Fault, NoMemory};
 use std::alloc::Global;
 
@@ -42,6 +42,60 @@ pub fn build_fact(
             Parts::Slots(given) => build_listed(alloc, relation, template, given),
         },
     }
+}
+
+/// The fact that a template's fact becomes where these slots are given new values, and its other slots keep theirs.
+///
+/// It refuses with CB09 an ordered fact, a slot that the template doesn't have, one that is given twice, and one that is given
+/// other than one value though it is no multislot; else with CB22 a multifield for a slot that is no multislot.
+pub fn change_fact(
+    alloc: Global,
+    relations: &Relations,
+    fact: &Fact,
+    given: Vec<GivenSlot>,
+) -> Result<Fact, Refused>
+    ensures { Returns result (changed relations.now fact.now given.items) }
+{
+    let Content::Slots(slots) = fact.content() else {
+        return Err(Refused::Fault(Fault::FactDoesNotFit));
+    };
+    let Some(template) = relations.template(fact.relation_name()) else {
+        return Err(Refused::Fault(Fault::FactDoesNotFit));
+    };
+    let given = keep_slots(alloc, slots.as_slice(), given)?;
+    build_slots(alloc, fact.relation_name().clone()?, template, &given)
+}
+
+/// What is given, and each other slot of a fact with the value that it has.
+fn keep_slots(
+    alloc: Global,
+    slots: &[(Name, Value)],
+    given: Vec<GivenSlot>,
+) -> Result<GivenSlots, NoMemory>
+    ensures { IfOk result (λ all. all ≡ with_kept_slots given.items slots.now) }
+{
+    let mut all = GivenSlots::from_vec(alloc, given)?;
+    for slot in slots {
+        keep_slot(alloc, &mut all, &slot.0, &slot.1)?;
+    }
+    Ok(all)
+}
+
+/// Gives a slot the value that it has, unless it is given already.
+fn keep_slot(
+    alloc: Global,
+    given: &mut GivenSlots,
+    name: &Name,
+    value: &Value,
+) -> Result<(), NoMemory>
+    ensures { OnOk result (given.new ≡ with_kept_slot given.old (name.now, value.now)) }
+{
+    if given.find(name).is_some() {
+        return Ok(());
+    }
+    let mut values = Vec::new(alloc);
+    values.push(value.clone()?)?;
+    given.push(GivenSlot::new(name.clone()?, values))
 }
 
 fn build_ordered(alloc: Global, relation: Name, values: &[Value]) -> Result<Fact, NoMemory>

@@ -15,7 +15,7 @@ mod slot_type; // the types that a slot may name
 mod template; // a template: its slots in their order, each found by its name, and its place
 
 pub use attribute::SlotDefault;
-pub use build::{build_fact, build_slots};
+pub use build::{build_fact, build_slots, change_fact};
 pub use comment::without_comment;
 pub use parts::{GivenSlot, GivenSlots, Parts, find_given};
 pub use relations::{Relations, read_template};

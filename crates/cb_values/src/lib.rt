@@ -8,7 +8,7 @@ pub use cb_facts::{
     plain_text, quoted_text, splice,
 };
 pub use cb_templates::{
-    GivenSlot, GivenSlots, Parts, Relations, Slot, Template, build_fact, build_slots, find_given,
-    find_slot, laws, without_comment,
+    GivenSlot, GivenSlots, Parts, Relations, Slot, Template, build_fact, build_slots, change_fact,
+    find_given, find_slot, laws, without_comment,
 };
 pub use cb_words::{is_among, is_reserved};

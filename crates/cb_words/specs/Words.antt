@@ -29,6 +29,7 @@ abbrev pub action_words : Rows
 action_words =
     (codes "assert", head.Action action.Assert) ∷
     (codes "retract", head.Action action.Retract) ∷
+    (codes "modify", head.Action action.Modify) ∷
     (codes "bind", head.Action action.Bind) ∷
     (codes "if", head.Action action.If) ∷
     (codes "while", head.Action action.While) ∷
@@ -100,7 +101,7 @@ refused_words =
     codes "defmessage-handler" ∷ codes "load" ∷ codes "load*" ∷ codes "batch" ∷ codes "batch*" ∷ codes "bload" ∷
     codes "bsave" ∷ codes "save" ∷ codes "open" ∷ codes "close" ∷ codes "read" ∷ codes "readline" ∷
     codes "format" ∷ codes "loop-for-count" ∷ codes "foreach" ∷ codes "progn" ∷ codes "progn$" ∷ codes "switch" ∷
-    codes "break" ∷ codes "return" ∷ codes "duplicate" ∷ codes "modify" ∷ codes "fact-index" ∷
+    codes "break" ∷ codes "return" ∷ codes "duplicate" ∷ codes "fact-index" ∷
     codes "fact-slot-value" ∷ codes "refresh" ∷ codes "matches" ∷ codes "set-break" ∷ codes "remove-break" ∷
     codes "show-breaks" ∷ codes "set-fact-duplication" ∷ codes "get-strategy" ∷ codes "undeftemplate" ∷
     codes "undeffacts" ∷ codes "undefglobal" ∷ codes "list-defrules" ∷ codes "list-deftemplates" ∷

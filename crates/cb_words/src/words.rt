@@ -66,6 +66,8 @@ pub enum Action {
     Assert,
     /// `retract`
     Retract,
+    /// `modify`
+    Modify,
     /// `bind`
     Bind,
     /// `if`
@@ -231,6 +233,7 @@ pub(crate) const WORDS: [(&str, Head); 131] = [
     // Functions with an effect.
     ("assert", Head::Action(Action::Assert)),
     ("retract", Head::Action(Action::Retract)),
+    ("modify", Head::Action(Action::Modify)),
     ("bind", Head::Action(Action::Bind)),
     ("if", Head::Action(Action::If)),
     ("while", Head::Action(Action::While)),
@@ -325,7 +328,6 @@ pub(crate) const WORDS: [(&str, Head); 131] = [
     ("break", Head::Refused),
     ("return", Head::Refused),
     ("duplicate", Head::Refused),
-    ("modify", Head::Refused),
     ("fact-index", Head::Refused),
     ("fact-slot-value", Head::Refused),
     ("refresh", Head::Refused),

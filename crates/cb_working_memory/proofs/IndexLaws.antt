@@ -1,6 +1,6 @@
 -- Indices of facts.
-use Rattle.std.proofs.Common.{◌≡◌, ◌+◌, ◌<◌, ◌≤◌, ℕ, Bool, true, false, [], ◌∷◌, None, cond, arith, refl, ◌∙◌}
-use Rattle.std.proofs.lemmas.Bool.{false_from_ne_true}
+use Rattle.std.proofs.Common.{◌≡◌, ◌+◌, ◌<◌, ◌≤◌, ℕ, Bool, true, false, [], ◌∷◌, IsSome, Option, Some, None, cond, arith, nat_lt, refl, rules, sym, ◌∙◌}
+use Rattle.std.proofs.lemmas.Bool.{false≢true, false_from_ne_true}
 use Rattle.std.proofs.lemmas.Map.Entries.{lookup_tail}
 use Rattle.std.specs.BTreeMap.{is_at}
 use Rattle.std.specs.Ordering.{match_ordering, nat_cmp}
@@ -30,9 +30,21 @@ put last Less ix f x xs rest le h r = (le, h)
 put last Equal ix f x xs rest le h r = (h.0, h.1)
 put last Greater ix f x xs rest le h r = (h.0, r)
 
-put_in : (last ix : ℕ) (f : FactValue) (facts : IndexedFacts) → ix ≤ last → AreUpTo last facts → AreUpTo last (with_fact facts ix f)
+pub put_in : (last ix : ℕ) (f : FactValue) (facts : IndexedFacts) → ix ≤ last → AreUpTo last facts → AreUpTo last (with_fact facts ix f)
 put_in last ix f [] le h = (le, h)
 put_in last ix f (x ∷ xs) le h = put last (nat_cmp ix x.0) ix f x xs (with_fact xs ix f) le h (put_in last ix f xs le h.1)
+
+there_below : (last ix : ℕ) (facts : IndexedFacts) (f : FactValue) → AreUpTo last facts → fact_at facts ix ≡ Some f → (b : Bool) → nat_lt last ix ≡ b → ix ≤ last
+there_below last ix facts f h at true above =
+    let after : last < ix = search rules in
+    let none = free_after last ix facts after h in
+    absurd (cc)
+there_below last ix facts f h at false below = search rules
+
+-- a fact that is there has an index up to the last
+pub given_there : (last ix : ℕ) (facts : IndexedFacts) (o : Option FactValue) → AreUpTo last facts → o ≡ fact_at facts ix → IsSome o → ix ≤ last
+given_there last ix facts None h e some = absurd (false≢true some)
+given_there last ix facts (Some f) h e some = there_below last ix facts f h (sym e) (nat_lt last ix) refl
 
 pub up_to_next : (last : ℕ) (f : FactValue) (facts : IndexedFacts) → AreUpTo last facts → AreUpTo (last + 1) (with_fact facts (last + 1) f)
 up_to_next last f facts h = put_in (last + 1) (last + 1) f facts (omega arith) (more last (last + 1) facts (omega arith) h)

@@ -36,6 +36,10 @@ grown fact m = record { network = with_one (m.last + 1) fact m.network; last = m
 abbrev pub without : ℕ → Memory → Memory
 without ix m = record { network = without_one ix m.network; last = m.last; last_rule = m.last_rule }
 
+-- a fact under an index that was given before, and that no fact has now
+abbrev pub put_back : ℕ → FactValue → Memory → Memory
+put_back ix fact m = record { network = with_one ix fact m.network; last = m.last; last_rule = m.last_rule }
+
 -- one rule more, with the next number, and one less
 abbrev pub with_next_rule : List Elements → Memory → Memory
 with_next_rule branches m = record { network = with_rule (m.last_rule + 1) branches m.network; last = m.last; last_rule = m.last_rule + 1 }

@@ -1,9 +1,9 @@
 //! Laws of the working memory: each is the contract of a function that does nothing.
-ghost use Rattle.std.specs.Prelude.{◌≡◌, ℕ, None, Some};
-ghost use Rattle.cb_facts.specs.FactLists.{IndexedFacts, IsAbsent, IsFactBase, fact_at};
+ghost use Rattle.std.specs.Prelude.{◌≡◌, ◌≤◌, ℕ, None, Some};
+ghost use Rattle.cb_facts.specs.FactLists.{ChangesOnly, IndexedFacts, IsAbsent, IsFactBase, fact_at};
 ghost use Rattle.cb_facts.specs.Facts.{FactValue};
 ghost use Rattle.cb_working_memory.specs.Laws.{Keeps, NoneAfter};
-ghost use Rattle.cb_working_memory.specs.WorkingMemory.{Memory, grown, index_of};
+ghost use Rattle.cb_working_memory.specs.WorkingMemory.{Memory, grown, index_of, put_back};
 
 /// Where the indices rise and no two facts are equal, a fact is found at the index at which it stands, and at none where it
 /// is absent.
@@ -18,4 +18,14 @@ pub fn a_fact_is_found_at_its_index()
 /// has an index after that one; then again no fact has an index after the last.
 pub fn what_is_added_keeps_the_others()
     ensures { (m : Memory) (fact : FactValue) → NoneAfter m → Keeps m (grown fact m) }
+{}
+
+/// Where no fact has an index after the one given last, a fact that comes back under an index up to that one is found there; each other
+/// look-up is as it was, and again no fact has an index after the last.
+pub fn what_comes_back_keeps_the_others()
+    ensures only { (m : Memory) (fact : FactValue) (ix : ℕ)
+        → ChangesOnly (fact_at m.network.facts) (fact_at (put_back ix fact m).network.facts) ix
+        (Some fact) }
+    ensures none_after { (m : Memory) (fact : FactValue) (ix : ℕ) → NoneAfter m → ix ≤ m.last
+        → NoneAfter (put_back ix fact m) }
 {}

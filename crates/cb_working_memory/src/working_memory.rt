@@ -1,12 +1,13 @@
 //! The working memory.
-ghost use Rattle.std.specs.Prelude.{◌≡◌, ◌<◌, ◌≤◌, ◌+◌, IfOk, OnOk, Some, None, if◌then◌else◌, false, is_err, nat_eq, nat_lt, not, option_copied};
+ghost use Rattle.std.specs.Prelude.{◌≡◌, ◌<◌, ◌≤◌, ◌+◌, IfOk, IsSome, OnOk, Some, None, if◌then◌else◌, false, is_err, nat_eq, nat_lt, not, option_copied};
 ghost use Rattle.std.specs.List.{filter, list_any};
 ghost use Rattle.std.specs.Str.{bytes_eq};
+ghost use Rattle.cb_facts.specs.FactLists.{IsAbsent, IsFactBase, fact_at};
 ghost use Rattle.cb_rules.specs.Elements.{branches_of};
 ghost use Rattle.cb_matches.specs.Changes.{IsDelta, IsRestart};
 ghost use Rattle.cb_matches.specs.Networks.{bindings_of, empty_network};
 ghost use Rattle.cb_working_memory.specs.Internal.WorkingMemories.{IsLessBy, without_rules};
-ghost use Rattle.cb_working_memory.specs.WorkingMemory.{Asserts, Retracts, cleared, empty_memory, greatest_index, restarted, with_next_rule, without_one_rule};
+ghost use Rattle.cb_working_memory.specs.WorkingMemory.{Asserts, Retracts, cleared, empty_memory, greatest_index, put_back, restarted, with_next_rule, without_one_rule};
 
 use crate::asserted::Asserted;
 use crate::mark::Mark;
@@ -166,6 +167,42 @@ impl<M: Matcher<Mark>> WorkingMemory<M> {
         discount(&mut self.counts, fact);
         let delta = self.matcher.retract(ix, &mut self.meter)?;
         Ok(Some(delta))
+    }
+
+    /// The fact with an index, if there is one. Then that index was given before.
+    pub fn fact(&self, ix: u64) -> Result<Option<Fact>, NoMemory>
+        ensures fact { IfOk result (λ found. found ≡ fact_at self.now.network.facts ix) }
+        ensures given { IfOk result (λ found. IsSome found → ix ≤ self.now.last) }
+        ensures base { OnOk result (IsFactBase self.now.network.facts) }
+    {
+        if self.matcher.failed() {
+            return Err(NoMemory);
+        }
+        let _count = self.matcher.facts().len();
+        match self.matcher.facts().get(ix) {
+            Some(fact) => Ok(Some(fact.clone()?)),
+            None => Ok(None),
+        }
+    }
+
+    /// Adds a fact under an index that was given before, and that no fact has now. It is equal to no fact that is there. The next
+    /// index stays as it is.
+    pub fn put_back(&mut self, ix: u64, fact: Fact) -> Result<Delta, NoMemory>
+        requires given { ix ≤ self.old.last }
+        requires free { fact_at self.old.network.facts ix ≡ None }
+        requires absent { IsAbsent self.old.network.facts fact }
+        ensures memory { OnOk result (self.new ≡ put_back ix fact self.old) }
+        ensures delta { IfOk result
+            (IsDelta self.old.network (put_back ix fact self.old).network) }
+    {
+        if self.matcher.failed() {
+            return Err(NoMemory);
+        }
+        let _count = self.matcher.facts().len();
+        let relation = fact.relation_name().clone()?;
+        self.counts.add(&relation)?;
+        let delta = self.matcher.assert(ix, fact, &mut self.meter)?;
+        Ok(delta)
     }
 
     /// Whether a number is left for a rule.

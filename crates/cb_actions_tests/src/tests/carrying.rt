@@ -110,8 +110,62 @@ const ROWS: [(&str, u64, &str); 21] = [
     ),
 ];
 
+/// The same with facts that are modified.
+const MODIFIED_ROWS: [(&str, u64, &str); 9] = [
+    // What is not named stays. Where nothing would change the address is the value, and where another fact is equal it is FALSE.
+    (
+        "(assert (p (a 1)))(modify 1 (b 2))(modify 1 (b 2))(modify 1)(assert (p (a 1) (b 2)))",
+        0,
+        "<Fact-1>\n<Fact-1>\n<Fact-1>\n<Fact-1>\n<Fact-1>\n",
+    ),
+    (
+        "(assert (p (a 1) (b 2)))(modify (assert (p (b 5))) (b 2) (a 1))(assert (p (b 5)))(modify 2 (b 6))",
+        0,
+        "<Fact-1>\nFALSE\n<Fact-2>\n<Fact-2>\n",
+    ),
+    // The fact, after all values.
+    (
+        "(assert (p))(modify 9 (a 2))(modify -1 (a 2))(modify \"1\" (a 2))(modify (create$ 1) (a 2))(modify * (a 2))",
+        0,
+        "<Fact-1>\n[CB20]\n[CB20]\n[CB17]\n[CB17]\n[CB17]\n",
+    ),
+    (
+        "(modify (print \"x\") (a (print \"y\")))(modify z (a (if TRUE (do (print \"v\") 1) (do))) (b (print \"w\")))(modify z (a (div 1 0)))",
+        0,
+        "x[CB17]\nvw[CB17]\n[CB19]\n",
+    ),
+    // The address of a fact that is gone, and of one that was modified.
+    (
+        "(bind ?f (assert (p)))(retract 1)(modify ?f (a 1))(assert (p))(bind ?f (modify 2 (a ?f)))(modify ?f (a 1))",
+        0,
+        "<Fact-1>\n[CB20]\n<Fact-2>\n<Fact-2>\n<Fact-2>\n",
+    ),
+    // The slots: an ordered fact, a slot that is not there, one value for each, and then no multifield.
+    (
+        "(assert (p))(modify 1 (c 2))(modify 1 (a 1 2))(modify 1 (a))(modify 1 (a (create$ 1 2)))(modify 1 (a (create$)) (c 1))",
+        0,
+        "<Fact-1>\n[CB09]\n[CB09]\n[CB09]\n[CB22]\n[CB09]\n",
+    ),
+    (
+        "(assert (o 1))(modify 1)(modify 1 (a 1))(modify (assert (p)) (a (create$)) (b 1 2))",
+        0,
+        "<Fact-1>\n[CB09]\n[CB09]\n[CB09]\n",
+    ),
+    // A fact that a slot asserts, and what a slot sets. A loop in a slot takes turns.
+    (
+        "(assert (p))(modify 1 (a (assert (p (b 3)))) (b (bind ?v 7)))(assert (p (b 3)))?v",
+        0,
+        "<Fact-1>\n<Fact-1>\n<Fact-2>\n7\n",
+    ),
+    (
+        "(assert (p))(modify 1 (a (while TRUE (do 1))))",
+        2,
+        "<Fact-1>\n[CB93]\n",
+    ),
+];
+
 /// The same with facts watched: a line for each that comes or goes.
-const WATCHED_ROWS: [(&str, u64, &str); 2] = [
+const WATCHED_ROWS: [(&str, u64, &str); 3] = [
     (
         "(assert (a 1 \"b\"))(assert (a 1 \"b\"))(println (assert (p (b 2))))",
         0,
@@ -121,6 +175,11 @@ const WATCHED_ROWS: [(&str, u64, &str); 2] = [
         "(assert (a))(assert (c))(retract * 5)(retract 2)(retract 2 a)(retract (assert (d)) 1)",
         0,
         "==> f-1     (a)\n<Fact-1>\n==> f-2     (c)\n<Fact-2>\n<== f-1     (a)\n<== f-2     (c)\n[CB20]\n[CB20]\n[CB17]\n==> f-3     (d)\n<== f-3     (d)\n[CB20]\n",
+    ),
+    (
+        "(assert (p (a 1)))(modify 1 (b 2))(modify 1 (b 2))(assert (o))(modify 1 (b (assert (p (a \"x\")))))(modify 3 (a 1) (b <Fact-3>))",
+        0,
+        "==> f-1     (p (a 1) (b nil))\n<Fact-1>\n<== f-1     (p (a 1) (b nil))\n==> f-1     (p (a 1) (b 2))\n<Fact-1>\n<Fact-1>\n==> f-2     (o)\n<Fact-2>\n==> f-3     (p (a \"x\") (b nil))\n<== f-1     (p (a 1) (b 2))\n==> f-1     (p (a 1) (b <Fact-3>))\n<Fact-1>\n<== f-3     (p (a \"x\") (b nil))\n==> f-3     (p (a 1) (b <Fact-3>))\n<Fact-3>\n",
     ),
 ];
 
@@ -245,7 +304,9 @@ fn line(alloc: Global, answer: Result<Option<Value>, Break>) -> Result<Vec<u8>, 
     match answer {
         Ok(Some(value)) => value_line(alloc, &value),
         Ok(None) => Ok(Vec::new(alloc)),
-        Err(Break::Ended(EarlyEnd::Fault(fault))) => number_line(alloc, fault.number()),
+        Err(Break::Ended(EarlyEnd::Fault(fault) | EarlyEnd::FaultIn(fault, _))) => {
+            number_line(alloc, fault.number())
+        }
         Err(Break::Ended(EarlyEnd::Limit(Limit::Firings))) => number_line(alloc, 92),
         Err(Break::Ended(EarlyEnd::Limit(Limit::Turns))) => number_line(alloc, 93),
         Err(Break::Ended(EarlyEnd::Limit(Limit::Numbers))) => number_line(alloc, 94),
@@ -271,6 +332,12 @@ fn number_line(alloc: Global, number: u8) -> Result<Vec<u8>, NoMemory> {
 #[test]
 fn carries_out(rt: HostRuntime) -> Result<(), Refused> {
     assert!(rt; first_wrong(rt.alloc(), &ROWS, false)?.is_none());
+    Ok(())
+}
+
+#[test]
+fn modifies(rt: HostRuntime) -> Result<(), Refused> {
+    assert!(rt; first_wrong(rt.alloc(), &MODIFIED_ROWS, false)?.is_none());
     Ok(())
 }
 

@@ -1,12 +1,12 @@
 //! Expressions from rows.
-use cb_exprs::{Channel, Effect, Expr, FactShape};
+use cb_exprs::{Channel, Effect, Expr, FactShape, ModifiedSlot, ModifiedSlots};
 use cb_facts::{Name, Names, Refused, Value};
-use cb_forms::{Form, Token, split_head};
+use cb_forms::{Form, NoMemory, Token, split_head};
 use cb_words::{Action, Head, read_head};
 use std::alloc::Global;
 
 /// The expression that a row writes. It is written as in a script, but that `if` and `while` have their parts alone, that
-/// `do` heads actions, and that a fact of the relation `p` or `q` gives slots.
+/// `do` heads actions, that a fact of the relation `p` or `q` gives slots, and that a slot of `modify` is no call.
 pub(crate) fn expr(alloc: Global, form: &Form) -> Result<Expr, Refused> {
     match form {
         Form::Atom(token) => atom(alloc, token),
@@ -37,6 +37,7 @@ fn act(alloc: Global, action: Action, forms: &[Form], parts: Vec<Expr>) -> Resul
     match action {
         Action::Assert => assert(alloc, forms, parts),
         Action::Retract => Ok(Expr::Effect(Effect::Retract, parts)),
+        Action::Modify => modify(alloc, forms, parts),
         Action::Bind => bind(alloc, parts),
         Action::If => choose(alloc, parts),
         Action::While => repeat(alloc, parts),
@@ -131,6 +132,38 @@ fn slot_names(alloc: Global, members: &[Form]) -> Result<Vec<Name>, Refused> {
         names.push(Name::new(alloc, name)?)?;
     }
     Ok(names)
+}
+
+/// The first part says which fact, and the others are the slots, each as if its name headed actions.
+fn modify(alloc: Global, forms: &[Form], parts: Vec<Expr>) -> Result<Expr, Refused> {
+    let mut values = Vec::new(alloc);
+    for part in parts {
+        add_values(&mut values, part)?;
+    }
+    let (_, slots) = forms.split_first().ok_or(Refused::NoMemory)?;
+    Ok(Expr::Effect(Effect::Modify(modified_slots(alloc, slots)?), values))
+}
+
+/// Adds the expressions of a slot, or the one that says which fact.
+fn add_values(values: &mut Vec<Expr>, part: Expr) -> Result<(), NoMemory> {
+    match part {
+        Expr::Actions(slot) => {
+            let mut slot = slot;
+            values.append(&mut slot)?;
+        }
+        fact => values.push(fact)?,
+    }
+    Ok(())
+}
+
+fn modified_slots(alloc: Global, forms: &[Form]) -> Result<ModifiedSlots, Refused> {
+    let mut slots = Vec::new(alloc);
+    for form in forms {
+        if let Some((name, values)) = form.call() {
+            slots.push(ModifiedSlot::new(Name::new(alloc, name)?, values.len()))?;
+        }
+    }
+    Ok(ModifiedSlots::new(slots))
 }
 
 fn atom(alloc: Global, token: &Token) -> Result<Expr, Refused> {

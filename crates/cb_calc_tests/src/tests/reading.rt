@@ -23,7 +23,7 @@ const FORMS: [(&str, u8); 44] = [
     ("(bogus 1)", 6),
     ("(test TRUE)", 6),
     ("(run)", 14),
-    ("(modify 1)", 14),
+    ("(duplicate 1)", 14),
     ("(create$ (defrule))", 14),
     // The number and the shape of arguments, before the arguments.
     ("(+ (reset))", 7),
@@ -57,6 +57,38 @@ const FORMS: [(&str, u8); 44] = [
     ("(assert (d = (+ 1 2)))", 14),
 ];
 
+/// Forms that modify a fact, likewise. Which slots there are, and how many values each takes, is seen when they are carried out.
+const MODIFYING: [(&str, u8); 26] = [
+    ("(modify 1)", 0),
+    ("(modify 1 (n) (m \"x\" a) (t ?q (bind ?q 1)))", 0),
+    ("(modify (assert (a)) (modify (+ 1 2)))", 0),
+    ("(modify = (n =) (m = 1) (bind (create$)))", 0),
+    ("(modify)", 7),
+    ("(modify ?f)", 11),
+    ("(modify ?)", 8),
+    ("(modify ?f x)", 11),
+    // Each slot is a list that begins with a name of its own.
+    ("(modify (bogus) x)", 6),
+    ("(modify 1 x)", 9),
+    ("(modify 1 ?*u* (n (bogus)))", 9),
+    ("(modify 1 ())", 9),
+    ("(modify 1 (3 4))", 9),
+    ("(modify 1 (\"n\" 4))", 9),
+    ("(modify 1 (?n 4))", 9),
+    ("(modify 1 = (n 1))", 9),
+    // Its values come before the next slot.
+    ("(modify 1 (n (bogus)) x)", 6),
+    ("(modify 1 (n 1) (n (bogus)))", 9),
+    ("(modify 1 (n ?*u*) (n 1))", 12),
+    ("(modify 1 (n ?))", 8),
+    ("(modify 1 (n a|b))", 8),
+    ("(modify 1 (n = (bogus)))", 14),
+    ("(modify 1 (n ?u = (+ 1 2)))", 11),
+    ("(modify 1 (n (facts)))", 14),
+    ("(modify 1 (n (modify)))", 7),
+    ("(create$ (modify 1 (n x)) (modify 1 (n ?u) x))", 11),
+];
+
 fn number_of(read: Result<Expr, Refused>) -> Option<u8> {
     match read {
         Ok(_) => Some(0),
@@ -82,4 +114,9 @@ fn first_wrong(alloc: Global, rows: &[(&str, u8)]) -> Option<usize> {
 #[test]
 fn reads_or_reports_the_first_fault(rt: HostRuntime) {
     assert!(rt; first_wrong(rt.alloc(), &FORMS).is_none());
+}
+
+#[test]
+fn reads_what_modifies_a_fact(rt: HostRuntime) {
+    assert!(rt; first_wrong(rt.alloc(), &MODIFYING).is_none());
 }

@@ -29,6 +29,7 @@ plan_size (program.While test body) = tree_size (tree_of test.now) + trees_size 
 abbrev pub called_size : CallForm → ℕ
 called_size (called.Function f args) = trees_size (members args.now)
 called_size (called.Assert facts) = trees_size (members facts.now)
+called_size (called.Modify t slots) = tree_size (tree_of t.now) + trees_size (members slots.now)
 called_size (called.Action plan) = plan_size plan
 
 abbrev pub filling_size : SlotForm → ℕ

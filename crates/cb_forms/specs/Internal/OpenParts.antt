@@ -12,13 +12,13 @@ use Rattle.cb_forms.specs.declared.open_part.OpenPart.{OpenPart}
 -- the bytes of the part where it is an open item, and the state after its last byte
 pub record IsKept (part : OpenPart) : Type 0 where
   pub state_is : IsStateIn part.spelled.items part.state.mode part.state.depth
-  pub bytes_are : part.bytes.items ≡ open_bytes part.spelled.items
-  pub depth_fits : part.state.depth ≤ length part.bytes.items
+  pub bytes_are : part.bytes ≡ open_bytes part.spelled.items
+  pub depth_fits : part.state.depth ≤ length part.bytes
 
 -- A byte has made w the part that the text ends with, and given an item that ended before it.
 pub record Reaches (limit : ℕ) (w : List ℕ) (before : List Reading) (given : Cut) (part : OpenPart) : Type 0 where
   pub too_long : is_too_long given ≡ is_longer limit w
-  pub cleared : is_too_long given ≡ true → part.bytes.items ≡ []
+  pub cleared : is_too_long given ≡ true → part.bytes ≡ []
   pub items : is_too_long given ≡ false → cut_readings given ≡ before ++ ended_readings w
   pub spelled : is_too_long given ≡ false → part.spelled.items ≡ w
   pub kept : is_too_long given ≡ false → IsKept part

@@ -43,6 +43,8 @@ pub(crate) enum Element {
     Group(bool, &'static [Asked]),
     /// The same of patterns and a `not` behind them.
     Nested(bool, &'static [Asked], &'static [Asked]),
+    /// The same of patterns and a `not`, which is of patterns and a `not` behind them.
+    Deep(bool, &'static [Asked], &'static [Asked], &'static [Asked]),
     /// `(test (> ?x ?y))`, by the letters.
     Above(u8, u8),
     /// A group of patterns, such a test, and patterns.
@@ -153,6 +155,18 @@ fn nested(
     Ok(Ce::Group { positive, inner })
 }
 
+fn deep(
+    alloc: Global,
+    positive: bool,
+    asked: &[Asked],
+    without: &[Asked],
+    unless: &[Asked],
+) -> Result<Ce<Mark>, NoMemory> {
+    let mut inner = and_patterns(alloc, Vec::new(alloc), asked)?;
+    inner.push(nested(alloc, false, without, unless)?)?;
+    Ok(Ce::Group { positive, inner })
+}
+
 fn above(alloc: Global, x: u8, y: u8) -> Result<Ce<Mark>, NoMemory> {
     let mut values = Vec::new(alloc);
     values.push(Expr::Variable(letter(alloc, x)?))?;
@@ -179,6 +193,9 @@ fn make_element(alloc: Global, element: &Element) -> Result<Ce<Mark>, NoMemory> 
         Element::Addressed(asked) => { pattern_element(alloc, Some(letter(alloc, b'f')?), asked) }
         Element::Group(positive, asked) => group(alloc, *positive, asked),
         Element::Nested(positive, asked, without) => nested(alloc, *positive, asked, without),
+        Element::Deep(positive, asked, without, unless) => {
+            deep(alloc, *positive, asked, without, unless)
+        }
         Element::Above(x, y) => above(alloc, *x, *y),
         Element::Tested(positive, first, x, y, then) => {
             tested(alloc, *positive, first, above(alloc, *x, *y)?, then)

@@ -34,12 +34,22 @@ const C_X: Asked = Asked {
     fields: &[Field::Is(b'x')],
 };
 
+const B_X_Y: Asked = Asked {
+    relation: b'b',
+    fields: &[Field::Is(b'x'), Field::Is(b'y')],
+};
+
+const C_Y: Asked = Asked {
+    relation: b'c',
+    fields: &[Field::Is(b'y')],
+};
+
 const C_ANY: Asked = Asked {
     relation: b'c',
     fields: &[Field::Any],
 };
 
-const ROWS: [Row; 3] = [
+const ROWS: [Row; 4] = [
     // (a ?x) (b ?x)
     Row {
         branch: &[Element::Pattern(A_X), Element::Pattern(B_X)],
@@ -119,6 +129,31 @@ const ROWS: [Row; 3] = [
             Step {
                 change: Change::Retract(3),
                 at_most: 8,
+            },
+        ],
+    },
+    // (a ?x) (not (b ?x ?y) (not (c ?y))): one in another, of which each pattern is tested once for each fact and for what comes before it
+    Row {
+        branch: &[
+            Element::Pattern(A_X),
+            Element::Nested(false, &[B_X_Y], &[C_Y]),
+        ],
+        steps: &[
+            Step {
+                change: Change::Assert(1, b'a', &[1]),
+                at_most: 4,
+            },
+            Step {
+                change: Change::Assert(2, b'b', &[1, 5]),
+                at_most: 8,
+            },
+            Step {
+                change: Change::Assert(3, b'c', &[5]),
+                at_most: 12,
+            },
+            Step {
+                change: Change::Retract(2),
+                at_most: 12,
             },
         ],
     },

@@ -103,6 +103,11 @@ const A_2: Asked = Asked {
     fields: &[Field::Number(2), Field::Is(b'x')],
 };
 
+const D_X: Asked = Asked {
+    relation: b'd',
+    fields: &[Field::Is(b'x')],
+};
+
 const A_X_2: Asked = Asked {
     relation: b'a',
     fields: &[Field::Is(b'x'), Field::Number(2)],
@@ -118,7 +123,7 @@ const A_REST_2: Asked = Asked {
     fields: &[Field::Rest, Field::Number(2)],
 };
 
-pub(crate) const ROWS: [Row; 29] = [
+pub(crate) const ROWS: [Row; 32] = [
     // (a ?x) (b ?x): the second pattern first, and then a fact that nothing goes with
     Row {
         story: Story {
@@ -283,6 +288,59 @@ pub(crate) const ROWS: [Row; 29] = [
             ],
         },
         keys: 3,
+    },
+    // (a ?x) (not (b ?x) (not (c ?x) (not (d ?x)))): three levels, of which each closes and opens the one around it
+    Row {
+        story: Story {
+            first: &[],
+            branches: &[&[
+                Element::Pattern(A_X),
+                Element::Deep(false, &[B_X], &[C_X], &[D_X]),
+            ]],
+            then: &[
+                Change::Assert(1, b'a', &[1]),
+                Change::Assert(2, b'b', &[1]),
+                Change::Assert(3, b'c', &[1]),
+                Change::Assert(4, b'd', &[1]),
+                Change::Retract(3),
+                Change::Retract(2),
+                Change::Retract(4),
+            ],
+        },
+        keys: 5,
+    },
+    // (c ?y) (exists (a ?x) (not (b ?x) (not (a ?x)))): one fact stands at two levels
+    Row {
+        story: Story {
+            first: &[],
+            branches: &[&[
+                Element::Pattern(C_Y),
+                Element::Deep(true, &[A_X], &[B_X], &[A_X]),
+            ]],
+            then: &[
+                Change::Assert(9, b'c', &[1]),
+                Change::Assert(1, b'a', &[1]),
+                Change::Assert(2, b'b', &[1]),
+                Change::Assert(3, b'a', &[2]),
+                Change::Retract(1),
+                Change::Retract(3),
+            ],
+        },
+        keys: 2,
+    },
+    // (not (a ?x) (not (a ?x))): a fact that comes and goes at two levels at once
+    Row {
+        story: Story {
+            first: &[],
+            branches: &[&[Element::Nested(false, &[A_X], &[A_X])]],
+            then: &[
+                Change::Assert(1, b'a', &[1]),
+                Change::Assert(2, b'a', &[2]),
+                Change::Retract(1),
+                Change::Retract(2),
+            ],
+        },
+        keys: 1,
     },
     // (not (a ?x) (b ?x)) (c ?x): a group before all patterns, with two ways to close it
     Row {
@@ -629,6 +687,88 @@ pub(crate) const ROWS: [Row; 29] = [
     },
 ];
 
+/// Facts whose index comes back below those of others, with other content, as where a fact is modified.
+const BACK_ROWS: [Row; 4] = [
+    // (a ?x) (b ?x): in a join
+    Row {
+        story: Story {
+            first: &[],
+            branches: &[&[Element::Pattern(A_X), Element::Pattern(B_X)]],
+            then: &[
+                Change::Assert(1, b'a', &[1]),
+                Change::Assert(2, b'b', &[1]),
+                Change::Assert(3, b'b', &[2]),
+                Change::Retract(1),
+                Change::Assert(1, b'a', &[2]),
+                Change::Retract(3),
+                Change::Assert(3, b'b', &[7]),
+                Change::Retract(2),
+                Change::Assert(2, b'b', &[2]),
+                Change::Retract(1),
+            ],
+        },
+        keys: 6,
+    },
+    // (a ?x) (not (b ?x)): in a group of its own
+    Row {
+        story: Story {
+            first: &[Change::Assert(2, b'b', &[1])],
+            branches: &[&[Element::Pattern(A_X), Element::Group(false, &[B_X])]],
+            then: &[
+                Change::Assert(5, b'a', &[1]),
+                Change::Assert(6, b'a', &[2]),
+                Change::Retract(2),
+                Change::Assert(2, b'b', &[2]),
+                Change::Retract(2),
+                Change::Assert(2, b'b', &[1]),
+                Change::Retract(5),
+                Change::Assert(5, b'a', &[3]),
+            ],
+        },
+        keys: 6,
+    },
+    // (not (a ?x) (b ?x)) (c ?x): in a group of several patterns, before all others
+    Row {
+        story: Story {
+            first: &[Change::Assert(9, b'c', &[4])],
+            branches: &[&[Element::Group(false, &[A_X, B_X]), Element::Pattern(C_X)]],
+            then: &[
+                Change::Assert(1, b'a', &[1]),
+                Change::Assert(2, b'b', &[1]),
+                Change::Assert(3, b'b', &[2]),
+                Change::Retract(1),
+                Change::Assert(1, b'a', &[2]),
+                Change::Retract(3),
+                Change::Assert(3, b'b', &[5]),
+                Change::Retract(2),
+                Change::Assert(2, b'b', &[2]),
+            ],
+        },
+        keys: 6,
+    },
+    // (c ?y) (exists (b ?x ?y) (a ?x)): the same behind a pattern that it joins with
+    Row {
+        story: Story {
+            first: &[],
+            branches: &[&[Element::Pattern(C_Y), Element::Group(true, &[B_X_Y, A_X])]],
+            then: &[
+                Change::Assert(5, b'c', &[1]),
+                Change::Assert(6, b'c', &[2]),
+                Change::Assert(1, b'b', &[7, 1]),
+                Change::Assert(2, b'a', &[7]),
+                Change::Retract(1),
+                Change::Assert(1, b'b', &[7, 2]),
+                Change::Retract(2),
+                Change::Assert(2, b'a', &[8]),
+                Change::Assert(3, b'a', &[7]),
+                Change::Retract(1),
+                Change::Assert(1, b'b', &[8, 1]),
+            ],
+        },
+        keys: 7,
+    },
+];
+
 fn is_told(alloc: Global, row: &Row) -> Result<bool, NoMemory> {
     let mut meter = Meter::new(Mark);
     let mut one = Joins::new(alloc);
@@ -636,9 +776,9 @@ fn is_told(alloc: Global, row: &Row) -> Result<bool, NoMemory> {
     Ok(told(alloc, &mut one, &mut other, &row.story, &mut meter)? == Some(row.keys))
 }
 
-/// The first row that the two tell differently, or with another number of keys.
-fn wrong_row(alloc: Global) -> Result<Option<usize>, NoMemory> {
-    for (i, row) in ROWS.iter().enumerate() {
+/// The first of these rows that the two tell differently, or with another number of keys.
+fn wrong_row(alloc: Global, rows: &[Row]) -> Result<Option<usize>, NoMemory> {
+    for (i, row) in rows.iter().enumerate() {
         if !is_told(alloc, row)? {
             return Ok(Some(i));
         }
@@ -648,7 +788,14 @@ fn wrong_row(alloc: Global) -> Result<Option<usize>, NoMemory> {
 
 #[test]
 fn both_matchers_tell_the_same(rt: HostRuntime) -> Result<(), NoMemory> {
-    let wrong = wrong_row(rt.alloc())?;
+    let wrong = wrong_row(rt.alloc(), &ROWS)?;
+    assert!(rt; wrong.is_none(), "{wrong:?}");
+    Ok(())
+}
+
+#[test]
+fn both_tell_of_an_index_that_comes_back(rt: HostRuntime) -> Result<(), NoMemory> {
+    let wrong = wrong_row(rt.alloc(), &BACK_ROWS)?;
     assert!(rt; wrong.is_none(), "{wrong:?}");
     Ok(())
 }

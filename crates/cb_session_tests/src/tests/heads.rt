@@ -67,7 +67,6 @@ const REFUSED: [Row; 3] = [
             (b"(break)", CB14),
             (b"(return)", CB14),
             (b"(duplicate)", CB14),
-            (b"(modify)", CB14),
             (b"(fact-index)", CB14),
             (b"(fact-slot-value)", CB14),
             (b"(refresh)", CB14),

@@ -193,7 +193,7 @@ fn tells_the_first_fault_of_a_rule(rt: HostRuntime) {
     assert_eq!(rt; first_wrong(rt.alloc(), &RULE_FAULTS), None);
 }
 
-const GROUPS: [Row; 2] = [
+const GROUPS: [Row; 3] = [
     // The first fault of a group, and what is bound in it outside.
     Row {
         steps: &[
@@ -202,11 +202,19 @@ const GROUPS: [Row; 2] = [
             (b"(defrule r (exists) =>)", CB08),
             (b"(defrule r (not ?f <- (a)) =>)", CB14),
             (b"(defrule r (not (or (a))) =>)", CB14),
-            (b"(defrule r (exists (not (a))) =>)", CB14),
-            (b"(defrule r (forall (a) (b)) =>)", CB14),
+            (b"(defrule r (exists (not (or (a)))) =>)", CB14),
+            (b"(defrule r (forall (a)) =>)", CB08),
+            (b"(defrule r (forall (a) (logical (b))) =>)", CB14),
+            (b"(defrule r (not (forall (a) ?f <- (b))) =>)", CB14),
             (b"(defrule r ?f <- (exists (a)) =>)", CB14),
             (b"(defrule r (exists (a (b))) =>)", CB09),
             (b"(defrule r (exists (a ?x)) (b ~?x) =>)", CB11),
+            (b"(defrule r (forall (a ?x) (b ?y)) (c ~?x) =>)", CB11),
+            (b"(defrule r (not (and (not (a ?x)) (b ~?x))) =>)", CB11),
+            (
+                b"(defrule r (forall (a ?x) (exists (b ~?x) (not (c ~?x)))) =>)",
+                b"",
+            ),
             (b"(defrule r (exists (a ?x)) => (println ?x))", CB11),
         ],
         status: FAULTY,
@@ -222,6 +230,17 @@ const GROUPS: [Row; 2] = [
             (b"(deftemplate b (slot v))", CB23),
             (b"(undefrule n)", b""),
             (b"(deftemplate b (slot v))", b""),
+        ],
+        status: FAULTY,
+    },
+    // What is inside a `forall` is in use too.
+    Row {
+        steps: &[
+            (b"(defrule f (exists (k) (forall (l ?x) (m ?x))) =>)", b""),
+            (b"(deftemplate l)", CB23),
+            (b"(deftemplate m)", CB23),
+            (b"(undefrule f)", b""),
+            (b"(deftemplate m)", b""),
         ],
         status: FAULTY,
     },

@@ -1,5 +1,5 @@
 //! Facts from what they are given, their texts, and which are equal.
-use super::rows::{Given, fact, shown_fact};
+use super::rows::{Given, changed, fact, shown_fact};
 use cb_forms::NoMemory;
 use cb_values::{Fact, Refused};
 use std::alloc::Global;
@@ -110,6 +110,64 @@ fn builds_facts_of_fields(rt: HostRuntime) -> Result<(), NoMemory> {
 #[test]
 fn builds_facts_of_slots(rt: HostRuntime) -> Result<(), NoMemory> {
     let wrong = wrong_fact(rt.alloc(), &BY_SLOTS, true)?;
+    assert!(rt; wrong.is_none(), "{wrong:?}");
+    Ok(())
+}
+
+/// Facts, what is given anew, and the text of the fact that each becomes, or the number of its fault. `p` and `o` have no template.
+const CHANGED: [(Given, &str, &str); 17] = [
+    (Given::Slots("t (r b)"), "", "(t (a 1) (m x 2) (r b) (n))"),
+    (
+        Given::Slots("t (r b) (a 4) (m 5)"),
+        "(n 7 (8 9)) (r c)",
+        "(t (a 4) (m 5) (r c) (n 7 8 9))",
+    ),
+    (
+        Given::Slots("t (r b) (a 4) (m 5 6) (n 7)"),
+        "(m) (a \"s\")",
+        "(t (a \"s\") (m) (r b) (n 7))",
+    ),
+    (
+        Given::Slots("t (r b)"),
+        "(m (1 2) () 3)",
+        "(t (a 1) (m 1 2 3) (r b) (n))",
+    ),
+    (
+        Given::Slots("t (r b) (m 1)"),
+        "(r b) (m 1)",
+        "(t (a 1) (m 1) (r b) (n))",
+    ),
+    // A slot that is not there, or is given twice, and a number of values that one doesn't take.
+    (Given::Slots("t (r b)"), "(s 1)", "!09"),
+    (Given::Slots("t (r b)"), "(a 1) (a 2)", "!09"),
+    (Given::Slots("t (r b)"), "(a 1 2)", "!09"),
+    (Given::Slots("t (r b)"), "(a)", "!09"),
+    (Given::Slots("t (r b)"), "(r (1)) (s 1)", "!09"),
+    (Given::Slots("t (r b)"), "(a (1)) (r)", "!09"),
+    // A multifield for a slot of one value.
+    (Given::Slots("t (r b)"), "(r (1))", "!22"),
+    (Given::Slots("t (r b)"), "(r ()) (m)", "!22"),
+    (Given::Slots("t (r b)"), "(a (1 2)) (n 3)", "!22"),
+    // An ordered fact.
+    (Given::Fields("p 1"), "", "!09"),
+    (Given::Fields("p 1"), "(a 1)", "!09"),
+    (Given::Fields("o"), "(a (1))", "!09"),
+];
+
+/// The first row whose fact is shown otherwise.
+fn wrong_change(alloc: Global) -> Result<Option<&'static str>, NoMemory> {
+    for (given, changes, want) in &CHANGED {
+        let fact = changed(alloc, TEMPLATE, given, changes);
+        if shown_fact(alloc, fact)?.as_slice() != want.as_bytes() {
+            return Ok(Some(want));
+        }
+    }
+    Ok(None)
+}
+
+#[test]
+fn changes_slots_of_facts(rt: HostRuntime) -> Result<(), NoMemory> {
+    let wrong = wrong_change(rt.alloc())?;
     assert!(rt; wrong.is_none(), "{wrong:?}");
     Ok(())
 }

@@ -2,7 +2,7 @@
 use cb_forms::{Form, Item, NoMemory, read_items, split_head};
 use cb_values::{
     Fact, GivenSlot, Multifield, Name, Names, Parts, Refused, Relations, Single, Value, build_fact,
-    fact_text,
+    change_fact, fact_text,
 };
 use std::alloc::Global;
 
@@ -169,6 +169,30 @@ pub(crate) fn fact(alloc: Global, templates: &str, given: &Given) -> Result<Fact
     let relations = defined(alloc, templates)?;
     let (Given::Fields(text) | Given::Slots(text)) = given;
     given_fact(alloc, &relations, given, forms(alloc, text)?.as_slice())
+}
+
+/// The fact that one that is given so becomes where these slots are given new values.
+pub(crate) fn changed(
+    alloc: Global,
+    templates: &str,
+    given: &Given,
+    changes: &str,
+) -> Result<Fact, Refused> {
+    let relations = defined(alloc, templates)?;
+    let (Given::Fields(text) | Given::Slots(text)) = given;
+    let old = given_fact(alloc, &relations, given, forms(alloc, text)?.as_slice())?;
+    change(alloc, &relations, &old, changes)
+}
+
+/// The fact that this one becomes.
+fn change(
+    alloc: Global,
+    relations: &Relations,
+    old: &Fact,
+    changes: &str,
+) -> Result<Fact, Refused> {
+    let given = given_slots(alloc, forms(alloc, changes)?.as_slice())?;
+    change_fact(alloc, relations, old, given)
 }
 
 fn given_fact(

@@ -70,7 +70,7 @@ blue
         name: "What is left out: 1",
         script: b"1.5
 (/ 6 3)
-(modify 1 (a 2))
+(duplicate 1 (a 2))
 (bogus)
 (deftemplate t (slot n (default (+ 1 2))))
 (defglobal MAIN ?*a* = 1)
@@ -79,8 +79,7 @@ blue
 (printout werror \"w\" crlf)
 (printout (sym-cat t) \"x\" crlf)
 (member$ (create$ b c) (create$ a b c))
-(defrule nested (not (not (a))) => (printout t \"a\" crlf))
-(defrule all (forall (a ?x) (b ?x)) => (printout t \"all\" crlf))
+(defrule neither (not (or (a) (b))) => (printout t \"neither\" crlf))
 ",
         written: b"[CB05] floats are not supported
 [CB14] not in this profile
@@ -93,7 +92,6 @@ blue
 [CB14] not in this profile
 [CB14] not in this profile
 [CB17] wrong type
-[CB14] not in this profile
 [CB14] not in this profile
 ",
         outcome: WITH_A_FAULT,
@@ -211,7 +209,7 @@ y[CB17] wrong type
     },
 ];
 
-pub(super) const CLIPS_FACTS: [Example; 10] = [
+pub(super) const CLIPS_FACTS: [Example; 11] = [
     Example {
         name: "Facts and templates: 1",
         script: b"(assert (color red))
@@ -226,6 +224,27 @@ pub(super) const CLIPS_FACTS: [Example; 10] = [
     },
     Example {
         name: "Facts and templates: 2",
+        script: b"(deftemplate lamp (slot room) (slot state))
+(assert (lamp (room hall) (state off)))
+(assert (lamp (room hall) (state on)))
+(modify 2 (room attic))
+(modify 2 (state on))
+(modify 1 (room attic) (state on))
+(facts)
+",
+        written: b"<Fact-1>
+<Fact-2>
+<Fact-2>
+<Fact-2>
+FALSE
+f-1     (lamp (room hall) (state off))
+f-2     (lamp (room attic) (state on))
+For a total of 2 facts.
+",
+        outcome: WITHOUT_FAULT,
+    },
+    Example {
+        name: "Facts and templates: 3",
         script: b"(deftemplate t (slot a (type INTEGER)) (slot b (type INTEGER STRING)))
 (assert (t))
 (facts)
@@ -237,7 +256,7 @@ For a total of 1 fact.
         outcome: WITHOUT_FAULT,
     },
     Example {
-        name: "Facts and templates: 3",
+        name: "Facts and templates: 4",
         script: b"(deftemplate t (slot a (type INTEGER)))
 (assert (t (a (sym-cat many))))
 (bind ?x more)
@@ -254,7 +273,7 @@ For a total of 2 facts.
         outcome: WITHOUT_FAULT,
     },
     Example {
-        name: "Facts and templates: 4",
+        name: "Facts and templates: 5",
         script: b"(deffacts d (a))
 (deffacts d (b ?x))
 (reset)
@@ -267,7 +286,7 @@ For a total of 1 fact.
         outcome: WITH_A_FAULT,
     },
     Example {
-        name: "Facts and templates: 5",
+        name: "Facts and templates: 6",
         script: b"(defglobal ?*kept* = none ?*f* = none)
 (defglobal ?*kept* = ?*f*)
 (bind ?*f* (assert (color red)))

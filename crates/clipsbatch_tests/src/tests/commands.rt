@@ -198,6 +198,113 @@ For a total of 2 facts.
     },
 ];
 
+pub(super) const MODIFYING: [Example; 3] = [
+    Example {
+        name: "modify: 1",
+        script: b"(deftemplate part (slot name) (slot count (type INTEGER)) (multislot sizes (default 8)))
+(assert (part (name bolt) (count 3)) (part (name nut) (count 7)))
+(modify 1 (count (+ 3 4)) (sizes 8 (create$ 10 12)))
+(modify 1 (count 7))
+(bind ?nut (modify 2 (name bolt)))
+(modify ?nut (sizes 8 10 12))
+(modify ?nut (count \"many\") (sizes))
+(assert (part (name nut) (count 7)))
+(facts)
+",
+        written: b"<Fact-2>
+<Fact-1>
+<Fact-1>
+<Fact-2>
+FALSE
+<Fact-2>
+<Fact-3>
+f-1     (part (name bolt) (count 7) (sizes 8 10 12))
+f-2     (part (name bolt) (count \"many\") (sizes))
+f-3     (part (name nut) (count 7) (sizes 8))
+For a total of 3 facts.
+",
+        outcome: WITHOUT_FAULT,
+    },
+    Example {
+        name: "modify: 2",
+        script: b"(deftemplate lamp (slot room) (slot state (default off)))
+(defrule dark ?lamp <- (lamp (room ?room) (state off)) => (modify ?lamp (state on)) (println ?room \" is lit\"))
+(watch facts)
+(watch activations)
+(assert (lamp (room hall)))
+(run)
+(modify 1 (state off))
+(modify 1 (room attic))
+(unwatch facts)
+(run)
+(facts)
+",
+        written: b"==> f-1     (lamp (room hall) (state off))
+==> Activation 0      dark: f-1
+<Fact-1>
+<== f-1     (lamp (room hall) (state off))
+==> f-1     (lamp (room hall) (state on))
+hall is lit
+<== f-1     (lamp (room hall) (state on))
+==> f-1     (lamp (room hall) (state off))
+==> Activation 0      dark: f-1
+<Fact-1>
+<== f-1     (lamp (room hall) (state off))
+<== Activation 0      dark: f-1
+==> f-1     (lamp (room attic) (state off))
+==> Activation 0      dark: f-1
+<Fact-1>
+attic is lit
+f-1     (lamp (room attic) (state on))
+For a total of 1 fact.
+",
+        outcome: WITHOUT_FAULT,
+    },
+    Example {
+        name: "modify: 3",
+        script: b"(deftemplate part (slot name) (slot count (type INTEGER)) (multislot sizes (default 8)))
+(assert (part (name bolt)) (colour red))
+(modify 1 (colour red))
+(modify 1 (count 1 2))
+(modify 1 (count))
+(modify 1 (count (create$ 1)))
+(modify 1 (count (create$ 1)) (colour red))
+(modify 2)
+(modify 3 (colour (bind ?seen yes)))
+?seen
+(modify \"bolt\" (count 1))
+(modify (print \"first \") (count (print \"not evaluated\")))
+(modify)
+(modify 1 count)
+(modify 1 (count 1) (count 2))
+(modify 1 (count 1) (colour (bogus)))
+(modify 1 (count = (+ 1 2)))
+(facts)
+",
+        written: b"<Fact-2>
+[CB09] fact does not fit its template
+[CB09] fact does not fit its template
+[CB09] fact does not fit its template
+[CB22] one value wanted
+[CB09] fact does not fit its template
+[CB09] fact does not fit its template
+[CB20] no such fact
+yes
+[CB17] wrong type
+first [CB17] wrong type
+[CB07] wrong arguments
+[CB09] fact does not fit its template
+[CB09] fact does not fit its template
+[CB06] unknown function
+[CB14] not in this profile
+f-1     (part (name bolt) (count 0) (sizes 8))
+f-2     (colour red)
+For a total of 2 facts.
+",
+        outcome: WITH_A_FAULT,
+    },
+];
+
 pub(super) const RUNNING: [Example; 4] = [
     Example {
         name: "run and halt: 1",

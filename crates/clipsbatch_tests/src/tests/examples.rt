@@ -2,6 +2,102 @@
 use super::rows::{Example, WITHOUT_FAULT};
 use cb_command_line::{Cause, Outcome};
 
+pub(super) const BICYCLES: [Example; 1] = [Example {
+    name: "bicycles.clp",
+    script: b"; Orders of a workshop for bicycles. An order is packed as soon as enough of each of its parts is on the shelf. What goes into
+; one order isn't there for the next.
+
+(deftemplate order
+  (slot number (type INTEGER) (default ?NONE))
+  (slot for (type STRING)))
+
+(deftemplate part \"a part of an order\"
+  (slot order (type INTEGER) (default ?NONE))
+  (slot name (type SYMBOL) (default ?NONE))
+  (slot count (type INTEGER) (default 1)))
+
+(deftemplate shelf
+  (slot name (type SYMBOL) (default ?NONE))
+  (slot count (type INTEGER)))
+
+(defrule unpack
+  (declare (salience 20))
+  ?d <- (delivered ?name ?n)
+  ?shelf <- (shelf (name ?name) (count ?there))
+  =>
+  (retract ?d)
+  (modify ?shelf (count (+ ?there ?n))))
+
+; Of the orders that can be packed, the one that came first goes first.
+(defrule pack
+  ?order <- (order (number ?n) (for ?who))
+  (forall (part (order ?n) (name ?part) (count ?wanted))
+          (shelf (name ?part) (count ?there&:(>= ?there ?wanted))))
+  (not (and (order (number ?m&:(< ?m ?n)))
+            (forall (part (order ?m) (name ?part) (count ?wanted))
+                    (shelf (name ?part) (count ?there&:(>= ?there ?wanted))))))
+  =>
+  (retract ?order)
+  (assert (packed ?n))
+  (println \"Order \" ?n \" is packed for \" ?who \".\"))
+
+(defrule take
+  (declare (salience 10))
+  (packed ?n)
+  ?part <- (part (order ?n) (name ?name) (count ?wanted))
+  ?shelf <- (shelf (name ?name) (count ?there))
+  =>
+  (retract ?part)
+  (modify ?shelf (count (- ?there ?wanted))))
+
+; What is missing, once nothing more can be packed.
+(defrule wait
+  (declare (salience -10))
+  (order (number ?n))
+  (part (order ?n) (name ?part) (count ?wanted))
+  (not (shelf (name ?part) (count ?there&:(>= ?there ?wanted))))
+  =>
+  (println \"Order \" ?n \" waits for \" ?part \".\"))
+
+(defrule done
+  (declare (salience -20))
+  (not (order))
+  =>
+  (println \"All orders are packed.\"))
+
+(deffacts monday
+  (shelf (name frame) (count 2))
+  (shelf (name wheel) (count 3))
+  (shelf (name bell) (count 5))
+  (order (number 1) (for \"Ann\"))
+  (part (order 1) (name frame))
+  (part (order 1) (name wheel) (count 2))
+  (order (number 2) (for \"Bob\"))
+  (part (order 2) (name frame))
+  (part (order 2) (name wheel) (count 2))
+  (part (order 2) (name bell))
+  (order (number 3) (for \"Cid\"))
+  (part (order 3) (name bell) (count 2))
+  (order (number 4) (for \"Dee\")))                ; who comes for the invoice alone
+
+(reset)
+(run)
+(println \"Wheels come.\")
+(assert (delivered wheel 4))
+(run)
+",
+    written: b"Order 1 is packed for Ann.
+Order 3 is packed for Cid.
+Order 4 is packed for Dee.
+Order 2 waits for wheel.
+Wheels come.
+<Fact-17>
+Order 2 is packed for Bob.
+All orders are packed.
+",
+    outcome: WITHOUT_FAULT,
+}];
+
 pub(super) const CLUSTER: [Example; 1] = [Example {
     name: "cluster.clp",
     script: b"; The configuration of a small cluster, checked before it is rolled out. Services and settings have templates: a port
@@ -390,6 +486,102 @@ Problems: 6
         status: 10,
         cause: Cause::Exit,
     },
+}];
+
+pub(super) const STOCK: [Example; 1] = [Example {
+    name: "stock.clp",
+    script: b"; The shelves of a shop. What is delivered and sold changes the count of an article, which keeps its index all day. An article
+; of which little is left is ordered once, and not again until enough of it has come.
+
+(deftemplate article
+  (slot name (type SYMBOL) (default ?NONE))
+  (slot count (type INTEGER))
+  (slot least (type INTEGER) (default 3))        ; with fewer than this it is ordered
+  (slot state (type SYMBOL) (default there))     ; or ordered
+  (multislot waiting (type STRING)))             ; those who get theirs when it comes
+
+(deftemplate delivery
+  (slot of (type SYMBOL))
+  (slot count (type INTEGER)))
+
+(deftemplate sale
+  (slot of (type SYMBOL))
+  (slot to (type STRING)))
+
+; Whatever comes is on the shelf before anybody asks for it.
+(defrule deliver
+  (declare (salience 10))
+  ?delivery <- (delivery (of ?name) (count ?n))
+  ?article <- (article (name ?name) (count ?there))
+  =>
+  (retract ?delivery)
+  (modify ?article (count (+ ?there ?n)))
+  (println ?n \" \" ?name \": now \" (+ ?there ?n)))
+
+(defrule hand-out
+  (declare (salience 5))
+  ?article <- (article (name ?name) (count ?there&~0) (waiting ?first $?others))
+  =>
+  (modify ?article (count (- ?there 1)) (waiting ?others))
+  (println ?first \" gets the \" ?name \": \" (- ?there 1) \" left\"))
+
+(defrule sell
+  ?sale <- (sale (of ?name) (to ?who))
+  ?article <- (article (name ?name) (waiting $?queue))
+  =>
+  (retract ?sale)
+  (modify ?article (waiting ?queue ?who)))
+
+(defrule order
+  (declare (salience -10))
+  ?article <- (article (name ?name) (count ?there) (least ?least&:(< ?there ?least)) (state there))
+  =>
+  (modify ?article (state ordered))
+  (println \"order: \" ?name))
+
+(defrule arrive
+  ?article <- (article (count ?there) (least ?least&:(>= ?there ?least)) (state ordered))
+  =>
+  (modify ?article (state there)))
+
+(deffacts shop
+  (article (name lamp) (count 2) (least 1))
+  (article (name kettle) (count 4)))
+
+(reset)
+(assert (sale (of lamp) (to \"Ann\"))
+        (sale (of kettle) (to \"Bob\"))
+        (sale (of kettle) (to \"Cid\")))
+(run)
+(assert (sale (of lamp) (to \"Dee\"))
+        (sale (of lamp) (to \"Eve\"))
+        (delivery (of kettle) (count 5)))
+(run)
+(facts)
+(assert (delivery (of lamp) (count 2)))
+(run)
+(facts)
+",
+    written: b"<Fact-5>
+Cid gets the kettle: 3 left
+Bob gets the kettle: 2 left
+Ann gets the lamp: 1 left
+order: kettle
+<Fact-8>
+5 kettle: now 7
+Eve gets the lamp: 0 left
+order: lamp
+f-1     (article (name lamp) (count 0) (least 1) (state ordered) (waiting \"Dee\"))
+f-2     (article (name kettle) (count 7) (least 3) (state there) (waiting))
+For a total of 2 facts.
+<Fact-9>
+2 lamp: now 2
+Dee gets the lamp: 1 left
+f-1     (article (name lamp) (count 1) (least 1) (state there) (waiting))
+f-2     (article (name kettle) (count 7) (least 3) (state there) (waiting))
+For a total of 2 facts.
+",
+    outcome: WITHOUT_FAULT,
 }];
 
 pub(super) const UNITS: [Example; 1] = [Example {

@@ -1,7 +1,7 @@
 //! Rules with groups and with branches.
 use super::rows::*;
 
-static GROUP_ROWS: [Row; 9] = [
+static GROUP_ROWS: [Row; 11] = [
     // The match comes anew when the fact is gone, and fires again.
     Row {
         name: "a fact that is not there",
@@ -111,12 +111,43 @@ static GROUP_ROWS: [Row; 9] = [
     },
     Row {
         name: "a group in a group",
-        steps: &[(b"(defrule n (not (not (a))) =>)", CB14)],
+        steps: &[
+            (b"(defrule n (not (not (a))) => (printout t x crlf))", b""),
+            (b"(run)", b""),
+            (b"(assert (a))", b"<Fact-1>\n"),
+            (b"(run)", b"x\n"),
+        ],
+        ..CLEAN
+    },
+    Row {
+        name: "what holds for all",
+        steps: &[
+            (
+                b"(defrule f (forall (task ?t) (done ?t)) => (printout t all crlf))",
+                b"",
+            ),
+            (b"(run)", b"all\n"),
+            (b"(assert (task 1))", b"<Fact-1>\n"),
+            (b"(assert (done 1))", b"<Fact-2>\n"),
+            (b"(run)", b"all\n"),
+            (b"(assert (task 2))", b"<Fact-3>\n"),
+            (b"(run)", b""),
+            (b"(retract 3)", b""),
+            (b"(run)", b"all\n"),
+        ],
+        ..CLEAN
+    },
+    Row {
+        name: "what may not stand in a group",
+        steps: &[
+            (b"(defrule a (forall (a)) =>)", CB08),
+            (b"(defrule b (not (or (a) (b))) =>)", CB14),
+        ],
         ..FAULTY
     },
 ];
 
-static GROUP_CHANGES: [Row; 4] = [
+static GROUP_CHANGES: [Row; 5] = [
     Row {
         name: "a join whose second pattern's fact is older",
         steps: &[
@@ -173,6 +204,30 @@ static GROUP_CHANGES: [Row; 4] = [
             (b"(run)", b""),
             (b"(retract 2)", b""),
             (b"(run)", b"none\n"),
+        ],
+        ..CLEAN
+    },
+    Row {
+        name: "a group in a group that opens the outer one again",
+        steps: &[
+            (b"(watch activations)", b""),
+            (
+                b"(defrule g (p ?x) (not (and (q ?x ?y) (not (r ?y)))) =>)",
+                b"",
+            ),
+            (
+                b"(assert (p 1))",
+                b"==> Activation 0      g: f-1,*\n<Fact-1>\n",
+            ),
+            (
+                b"(assert (q 1 5))",
+                b"<== Activation 0      g: f-1,*\n<Fact-2>\n",
+            ),
+            (
+                b"(assert (r 5))",
+                b"==> Activation 0      g: f-1,*\n<Fact-3>\n",
+            ),
+            (b"(retract 2)", b""),
         ],
         ..CLEAN
     },

@@ -69,7 +69,7 @@ pub(super) fn outcome_of<S: Source, K: Sink>(
 ) -> Outcome
     requires { IsReady out.old }
 {
-    run(alloc, source, out, limits(want))
+    run(alloc, source, out, limits(want)).outcome
 }
 
 /// Whether a run that ended so and wrote this is as it should be.

@@ -1,10 +1,13 @@
 //! The scripts of the pages and of `examples/`, in blocks of three lengths.
 use super::clips::{CLIPS_COMMANDS, CLIPS_FACTS, CLIPS_RULES, CLIPS_TEXT};
-use super::commands::{COMMANDS, RUNNING, WATCHING};
-use super::examples::{CLUSTER, HEATING, INVENTORY, READINGS, ROLLOUT, UNITS, WORKSHOP};
+use super::commands::{COMMANDS, MODIFYING, RUNNING, WATCHING};
+use super::examples::{
+    BICYCLES, CLUSTER, HEATING, INVENTORY, READINGS, ROLLOUT, STOCK, UNITS, WORKSHOP,
+};
 use super::facts::{FACTS, TEMPLATES};
 use super::first_scripts::FIRST_SCRIPTS;
 use super::functions::{EXPRESSIONS, VARIABLES};
+use super::modify_orders::{MODIFY_FAULTS, MODIFY_MATCHES, MODIFY_ORDERS, MODIFY_VALUES};
 use super::one_run::{Want, goes_in_blocks};
 use super::orders::ORDERS;
 use super::pattern_ways::{CHECKS, SLOTS, WAYS};
@@ -184,6 +187,12 @@ fn runs_first_scripts(rt: HostRuntime) -> Result<(), NoMemory> {
 }
 
 #[test]
+fn packs_bicycles(rt: HostRuntime) -> Result<(), NoMemory> {
+    assert_eq!(rt; first_untrue(rt.alloc(), &BICYCLES)?, None);
+    Ok(())
+}
+
+#[test]
 fn checks_a_cluster(rt: HostRuntime) -> Result<(), NoMemory> {
     assert_eq!(rt; first_untrue(rt.alloc(), &CLUSTER)?, None);
     Ok(())
@@ -210,6 +219,12 @@ fn checks_readings(rt: HostRuntime) -> Result<(), NoMemory> {
 #[test]
 fn checks_a_rollout(rt: HostRuntime) -> Result<(), NoMemory> {
     assert_eq!(rt; first_untrue(rt.alloc(), &ROLLOUT)?, None);
+    Ok(())
+}
+
+#[test]
+fn sells_and_orders_stock(rt: HostRuntime) -> Result<(), NoMemory> {
+    assert_eq!(rt; first_untrue(rt.alloc(), &STOCK)?, None);
     Ok(())
 }
 
@@ -258,5 +273,35 @@ fn keeps_to_the_order_of_matches(rt: HostRuntime) -> Result<(), NoMemory> {
 #[test]
 fn keeps_to_the_order_of_the_agenda(rt: HostRuntime) -> Result<(), NoMemory> {
     assert_eq!(rt; first_untrue(rt.alloc(), &AGENDA_ORDERS)?, None);
+    Ok(())
+}
+
+#[test]
+fn keeps_to_the_order_of_modify(rt: HostRuntime) -> Result<(), NoMemory> {
+    assert_eq!(rt; first_untrue(rt.alloc(), &MODIFY_ORDERS)?, None);
+    Ok(())
+}
+
+#[test]
+fn modifies_slots_alone(rt: HostRuntime) -> Result<(), NoMemory> {
+    assert_eq!(rt; first_untrue(rt.alloc(), &MODIFY_VALUES)?, None);
+    Ok(())
+}
+
+#[test]
+fn keeps_to_the_order_of_faults_of_modify(rt: HostRuntime) -> Result<(), NoMemory> {
+    assert_eq!(rt; first_untrue(rt.alloc(), &MODIFY_FAULTS)?, None);
+    Ok(())
+}
+
+#[test]
+fn matches_what_is_modified_anew(rt: HostRuntime) -> Result<(), NoMemory> {
+    assert_eq!(rt; first_untrue(rt.alloc(), &MODIFY_MATCHES)?, None);
+    Ok(())
+}
+
+#[test]
+fn modifies_facts(rt: HostRuntime) -> Result<(), NoMemory> {
+    assert_eq!(rt; first_untrue(rt.alloc(), &MODIFYING)?, None);
     Ok(())
 }

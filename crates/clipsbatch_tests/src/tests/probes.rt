@@ -29,7 +29,7 @@ struct Row {
     written: &'static [u8],
 }
 
-const ROWS: [Row; 5] = [
+const ROWS: [Row; 6] = [
     // what is tested against an earlier pattern
     Row {
         pieces: &[Piece {
@@ -85,6 +85,20 @@ const ROWS: [Row; 5] = [
             tests: Tests::Between(1, 100),
         }],
         written: b"<Fact-2>\nnone\n",
+    },
+    // a group in a group
+    Row {
+        pieces: &[
+            Piece {
+                bytes: b"(watch activations)(defrule g (p ?x) (not (and (q ?x ?y) (not (r ?y)))) =>)(assert (p 1))(assert (q 1 5))(assert (r 5))",
+                tests: Tests::Between(1, 12),
+            },
+            Piece {
+                bytes: b"(retract 2)",
+                tests: Tests::Same,
+            },
+        ],
+        written: b"==> Activation 0      g: f-1,*\n<Fact-1>\n<== Activation 0      g: f-1,*\n<Fact-2>\n==> Activation 0      g: f-1,*\n<Fact-3>\n",
     },
 ];
 

@@ -12,7 +12,7 @@ pub(super) const ELEMENT_ORDERS: [Example; 7] = [
         written: b"[CB14] not in this profile
 [CB08] malformed form
 [CB14] not in this profile
-[CB14] not in this profile
+[CB08] malformed form
 [CB14] not in this profile
 ",
         outcome: WITH_A_FAULT,
@@ -79,7 +79,7 @@ pub(super) const ELEMENT_ORDERS: [Example; 7] = [
 [CB08] malformed form
 [CB08] malformed form
 [CB08] malformed form
-[CB14] not in this profile
+[CB08] malformed form
 ",
         outcome: WITH_A_FAULT,
     },
@@ -444,13 +444,13 @@ For a total of 5 activations.
     Example {
         name: "shows what a basis lists",
         script: b"(assert (a 1) (b 1))
-(defrule r (test TRUE) (a ?x) (not (z)) (exists (b ?x)) (b ?) =>)
+(defrule r (test TRUE) (a ?x) (not (z)) (exists (b ?x)) (forall (a ?y) (b ?y)) (b ?) =>)
 (defrule s (test TRUE) =>)
 (defrule u (test FALSE) =>)
 (agenda)",
         written: b"<Fact-2>
 0      s: *
-0      r: f-1,*,*,f-2
+0      r: f-1,*,*,*,f-2
 For a total of 2 activations.
 ",
         outcome: WITHOUT_FAULT,
@@ -626,7 +626,7 @@ For a total of 4 activations.
     },
     Example {
         name: "shows what keeps a relation in use",
-        script: b"(defrule r (not (k)) => (if TRUE then (bind ?x (assert (j (assert (i)))))))
+        script: b"(defrule r (not (exists (k))) => (if TRUE then (bind ?x (assert (j (assert (i)))))))
 (deftemplate k)
 (deftemplate j)
 (deftemplate i)

@@ -88,7 +88,7 @@ begun
     },
 ];
 
-pub(super) const GROUPS: [Example; 6] = [
+pub(super) const GROUPS: [Example; 7] = [
     Example {
         name: "Groups: 1",
         script: b"(defrule free (room ?r) (not (guest ? ?r)) => (println ?r \" is free\"))
@@ -127,6 +127,35 @@ first 2
 second 2
 second 1
 first 1
+",
+        outcome: WITHOUT_FAULT,
+    },
+    Example {
+        name: "Groups: 3",
+        script: b"(defrule ready (order ?o) (forall (part ?o ?p) (stock ?p)) => (println \"order \" ?o \" is ready\"))
+(defrule last (task ?t) (not (and (task ?u) (not (after ?t ?u)) (test (neq ?t ?u)))) => (println ?t \" is last\"))
+(assert (order 1) (part 1 nut) (part 1 bolt))
+(assert (stock nut))
+(run)
+(assert (stock bolt) (order 2))
+(run)
+(retract 4)
+(assert (stock nut))
+(run)
+(assert (task paint) (task saw))
+(assert (after paint saw))
+(run)
+",
+        written: b"<Fact-3>
+<Fact-4>
+<Fact-6>
+order 2 is ready
+order 1 is ready
+<Fact-7>
+order 1 is ready
+<Fact-9>
+<Fact-10>
+paint is last
 ",
         outcome: WITHOUT_FAULT,
     },
@@ -254,17 +283,17 @@ pub(super) const RULE_FAULTS: [Example; 2] = [
 (defrule r (exists) =>)
 (defrule r (exists (a) (or (b ~~c))) =>)
 (defrule r (not ?f <- (a)) =>)
-(defrule r (forall (a) (b)) =>)
+(defrule r (forall (a)) =>)
 (defrule r (or (a ?x) (b)) (c ~?x) =>)
 (defrule r (exists (a ?x)) => (println ?x))
 ",
         written: b"[CB14] not in this profile
 [CB08] malformed form
-[CB14] not in this profile
+[CB08] malformed form
 [CB08] malformed form
 [CB14] not in this profile
 [CB14] not in this profile
-[CB14] not in this profile
+[CB08] malformed form
 [CB11] unbound variable
 [CB11] unbound variable
 ",

@@ -6,6 +6,7 @@ use super::calc_rows::{calc_rows, global_rows, loop_rows};
 use super::fault_rows::{fact_fault_rows, template_fault_rows};
 use super::first_rows::{command_rows, item_rows};
 use super::group_rows::{group_changes, group_rows};
+use super::modify_rows::modify_rows;
 use super::one_run::{Want, goes, goes_by, goes_in_blocks, want_of};
 use super::pieces::{Whole, joined, steps_in, written_by};
 use super::rows::{AT_A_LIMIT, Row};
@@ -32,10 +33,11 @@ pub(super) enum Subject {
     Groups,
     GroupChanges,
     Agenda,
+    Modifying,
 }
 
 /// All subjects.
-pub(super) const SUBJECTS: [Subject; 14] = [
+pub(super) const SUBJECTS: [Subject; 15] = [
     Subject::Items,
     Subject::Commands,
     Subject::Templates,
@@ -50,6 +52,7 @@ pub(super) const SUBJECTS: [Subject; 14] = [
     Subject::Groups,
     Subject::GroupChanges,
     Subject::Agenda,
+    Subject::Modifying,
 ];
 
 /// The rows about a subject.
@@ -69,6 +72,7 @@ pub(super) fn rows_about(subject: Subject) -> &'static [Row] {
         Subject::Groups => group_rows(),
         Subject::GroupChanges => group_changes(),
         Subject::Agenda => agenda_rows(),
+        Subject::Modifying => modify_rows(),
     }
 }
 

@@ -167,7 +167,7 @@ fn lead_there(alloc: Global, request: &Request) -> Result<bool, NoMemory> {
     let mut out = Out::new(MemSink::new(alloc, 100, 100, None)?);
     let mut source = MemSource::new(b"(a b)", 1, None);
     let ends = match run_words(alloc, request.words, &mut source, &mut out) {
-        Ok(outcome) => Ok(outcome),
+        Ok(report) => Ok(report.outcome),
         Err(error) => Err(error.kind()),
     };
     Ok(ends == request.ends && out.sink().bytes() == request.written)

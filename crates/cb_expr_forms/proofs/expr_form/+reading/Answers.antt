@@ -39,6 +39,14 @@ read_slots-read_given-requires t c =
     let less : 8 * tree_size (tree_of c.form-item.result) + 1 < t = omega arith in
     (less, tt)
 
+pub read_changes-read_change-requires : goal.read_changes-read_change-requires
+read_changes-read_change-requires t c =
+    let within = c.decreases in
+    let is : get_or c.args.forms.now c.loop-form.form-index c.form-item.result ≡ c.form-item.result = search rules in
+    let fits = item_fits c.args.forms.now c.loop-form.form-index c.form-item.result c.loop-form-test.true is in
+    let less : 8 * tree_size (tree_of c.form-item.result) + 2 < t = omega arith in
+    (less, tt)
+
 pub read_if-returns-in_err-yes : goal.read_if-returns-in_err-yes
 read_if-returns-in_err-yes t c =
     let s = c.args.scope.now in

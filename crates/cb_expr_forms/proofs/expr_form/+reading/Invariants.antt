@@ -1,7 +1,7 @@
 use Rattle.std.proofs.Common.{◌≡◌, ◌≤◌, ◌+◌, ◌*◌, ◌++◌, [], drop, length, map}
 use Rattle.std.specs.Option.{option_and_then}
-use Rattle.cb_expr_forms.specs.ExprFaults.{all_faults, facts_faults, slots_faults, values_faults}
-use Rattle.cb_expr_forms.specs.ExprForms.{assertions, exprs_of, slot_exprs, slot_names}
+use Rattle.cb_expr_forms.specs.ExprFaults.{all_faults, changes_faults, facts_faults, slots_faults, values_faults}
+use Rattle.cb_expr_forms.specs.ExprForms.{assertions, change_exprs, exprs_of, slot_counts, slot_exprs, slot_names}
 use Rattle.cb_expr_forms.specs.Internal.Sizes.{filling_size, plan_size, tree_size, trees_size}
 use Rattle.cb_exprs.specs.Terms.{term_of}
 use Rattle.cb_forms.specs.Members.{members}
@@ -55,6 +55,21 @@ decreases-read_given l = 8 * tree_size (tree_of l.form.now) + 1
 
 abbrev pub decreases-read_list : goal.decreases-read_list
 decreases-read_list l = 8 * trees_size (members l.forms.now) + 4
+
+abbrev pub decreases-read_modify : goal.decreases-read_modify
+decreases-read_modify l = 8 * (tree_size (tree_of l.fact.now) + trees_size (members l.slots.now)) + 4
+
+abbrev pub decreases-read_changes : goal.decreases-read_changes
+decreases-read_changes l = 8 * trees_size (members l.forms.now) + 3
+
+abbrev pub decreases-read_change : goal.decreases-read_change
+decreases-read_change l = 8 * tree_size (tree_of l.form.now) + 2
+
+abbrev pub invariant-read_changes-loop-form : goal.invariant-read_changes-loop-form
+invariant-read_changes-loop-form l =
+    (changes_faults l.scope l.changes.names (members (drop l.form-index l.forms)) ≡ changes_faults l.scope l.fn.changes.names (members l.forms))
+    × (l.changes.slots.items ++ slot_counts (members (drop l.form-index l.forms)) ≡ l.fn.changes.slots.items ++ slot_counts (members l.forms))
+    × (map term_of l.changes.values.items ++ change_exprs l.scope.templates (members (drop l.form-index l.forms)) ≡ map term_of l.fn.changes.values.items ++ change_exprs l.scope.templates (members l.forms))
 
 abbrev pub invariant-read_exprs-loop-form : goal.invariant-read_exprs-loop-form
 invariant-read_exprs-loop-form l =

@@ -9,7 +9,7 @@ use Rattle.cb_forms.proofs.open_part.take_open.Goals.{then-not-is_open, else-not
 pub returns-clause-item : goal.returns-clause-item
 returns-clause-item c =
     let is_open = nat_lt 0 c.args.state.depth || mode_is_open c.args.state.mode in
-    let bytes = c.args.bytes.now.items in
+    let bytes = c.args.bytes.now in
     elim c.if-not-is_open.branch [
       | then-not-is_open w ↦
           let shut : is_open ≡ false = sym c.is_open.ensures ∙ w.if-not-is_open.true in
@@ -19,5 +19,5 @@ returns-clause-item c =
           ap item_readings w.item-is ∙ (sym (deep-list bytes c.args.state.mode c.args.state.depth (c.requires opened) w.if-state-gt0.true) ∙ sym (ap (λ t. if t then readings_of bytes else []) opened))
       | else-not-is_open+else-state-gt0+in_ok-item w ↦
           let opened : is_open ≡ true = sym c.is_open.ensures ∙ w.if-not-is_open.false in
-          ap item_readings w.item-is ∙ (w.in_ok-item.ensures ∙ (ap readings_of w.as_slice.ensures.value ∙ sym (ap (λ t. if t then readings_of bytes else []) opened)))
+          ap item_readings w.item-is ∙ (w.in_ok-item.ensures ∙ (ap readings_of w.as_slice.ensures ∙ sym (ap (λ t. if t then readings_of bytes else []) opened)))
     ]

@@ -3,6 +3,7 @@ use Rattle.std.specs.List.{list_any}
 use Rattle.cb_facts.specs.FactLists.{IndexedFacts, with_fact, without_fact}
 use Rattle.cb_joins.proofs.Facts.{added_fact, rising_base}
 use Rattle.cb_joins.proofs.Joined.{joined_alike, joined_moved, joined_with}
+use Rattle.cb_joins.proofs.Missed.{no_shape, none_enough}
 use Rattle.cb_joins.proofs.Patterns.{all_behind_gone, joined_without, taken_bound, taken_with_now}
 use Rattle.cb_joins.proofs.Steps.{ways_rise}
 use Rattle.cb_joins.specs.Internal.Changes.{Added}
@@ -57,7 +58,8 @@ returns-clause-after g c n old new b =
     (c.in_ok-take_gone.ensures (all_behind_gone rise c.no_shape_gives_no_ways.ensures place n fs old new before own c.args.moved.now b)) in
     let left = c.take_joined.new.own.keys in
     let taken : IsTakenWith x p f before first left out1 c.take_joined.new.gone.items =
-    c.in_ok-take_joined.ensures (joined_alike place1 new before (b.is_before.same.1, b.is_before.same.0) joined1) in
+    c.in_ok-take_joined.ensures (joined_alike place1 new before (b.is_before.same.1, b.is_before.same.0) joined1)
+    (λ absent. none_enough c.no_shape_gives_no_ways.ensures x p f (no_shape place fs old f b.is_place added.there absent) before) in
     let come_is : c.join.new.found.items ≡ next_where x p ts (without_fact cs f.0) came =
     c.in_ok-join.ensures.found new joined3
     ∙ (ap (λ it. it ++ next_where place3.address place3.pattern (tests_of place3) place3.candidates.entries c.as_slice-2.result.now) c.new-come.ensures.items

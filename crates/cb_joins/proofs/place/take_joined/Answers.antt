@@ -1,6 +1,8 @@
-use Rattle.std.proofs.Common.{◌≡◌, ap, inl, inr, rules, subst}
+use Rattle.std.proofs.Common.{◌≡◌, [], ap, false, inl, inr, is_some, rules, subst}
 use Rattle.std.specs.List.{list_any}
+use Rattle.cb_facts.specs.FactLists.{fact_at}
 use Rattle.cb_joins.proofs.Joined.{all_enough}
+use Rattle.cb_joins.proofs.Missed.{none_taken, none_there}
 use Rattle.cb_joins.proofs.Results.{if_some, on_ok}
 use Rattle.cb_joins.specs.Internal.Memories.{begins_with, ends_with}
 use Rattle.cb_joins.specs.Internal.Nodes.{AreEnough, IsJoined}
@@ -21,7 +23,7 @@ returns-in-Some g c =
     if_some _ _ c.in-Some.partials c.in-Some.is c.in_ok-partials.ensures in
     let now : c.as_slice.result.now ≡ c.in-Some.partials.items = search rules in
     on_ok c.take_with.result c.take_with.ensures c.take_with.ensures
-    (λ taken _ joined. elim taken as (λ _. IsTakenWith place.address place.pattern f before own own' out out') [
+    (λ taken _ joined _. elim taken as (λ _. IsTakenWith place.address place.pattern f before own own' out out') [
       | inl t ↦ inl (
         c.in-Some.partials.items,
         enough joined,
@@ -42,7 +44,7 @@ returns-in-None g c =
     let out' = c.take_fact.new.gone.items in
     let ix : c.one.inside.ix ≡ f.0 = ap (λ it. it.0) c.one.view_is in
     on_ok c.take_fact.result c.take_fact.ensures c.take_fact.ensures
-    (λ taken _ joined. elim taken as (λ _. IsTakenWith place.address place.pattern f before own own' out out') [
+    (λ taken _ joined _. elim taken as (λ _. IsTakenWith place.address place.pattern f before own own' out out') [
       | inl t ↦ inl (before, all_enough place.address place.pattern f before, subst (λ i. IsTaken (λ z. list_any (λ m. begins_with m.parts i z) before) own own' out out') ix t)
       | inr t ↦ inr (subst (λ i. IsTaken (ends_with i) own own' out out') ix t)
     ])
@@ -53,4 +55,12 @@ returns-then-len-lt32 g c =
     let own = c.args.own.now.keys in
     let ix : c.one.inside.ix ≡ f.0 = ap (λ it. it.0) c.one.view_is in
     on_ok c.take_ending.result c.take_ending.ensures c.take_ending.ensures
-    (λ taken _ joined. inr (subst (λ i. IsTaken (ends_with i) own c.take_ending.new.list.keys c.args.gone.now.items c.take_ending.new.gone.items) ix taken))
+    (λ taken _ joined _. inr (subst (λ i. IsTaken (ends_with i) own c.take_ending.new.list.keys c.args.gone.now.items c.take_ending.new.gone.items) ix taken))
+
+pub returns-then-not-contains_key : goal.returns-then-not-contains_key
+returns-then-not-contains_key g c = λ _ enough.
+    let f = c.args.one.now in
+    let cs = c.args.place.now.candidates.entries in
+    let ix : c.one.inside.ix ≡ f.0 = ap (λ it. it.0) c.one.view_is in
+    let none : is_some (fact_at cs c.one.inside.ix) ≡ false = search rules in
+    inl ([], enough (none_there (fact_at cs f.0) (subst (λ i. is_some (fact_at cs i) ≡ false) ix none)), none_taken f.0 c.args.own.now.keys c.args.gone.now.items)

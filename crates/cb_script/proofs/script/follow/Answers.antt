@@ -33,7 +33,7 @@ loop-turn-preserved g c =
 pub returns-in-Err : goal.returns-in-Err
 returns-in-Err g c =
     let before = c.loop-turn.invariant.following in
-    rw (c.failed.ensures, c.in-Err.ensures.err) (ran_unread _ _ _ _ _ _ _ _ _ before (ap (λ it. it.bytes) c.in-Err.ensures.err_noted) (ap (λ it. it.failures) c.in-Err.ensures.err_noted))
+    λ ps known. rw (c.failed.ensures, c.in-Err.ensures.err) (ran_unread _ _ _ _ _ _ _ _ _ before (ap (λ it. it.bytes) c.in-Err.ensures.err_noted) (ap (λ it. it.failures) c.in-Err.ensures.err_noted) ps known)
 
 pub returns-in-Ok-finish : goal.returns-in-Ok-finish
 returns-in-Ok-finish g c =
@@ -45,7 +45,7 @@ returns-in-Ok-finish g c =
     let gave : Gave (g.S.Source.left c.loop-turn.source) (g.S.Source.left c.read.new.self) [] = rw none at c.in-Ok.ensures.gave in
     let bytes : (g.S.Source.reads c.read.new.self).bytes ≡ (g.S.Source.reads c.loop-turn.source).bytes ++ [] = ap (λ it. it.bytes) c.in-Ok.ensures.noted ∙ ap (λ it. (g.S.Source.reads c.loop-turn.source).bytes ++ it) none in
     let more = wrote-all g.K.Sink.writes _ _ _ c.loop-turn.invariant.ready.0 c.in-Ok-finish.ensures.ready.0 (c.in-Ok-finish.ensures.puts before.no_stop before.no_status) in
-    rw c.ended.ensures (ran_finished _ _ _ _ _ _ _ _ _ _ _ before gave end bytes another (ap (λ it. it.failures) c.in-Ok.ensures.noted) _ more (c.in-Ok-finish.ensures.status before.no_status))
+    λ ps known. rw c.ended.ensures (ran_finished _ _ _ _ _ _ _ _ _ _ _ before gave end bytes another (ap (λ it. it.failures) c.in-Ok.ensures.noted) _ more (c.in-Ok-finish.ensures.status before.no_status) _ (c.in-Ok-finish.ensures.ended_now before.no_status) ps known)
 
 pub returns-in-Err-finish : goal.returns-in-Err-finish
 returns-in-Err-finish g c =
@@ -57,7 +57,7 @@ returns-in-Err-finish g c =
     let gave : Gave (g.S.Source.left c.loop-turn.source) (g.S.Source.left c.read.new.self) [] = rw none at c.in-Ok.ensures.gave in
     let bytes : (g.S.Source.reads c.read.new.self).bytes ≡ (g.S.Source.reads c.loop-turn.source).bytes ++ [] = ap (λ it. it.bytes) c.in-Ok.ensures.noted ∙ ap (λ it. (g.S.Source.reads c.loop-turn.source).bytes ++ it) none in
     let more = wrote-begun g.K.Sink.writes _ _ _ c.loop-turn.invariant.ready.0 c.in-Err-finish.stop (λ e. (c.in-Err-finish.ensures.halted (ap Err e) before.no_stop).0) (c.in-Err-finish.ensures.puts before.no_stop before.no_status) in
-    rw c.stopped.ensures (ran_unfinished _ _ _ _ _ _ _ _ _ _ _ before gave end bytes another (ap (λ it. it.failures) c.in-Ok.ensures.noted) c.in-Err-finish.stop more)
+    λ ps known. rw c.stopped.ensures (ran_unfinished _ _ _ _ _ _ _ _ _ _ _ before gave end bytes another (ap (λ it. it.failures) c.in-Ok.ensures.noted) c.in-Err-finish.stop more ps)
 
 pub returns-in-Ok-Ended : goal.returns-in-Ok-Ended
 returns-in-Ok-Ended g c =
@@ -67,7 +67,7 @@ returns-in-Ok-Ended g c =
     let no_end : (g.S.Source.reads c.read.new.self).ends ≡ (g.S.Source.reads c.loop-turn.source).ends = search rules in
     let read : GaveMore (take c.in-Ok.n c.read.new.buf) (g.S.Source.reads c.loop-turn.source) (g.S.Source.reads c.read.new.self) =
     record { bytes = ap (λ it. it.bytes) c.in-Ok.ensures.noted; ends = no_end; failures = ap (λ it. it.failures) c.in-Ok.ensures.noted } in
-    rw c.ended-in-Ok-Ended.ensures (ran_ended _ _ _ _ _ _ _ _ _ _ _ _ before _ _ short c.in-Ok.ensures.gave read more c.in-Ok-Ended.field-0-is (c.in-Ok-Ended.ensures.flow before.no_status))
+    λ ps known. rw c.ended-in-Ok-Ended.ensures (ran_ended _ _ _ _ _ _ _ _ _ _ _ _ before _ _ short c.in-Ok.ensures.gave read more c.in-Ok-Ended.field-0-is (c.in-Ok-Ended.ensures.flow before.no_status) _ (c.in-Ok-Ended.ensures.fed before.no_status) ps known)
 
 pub returns-in-Err-feed : goal.returns-in-Err-feed
 returns-in-Err-feed g c =
@@ -77,9 +77,9 @@ returns-in-Err-feed g c =
     let no_end : (g.S.Source.reads c.read.new.self).ends ≡ (g.S.Source.reads c.loop-turn.source).ends = search rules in
     let read : GaveMore (take c.in-Ok.n c.read.new.buf) (g.S.Source.reads c.loop-turn.source) (g.S.Source.reads c.read.new.self) =
     record { bytes = ap (λ it. it.bytes) c.in-Ok.ensures.noted; ends = no_end; failures = ap (λ it. it.failures) c.in-Ok.ensures.noted } in
-    rw c.stopped-in-Err-feed.ensures (ran_stopped _ _ _ _ _ _ _ _ _ _ _ _ before c.in-Err-feed.stop short c.in-Ok.ensures.gave read more)
+    λ ps known. rw c.stopped-in-Err-feed.ensures (ran_stopped _ _ _ _ _ _ _ _ _ _ _ _ before c.in-Err-feed.stop short c.in-Ok.ensures.gave read more ps)
 
 pub returns : goal.returns
 returns g c =
     let here = c.loop-turn.invariant.following in
-    rw c.failed-2.ensures (ran_endless _ _ _ _ _ _ _ _ here (omega (arith, c.loop-turn.invariant.turns)))
+    λ ps known. rw c.failed-2.ensures (ran_endless _ _ _ _ _ _ _ _ here (omega (arith, c.loop-turn.invariant.turns)) ps known)

@@ -7,6 +7,9 @@ use Rattle.cb_actions.proofs.world.World.perform.Goals as goal
 pub returns-in-Retract-clause-went : goal.returns-in-Retract-clause-went
 returns-in-Retract-clause-went g c = by_effect g.K.Sink.writes c.args.self.now c.in-Retract.is c.as_slice.ensures.value c.retract.ensures.went
 
+pub returns-in-Modify-clause-went : goal.returns-in-Modify-clause-went
+returns-in-Modify-clause-went g c = by_effect g.K.Sink.writes c.args.self.now c.in-Modify.is c.as_slice-in-Modify.ensures.value c.modify.ensures.went
+
 pub returns-in-Bind-clause-went : goal.returns-in-Bind-clause-went
 returns-in-Bind-clause-went g c = by_effect g.K.Sink.writes c.args.self.now c.in-Bind.is refl (went_quietly g.K.Sink.writes _ _ _ _ c.requires c.bind_all.ensures)
 

@@ -11,4 +11,4 @@ invariant_of-self-2 c =
 pub returns-clause-items : goal.returns-clause-items
 returns-clause-items c =
     let here = c.self.inside in
-    rw (← c.self.view_is) (λ fits. items-end here.limit here.stepped.items (readings_in here.given.items) (item_readings c.in_ok-item.item) here.part here.over (c.self.invariant c.if-self.false) fits c.in_ok-item.ensures.item)
+    rw (← c.self.view_is) (λ fits. items-end here.limit here.stepped.items (readings_in here.given.items) (item_readings c.in_ok-item.item) here.part here.over here.line (c.self.invariant c.if-self.false) fits c.in_ok-item.ensures.item)

@@ -6,9 +6,9 @@ use Rattle.cb_forms.proofs.cutter.Cutter.held.Goals as goal
 pub returns-clause-rest : goal.returns-clause-rest
 returns-clause-rest c =
     let here = c.self.inside in
-    rw (← c.self.view_is) (λ fine fits. c.as_slice.ensures.value ∙ held-rest here.limit here.stepped.items (readings_in here.given.items) here.part here.over (c.self.invariant fine) fits)
+    rw (← c.self.view_is) (λ fine fits. c.as_slice.ensures ∙ held-rest here.limit here.stepped.items (readings_in here.given.items) here.part here.over here.line (c.self.invariant fine) fits)
 
 pub returns-clause-within : goal.returns-clause-within
 returns-clause-within c =
     let here = c.self.inside in
-    rw (← c.self.view_is, c.as_slice.ensures.value) (λ fine. held-within here.limit here.stepped.items (readings_in here.given.items) here.part here.over (c.self.invariant fine))
+    rw (← c.self.view_is, c.as_slice.ensures) (λ fine. held-within here.limit here.stepped.items (readings_in here.given.items) here.part here.over here.line (c.self.invariant fine))

@@ -26,13 +26,13 @@ returns-then-is_blank c =
 pub take_ended-requires : goal.take_ended-requires
 take_ended-requires c =
     let b = c.args.byte in
-    let bytes : c.push.new.self.items ≡ b ∷ [] = c.in_ok-push.ensures.items ∙ ap (λ it. it ++ b ∷ []) c.in_ok-first.ensures.bytes in
+    let bytes : c.push.new.self ≡ b ∷ [] = c.in_ok-push.ensures ∙ ap (λ it. it ++ b ∷ []) c.in_ok-first.ensures.bytes in
     rw (bytes, c.fresh-self.ensures.mode, c.fresh-self.ensures.depth) (state-fresh b)
 
 pub returns : goal.returns
 returns c =
     let b = c.args.byte in
-    let bytes : c.push.new.self.items ≡ b ∷ [] = c.in_ok-push.ensures.items ∙ ap (λ it. it ++ b ∷ []) c.in_ok-first.ensures.bytes in
+    let bytes : c.push.new.self ≡ b ∷ [] = c.in_ok-push.ensures ∙ ap (λ it. it ++ b ∷ []) c.in_ok-first.ensures.bytes in
     let first : item_readings c.in_ok-first.first ≡ opened_readings c.args.self.now.spelled.items = opened-says c.args.self.now (item_readings c.in_ok-first.first) c.requires c.in_ok-first.ensures.item in
     let at : IsStateIn (b ∷ []) c.fresh-self.result.mode c.fresh-self.result.depth = rw (c.fresh-self.ensures.mode, c.fresh-self.ensures.depth) (state-fresh b) in
     reaches-item c.args.limit (b ∷ []) (opened_readings c.args.self.now.spelled.items) (item_readings c.in_ok-second.second) c.of-2.result _ (no_gap-fresh b (sym c.is_blank.ensures ∙ c.if-is_blank.false) c.if-byte-eq59.false) (omega (arith, c.if-limit-eq0.false)) at (c.and-self.ensures ∙ ap (λ it. it ++ b ∷ []) c.new.ensures) (c.in_ok-second.ensures.bytes ∙ ap open_bytes bytes) (rw c.fresh-self.ensures.depth (depth-fresh b)) c.of-2.ensures.fits (c.of-2.ensures.items ∙ ap (λ it. it ++ item_readings c.in_ok-second.second) first) (c.in_ok-second.ensures.item ∙ ap ended_readings bytes)

@@ -6,7 +6,7 @@ abbrev pub invariant-loop-end : goal.invariant-loop-end
 invariant-loop-end l = record {
   within : l.end ≤ length l.bytes;
   kept : IsKept l.self;
-  none : l.self.bytes.items ≡ [];
+  none : l.self.bytes ≡ [];
   passed : (limit : ℕ) → HasPassed limit l.fn.self.spelled.items (take l.end l.bytes) l.self;
 }
 

@@ -17,5 +17,5 @@ returns c =
     let P : List ℕ → Type 0 = λ run. StaysOpen old.state.mode old.state.depth run state.mode state.depth in
     let inside : n ≤ length s = omega (arith, c.min-room.ensures, low) in
     let long = length-take-le n s inside in
-    let short : length (take n s) ≤ c.args.limit - length old.bytes.items = omega (arith, c.min-room.ensures, c.saturating_sub.ensures, c.len.ensures, old.bytes.ok.0, long, low) in
-    record { within = inside; passed = passed-open c.args.limit (take n s) old _ c.requires.kept c.requires.some short (subst P same c.open_run-end.ensures.stays) (c.in_ok-extend_from_slice.ensures.items ∙ ap (λ it. old.bytes.items ++ it) run) (c.with_run-self.ensures ∙ ap (λ it. old.spelled.items ++ it) run) }
+    let short : length (take n s) ≤ c.args.limit - length old.bytes = omega (arith, c.min-room.ensures, c.saturating_sub.ensures, c.len.ensures.value, long, low) in
+    record { within = inside; passed = passed-open c.args.limit (take n s) old _ c.requires.kept c.requires.some short (subst P same c.open_run-end.ensures.stays) (c.in_ok-extend.ensures ∙ ap (λ it. old.bytes ++ it) run) (c.with_run-self.ensures ∙ ap (λ it. old.spelled.items ++ it) run) }

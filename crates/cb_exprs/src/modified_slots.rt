@@ -1,0 +1,78 @@
+//! The slots that a `modify` gives new values.
+ghost use Rattle.std.specs.Prelude.{◌≡◌};
+
+use cb_facts::Name;
+use std::marker::Model;
+
+/// A slot that a `modify` names, and how many expressions it gives for it.
+///
+/// Contracts see the pair of the name and the number.
+#[derive(Drop)]
+pub struct ModifiedSlot {
+    name: Name,
+    count: usize,
+}
+
+impl Model for ModifiedSlot {
+    ghost use Rattle.std.specs.Prelude.{List, ℕ};
+
+    ghost Value = { List ℕ × ℕ };
+
+    ghost view = { λ s. (s.name, s.count) };
+}
+
+impl ModifiedSlot {
+    /// A slot of this name, with so many expressions.
+    pub fn new(name: Name, count: usize) -> ModifiedSlot
+        ensures { result ≡ (name, count) }
+    {
+        ModifiedSlot { name, count }
+    }
+
+    /// The slot's name.
+    pub fn name(&self) -> &Name
+        ensures { result.now ≡ self.now.0 }
+    {
+        &self.name
+    }
+
+    /// How many expressions are given for it.
+    pub fn count(&self) -> usize
+        ensures { result ≡ self.now.1 }
+    {
+        self.count
+    }
+}
+
+/// The slots that a `modify` names, in the order in which they are written. Nothing checks that they differ, or that a template
+/// has them.
+///
+/// Contracts see the list of the slots.
+#[derive(Drop)]
+pub struct ModifiedSlots {
+    slots: Vec<ModifiedSlot>,
+}
+
+impl Model for ModifiedSlots {
+    ghost use Rattle.cb_exprs.specs.Shapes.{SlotCounts};
+
+    ghost Value = { SlotCounts };
+
+    ghost view = { λ s. s.slots.items };
+}
+
+impl ModifiedSlots {
+    /// These slots.
+    pub fn new(slots: Vec<ModifiedSlot>) -> ModifiedSlots
+        ensures { result ≡ slots.items }
+    {
+        ModifiedSlots { slots }
+    }
+
+    /// The slots.
+    pub fn as_slice(&self) -> &[ModifiedSlot]
+        ensures { result.now ≡ self.now }
+    {
+        self.slots.as_slice()
+    }
+}
