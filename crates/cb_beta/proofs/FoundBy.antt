@@ -7,7 +7,7 @@ use Rattle.std.specs.Option.{option_and_then}
 use Rattle.cb_beta.proofs.Live.{gone_is, live_more, live_token, some_none, there_is}
 use Rattle.cb_beta.proofs.Members.{apart_of, by_in, contains_in, in_contains, in_either, in_more, in_right, more_in}
 use Rattle.cb_beta.specs.BetaMemories.{Loses, live_in}
-use Rattle.cb_beta.specs.Internal.Filed.{AreFiled, AreLeft, IsInserted, parent_of}
+use Rattle.cb_beta.specs.Internal.{AreFiled, AreLeft, IsInserted, parent_of}
 use Rattle.cb_beta.specs.Tokens.{TokenValue, Tokens, candidate_of, token_at}
 use Rattle.cb_groups.specs.Groups.{AppendsMembers, AreMembers, Membership, Releases, Updates, group_of}
 use Rattle.cb_matches.specs.Chains.{In}

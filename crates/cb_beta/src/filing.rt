@@ -2,7 +2,7 @@
 ghost use Rattle.std.specs.Prelude.{◌≡◌, ◌≢◌, ◌∷◌, ◌++◌, ℕ, [], IfOk, None, OnErr, OnOk, Some};
 ghost use Rattle.cb_groups.specs.Groups.{Updates, group_of};
 ghost use Rattle.cb_beta.specs.BetaMemories.{live_in};
-ghost use Rattle.cb_beta.specs.Internal.Filed.{AreLeft, IsForgotten, IsInserted, KeepsOthers};
+ghost use Rattle.cb_beta.specs.Internal.{AreLeft, IsForgotten, IsInserted, KeepsOthers};
 ghost use Rattle.cb_beta.specs.Tokens.{token_at};
 
 use crate::token::Token;

@@ -34,7 +34,7 @@ pub struct BetaMemory {
 
 impl Model for BetaMemory {
     ghost use Rattle.cb_beta.specs.BetaMemories.{BetaMemoryValue};
-    ghost use Rattle.cb_beta.specs.Internal.Filed.{AreFiled};
+    ghost use Rattle.cb_beta.specs.Internal.{AreFiled};
 
     ghost Value = { BetaMemoryValue };
 

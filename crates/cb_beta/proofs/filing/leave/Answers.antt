@@ -1,7 +1,7 @@
 use Rattle.std.proofs.Common.{◌≡◌, ◌∙◌, ap, arith, length, subst, take}
 use Rattle.std.proofs.Math.Seq.{take-length}
 use Rattle.cb_beta.proofs.FoundBy.{none_left, one_left}
-use Rattle.cb_beta.specs.Internal.Filed.{AreLeft}
+use Rattle.cb_beta.specs.Internal.{AreLeft}
 use Rattle.cb_beta.proofs.filing.leave.Goals as goal
 
 pub loop-number-init : goal.loop-number-init

@@ -1,5 +1,5 @@
 use Rattle.std.proofs.Common.{take}
-use Rattle.cb_beta.specs.Internal.Filed.{AreLeft}
+use Rattle.cb_beta.specs.Internal.{AreLeft}
 use Rattle.cb_beta.proofs.filing.leave.Given as goal
 
 abbrev pub invariant-loop-number : goal.invariant-loop-number

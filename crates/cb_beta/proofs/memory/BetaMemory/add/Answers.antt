@@ -1,6 +1,6 @@
 use Rattle.std.proofs.Common.{rules, Some}
 use Rattle.cb_beta.proofs.FoundBy.{filed_more}
-use Rattle.cb_beta.specs.Internal.Filed.{IsInserted}
+use Rattle.cb_beta.specs.Internal.{IsInserted}
 use Rattle.cb_beta.specs.Tokens.{candidate_of}
 use Rattle.cb_beta.proofs.memory.BetaMemory.add.Goals as goal
 use Rattle.cb_groups.specs.Groups.{Updates}

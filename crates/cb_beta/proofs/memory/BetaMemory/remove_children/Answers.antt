@@ -2,7 +2,7 @@ use Rattle.std.proofs.Common.{rules, ◌≡◌, subst}
 use Rattle.cb_beta.proofs.FoundBy.{children_filed, children_lost}
 use Rattle.cb_beta.proofs.Members.{behind_is}
 use Rattle.cb_beta.specs.BetaMemories.{Loses}
-use Rattle.cb_beta.specs.Internal.Filed.{AreLeft}
+use Rattle.cb_beta.specs.Internal.{AreLeft}
 use Rattle.cb_beta.proofs.memory.BetaMemory.remove_children.Goals as goal
 
 pub invariant_of-self-2 : goal.invariant_of-self-2

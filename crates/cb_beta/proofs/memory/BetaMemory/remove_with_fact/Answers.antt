@@ -2,7 +2,7 @@ use Rattle.std.proofs.Common.{rules, ◌≡◌, Some, subst}
 use Rattle.cb_beta.proofs.FoundBy.{facts_filed, facts_lost}
 use Rattle.cb_beta.proofs.Members.{behind_is}
 use Rattle.cb_beta.specs.BetaMemories.{Loses}
-use Rattle.cb_beta.specs.Internal.Filed.{AreLeft}
+use Rattle.cb_beta.specs.Internal.{AreLeft}
 use Rattle.cb_beta.specs.Tokens.{candidate_of}
 use Rattle.cb_beta.proofs.memory.BetaMemory.remove_with_fact.Goals as goal
 
