@@ -1,5 +1,5 @@
 -- What is asserted takes nothing away: the facts that are there keep their indices, and a new fact has an index that none had.
-use Rattle.std.proofs.Common.{◌≡◌, ◌≢◌, ◌≤◌, ◌+◌, ◌∙◌, ℕ, Bool, true, false, [], ◌∷◌, Option, Some, None, Ordering, Less, Equal, Greater, refl, sym, ap, arith, cond}
+use Rattle.std.proofs.Common.{◌≡◌, ◌≢◌, ◌≤◌, ◌+◌, ◌∙◌, ℕ, false, [], ◌∷◌, Some, None, Ordering, Less, Equal, Greater, refl, sym, ap, arith, cond}
 use Rattle.std.specs.BTreeMap.{is_at}
 use Rattle.std.specs.Ordering.{is_eq, nat_cmp, match_ordering}
 use Rattle.cb_facts.proofs.MemberLaws.{is_at-Decides}

@@ -6,4 +6,5 @@ mod GroupLaws
 mod IndexLaws
 pub mod IndexOf
 mod KeepLaws
+mod NumberLaws
 mod RuleLaws

@@ -1,13 +1,19 @@
 -- Numbers of rules.
 use Rattle.std.proofs.Common.{◌≡◌, ◌+◌, ◌≤◌, ℕ, Bool, true, false, List, [], ◌∷◌, ◌++◌, ◌||◌, ap, arith, rules, cond, not, nat_eq, refl, subst, sym, ◌∙◌}
-use Rattle.std.proofs.lemmas.List.Elements.{All-append, All-cons, All-filter}
-use Rattle.std.specs.List.{filter, list_any}
+use Rattle.std.proofs.lemmas.List.Elements.{All-append, All-cons, All-filter, All-map}
+use Rattle.std.specs.BTreeMap.{is_at}
+use Rattle.std.specs.BTreeSet.{insert_key}
+use Rattle.std.specs.List.{All, filter, list_any}
+use Rattle.std.specs.List.Sorted.{IsStrictlySortedBy}
 use Rattle.std.specs.Map.{keys_of}
+use Rattle.std.specs.Ordering.{nat_cmp}
+use Rattle.std.specs.Set.{remove_key}
 use Rattle.cb_rules.specs.Elements.{Elements}
 use Rattle.cb_matches.specs.Changes.{IsAbove}
 use Rattle.cb_matches.specs.Networks.{Conditions, Network, empty_network, with_rule, without_rule}
 use Rattle.cb_facts.specs.RelationCounts.{Counts, IsEmpty}
 use Rattle.cb_matches.specs.Networks as network
+use Rattle.cb_working_memory.proofs.NumberLaws.{at_end, taken}
 use Rattle.cb_working_memory.specs.Internal.WorkingMemories.{AreKept, AreRulesUpTo, without_rules}
 
 pub above : (last : ℕ) (rules : Conditions) → AreRulesUpTo last rules → IsAbove (last + 1) rules
@@ -76,32 +82,38 @@ pub without_all : (n : Network) → without_rules (keys_of n.rules) n ≡ record
 without_all n = all_go (keys_of n.rules) n (their_own n.rules)
 
 -- what fits where nothing is left
-pub kept_empty : (counts : Counts) (numbers : List ℕ) (last last_rule : ℕ) (n : Network) → IsEmpty counts → numbers ≡ [] → n ≡ empty_network → AreKept counts numbers last last_rule n
-kept_empty counts numbers last last_rule n empty none e =
-    subst (λ (ns : List ℕ). AreKept counts ns last last_rule n) (sym none) (subst (AreKept counts [] last last_rule) (sym e)
-    (record { indices = tt; counted = λ q. empty q; numbered = refl; rules = none_above last_rule }))
+pub kept_empty : (counts : Counts) (numbers : List ℕ) (last last_rule : ℕ) (n : Network) → IsEmpty counts → IsStrictlySortedBy nat_cmp numbers → numbers ≡ [] → n ≡ empty_network
+    → AreKept counts numbers last last_rule n
+kept_empty counts numbers last last_rule n empty rising none e =
+    subst (AreKept counts numbers last last_rule) (sym e) (record { indices = tt; counted = λ q. empty q; rising = rising; numbered = none; rules = none_above last_rule })
 
 pub kept_restarted : (old counts : Counts) (numbers : List ℕ) (last last_rule : ℕ) (n m : Network) → AreKept old numbers last last_rule n → IsEmpty counts → m ≡ network.restarted n → AreKept counts numbers 0 last_rule m
 kept_restarted old counts numbers last last_rule n m h empty e =
-    subst (AreKept counts numbers 0 last_rule) (sym e) (record { indices = tt; counted = λ q. empty q; numbered = h.numbered; rules = h.rules })
+    subst (AreKept counts numbers 0 last_rule) (sym e) (record { indices = tt; counted = λ q. empty q; rising = h.rising; numbered = h.numbered; rules = h.rules })
+
+keys_up_to : (last_rule : ℕ) (rules : Conditions) → AreRulesUpTo last_rule rules → All (λ k. k ≤ last_rule) (keys_of rules)
+keys_up_to last_rule rules h = All-map (λ k. k ≤ last_rule) (λ r. r.0) rules h
 
 pub kept_added : (counts : Counts) (numbers more : List ℕ) (last last_rule : ℕ) (branches : List Elements) (n m : Network) → AreKept counts numbers last last_rule n
-    → more ≡ numbers ++ (last_rule + 1) ∷ [] → m ≡ with_rule (last_rule + 1) branches n → AreKept counts more last (last_rule + 1) m
-kept_added counts numbers more last last_rule branches n m h p e =
+    → more ≡ insert_key nat_cmp numbers (last_rule + 1) → IsStrictlySortedBy nat_cmp more → m ≡ with_rule (last_rule + 1) branches n → AreKept counts more last (last_rule + 1) m
+kept_added counts numbers more last last_rule branches n m h p rising e =
+    let up_to = subst (All (λ k. k ≤ last_rule)) (sym h.numbered) (keys_up_to last_rule n.rules h.rules) in
     subst (AreKept counts more last (last_rule + 1)) (sym e) (record {
       indices = h.indices;
       counted = h.counted;
-      numbered = p ∙ (ap (λ (ks : List ℕ). ks ++ (last_rule + 1) ∷ []) h.numbered ∙ sym (added_keys (last_rule + 1) branches n.rules));
+      rising = rising;
+      numbered = p ∙ (at_end numbers last_rule up_to ∙ (ap (λ (ks : List ℕ). ks ++ (last_rule + 1) ∷ []) h.numbered ∙ sym (added_keys (last_rule + 1) branches n.rules)));
       rules = added last_rule branches n.rules h.rules;
     })
 
 pub kept_dropped : (counts : Counts) (numbers less : List ℕ) (last last_rule id : ℕ) (n m : Network) → AreKept counts numbers last last_rule n
-    → less ≡ filter (λ k. not (nat_eq id k)) numbers → m ≡ without_rule id n → AreKept counts less last last_rule m
-kept_dropped counts numbers less last last_rule id n m h p e =
+    → less ≡ remove_key (is_at (nat_cmp id)) numbers → IsStrictlySortedBy nat_cmp less → m ≡ without_rule id n → AreKept counts less last last_rule m
+kept_dropped counts numbers less last last_rule id n m h p rising e =
     subst (AreKept counts less last last_rule) (sym e) (record {
       indices = h.indices;
       counted = h.counted;
-      numbered = p ∙ (ap (λ (ks : List ℕ). filter (λ k. not (nat_eq id k)) ks) h.numbered ∙ sym (kept_keys id n.rules));
+      rising = rising;
+      numbered = p ∙ (taken numbers id h.rising ∙ (ap (λ (ks : List ℕ). filter (λ k. not (nat_eq id k)) ks) h.numbered ∙ sym (kept_keys id n.rules)));
       rules = kept last_rule id n.rules h.rules;
     })
 

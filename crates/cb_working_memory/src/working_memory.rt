@@ -1,6 +1,6 @@
 //! The working memory.
-ghost use Rattle.std.specs.Prelude.{◌≡◌, ◌<◌, ◌≤◌, ◌+◌, IfOk, IsSome, OnOk, Some, None, if◌then◌else◌, false, is_err, nat_eq, nat_lt, not, option_copied};
-ghost use Rattle.std.specs.List.{filter, list_any};
+ghost use Rattle.std.specs.Prelude.{◌≡◌, ◌<◌, ◌≤◌, ◌+◌, IfOk, IsSome, OnOk, Some, None, if◌then◌else◌, false, is_err, nat_lt, option_copied};
+ghost use Rattle.std.specs.List.{list_any};
 ghost use Rattle.std.specs.Str.{bytes_eq};
 ghost use Rattle.cb_facts.specs.FactLists.{IsAbsent, IsFactBase, fact_at};
 ghost use Rattle.cb_rules.specs.Elements.{branches_of};
@@ -18,6 +18,7 @@ use cb_forms::NoMemory;
 use cb_matches::{Delta, Key, Matcher};
 use cb_rules::Ce;
 use std::alloc::Global;
+use std::collections::BTreeSet;
 use std::marker::Model;
 
 /// The greatest index that a fact may have, and the greatest number that a rule may have.
@@ -36,8 +37,8 @@ pub struct WorkingMemory<M: Matcher<Mark>> {
     other_meter: Meter<Mark>,
     /// How many facts name each relation.
     counts: RelationCounts,
-    /// The numbers of the rules, in order.
-    numbers: Vec<u64>,
+    /// The numbers of the rules.
+    numbers: BTreeSet<u64>,
     last: u64,
     last_rule: u64,
 }
@@ -54,7 +55,7 @@ impl<M: Matcher<Mark>> Model for WorkingMemory<M> {
 
     ghost view = { λ m. record { network = M.network m.matcher; last = m.last; last_rule = m.last_rule } };
 
-    ghost invariant = { λ m. M.is_failed m.matcher ≡ false → AreKept m.counts m.numbers.items m.last m.last_rule (M.network m.matcher) };
+    ghost invariant = { λ m. M.is_failed m.matcher ≡ false → AreKept m.counts m.numbers.keys m.last m.last_rule (M.network m.matcher) };
 }
 
 impl<M: Matcher<Mark>> WorkingMemory<M> {
@@ -81,7 +82,7 @@ impl<M: Matcher<Mark>> WorkingMemory<M> {
             meter: Meter::new(Mark),
             other_meter: Meter::new(Mark),
             counts: RelationCounts::new(alloc),
-            numbers: Vec::new(alloc),
+            numbers: BTreeSet::new(alloc),
             last: index,
             last_rule: rule,
         }
@@ -123,7 +124,8 @@ impl<M: Matcher<Mark>> WorkingMemory<M> {
 
     /// Asserts a fact.
     pub fn assert_one(&mut self, fact: Fact) -> Result<Asserted, NoMemory>
-        ensures { IfOk result (Asserts self.old fact self.new) }
+        ensures asserts { IfOk result (Asserts self.old fact self.new) }
+        ensures rising { self.old.last_rule ≤ self.new.last_rule }
     {
         if self.matcher.failed() {
             return Err(NoMemory);
@@ -155,7 +157,8 @@ impl<M: Matcher<Mark>> WorkingMemory<M> {
 
     /// Retracts the fact with an index, and returns what went and came. Where there is none, nothing changes.
     pub fn retract_one(&mut self, ix: u64) -> Result<Option<Delta>, NoMemory>
-        ensures { IfOk result (Retracts self.old ix self.new) }
+        ensures retracts { IfOk result (Retracts self.old ix self.new) }
+        ensures rising { self.old.last_rule ≤ self.new.last_rule }
     {
         if self.matcher.failed() {
             return Err(NoMemory);
@@ -194,6 +197,7 @@ impl<M: Matcher<Mark>> WorkingMemory<M> {
         ensures memory { OnOk result (self.new ≡ put_back ix fact self.old) }
         ensures delta { IfOk result
             (IsDelta self.old.network (put_back ix fact self.old).network) }
+        ensures rising { self.old.last_rule ≤ self.new.last_rule }
     {
         if self.matcher.failed() {
             return Err(NoMemory);
@@ -227,12 +231,13 @@ impl<M: Matcher<Mark>> WorkingMemory<M> {
             (self.new ≡ with_next_rule (branches_of branches.items) self.old) }
         ensures delta { IfOk result (IsDelta self.old.network
             (with_next_rule (branches_of branches.items) self.old).network) }
+        ensures rising { self.old.last_rule ≤ self.new.last_rule }
     {
         if self.matcher.failed() {
             return Err(NoMemory);
         }
         let id = self.last_rule + 1;
-        self.numbers.push(id)?;
+        self.numbers.insert(id)?;
         let delta = self.matcher.add_rule(id, branches, &mut self.other_meter)?;
         self.last_rule = id;
         Ok(delta)
@@ -243,13 +248,13 @@ impl<M: Matcher<Mark>> WorkingMemory<M> {
         ensures rule { OnOk result (self.new ≡ without_one_rule id self.old) }
         ensures delta { IfOk result
             (IsDelta self.old.network (without_one_rule id self.old).network) }
+        ensures rising { self.old.last_rule ≤ self.new.last_rule }
     {
         if self.matcher.failed() {
             return Err(NoMemory);
         }
-        let numbers = without_number(self.alloc, self.numbers.as_slice(), id)?;
         let delta = self.matcher.drop_rule(id)?;
-        self.numbers = numbers;
+        self.numbers.remove(&id);
         Ok(delta)
     }
 
@@ -257,6 +262,7 @@ impl<M: Matcher<Mark>> WorkingMemory<M> {
     pub fn restart(&mut self) -> Result<Delta, NoMemory>
         ensures memory { OnOk result (self.new ≡ restarted self.old) }
         ensures delta { IfOk result (IsRestart (restarted self.old).network) }
+        ensures rising { self.old.last_rule ≤ self.new.last_rule }
     {
         if self.matcher.failed() {
             return Err(NoMemory);
@@ -269,14 +275,15 @@ impl<M: Matcher<Mark>> WorkingMemory<M> {
 
     /// Takes all rules and all facts away. The next index is 1, and the numbers of rules go on.
     pub fn clear(&mut self) -> Result<(), NoMemory>
-        ensures { OnOk result (self.new ≡ cleared self.old) }
+        ensures memory { OnOk result (self.new ≡ cleared self.old) }
+        ensures rising { self.old.last_rule ≤ self.new.last_rule }
     {
         if self.matcher.failed() {
             return Err(NoMemory);
         }
-        drop_rules(&mut self.matcher, self.numbers.as_slice())?;
+        drop_rules(&mut self.matcher, &self.numbers)?;
         drop(self.matcher.restart(&mut self.other_meter)?);
-        self.numbers = Vec::new(self.alloc);
+        self.numbers = BTreeSet::new(self.alloc);
         self.counts = RelationCounts::new(self.alloc);
         self.last = 0;
         Ok(())
@@ -284,29 +291,16 @@ impl<M: Matcher<Mark>> WorkingMemory<M> {
 }
 
 /// Takes the rules with these numbers away.
-fn drop_rules<M: Matcher<Mark>>(matcher: &mut M, numbers: &[u64]) -> Result<(), NoMemory>
+fn drop_rules<M: Matcher<Mark>>(matcher: &mut M, numbers: &BTreeSet<u64>) -> Result<(), NoMemory>
     requires { M.is_failed matcher.old ≡ false }
     ensures rules { OnOk result
-        (M.network matcher.new ≡ without_rules numbers.now (M.network matcher.old)) }
+        (M.network matcher.new ≡ without_rules numbers.now.keys (M.network matcher.old)) }
     ensures failed { M.is_failed matcher.new ≡ is_err result }
 {
-    for number in numbers {
+    for number in numbers.iter() {
         drop(matcher.drop_rule(*number)?);
     }
     Ok(())
-}
-
-/// The numbers but for this one.
-fn without_number(alloc: Global, numbers: &[u64], id: u64) -> Result<Vec<u64>, NoMemory>
-    ensures { IfOk result (λ kept. kept.items ≡ filter (λ n. not (nat_eq id n)) numbers.now) }
-{
-    let mut kept = Vec::new(alloc);
-    for number in numbers {
-        if id != *number {
-            kept.push(*number)?;
-        }
-    }
-    Ok(kept)
 }
 
 /// Counts a fact less, if there is one.

@@ -2,8 +2,10 @@
 use Rattle.std.specs.Prelude.{◌≡◌, ◌≤◌, ◌-◌, ℕ, List, [], ◌∷◌, Option, option_map, refl}
 use Rattle.std.specs.Coded.{Coded, code_by, coded_ℕ, coded×}
 use Rattle.std.specs.List.{All}
+use Rattle.std.specs.List.Sorted.{IsStrictlySortedBy}
 use Rattle.std.specs.Map.{keys_of, values_of}
 use Rattle.std.specs.Option.{unwrap_or}
+use Rattle.std.specs.Ordering.{nat_cmp}
 use Rattle.std.specs.Str.{bytes_eq}
 use Rattle.cb_exprs.specs.Internal.Codes.{Piece}
 use Rattle.cb_facts.specs.FactLists.{IndexedFacts}
@@ -36,6 +38,7 @@ AreRulesUpTo last rules = All (λ r. r.0 ≤ last) rules
 pub record AreKept (counts : Counts) (numbers : List ℕ) (last last_rule : ℕ) (n : Network) : Type 0 where
   pub indices : AreUpTo last n.facts
   pub counted : AreCounted counts n.facts
+  pub rising : IsStrictlySortedBy nat_cmp numbers
   pub numbered : numbers ≡ keys_of n.rules
   pub rules : AreRulesUpTo last_rule n.rules
 

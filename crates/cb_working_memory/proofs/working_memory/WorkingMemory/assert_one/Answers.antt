@@ -11,14 +11,14 @@ use Rattle.cb_working_memory.proofs.IndexOf.{index_of-there, index_of-absent}
 use Rattle.cb_working_memory.specs.WorkingMemory.{greatest_index}
 use Rattle.cb_working_memory.proofs.working_memory.WorkingMemory.assert_one.Goals as goal
 
-pub returns-in-Some : goal.returns-in-Some
-returns-in-Some g c =
+pub returns-in-Some-clause-asserts : goal.returns-in-Some-clause-asserts
+returns-in-Some-clause-asserts g c =
     let base : IsFactBase c.args.self.now.network.facts = search rules in
     let at : fact_at c.args.self.now.network.facts c.in-Some.ix ≡ Some c.args.fact = search rules in
     (index_of-there c.args.self.now.network.facts c.args.fact c.in-Some.ix base at, refl)
 
-pub returns-then-self-ge-GREATEST_INDEX : goal.returns-then-self-ge-GREATEST_INDEX
-returns-then-self-ge-GREATEST_INDEX g c =
+pub returns-then-self-ge-GREATEST_INDEX-clause-asserts : goal.returns-then-self-ge-GREATEST_INDEX-clause-asserts
+returns-then-self-ge-GREATEST_INDEX-clause-asserts g c =
     let base : IsFactBase c.args.self.now.network.facts = search rules in
     let absent : IsAbsent c.args.self.now.network.facts c.args.fact = search rules in
     let full : greatest_index ≤ c.args.self.now.last = search rules in
@@ -38,15 +38,16 @@ invariant_of-self-2 g c = λ _.
     let free = free_after c.self.inside.last (c.self.inside.last + 1) n.facts (omega arith) kept.indices in
     let same : c.in_ok-relation.relation ≡ c.args.fact.relation = search rules in
     let one = subst (HasOneMore c.self.inside.counts c.add.new.self) same c.in_ok-add.ensures.ok in
-    subst (AreKept c.add.new.self c.self.inside.numbers.items (c.self.inside.last + 1) c.self.inside.last_rule) (sym c.in_ok-delta.ensures.network) (record {
+    subst (AreKept c.add.new.self c.self.inside.numbers.keys (c.self.inside.last + 1) c.self.inside.last_rule) (sym c.in_ok-delta.ensures.network) (record {
       indices = up_to_next c.self.inside.last c.args.fact n.facts kept.indices;
       counted = counted-add n.facts c.self.inside.counts c.add.new.self (c.self.inside.last + 1) c.args.fact base kept.counted free one;
+      rising = kept.rising;
       numbered = kept.numbered;
       rules = kept.rules;
     })
 
-pub returns : goal.returns
-returns g c =
+pub returns-clause-asserts : goal.returns-clause-asserts
+returns-clause-asserts g c =
     let n : Network = g.M.Matcher.network c.self.inside.matcher in
     let base : IsFactBase n.facts = search rules in
     let absent : IsAbsent n.facts c.args.fact = search rules in

@@ -18,9 +18,10 @@ invariant_of-self-2 g c = λ _.
     let free : fact_at n.facts c.args.ix ≡ None = subst (λ (m : Memory). fact_at m.network.facts c.args.ix ≡ None) (sym c.self.view_is) c.requires.free in
     let same : c.in_ok-relation.relation ≡ c.args.fact.relation = search rules in
     let one = subst (HasOneMore c.self.inside.counts c.add.new.self) same c.in_ok-add.ensures.ok in
-    subst (AreKept c.add.new.self c.self.inside.numbers.items c.self.inside.last c.self.inside.last_rule) (sym c.in_ok-delta.ensures.network) (record {
+    subst (AreKept c.add.new.self c.self.inside.numbers.keys c.self.inside.last c.self.inside.last_rule) (sym c.in_ok-delta.ensures.network) (record {
       indices = put_in c.self.inside.last c.args.ix c.args.fact n.facts given kept.indices;
       counted = counted-add n.facts c.self.inside.counts c.add.new.self c.args.ix c.args.fact base kept.counted free one;
+      rising = kept.rising;
       numbered = kept.numbered;
       rules = kept.rules;
     })
