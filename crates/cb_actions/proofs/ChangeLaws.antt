@@ -12,7 +12,7 @@ use Rattle.cb_io.specs.Histories.{PastWrites}
 use Rattle.cb_io.specs.Output.{OutState}
 use Rattle.cb_actions.specs.declared.act.EarlyEnd.TheVariants as ended
 use Rattle.cb_actions.specs.declared.act.Limit.TheVariants.{Numbers}
-use Rattle.std.proofs.lemmas.Bool.{false≢true, and_parts}
+use Rattle.std.proofs.lemmas.Bool.{false≢true}
 use Rattle.std.specs.List.{list_all}
 use Rattle.cb_rules.specs.Elements.{Elements}
 use Rattle.cb_facts.specs.FactLists.{fact_at}
@@ -24,7 +24,8 @@ use Rattle.cb_matches.specs.Changes.{IsDelta, keys_come, keys_gone}
 use Rattle.cb_matches.specs.declared.delta.Delta.{Delta}
 use Rattle.cb_matches.specs.Keys.{KeyValue}
 use Rattle.cb_matches.specs.Networks.{all_keys}
-use Rattle.cb_actions.specs.Runs.{added_rule, defined_rule, numbered, replaced, rule_named, started_anew, without_facts}
+use Rattle.cb_actions.specs.Runs.{added_rule, defined_rule, numbered, replaced, started_anew, without_facts}
+use Rattle.cb_rules.specs.RuleTables.{rule_named}
 use Rattle.cb_working_memory.specs.WorkingMemory.{Memory, greatest_index, index_of, restarted, with_next_rule, without}
 
 moved_as : (s : World) (next : Memory) (line : List ℕ)

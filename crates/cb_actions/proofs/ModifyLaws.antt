@@ -1,20 +1,17 @@
 -- What is left where a fact goes, for the one that comes in its place.
-use Rattle.std.proofs.Common.{◌≡◌, ◌∙◌, ◌+◌, ◌<◌, ◌≤◌, ℕ, Bool, true, false, List, Option, Some, None, IsSome, cond, ap, arith, refl, subst, sym, length, if◌then◌else◌}
+use Rattle.std.proofs.Common.{◌≡◌, ◌∙◌, ℕ, Bool, true, false, List, Option, Some, None, IsSome, cond, ap, refl, sym, length}
 use Rattle.std.proofs.lemmas.Cmp.{eq_by_cmp_equiv, nat_cmp_total}
 use Rattle.std.proofs.lemmas.Map.{lookup-remove_entry}
 use Rattle.std.proofs.lemmas.Map.Keys.{IsDistinct-from_sorted}
-use Rattle.std.proofs.lemmas.Bool.{false≢true}
 use Rattle.std.specs.BTreeMap.{is_at}
 use Rattle.std.specs.Map.{keys_of}
 use Rattle.std.specs.Ordering.{nat_cmp, eq_by_cmp}
-use Rattle.cb_actions.specs.Changes.{gone_line, moved, activation_lines, rescheduled, told}
-use Rattle.cb_actions.specs.Acts.{Effect, stop}
-use Rattle.cb_actions.specs.Effects.{fact_gone, gone_if}
+use Rattle.cb_actions.specs.Changes.{gone_line, moved, told}
+use Rattle.cb_actions.specs.Acts.{Effect}
+use Rattle.cb_actions.specs.Effects.{fact_gone}
 use Rattle.cb_actions.specs.Worlds.{World}
 use Rattle.cb_actions.proofs.ChangeLaws.{gone_some}
-use Rattle.cb_actions.specs.declared.act.EarlyEnd.TheVariants as ended
-use Rattle.cb_actions.specs.declared.act.Limit.TheVariants.{Numbers}
-use Rattle.cb_agenda.specs.Agendas.{changed, has_stamps}
+use Rattle.cb_agenda.specs.Agendas.{has_stamps}
 use Rattle.cb_facts.proofs.MemberLaws.{is_at-Decides}
 use Rattle.cb_facts.specs.FactLists.{IndexedFacts, IsAbsent, IsFactBase, fact_at, without_fact}
 use Rattle.cb_facts.specs.Facts.{FactValue}

@@ -1,5 +1,5 @@
 -- Turns: they never rise, and the number of tests that a loop is defined by does not matter.
-use Rattle.std.proofs.Common.{◌≡◌, ◌<◌, ◌≤◌, ℕ, zero, suc, Bool, true, false, List, [], ◌∷◌, ◌++◌, if◌then◌else◌, codes, length, nat_lt, is_some, ◌+◌, ◌-◌, option_map, Option, Some, None, Result, Ok, Err, refl, ap, arith}
+use Rattle.std.proofs.Common.{◌≡◌, ◌<◌, ◌≤◌, ℕ, zero, suc, Bool, true, false, List, [], ◌∷◌, ◌++◌, if◌then◌else◌, length, nat_lt, is_some, ◌+◌, ◌-◌, option_map, Option, Some, None, Result, Ok, Err, refl, ap, arith}
 use Rattle.std.specs.List.{list_all}
 use Rattle.std.specs.Option.{ok_or}
 use Rattle.cb_actions.specs.Acts.{Act, Effect, after_writing, become, each, follow, give, stop, give_or_fault, ◌>>=◌}
@@ -8,8 +8,8 @@ use Rattle.cb_actions.proofs.FallLaws.{falls_then}
 use Rattle.cb_actions.specs.Definitions.{all_asserted, all_evaluated, globals_after, globals_defined, one_evaluated, template_defined}
 use Rattle.cb_actions.specs.Effects.{found, wanted, valued, truth_of, ends, called, fact_added, fact_gone, gone_if, added_beside, added_next, asserted, changed_to, fact_back, fact_replaced, fact_said, index_said, modified, modified_at, replaced_beside, replaced_if_new, shared_out, retracted, retracted_one, index_named, taken_by, joined, bound, global_bound, effected, chosen, turn, turn_of}
 use Rattle.cb_actions.specs.Internal.{Falls, turns_left}
-use Rattle.cb_lines.specs.Lines.{rule_numbered}
-use Rattle.cb_actions.specs.Runs.{acted, actions_of, added_rule, all_gone, cleared_world, defined_rule, dropped_rule, due_by, fire_line, fired, forgotten, in_scope, next_due, numbered, ran, replaced, restarted_world, rule_named, run, spent, started_anew, unless_halted, with_variables_of, without_all, without_facts}
+use Rattle.cb_rules.specs.RuleTables.{rule_named, rule_numbered}
+use Rattle.cb_actions.specs.Runs.{acted, actions_of, added_rule, all_gone, cleared_world, defined_rule, dropped_rule, due_by, fire_line, fired, forgotten, in_scope, next_due, numbered, ran, replaced, restarted_world, run, spent, started_anew, unless_halted, with_variables_of, without_all, without_facts}
 use Rattle.cb_actions.specs.declared.act.Limit.TheVariants.{Firings}
 use Rattle.cb_rules.specs.Elements.{Elements}
 use Rattle.cb_matches.specs.Networks.{all_keys, bindings_of}
@@ -25,7 +25,7 @@ use Rattle.cb_exprs.specs.Shapes.{SlotCounts}
 use Rattle.cb_exprs.specs.Terms.{Term, constant, variable, global, call, effect, choose, repeat, actions, Terms, no_terms, term}
 use Rattle.cb_facts.specs.declared.value.Value.{Value}
 use Rattle.cb_forms.specs.declared.fault.Fault.{Fault}
-use Rattle.cb_forms.specs.declared.fault.Fault.TheVariants.{NoSuchFact, UnboundVariable, UnknownGlobal, WrongType}
+use Rattle.cb_forms.specs.declared.fault.Fault.TheVariants.{NoSuchFact, UnboundVariable, UnknownGlobal}
 use Rattle.cb_functions.specs.Applied.{applied}
 use Rattle.cb_functions.specs.Constants.{false_symbol}
 use Rattle.cb_functions.specs.Logic.{is_true}

@@ -1,9 +1,10 @@
 -- What the commands on rules do, and `exit`.
-use Rattle.std.specs.Prelude.{ℕ, pos, ◌≤◌, Bool, true, false, List, [], ◌∷◌, Option, Some, None, codes, map, nat_le, option_map, if◌then◌else◌}
+use Rattle.std.specs.Prelude.{ℕ, pos, Bool, List, Option, Some, None, codes, map, nat_le, option_map, if◌then◌else◌}
 use Rattle.cb_actions.specs.Actions.{carried}
 use Rattle.cb_actions.specs.Acts.{Act, become, each, give, stop, ◌>>=◌}
 use Rattle.cb_actions.specs.Effects.{index_named, valued}
-use Rattle.cb_actions.specs.Runs.{defined_rule, dropped_rule, rule_named, run}
+use Rattle.cb_actions.specs.Runs.{defined_rule, dropped_rule, run}
+use Rattle.cb_rules.specs.RuleTables.{rule_named}
 use Rattle.cb_actions.specs.Worlds.{World}
 use Rattle.cb_actions.specs.declared.act.EarlyEnd.TheVariants as ended
 use Rattle.cb_actions.specs.declared.watched.Watched.{Watched}

@@ -1,6 +1,7 @@
 -- What only the code needs.
-use Rattle.std.specs.Prelude.{◌≤◌, ℕ, List, Result, Ok, Err, Vec, Bool, ℤ, refl}
-use Rattle.std.specs.Coded.{Coded, code_by, coded_bool, coded_list, coded_ℕ, coded_ℤ, coded×}
+use Rattle.std.specs.Prelude.{◌≤◌, ℕ, List, Result, Ok, Err, Vec, Bool, refl}
+use Rattle.std.specs.Coded.{Coded, code_by, coded_bool, coded_list, coded_ℕ, coded×}
+use Rattle.std.specs.List.{All}
 use Rattle.std.specs.declared.alloc.Global.{Global}
 use Rattle.cb_actions.specs.Acts.{Act, end_in_rule}
 use Rattle.cb_actions.specs.Worlds.{World}
@@ -41,6 +42,10 @@ Falls {S} count act = (s : S) → count (act s).state ≤ count s
 -- the turns that are left
 abbrev pub turns_left : World → ℕ
 turns_left s = s.turns
+
+-- no rule has a number after this one
+abbrev pub AreRulesGiven : ℕ → List RuleInfo → Type 0
+AreRulesGiven last rules = All (λ r. r.id ≤ last) rules
 
 -- how the logic stores it
 abbrev pub world_code : Coded Memory → Coded (List ℕ) → Coded Piece → Coded AgendaValue → Coded Watched → Coded Templates → Coded Bindings → Coded World

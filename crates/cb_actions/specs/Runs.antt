@@ -1,11 +1,11 @@
 -- Rules that fire, and what changes them.
-use Rattle.std.specs.Prelude.{ℕ, zero, suc, ◌+◌, ◌-◌, Bool, false, true, List, [], ◌∷◌, ◌++◌, Option, Some, None, codes, flat_map, nat_eq, nat_lt, not, option_map, if◌then◌else◌}
+use Rattle.std.specs.Prelude.{ℕ, zero, suc, ◌+◌, ◌-◌, false, List, [], ◌∷◌, ◌++◌, Option, Some, None, codes, flat_map, nat_eq, nat_lt, not, option_map, if◌then◌else◌}
 use Rattle.std.specs.List.{filter}
-use Rattle.std.specs.Str.{bytes_eq}
 use Rattle.cb_actions.specs.Actions.{carried_all}
-use Rattle.cb_actions.specs.Acts.{Act, Effect, give, in_rule, stop, ◌>>=◌}
+use Rattle.cb_actions.specs.Acts.{Act, give, in_rule, stop, ◌>>=◌}
 use Rattle.cb_actions.specs.Changes.{if_watched, moved, rescheduled, tell}
-use Rattle.cb_lines.specs.Lines.{fact_line, firing_line, rule_numbered}
+use Rattle.cb_lines.specs.Lines.{fact_line, firing_line}
+use Rattle.cb_rules.specs.RuleTables.{rule_named, rule_numbered}
 use Rattle.cb_actions.specs.Worlds.{World}
 use Rattle.cb_rules.specs.RuleInfos.{RuleInfo}
 use Rattle.cb_actions.specs.declared.act.EarlyEnd.TheVariants as ended
@@ -80,11 +80,6 @@ ran (suc n) asked done = next_due asked (λ k. spent n (done + 1) k >>= (λ _. u
 -- a run
 abbrev pub run : Option ℕ → Act World (Unit {0})
 run asked s = ran s.firings asked 0 (record s { is_halted = false })
-
--- the rule with the name, if there is one
-abbrev pub rule_named : List ℕ → List RuleInfo → Option RuleInfo
-rule_named name [] = None
-rule_named name (r ∷ rs) = if bytes_eq name r.name then Some r else rule_named name rs
 
 -- nothing is kept of the rule any more
 abbrev pub forgotten : ℕ → Act World (Unit {0})

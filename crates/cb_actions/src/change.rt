@@ -18,7 +18,7 @@ use cb_forms::{NoMemory, Out, Sink};
 use cb_io::{Stop, put};
 use cb_lines::{add_activation_line, add_fact_line};
 use cb_matches::{Delta, Key, Matcher};
-use cb_rules::DefinedRule;
+use cb_rules::RuleTable;
 use cb_working_memory::{Asserted, Mark};
 use std::alloc::Global;
 
@@ -82,8 +82,9 @@ impl<M: Matcher<Mark>> World<M> {
         out: &mut Out<K>,
     ) -> Result<(), Break>
         requires { out.old.fault ≡ false }
-        ensures { Went K.writes out.old out.new self.new result
+        ensures went { Went K.writes out.old out.new self.new result
             (told line.now delta.now.gone.items delta.now.come.items self.old) }
+        ensures rules { self.new.rules ≡ self.old.rules }
     {
         tell(line, out)?;
         self.apply(delta, out)
@@ -92,8 +93,9 @@ impl<M: Matcher<Mark>> World<M> {
     /// Applies what went and what came, with the lines of it.
     pub(crate) fn apply<K: Sink>(&mut self, delta: &Delta, out: &mut Out<K>) -> Result<(), Break>
         requires { out.old.fault ≡ false }
-        ensures { Went K.writes out.old out.new self.new result
+        ensures went { Went K.writes out.old out.new self.new result
             (rescheduled delta.now.gone.items delta.now.come.items self.old) }
+        ensures rules { self.new.rules ≡ self.old.rules }
     {
         let lines = self.lines_of(delta)?;
         self.schedule(delta)?;
@@ -102,10 +104,11 @@ impl<M: Matcher<Mark>> World<M> {
 
     /// Applies what went and what came to the agenda.
     fn schedule(&mut self, delta: &Delta) -> Result<(), Break>
-        ensures { Quietly self.new result
+        ensures quietly { Quietly self.new result
             (scheduled delta.now.gone.items delta.now.come.items self.old) }
+        ensures rules { self.new.rules ≡ self.old.rules }
     {
-        let saliences = saliences(self.alloc, self.rules.as_slice(), delta.come.as_slice())?;
+        let saliences = saliences(self.alloc, &self.rules, delta.come.as_slice())?;
         match self.agenda.apply(delta, saliences.as_slice()) {
             Ok(()) => Ok(()),
             Err(ApplyFault::Exhausted) => Err(Break::Ended(EarlyEnd::Limit(Limit::Numbers))),
@@ -120,7 +123,7 @@ impl<M: Matcher<Mark>> World<M> {
     {
         let mut lines = Vec::new(self.alloc);
         if self.watched.activations {
-            let rules = self.rules.as_slice();
+            let rules = &self.rules;
             add_gone_lines(
                 self.alloc,
                 &mut lines,
@@ -147,7 +150,7 @@ pub(crate) fn tell<K: Sink>(bytes: &[u8], out: &mut Out<K>) -> Result<(), Break>
 fn add_gone_lines(
     alloc: Global,
     lines: &mut Vec<u8>,
-    rules: &[DefinedRule],
+    rules: &RuleTable,
     agenda: &Agenda,
     keys: &[Key],
 ) -> Result<(), NoMemory>
@@ -166,7 +169,7 @@ fn add_gone_lines(
 fn add_come_lines(
     alloc: Global,
     lines: &mut Vec<u8>,
-    rules: &[DefinedRule],
+    rules: &RuleTable,
     keys: &[Key],
 ) -> Result<(), NoMemory>
     ensures { OnOk result (lines.new.items ≡ lines.old.items

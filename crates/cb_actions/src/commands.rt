@@ -2,7 +2,8 @@
 ghost use Rattle.std.specs.Prelude.{◌≡◌, IfOk, None, OnOk, Some, false, map, option_map};
 ghost use Rattle.cb_actions.specs.Acts.{Act, each};
 ghost use Rattle.cb_actions.specs.Commands.{asked_by, exited, exited_with, ran_as, status_in, strategy_name, strategy_set, undefined, undefined_if, watch_set, watched_so, without_value};
-ghost use Rattle.cb_actions.specs.Runs.{dropped_rule, rule_named, run};
+ghost use Rattle.cb_actions.specs.Runs.{dropped_rule, run};
+ghost use Rattle.cb_rules.specs.RuleTables.{rule_named};
 ghost use Rattle.cb_actions.specs.Went.{Quietly, Went};
 ghost use Rattle.cb_actions.specs.Worlds.{World as State};
 ghost use Rattle.cb_exprs.specs.Terms.{term_of};
@@ -15,7 +16,7 @@ use cb_exprs::Expr;
 use cb_facts::{Name, Value};
 use cb_forms::{Fault, NoMemory, Out, Sink};
 use cb_matches::Matcher;
-use cb_rules::DefinedRule;
+use cb_rules::RuleTable;
 use cb_words::WatchItem;
 use cb_working_memory::Mark;
 use std::alloc::Global;
@@ -138,7 +139,7 @@ impl<M: Matcher<Mark>> World<M> {
         requires { out.old.fault ≡ false }
         ensures { Went K.writes out.old out.new self.new result (undefined None self.old) }
     {
-        let ids = numbers(self.alloc, self.rules.as_slice())?;
+        let ids = numbers(self.alloc, &self.rules)?;
         self.drop_rules(ids.as_slice(), out)?;
         Ok(None)
     }
@@ -201,11 +202,11 @@ fn status_in(value: &Value) -> Option<u8>
 }
 
 /// The numbers of rules.
-fn numbers(alloc: Global, rules: &[DefinedRule]) -> Result<Vec<u64>, NoMemory>
+fn numbers(alloc: Global, rules: &RuleTable) -> Result<Vec<u64>, NoMemory>
     ensures { IfOk result (λ all. all.items ≡ map (λ r. r.id) rules.now) }
 {
     let mut all = Vec::new(alloc);
-    for rule in rules {
+    for rule in rules.iter() {
         all.push(rule.id)?;
     }
     Ok(all)

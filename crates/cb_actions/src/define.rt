@@ -1,8 +1,9 @@
 //! Rules that are added, redefined and dropped.
-ghost use Rattle.std.specs.Prelude.{◌≡◌, ◌<◌, ◌∷◌, ◌++◌, [], IfOk, OnOk, false, nat_eq, not, option_map};
+ghost use Rattle.std.specs.Prelude.{◌≡◌, ◌<◌, ◌∷◌, ◌++◌, [], IfOk, IfSome, None, OnOk, false, nat_eq, not, option_map};
 ghost use Rattle.std.specs.List.{filter};
 ghost use Rattle.cb_actions.specs.Commands.{rule_defined};
-ghost use Rattle.cb_actions.specs.Runs.{added_rule, defined_rule, dropped_rule, numbered, replaced, rule_named};
+ghost use Rattle.cb_actions.specs.Runs.{added_rule, defined_rule, dropped_rule, numbered, replaced};
+ghost use Rattle.cb_rules.specs.RuleTables.{rule_named};
 ghost use Rattle.cb_actions.specs.Went.{Went};
 ghost use Rattle.cb_rules.specs.Elements.{branches_of};
 ghost use Rattle.cb_rules.specs.RuleValues.{rule_value};
@@ -10,15 +11,12 @@ ghost use Rattle.cb_matches.specs.Changes.{IsDelta};
 ghost use Rattle.cb_working_memory.specs.WorkingMemory.{greatest_index, with_next_rule, without_one_rule};
 
 use crate::act::{Break, EarlyEnd, Limit};
-use crate::rules::find_named;
 use crate::world::World;
 use cb_facts::{Name, Value};
 use cb_forms::{NoMemory, Out, Sink};
 use cb_matches::{Delta, Matcher};
 use cb_rules::{Ce, DefinedRule, Rule, split_rule};
 use cb_working_memory::Mark;
-use std::alloc::Global;
-use std::mem;
 
 impl<M: Matcher<Mark>> World<M> {
     /// Defines a rule. It takes the last place, and the one with its name goes, if there is one. Returns no value.
@@ -57,8 +55,9 @@ impl<M: Matcher<Mark>> World<M> {
     /// Drops the rule with a name, if there is one.
     fn drop_named<K: Sink>(&mut self, name: &Name, out: &mut Out<K>) -> Result<(), Break>
         requires { out.old.fault ≡ false }
-        ensures { Went K.writes out.old out.new self.new result
+        ensures went { Went K.writes out.old out.new self.new result
             (replaced (option_map (λ r. r.id) (rule_named name.now self.old.rules)) self.old) }
+        ensures absent { OnOk result (rule_named name.now self.new.rules ≡ None) }
     {
         match self.number_of(name) {
             Some(id) => self.drop_rule(id, out),
@@ -68,9 +67,12 @@ impl<M: Matcher<Mark>> World<M> {
 
     /// The number of the rule with a name, if there is one.
     pub fn number_of(&self, name: &Name) -> Option<u64>
-        ensures { result ≡ option_map (λ r. r.id) (rule_named name.now self.now.rules) }
+        ensures number { result ≡ option_map (λ r. r.id) (rule_named name.now self.now.rules) }
+        // No other rule has the name.
+        ensures only { IfSome result (λ id. rule_named name.now
+            (filter (λ r. not (nat_eq id r.id)) self.now.rules) ≡ None) }
     {
-        match find_named(self.rules.as_slice(), name) {
+        match self.rules.named(name) {
             Some(rule) => Some(rule.id),
             None => None,
         }
@@ -79,11 +81,13 @@ impl<M: Matcher<Mark>> World<M> {
     /// Drops a rule: its activations go, with their lines.
     pub fn drop_rule<K: Sink>(&mut self, id: u64, out: &mut Out<K>) -> Result<(), Break>
         requires { out.old.fault ≡ false }
-        ensures { Went K.writes out.old out.new self.new result (dropped_rule id self.old) }
+        ensures went { Went K.writes out.old out.new self.new result (dropped_rule id self.old) }
+        ensures rules { OnOk result
+            (self.new.rules ≡ filter (λ r. not (nat_eq id r.id)) self.old.rules) }
     {
         let delta = self.take_rule(id)?;
         self.tell_and_apply(b"".as_slice(), &delta, out)?;
-        self.forget_rule(id)?;
+        self.forget_rule(id);
         Ok(())
     }
 
@@ -98,11 +102,11 @@ impl<M: Matcher<Mark>> World<M> {
     }
 
     /// Keeps nothing of a rule any more.
-    fn forget_rule(&mut self, id: u64) -> Result<(), NoMemory>
-        ensures { OnOk result
-            (self.new ≡ record self.old { rules = filter (λ r. not (nat_eq id r.id)) self.old.rules }) }
+    fn forget_rule(&mut self, id: u64)
+        ensures { self.new
+            ≡ record self.old { rules = filter (λ r. not (nat_eq id r.id)) self.old.rules } }
     {
-        forget_numbered(self.alloc, &mut self.rules, id)
+        self.rules.remove(id);
     }
 
     /// Adds a rule, with the next number.
@@ -112,7 +116,8 @@ impl<M: Matcher<Mark>> World<M> {
         branches: Vec<Vec<Ce<Mark>>>,
         out: &mut Out<K>,
     ) -> Result<(), Break>
-        requires { out.old.fault ≡ false }
+        requires fine { out.old.fault ≡ false }
+        requires absent { rule_named rule.name self.old.rules ≡ None }
         ensures { Went K.writes out.old out.new self.new result
             (added_rule rule (branches_of branches.items) self.old) }
     {
@@ -129,7 +134,8 @@ impl<M: Matcher<Mark>> World<M> {
         rule: DefinedRule,
         branches: Vec<Vec<Ce<Mark>>>,
     ) -> Result<Delta, NoMemory>
-        requires { self.old.memory.last_rule < greatest_index }
+        requires room { self.old.memory.last_rule < greatest_index }
+        requires absent { rule_named rule.name self.old.rules ≡ None }
         ensures state { OnOk result (self.new ≡ record self.old {
           memory = with_next_rule (branches_of branches.items) self.old.memory;
           rules = self.old.rules ++ numbered self.old rule ∷ [];
@@ -139,21 +145,8 @@ impl<M: Matcher<Mark>> World<M> {
     {
         let mut rule = rule;
         rule.id = self.memory.next_rule();
+        let delta = self.memory.add_rule(branches)?;
         self.rules.push(rule)?;
-        self.memory.add_rule(branches)
+        Ok(delta)
     }
-}
-
-/// Takes the rule with a number out.
-fn forget_numbered(alloc: Global, rules: &mut Vec<DefinedRule>, id: u64) -> Result<(), NoMemory>
-    ensures { OnOk result (rules.new.items ≡ filter (λ r. not (nat_eq id r.id)) rules.old.items) }
-{
-    let mut kept = Vec::new(alloc);
-    for rule in mem::replace(rules, Vec::new(alloc)) {
-        if id != rule.id {
-            kept.push(rule)?;
-        }
-    }
-    *rules = kept;
-    Ok(())
 }

@@ -14,6 +14,7 @@ use cb_facts::FactList;
 use cb_forms::{NoMemory, Out, Sink};
 use cb_lines::add_fact_line;
 use cb_matches::{Delta, Matcher};
+use cb_rules::RuleTable;
 use cb_templates::Relations;
 use cb_working_memory::Mark;
 use std::alloc::Global;
@@ -79,7 +80,7 @@ impl<M: Matcher<Mark>> World<M> {
     {
         self.memory.clear()?;
         self.agenda.drop_all();
-        self.rules = Vec::new(self.alloc);
+        self.rules = RuleTable::new(self.alloc);
         self.relations = Relations::new(self.alloc);
         self.env = Env::new(self.alloc);
         Ok(())

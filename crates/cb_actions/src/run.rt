@@ -3,7 +3,7 @@ ghost use Rattle.std.specs.Prelude.{◌≡◌, ◌-◌, IfOk, OnOk, Some, false,
 ghost use Rattle.std.specs.Rc.{rc_value};
 ghost use Rattle.cb_actions.specs.Acts.{Act};
 ghost use Rattle.cb_actions.specs.Actions.{carried_all};
-ghost use Rattle.cb_lines.specs.Lines.{rule_numbered};
+ghost use Rattle.cb_rules.specs.RuleTables.{rule_numbered};
 ghost use Rattle.cb_actions.specs.Runs.{acted, actions_of, due_by, fire_line, fired, in_scope, next_due, run, spent, with_variables_of};
 ghost use Rattle.cb_actions.specs.Effects.{halted};
 ghost use Rattle.cb_actions.specs.Went.{Quietly, Went};
@@ -18,9 +18,9 @@ use crate::world::World;
 use cb_exprs::{Env, Expr};
 use cb_facts::Value;
 use cb_forms::{NoMemory, Out, Sink};
-use cb_lines::{add_firing_line, find_rule};
+use cb_lines::add_firing_line;
 use cb_matches::{Key, Matcher};
-use cb_rules::DefinedRule;
+use cb_rules::RuleTable;
 use cb_working_memory::Mark;
 use std::alloc::Global;
 use std::rc::Rc;
@@ -134,7 +134,7 @@ impl<M: Matcher<Mark>> World<M> {
     {
         let mut line = Vec::new(self.alloc);
         if self.watched.rules {
-            add_firing_line(self.alloc, &mut line, number, self.rules.as_slice(), key)?;
+            add_firing_line(self.alloc, &mut line, number, &self.rules, key)?;
         }
         Ok(line)
     }
@@ -146,7 +146,7 @@ impl<M: Matcher<Mark>> World<M> {
         ensures fine { OnOk result (out.new.fault ≡ false) }
     {
         let env = self.memory.bindings(key)?;
-        let actions = actions_of(self.alloc, self.rules.as_slice(), key)?;
+        let actions = actions_of(self.alloc, &self.rules, key)?;
         match self.act_in(env, actions.as_slice(), out) {
             Ok(value) => Ok(value),
             Err(end) => Err(end.in_rule(key.rule())),
@@ -182,11 +182,11 @@ impl<M: Matcher<Mark>> World<M> {
 }
 
 /// The actions of the rule of a match.
-fn actions_of(alloc: Global, rules: &[DefinedRule], key: &Key) -> Result<Rc<Vec<Expr>>, NoMemory>
+fn actions_of(alloc: Global, rules: &RuleTable, key: &Key) -> Result<Rc<Vec<Expr>>, NoMemory>
     ensures { IfOk result (λ actions. terms_of (rc_value actions).items
         ≡ actions_of (rule_numbered key.now.rule rules.now)) }
 {
-    match find_rule(rules, key.rule()) {
+    match rules.get(key.rule()) {
         Some(rule) => Ok(rule.actions.clone()?),
         None => Ok(Rc::new(alloc, Vec::new(alloc))?),
     }

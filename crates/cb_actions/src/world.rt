@@ -26,7 +26,7 @@ use cb_forms::{Fault, NoMemory, Out, Sink};
 use cb_functions::{Constants, apply, decides};
 use cb_io::put;
 use cb_matches::Matcher;
-use cb_rules::DefinedRule;
+use cb_rules::RuleTable;
 use cb_templates::{GivenSlot, Parts, Relations, Template, build_fact};
 use cb_words::Function;
 use cb_working_memory::{Mark, WorkingMemory};
@@ -43,7 +43,7 @@ pub struct World<M: Matcher<Mark>> {
     constants: Option<Constants>,
     pub(crate) memory: WorkingMemory<M>,
     pub(crate) agenda: Agenda,
-    pub(crate) rules: Vec<DefinedRule>,
+    pub(crate) rules: RuleTable,
     pub(crate) watched: Watched,
     pub(crate) relations: Relations,
     pub(crate) env: Env,
@@ -55,14 +55,16 @@ pub struct World<M: Matcher<Mark>> {
 impl<M: Matcher<Mark>> Model for World<M> {
     ghost use Rattle.std.specs.Coded.{codes};
     ghost use Rattle.cb_actions.specs.Worlds.{World as State};
-    ghost use Rattle.cb_actions.specs.Internal.{world_code};
+    ghost use Rattle.cb_actions.specs.Internal.{AreRulesGiven, world_code};
     ghost use Rattle.cb_working_memory.specs.Internal.WorkingMemories.{memory_code};
 
     ghost Value = { State };
 
     ghost coded = { world_code (memory_code (Prim.hlevel codes) (Prim.hlevel codes) (Prim.hlevel codes) (Prim.hlevel codes)) (Prim.hlevel codes) (Prim.hlevel codes) (Prim.hlevel codes) (Prim.hlevel codes) (Prim.hlevel codes) (Prim.hlevel codes) };
 
-    ghost view = { λ w. record { memory = w.memory; agenda = w.agenda; rules = w.rules.items; watched = w.watched; templates = w.relations; env = w.env; turns = w.turns; firings = w.firings; is_halted = w.is_halted } };
+    ghost view = { λ w. record { memory = w.memory; agenda = w.agenda; rules = w.rules; watched = w.watched; templates = w.relations; env = w.env; turns = w.turns; firings = w.firings; is_halted = w.is_halted } };
+
+    ghost invariant = { λ w. AreRulesGiven w.memory.last_rule w.rules };
 }
 
 impl<M: Matcher<Mark>> World<M> {
@@ -96,7 +98,7 @@ impl<M: Matcher<Mark>> World<M> {
             constants: None,
             memory: WorkingMemory::starting_at(alloc, matcher, numbers.index, numbers.rule),
             agenda: Agenda::starting_at(alloc, numbers.stamp),
-            rules: Vec::new(alloc),
+            rules: RuleTable::new(alloc),
             watched: Watched {
                 facts: false,
                 rules: false,
@@ -123,10 +125,10 @@ impl<M: Matcher<Mark>> World<M> {
     }
 
     /// What is kept of the rules besides their conditions, in the order of their numbers.
-    pub fn rules(&self) -> &[DefinedRule]
+    pub fn rules(&self) -> &RuleTable
         ensures { result.now ≡ self.now.rules }
     {
-        self.rules.as_slice()
+        &self.rules
     }
 
     /// The agenda.

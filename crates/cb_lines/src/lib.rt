@@ -3,10 +3,9 @@
 //! A crate of its own, since `cb_actions` writes them as things happen, and `cb_session` where commands list them.
 #![tactic(auto)]
 
+mod layouts; // the layout of a branch of a rule
 mod lines; // the lines of facts, activations and firings
-mod rules; // the rule of a number, and the layout of a branch
 mod totals; // the lines of totals
 
 pub use lines::{add_activation_line, add_agenda_line, add_fact_line, add_firing_line};
-pub use rules::find_rule;
 pub use totals::{Noun, add_total_line};

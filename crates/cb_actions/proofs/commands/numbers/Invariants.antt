@@ -1,5 +1,5 @@
-use Rattle.std.proofs.Common.{◌≡◌, ◌++◌, drop, map}
+use Rattle.std.proofs.Common.{◌≡◌, ◌++◌, map}
 use Rattle.cb_actions.proofs.commands.numbers.Given as goal
 
 abbrev pub invariant-loop-rule : goal.invariant-loop-rule
-invariant-loop-rule l = l.all.items ++ map (λ r. r.id) (drop l.rule-index l.rules) ≡ map (λ r. r.id) l.rules
+invariant-loop-rule l = l.all.items ++ map (λ r. r.id) l.rule-iterator ≡ map (λ r. r.id) l.rules

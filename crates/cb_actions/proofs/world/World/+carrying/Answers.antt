@@ -1,4 +1,4 @@
-use Rattle.std.proofs.Common.{◌≡◌, ◌+◌, ◌∷◌, ◌++◌, Bool, true, false, List, [], Option, Some, Ok, Err, drop, refl, sym, ap, ap₂, ◌∙◌, subst, rules}
+use Rattle.std.proofs.Common.{◌≡◌, ◌+◌, ◌∷◌, ◌++◌, Bool, true, false, [], Option, Some, Ok, Err, drop, refl, sym, ap, ap₂, ◌∙◌, subst, rules}
 use Rattle.std.proofs.lemmas.List.{drop_all}
 use Rattle.cb_actions.specs.Acts.{Act, give}
 use Rattle.cb_actions.specs.Actions.{carried, carried_all, carried_values}

@@ -14,7 +14,6 @@ use Rattle.cb_facts.specs.declared.value.Value.{Value}
 use Rattle.cb_facts.specs.declared.value.Value.TheVariants as value
 use Rattle.cb_working_memory.specs.WorkingMemory.{Asserts, grown}
 use Rattle.cb_working_memory.specs.declared.asserted.Asserted.{Asserted}
-use Rattle.cb_working_memory.specs.declared.asserted.Asserted.TheVariants.{There, Added, NoIndex}
 use Rattle.cb_actions.proofs.world.World.add.Goals as goal
 
 pub returns-in_err-line : goal.returns-in_err-line
@@ -50,7 +49,7 @@ returns-in_err-tell_and_apply-in-Added g c =
     let r : c.from_residual-in_err-tell_and_apply-in-Added.result ≡ Err c.in_err-tell_and_apply-in-Added.field-0.0 = search rules in
     let next : Unit {0} → Act World (Option Value) = λ _. give (Some (value.Fact (s.memory.last + 1))) in
     went_as g.K.Sink.writes _ _ _ _ _ _ _ r (with_room c.args.fact s m.0 (room s.memory.last m.1)) (went_off g.K.Sink.writes _ _ _ _ _ next
-    (went_moved g.K.Sink.writes _ _ s c.memorize.new.self _ _ (grown c.args.fact s.memory) (come_line s (s.memory.last + 1) c.args.fact) _ c.in-Added.delta m.4 t line c.in_err-tell_and_apply-in-Added.ensures))
+    (went_moved g.K.Sink.writes _ _ s c.memorize.new.self _ _ (grown c.args.fact s.memory) (come_line s (s.memory.last + 1) c.args.fact) _ c.in-Added.delta m.4 t line c.in_err-tell_and_apply-in-Added.ensures.went))
 
 pub returns : goal.returns
 returns g c =
@@ -59,6 +58,6 @@ returns g c =
     let t = in_memory s c.memorize.new.self (grown c.args.fact s.memory) c.in_ok-ix.ensures.others m.3 in
     let line : c.as_slice.result.now ≡ come_line s (s.memory.last + 1) c.args.fact = c.as_slice.ensures.value ∙ c.in_ok-line.ensures m.1 in
     let next : Unit {0} → Act World (Option Value) = λ _. give (Some (value.Fact (s.memory.last + 1))) in
-    let first = went_moved g.K.Sink.writes _ _ s c.memorize.new.self _ (Ok tt) (grown c.args.fact s.memory) (come_line s (s.memory.last + 1) c.args.fact) _ c.in-Added.delta m.4 t line c.in_ok-tell_and_apply-in-Added.ensures in
+    let first = went_moved g.K.Sink.writes _ _ s c.memorize.new.self _ (Ok tt) (grown c.args.fact s.memory) (come_line s (s.memory.last + 1) c.args.fact) _ c.in-Added.delta m.4 t line c.in_ok-tell_and_apply-in-Added.ensures.went in
     went_as g.K.Sink.writes _ _ _ _ _ _ _ refl (with_room c.args.fact s m.0 (room s.memory.last m.1)) (went_then g.K.Sink.writes _ _ _ _ _ _ _ _ next first
     (went_quietly g.K.Sink.writes _ _ (Ok (Some (value.Fact c.in-Added.ix))) _ (went_fine g.K.Sink.writes _ _ _ _ _ first) (ap (λ n. give (Some (value.Fact n)) c.tell_and_apply.new.self) (sym m.2))))

@@ -1,4 +1,4 @@
-use Rattle.std.proofs.Common.{◌≡◌, Option, Some, None, Err, Ok, ap, refl, rules, subst, sym, ◌∙◌}
+use Rattle.std.proofs.Common.{◌≡◌, Option, Some, None, Err, Ok, ap, refl, rules, subst, ◌∙◌}
 use Rattle.cb_actions.specs.Changes.{gone_line}
 use Rattle.cb_actions.specs.Effects.{gone_if}
 use Rattle.cb_actions.proofs.ActLaws.{went_quietly, went_as}
@@ -29,7 +29,7 @@ returns-in-Some g c =
     let t = in_memory s c.forget.new.self (without c.args.ix s.memory) c.in_ok-delta.ensures.others m.1 in
     let line : c.as_slice.result.now ≡ gone_line s c.args.ix (fact_at s.memory.network.facts c.args.ix) = c.as_slice.ensures.value ∙ c.in_ok-line.ensures in
     went_as g.K.Sink.writes _ _ _ _ _ _ _ refl (gone_some c.args.ix s (fact_at s.memory.network.facts c.args.ix) m.0)
-    (went_moved g.K.Sink.writes _ _ s c.forget.new.self _ _ (without c.args.ix s.memory) (gone_line s c.args.ix (fact_at s.memory.network.facts c.args.ix)) _ c.in-Some.delta m.2 t line c.tell_and_apply.ensures)
+    (went_moved g.K.Sink.writes _ _ s c.forget.new.self _ _ (without c.args.ix s.memory) (gone_line s c.args.ix (fact_at s.memory.network.facts c.args.ix)) _ c.in-Some.delta m.2 t line c.tell_and_apply.ensures.went)
 
 pub returns : goal.returns
 returns g c =

@@ -1,7 +1,7 @@
 use Rattle.std.proofs.Common.{◌≡◌, Err, None, ap, option_map, rules}
 use Rattle.cb_actions.specs.Commands.{undefined_if}
 use Rattle.cb_actions.proofs.ActLaws.{went_quietly}
-use Rattle.cb_actions.specs.Runs.{rule_named}
+use Rattle.cb_rules.specs.RuleTables.{rule_named}
 use Rattle.cb_actions.specs.declared.act.Break.TheVariants as break
 use Rattle.cb_actions.specs.declared.act.EarlyEnd.TheVariants as ended
 use Rattle.cb_forms.specs.declared.fault.Fault.TheVariants.{NoSuchRule}

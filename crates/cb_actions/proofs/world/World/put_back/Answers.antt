@@ -23,4 +23,4 @@ returns g c =
     let s = c.args.self.now in
     let t = in_memory s c.recall.new.self (put_back c.args.ix c.args.fact s.memory) c.in_ok-delta.ensures.others c.in_ok-delta.ensures.memory in
     let line : c.as_slice.result.now ≡ come_line s c.args.ix c.args.fact = c.as_slice.ensures.value ∙ c.in_ok-line.ensures in
-    went_moved g.K.Sink.writes _ _ s c.recall.new.self _ _ (put_back c.args.ix c.args.fact s.memory) (come_line s c.args.ix c.args.fact) _ c.in_ok-delta.delta c.in_ok-delta.ensures.delta t line c.tell_and_apply.ensures
+    went_moved g.K.Sink.writes _ _ s c.recall.new.self _ _ (put_back c.args.ix c.args.fact s.memory) (come_line s c.args.ix c.args.fact) _ c.in_ok-delta.delta c.in_ok-delta.ensures.delta t line c.tell_and_apply.ensures.went

@@ -1,6 +1,6 @@
 use Rattle.std.proofs.Common.{◌≡◌, ◌≤◌, ◌∙◌, Option, None, Some, Ok, Err, ap, refl, rules, subst, sym}
 use Rattle.cb_actions.specs.Acts.{Act, give, ◌>>=◌}
-use Rattle.cb_actions.specs.Effects.{fact_back, fact_gone}
+use Rattle.cb_actions.specs.Effects.{fact_back}
 use Rattle.cb_actions.proofs.ActLaws.{went_then, went_off, went_quietly}
 use Rattle.cb_actions.proofs.ModifyLaws.{absent_still, free_now, memory_gone}
 use Rattle.cb_actions.proofs.WentLaws.{went_fine, went_result, went_state}

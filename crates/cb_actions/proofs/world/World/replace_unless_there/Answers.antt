@@ -1,4 +1,4 @@
-use Rattle.std.proofs.Common.{◌≡◌, Option, Some, None, ap, refl, rules}
+use Rattle.std.proofs.Common.{◌≡◌, Some, None, ap, refl, rules}
 use Rattle.cb_actions.specs.Effects.{replaced_beside}
 use Rattle.cb_actions.proofs.ActLaws.{went_quietly, went_as}
 use Rattle.cb_facts.specs.FactLists.{IsAbsent, IsFactBase, fact_at}

@@ -6,7 +6,7 @@ use Rattle.cb_actions.specs.Worlds.{World}
 use Rattle.cb_actions.specs.declared.act.Break.TheVariants as break
 use Rattle.cb_actions.specs.declared.act.EarlyEnd.TheVariants as ended
 use Rattle.cb_actions.proofs.ChangeLaws.{are_retracted, not_retracted}
-use Rattle.cb_actions.proofs.WentLaws.{went_fine, went_result}
+use Rattle.cb_actions.proofs.WentLaws.{went_fine}
 use Rattle.cb_facts.specs.declared.value.Value.{Value}
 use Rattle.cb_forms.specs.declared.fault.Fault.TheVariants.{WrongType}
 use Rattle.cb_actions.specs.Effects.{is_retractable}

@@ -21,12 +21,12 @@ pub returns-in_err-drop_rules : goal.returns-in_err-drop_rules
 returns-in_err-drop_rules g c =
     let s = c.args.self.now in
     let r : c.from_residual-in_err-drop_rules.result ≡ Err c.in_err-drop_rules.field-0.0 = search rules in
-    let ids : c.as_slice-2.result.now ≡ map (λ r. r.id) s.rules = search rules in
+    let ids : c.as_slice.result.now ≡ map (λ r. r.id) s.rules = search rules in
     went_as g.K.Sink.writes _ _ _ _ _ _ _ r (ap (λ (xs : List ℕ). (each dropped_rule xs >>= nothing) s) (sym ids)) (went_off g.K.Sink.writes _ _ _ _ _ nothing c.in_err-drop_rules.ensures)
 
 pub returns : goal.returns
 returns g c =
     let s = c.args.self.now in
-    let ids : c.as_slice-2.result.now ≡ map (λ r. r.id) s.rules = search rules in
+    let ids : c.as_slice.result.now ≡ map (λ r. r.id) s.rules = search rules in
     went_as g.K.Sink.writes _ _ _ _ _ _ _ refl (ap (λ (xs : List ℕ). (each dropped_rule xs >>= nothing) s) (sym ids)) (went_then g.K.Sink.writes _ _ _ _ _ _ _ _ nothing c.in_ok-drop_rules.ensures
     (went_quietly g.K.Sink.writes _ _ (Ok None) _ (went_fine g.K.Sink.writes _ _ _ _ _ c.in_ok-drop_rules.ensures) refl))

@@ -1,20 +1,8 @@
-//! Rules that are looked up.
+//! The layouts of rules.
 ghost use Rattle.std.specs.Prelude.{◌≡◌, option_copied, slice_get};
-ghost use Rattle.cb_lines.specs.Lines.{layout_of, rule_numbered};
+ghost use Rattle.cb_lines.specs.Lines.{layout_of};
 
 use cb_rules::{DefinedRule, Layout};
-
-/// The rule with this number, if there is one.
-pub fn find_rule(rules: &[DefinedRule], id: u64) -> Option<&DefinedRule>
-    ensures { option_copied result ≡ rule_numbered id rules.now }
-{
-    for rule in rules {
-        if id == rule.id {
-            return Some(rule);
-        }
-    }
-    None
-}
 
 /// The layout of a branch of a rule.
 pub(crate) fn find_layout(rule: Option<&DefinedRule>, branch: u64) -> Option<&Layout>
