@@ -6,7 +6,7 @@ use cb_exprs::Env;
 use cb_facts::Name;
 use cb_forms::NoMemory;
 use cb_matches::Matcher;
-use cb_rules::DefinedRule;
+use cb_rules::RuleTable;
 use cb_templates::Relations;
 use cb_working_memory::{DeffactsTable, Mark, WorkingMemory};
 
@@ -20,7 +20,7 @@ pub struct Context<'a, M: Matcher<Mark>> {
     /// The facts.
     pub memory: &'a WorkingMemory<M>,
     /// What is kept of the rules besides their conditions.
-    pub rules: &'a [DefinedRule],
+    pub rules: &'a RuleTable,
     /// The facts of each `deffacts`.
     pub deffacts: &'a DeffactsTable,
 }
@@ -39,10 +39,10 @@ impl<M: Matcher<Mark>> Context<'_, M> {
 }
 
 /// Whether a rule names a relation.
-fn is_named(rules: &[DefinedRule], relation: &Name) -> bool
+fn is_named(rules: &RuleTable, relation: &Name) -> bool
     ensures { result ≡ is_named_in_rules relation.now rules.now }
 {
-    for rule in rules {
+    for rule in rules.iter() {
         if has_name(rule.relations.as_slice(), relation) {
             return true;
         }

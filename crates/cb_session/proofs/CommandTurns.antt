@@ -6,7 +6,8 @@ use Rattle.cb_actions.specs.Changes.{activation_lines, moved, rescheduled, sched
 use Rattle.cb_actions.specs.Commands.{asked_by, exited, exited_with, ran_as, rule_defined, status_in, undefined, undefined_if, without_value}
 use Rattle.cb_actions.specs.Effects.{valued, wanted}
 use Rattle.cb_actions.specs.Internal.{Falls, turns_left}
-use Rattle.cb_actions.specs.Runs.{defined_rule, dropped_rule, forgotten, rule_named, run}
+use Rattle.cb_actions.specs.Runs.{defined_rule, dropped_rule, forgotten, run}
+use Rattle.cb_rules.specs.RuleTables.{rule_named}
 use Rattle.cb_actions.specs.Worlds.{World}
 use Rattle.cb_actions.proofs.FallLaws.{falls_then}
 use Rattle.cb_actions.proofs.TurnLaws.{each_falls, never_rises, rule_falls, run_falls}

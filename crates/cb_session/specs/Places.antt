@@ -4,7 +4,7 @@ use Rattle.cb_actions.specs.declared.act.EarlyEnd.{EarlyEnd}
 use Rattle.cb_actions.specs.declared.act.EarlyEnd.TheVariants as ended
 use Rattle.cb_forms.specs.Items.{fitting, over}
 use Rattle.cb_forms.specs.Trees.{Reading}
-use Rattle.cb_lines.specs.Lines.{rule_numbered}
+use Rattle.cb_rules.specs.RuleTables.{rule_numbered}
 use Rattle.cb_session.specs.Actions.{acted}
 use Rattle.cb_session.specs.ItemLines.{placed_fitting, placed_whole, too_long_at}
 use Rattle.cb_session.specs.Setups.{Setup}

@@ -4,7 +4,7 @@ ghost use Rattle.cb_actions.specs.Went.{Went};
 ghost use Rattle.cb_actions.specs.Worlds.{first_world, with_numbers};
 ghost use Rattle.cb_forms.specs.Trees.{atom, reading_of};
 ghost use Rattle.cb_io.specs.Output.{Puts, stop_extent};
-ghost use Rattle.cb_lines.specs.Lines.{rule_numbered};
+ghost use Rattle.cb_rules.specs.RuleTables.{rule_numbered};
 ghost use Rattle.cb_matches.specs.Networks.{empty_network};
 ghost use Rattle.cb_session.specs.Actions.{acted, shown_line};
 ghost use Rattle.cb_session.specs.Internal.Executing.{Executes};
@@ -21,7 +21,6 @@ use cb_actions::{Break, EarlyEnd, Numbers, World};
 use cb_facts::{Name, Names, Value};
 use cb_forms::{Cut, Fault, Item, NoMemory, Out, Sink, Token};
 use cb_io::{Stop, put, put_text};
-use cb_lines::find_rule;
 use cb_matches::Matcher;
 use cb_requests::{Context, read_request};
 use cb_working_memory::{DeffactsTable, GlobalTable, Mark};
@@ -193,7 +192,7 @@ impl<M: Matcher<Mark>> Engine<M> {
         ensures { IfOk result (λ name. name
             ≡ option_map (λ r. r.name) (rule_numbered number self.now.world.rules)) }
     {
-        match find_rule(self.world.rules(), number) {
+        match self.world.rules().get(number) {
             Some(rule) => Ok(Some(rule.name.clone()?)),
             None => Ok(None),
         }

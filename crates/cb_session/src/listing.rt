@@ -13,7 +13,7 @@ use cb_forms::{NoMemory, Out, Sink};
 use cb_io::{Stop, put_text};
 use cb_lines::{Noun, add_agenda_line, add_fact_line, add_total_line};
 use cb_matches::Key;
-use cb_rules::DefinedRule;
+use cb_rules::{DefinedRule, RuleTable};
 use std::alloc::Global;
 
 /// Puts the lines of all facts, and of how many there are. Growth is refused as `NoMemory`, here and below.
@@ -32,7 +32,7 @@ pub(crate) fn put_fact_lines<K: Sink>(
 /// Puts the lines of all activations, the one that fires first on top, and of how many there are.
 pub(crate) fn put_agenda_lines<K: Sink>(
     alloc: Global,
-    rules: &[DefinedRule],
+    rules: &RuleTable,
     agenda: &Agenda,
     out: &mut Out<K>,
 ) -> Result<(), Stop>
@@ -46,7 +46,7 @@ pub(crate) fn put_agenda_lines<K: Sink>(
 
 fn put_activation_lines<K: Sink>(
     alloc: Global,
-    rules: &[DefinedRule],
+    rules: &RuleTable,
     activations: &[(Key, i64)],
     out: &mut Out<K>,
 ) -> Result<(), Stop>
@@ -61,7 +61,7 @@ fn put_activation_lines<K: Sink>(
 /// Puts the names of all rules, each on a line, and the line of how many there are.
 pub(crate) fn put_rule_lines<K: Sink>(
     alloc: Global,
-    rules: &[DefinedRule],
+    rules: &RuleTable,
     out: &mut Out<K>,
 ) -> Result<(), Stop>
     requires { out.old.fault ≡ false }
@@ -83,7 +83,7 @@ fn put_facts<K: Sink>(alloc: Global, facts: &FactList, out: &mut Out<K>) -> Resu
 
 fn put_activations<K: Sink>(
     alloc: Global,
-    rules: &[DefinedRule],
+    rules: &RuleTable,
     activations: &[(Key, i64)],
     out: &mut Out<K>,
 ) -> Result<(), Stop>
@@ -97,11 +97,11 @@ fn put_activations<K: Sink>(
     Ok(())
 }
 
-fn put_rules<K: Sink>(rules: &[DefinedRule], out: &mut Out<K>) -> Result<(), Stop>
+fn put_rules<K: Sink>(rules: &RuleTable, out: &mut Out<K>) -> Result<(), Stop>
     requires { out.old.fault ≡ false }
     ensures { Puts K.writes out.old out.new (stop_extent result) (flat_map rule_line rules.now) }
 {
-    for rule in rules {
+    for rule in rules.iter() {
         put_rule(rule, out)?;
     }
     Ok(())
@@ -124,7 +124,7 @@ fn fact_line(alloc: Global, ix: u64, fact: &Fact) -> Result<Vec<u8>, NoMemory>
 
 fn agenda_line(
     alloc: Global,
-    rules: &[DefinedRule],
+    rules: &RuleTable,
     activation: &(Key, i64),
 ) -> Result<Vec<u8>, NoMemory>
     ensures { IfOk result (λ line. line.items ≡ agenda_line rules.now activation.now) }

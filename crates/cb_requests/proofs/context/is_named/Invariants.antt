@@ -1,6 +1,6 @@
-use Rattle.std.proofs.Common.{◌≡◌, drop}
+use Rattle.std.proofs.Common.{◌≡◌}
 use Rattle.cb_requests.specs.Uses.{is_named_in_rules}
 use Rattle.cb_requests.proofs.context.is_named.Given as goal
 
 abbrev pub invariant-loop-rule : goal.invariant-loop-rule
-invariant-loop-rule l = is_named_in_rules l.relation (drop l.rule-index l.rules) ≡ is_named_in_rules l.relation l.rules
+invariant-loop-rule l = is_named_in_rules l.relation l.rule-iterator ≡ is_named_in_rules l.relation l.rules
