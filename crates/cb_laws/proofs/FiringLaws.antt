@@ -18,7 +18,7 @@ use Rattle.cb_laws.proofs.Keeping.{after_any, from_any}
 use Rattle.cb_laws.proofs.ModifyKeeping.{moves_keep}
 use Rattle.cb_laws.proofs.MoveLaws.{moved_so}
 use Rattle.cb_laws.proofs.RetractedLaws.{retracted_takes}
-use Rattle.cb_lines.specs.Lines.{rule_numbered}
+use Rattle.cb_rules.specs.RuleTables.{rule_numbered}
 use Rattle.cb_matches.specs.Keys.{KeyValue}
 use Rattle.cb_matches.specs.Networks.{bindings_of}
 

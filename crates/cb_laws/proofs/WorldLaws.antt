@@ -7,7 +7,7 @@ use Rattle.cb_actions.specs.Acts.{Act, each, give, stop, ◌>>=◌}
 use Rattle.cb_actions.specs.Changes.{activation_lines, moved, rescheduled, saliences, scheduled, tell}
 use Rattle.cb_actions.specs.Commands.{asked_by, exited, exited_with, ran_as, rule_defined, status_in, undefined, undefined_if, without_value}
 use Rattle.cb_actions.specs.Effects.{asserted, replaced_if_new, retracted, valued}
-use Rattle.cb_actions.specs.Runs.{actions_of, acted, added_rule, all_gone, cleared_world, defined_rule, dropped_rule, due_by, fire_line, forgotten, next_due, numbered, ran, replaced, restarted_world, rule_named, run, spent, started_anew, unless_halted, with_variables_of, without_all, without_facts}
+use Rattle.cb_actions.specs.Runs.{actions_of, acted, added_rule, all_gone, cleared_world, defined_rule, dropped_rule, due_by, fire_line, forgotten, next_due, numbered, ran, replaced, restarted_world, run, spent, started_anew, unless_halted, with_variables_of, without_all, without_facts}
 use Rattle.cb_actions.specs.Worlds.{World}
 use Rattle.cb_actions.specs.declared.act.EarlyEnd.TheVariants as ended
 use Rattle.cb_actions.specs.declared.act.Limit.TheVariants.{Firings, Numbers}
@@ -30,7 +30,7 @@ use Rattle.cb_laws.proofs.ReachedLaws.{asserted_kept, none_kept, retracted_kept,
 use Rattle.cb_laws.proofs.RetractedLaws.{retracted_takes}
 use Rattle.cb_laws.specs.Firing.{IsProper}
 use Rattle.cb_laws.specs.Reached.{AreWellKept, IsTemplate}
-use Rattle.cb_lines.specs.Lines.{rule_numbered}
+use Rattle.cb_rules.specs.RuleTables.{rule_named, rule_numbered}
 use Rattle.cb_matches.specs.Keys.{KeyValue}
 use Rattle.cb_matches.specs.Networks.{Conditions, all_keys, bindings_of, with_rule, without_rule}
 use Rattle.cb_rules.specs.Elements.{Elements}
