@@ -1,6 +1,6 @@
 # For the measurements beside it, which source it: the repository's top, a temporary folder that goes when they end, the
 # program, proved and built, and how the scripts are made and the runs measured. The program is `clipsbatch`, or that of the
-# name BUILT.
+# name BUILT, or one that is built already, at the path PROGRAM.
 top=$(cd "$(dirname "$0")/.." && pwd)
 place=$(mktemp -d)
 trap 'rm -rf "$place"' EXIT
@@ -14,7 +14,11 @@ build() {
     }
 }
 
-build "${BUILT:-clipsbatch}"
+if [ -n "${PROGRAM:-}" ]; then
+    program=$PROGRAM
+else
+    build "${BUILT:-clipsbatch}"
+fi
 
 make_script() {
     python3 "$top/benches/make_scripts.py" "$@"
