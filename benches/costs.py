@@ -123,7 +123,8 @@ def following(n):
 def greatest(n):
     """The greatest of each of 20 groups."""
     facts = ["(item g%d %d)" % (i % 20, i * 7919 % n) for i in range(n)]
-    return [rule("greatest", "(item ?g ?x) (not (item ?g ?y&:(> ?y ?x)))", '(printout t ?g " " ?x crlf)')], facts, ["(reset)", "(run)"]
+    rules = [rule("greatest", "(item ?g ?x) (not (item ?g ?y&:(> ?y ?x)))", '(printout t ?g " " ?x crlf)')]
+    return rules, facts, ["(reset)", "(run)"]
 
 
 COSTS = {

@@ -1,5 +1,6 @@
-"""The table of costs.sh, from the lines that it measured: name, size, seconds and kB of ours, the same of CLIPS, and a word on how
-what they print compares: same, differ, or ended at the time limit."""
+"""The table of costs.sh, from the lines that it measured: name, size, seconds and kB of ours, the same of CLIPS, and how what both
+print compares: same, differ, or ended, which is by the time limit.
+"""
 
 import math
 import sys
@@ -45,6 +46,8 @@ def main():
             name, size, ours[-1], theirs[-1], time[name], int(kb) / 1024, int(their_kb) / 1024, memory[name],
             growth(ours), growth(theirs), NOTES[note]), flush=True)
         differ |= note == "differ"
+    if not time:
+        sys.exit("no program of these names")
     worst("time to CLIPS", time)
     worst("memory to CLIPS", memory)
     worst("growth to that of CLIPS", grown)

@@ -1,5 +1,6 @@
 """Rule programs such as people write, for costs.py. Each function makes one at a size n: its constructs, its facts, which a reset
-asserts, and its commands."""
+asserts, and its commands.
+"""
 
 import random
 
@@ -156,13 +157,15 @@ def stream(n):
 def manyrules(n):
     """Each rule has a relation of its own."""
     form = "(defrule r%d ?s <- (step-%d ?x) (on ?x) => (retract ?s) (assert (step-%d ?x)))"
-    return [form % (i, i, i + 1) for i in range(n)], ["(on %d)" % k for k in range(10)] + ["(step-0 %d)" % k for k in range(10)], LIST
+    facts = [fact % k for k in range(10) for fact in ("(on %d)", "(step-0 %d)")]
+    return [form % (i, i, i + 1) for i in range(n)], facts, LIST
 
 
 def samerel(n):
     """One relation, whose facts are told apart by a constant for each rule."""
     form = "(defrule r%d ?s <- (state s%d ?x) (input ?x) => (retract ?s) (assert (state s%d ?x)))"
-    return [form % (i, i, i + 1) for i in range(n)], ["(input %d)" % k for k in range(10)] + ["(state s0 %d)" % k for k in range(10)], LIST
+    facts = [fact % k for k in range(10) for fact in ("(input %d)", "(state s0 %d)")]
+    return [form % (i, i, i + 1) for i in range(n)], facts, LIST
 
 
 def join(n):

@@ -5,7 +5,7 @@ import re
 
 from programs import COUNT, LIST, PRINT
 
-# Each number is found where a cell, a row, a column or a box leaves no other place.
+# A digit is placed where a cell, a row, a column or a box leaves no other; placed digits, pairs and boxes rule others out.
 SUDOKU = """
 (deftemplate may (slot puzzle) (slot cell) (slot row) (slot column) (slot box) (slot digit))
 (deftemplate is (slot puzzle) (slot cell) (slot row) (slot column) (slot box) (slot digit))
@@ -86,7 +86,8 @@ ZEBRA = """
 nation english a, colour red a, nation spanish b, pet dog b, drink coffee c, colour green c, nation ukrainian d, drink tea d,
 colour ivory e/(= ?c (+ ?e 1)), smokes gold f, pet snails f, smokes kools g, colour yellow g, drink milk h/(= ?h 3),
 nation norwegian i/(= ?i 1), smokes chesterfield j, pet fox k/(= 1 (abs (- ?k ?j))), pet horse l/(= 1 (abs (- ?l ?g))),
-smokes lucky m, drink juice m, nation japanese o, smokes parliament o, colour blue q/(= 1 (abs (- ?q ?i))), pet zebra r, drink water s
+smokes lucky m, drink juice m, nation japanese o, smokes parliament o, colour blue q/(= 1 (abs (- ?q ?i))), pet zebra r,
+drink water s
 """
 
 
