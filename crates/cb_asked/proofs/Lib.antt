@@ -1,0 +1,4 @@
+pub mod Pieces
+mod Found
+pub mod Order
+pub mod Searched
