@@ -5,8 +5,9 @@ use Rattle.std.proofs.lemmas.Map.Keys.{IsDistinct-from_apart}
 use Rattle.std.specs.BTreeMap.{BTreeMap}
 use Rattle.std.specs.List.{Contains}
 use Rattle.cb_alpha.proofs.Numbers.{one_number}
+use Rattle.cb_alpha.proofs.ValuesOrder.{values_exact, values_level}
 use Rattle.cb_alpha.specs.Buckets.{AreSameFilings, AreWithValues, Filing, Refiles, values_at}
-use Rattle.cb_alpha.specs.Internal.Numbered.{AreNumbered, HaveValues, KeepsValues, filing, values_in_bucket}
+use Rattle.cb_alpha.specs.Internal.Numbered.{AreNumbered, HaveValues, KeepsValues, filing, values_cmp, values_in_bucket}
 use Rattle.cb_facts.specs.declared.value.Value.{Value}
 use Rattle.cb_groups.specs.Groups.{AreMembers, AreSameGroups, Membership, Updates, group_of}
 
@@ -85,7 +86,7 @@ module _ (m : BTreeMap (List Value) ℕ) (vs : Filing) (is : AreNumbered m vs) (
       λ h. filed_in vs ms i n ((members.are i).0 h) ∙ there,
       λ e.
           let b = bucket_of vs ms i ws e in
-          (members.are i).1 (b.1 ∙ ap Some (one_number m vs is ws b.0 n b.2 there)),
+          (members.are i).1 (b.1 ∙ ap Some (one_number values_cmp values_exact values_level m (values_at vs) is ws b.0 n b.2 there)),
     );
     once = members.once;
   }
@@ -97,12 +98,6 @@ module _ (m : BTreeMap (List Value) ℕ) (vs : Filing) (is : AreNumbered m vs) (
     once = IsDistinct-from_apart nat_eq [] (λ i j d l w. absurd (omega (arith, w)));
   })
   with_values ws (Some n) found some none = with_these n ws ((found n).0 refl) (some n refl)
-
-  pub beside : (others : Membership) (member : ℕ) (bucket : Option ℕ) → bucket ≡ group_of others member → ((n : ℕ) → bucket ≡ Some n → AreMembers ms n result)
-      → (ws : List Value) → values_at (filing vs others) member ≡ Some ws → AreWithValues (filing vs ms) ws result
-  beside others member bucket e some ws there =
-      let b = bucket_of vs others member ws there in
-      with_these b.0 ws b.2 (some b.0 (e ∙ b.1))
 
 -- where growth failed
 pub failed : {A E P : Type 0} (r : Result A E) → P → OnErr r P

@@ -1,12 +1,9 @@
--- The map from values to the numbers of buckets.
+-- Maps from keys to their numbers.
 use Rattle.std.proofs.Common.{◌≡◌, ◌≢◌, ◌∙◌, ℕ, Bool, true, false, List, Option, Some, None, Ordering, Less, Equal, Greater, ap, cond, inl, inr, is_eq, refl, sym}
 use Rattle.std.proofs.lemmas.Bool.{cases_eq}
 use Rattle.std.specs.BTreeMap as tree
 use Rattle.std.specs.BTreeMap.{BTreeMap, is_at}
-use Rattle.cb_alpha.proofs.ValuesOrder.{values_exact, values_level}
-use Rattle.cb_alpha.specs.Buckets.{Filing, values_at}
-use Rattle.cb_alpha.specs.Internal.Numbered.{AreNumbered, values_cmp}
-use Rattle.cb_facts.specs.declared.value.Value.{Value}
+use Rattle.cb_alpha.specs.Internal.Numbered.{AreNumbers}
 
 some_none : {A P : Type 0} {a : A} (o : Option A) → o ≡ Some a → o ≡ None → P
 some_none {A} {P} {a} o e f = absurd (let no : Some a ≡ None = sym e ∙ f in cc)
@@ -23,62 +20,63 @@ equal_is Less h = absurd (cc)
 equal_is Equal h = refl
 equal_is Greater h = absurd (cc)
 
--- the key that a query finds
-at_same : (ws q : List Value) → is_at (values_cmp ws) q ≡ true → ws ≡ q
-at_same ws q h = values_exact ws q (equal_is (values_cmp ws q) h)
+module _ {K : Type 0} (cmp : K → K → Ordering) (exact : (a b : K) → cmp a b ≡ Equal → a ≡ b) (level : (a b : K) → a ≡ b → cmp a b ≡ Equal) where
+  -- the key that a query finds
+  at_same : (k q : K) → is_at (cmp k) q ≡ true → k ≡ q
+  at_same k q h = exact k q (equal_is (cmp k q) h)
 
-same_at : (ws q : List Value) → ws ≡ q → is_at (values_cmp ws) q ≡ true
-same_at ws q e = ap is_eq (values_level ws q e)
+  same_at : (k q : K) → k ≡ q → is_at (cmp k) q ≡ true
+  same_at k q e = ap is_eq (level k q e)
 
-not_at : (ws q : List Value) → is_at (values_cmp ws) q ≡ false → ws ≡ q → {P : Type 0} → P
-not_at ws q h e {P} = absurd (let no : true ≡ false = sym (same_at ws q e) ∙ h in cc)
+  not_at : (k q : K) → is_at (cmp k) q ≡ false → k ≡ q → {P : Type 0} → P
+  not_at k q h e {P} = absurd (let no : true ≡ false = sym (same_at k q e) ∙ h in cc)
 
-module _ (m m' : BTreeMap (List Value) ℕ) (vs vs' : Filing) (ws : List Value) (n : ℕ) (was : AreNumbered m vs) (others : (k : ℕ) → k ≢ n → values_at vs' k ≡ values_at vs k) where
-  -- a bucket more
-  pub numbered_more : ((k : ℕ) → values_at vs k ≢ Some ws) → values_at vs n ≡ None → values_at vs' n ≡ Some ws → tree.Updates values_cmp m m' ws (Some n) → AreNumbered m' vs'
-  numbered_more absent free there u q k = by_test (is_at (values_cmp ws) q)
-      (λ t. let e = at_same ws q t in
-      let now : tree.get values_cmp m' q ≡ Some n = u.0 q ∙ ap (λ b. cond b (Some n) (tree.get values_cmp m q)) t in (
-        λ h. ap (values_at vs') (same_some (tree.get values_cmp m' q) h now) ∙ (there ∙ ap Some e),
-        λ h. elim (cases_eq k n) as (λ _. tree.get values_cmp m' q ≡ Some k) [
-          | inl same ↦ now ∙ ap Some (sym same)
-          | inr d ↦ absurd (absent k (sym (others k d) ∙ (h ∙ ap Some (sym e))))
-        ],
-      ))
-      (λ f. let now : tree.get values_cmp m' q ≡ tree.get values_cmp m q = u.0 q ∙ ap (λ b. cond b (Some n) (tree.get values_cmp m q)) f in (
-        λ h.
-            let old = (was q k).0 (sym now ∙ h) in
-            others k (λ same. some_none (values_at vs k) old (ap (values_at vs) same ∙ free)) ∙ old,
-        λ h. elim (cases_eq k n) as (λ _. tree.get values_cmp m' q ≡ Some k) [
-          | inl same ↦ not_at ws q f (same_some (values_at vs' n) there (ap (values_at vs') (sym same) ∙ h))
-          | inr d ↦ now ∙ (was q k).1 (sym (others k d) ∙ h)
-        ],
-      ))
+  module _ (m m' : BTreeMap K ℕ) (key key' : ℕ → Option K) (k : K) (n : ℕ) (was : AreNumbers cmp m key) (others : (i : ℕ) → i ≢ n → key' i ≡ key i) where
+    -- a number more
+    pub numbered_more : ((i : ℕ) → key i ≢ Some k) → key n ≡ None → key' n ≡ Some k → tree.Updates cmp m m' k (Some n) → AreNumbers cmp m' key'
+    numbered_more absent free there u q i = by_test (is_at (cmp k) q)
+        (λ t. let e = at_same k q t in
+        let now : tree.get cmp m' q ≡ Some n = u.0 q ∙ ap (λ b. cond b (Some n) (tree.get cmp m q)) t in (
+          λ h. ap key' (same_some (tree.get cmp m' q) h now) ∙ (there ∙ ap Some e),
+          λ h. elim (cases_eq i n) as (λ _. tree.get cmp m' q ≡ Some i) [
+            | inl same ↦ now ∙ ap Some (sym same)
+            | inr d ↦ absurd (absent i (sym (others i d) ∙ (h ∙ ap Some (sym e))))
+          ],
+        ))
+        (λ f. let now : tree.get cmp m' q ≡ tree.get cmp m q = u.0 q ∙ ap (λ b. cond b (Some n) (tree.get cmp m q)) f in (
+          λ h.
+              let old = (was q i).0 (sym now ∙ h) in
+              others i (λ same. some_none (key i) old (ap key same ∙ free)) ∙ old,
+          λ h. elim (cases_eq i n) as (λ _. tree.get cmp m' q ≡ Some i) [
+            | inl same ↦ not_at k q f (same_some (key' n) there (ap key' (sym same) ∙ h))
+            | inr d ↦ now ∙ (was q i).1 (sym (others i d) ∙ h)
+          ],
+        ))
 
-  -- and one less
-  pub numbered_less : values_at vs n ≡ Some ws → values_at vs' n ≡ None → tree.Updates values_cmp m m' ws None → AreNumbered m' vs'
-  numbered_less there gone u q k = by_test (is_at (values_cmp ws) q)
-      (λ t. let e = at_same ws q t in
-      let now : tree.get values_cmp m' q ≡ None = u.0 q ∙ ap (λ b. cond b None (tree.get values_cmp m q)) t in (
-        λ h. some_none (tree.get values_cmp m' q) h now,
-        λ h. elim (cases_eq k n) as (λ _. tree.get values_cmp m' q ≡ Some k) [
-          | inl same ↦ some_none (values_at vs' k) h (ap (values_at vs') same ∙ gone)
-          | inr d ↦
-              let one = (was q k).1 (sym (others k d) ∙ h) in
-              let other = (was q n).1 (there ∙ ap Some e) in
-              absurd (d (same_some (tree.get values_cmp m q) one other))
-        ],
-      ))
-      (λ f. let now : tree.get values_cmp m' q ≡ tree.get values_cmp m q = u.0 q ∙ ap (λ b. cond b None (tree.get values_cmp m q)) f in (
-        λ h.
-            let old = (was q k).0 (sym now ∙ h) in
-            others k (λ same. not_at ws q f (same_some (values_at vs n) there (ap (values_at vs) (sym same) ∙ old))) ∙ old,
-        λ h. elim (cases_eq k n) as (λ _. tree.get values_cmp m' q ≡ Some k) [
-          | inl same ↦ some_none (values_at vs' k) h (ap (values_at vs') same ∙ gone)
-          | inr d ↦ now ∙ (was q k).1 (sym (others k d) ∙ h)
-        ],
-      ))
+    -- and one less
+    pub numbered_less : key n ≡ Some k → key' n ≡ None → tree.Updates cmp m m' k None → AreNumbers cmp m' key'
+    numbered_less there gone u q i = by_test (is_at (cmp k) q)
+        (λ t. let e = at_same k q t in
+        let now : tree.get cmp m' q ≡ None = u.0 q ∙ ap (λ b. cond b None (tree.get cmp m q)) t in (
+          λ h. some_none (tree.get cmp m' q) h now,
+          λ h. elim (cases_eq i n) as (λ _. tree.get cmp m' q ≡ Some i) [
+            | inl same ↦ some_none (key' i) h (ap key' same ∙ gone)
+            | inr d ↦
+                let one = (was q i).1 (sym (others i d) ∙ h) in
+                let other = (was q n).1 (there ∙ ap Some e) in
+                absurd (d (same_some (tree.get cmp m q) one other))
+          ],
+        ))
+        (λ f. let now : tree.get cmp m' q ≡ tree.get cmp m q = u.0 q ∙ ap (λ b. cond b None (tree.get cmp m q)) f in (
+          λ h.
+              let old = (was q i).0 (sym now ∙ h) in
+              others i (λ same. not_at k q f (same_some (key n) there (ap key (sym same) ∙ old))) ∙ old,
+          λ h. elim (cases_eq i n) as (λ _. tree.get cmp m' q ≡ Some i) [
+            | inl same ↦ some_none (key' i) h (ap key' same ∙ gone)
+            | inr d ↦ now ∙ (was q i).1 (sym (others i d) ∙ h)
+          ],
+        ))
 
--- two buckets don't have the same values
-pub one_number : (m : BTreeMap (List Value) ℕ) (vs : Filing) → AreNumbered m vs → (ws : List Value) (i k : ℕ) → values_at vs i ≡ Some ws → values_at vs k ≡ Some ws → i ≡ k
-one_number m vs is ws i k e f = same_some (tree.get values_cmp m ws) ((is ws i).1 e) ((is ws k).1 f)
+  -- two numbers don't have the same key
+  pub one_number : (m : BTreeMap K ℕ) (key : ℕ → Option K) → AreNumbers cmp m key → (k : K) (i j : ℕ) → key i ≡ Some k → key j ≡ Some k → i ≡ j
+  one_number m key is k i j e f = same_some (tree.get cmp m k) ((is k i).1 e) ((is k j).1 f)

@@ -1,4 +1,4 @@
--- Facts and partial matches by the values that they are joined on.
+-- Members by the values that they are joined on.
 use Rattle.std.specs.Prelude.{◌≡◌, ◌≢◌, ◌↔◌, ℕ, Contains, List, Option, Some, None, nat_eq, slice_index_or}
 use Rattle.std.specs.List.{IsDistinct}
 use Rattle.cb_facts.specs.declared.value.Value.{Value}
@@ -23,8 +23,3 @@ AreSameFilings old new = (member : ℕ) → values_at new member ≡ values_at o
 pub record AreWithValues (filing : Filing) (values : List Value) (members : List ℕ) : Type 0 where
   pub are : (member : ℕ) → Contains members member ↔ (values_at filing member ≡ Some values)
   pub once : IsDistinct nat_eq members
-
--- the facts and the partial matches that are filed, each by its values
-pub record BucketsValue : Type 0 where
-  pub facts : Filing
-  pub partials : Filing

@@ -1,3 +1,4 @@
--- Where join values stand: KeptValues. The numbers of buckets, and who stands in them: Numbered.
+-- Where join values stand: KeptValues. Numbers by their keys: Numbered. How facts are found: Joined.
+pub mod Joined
 pub mod KeptValues
 pub mod Numbered

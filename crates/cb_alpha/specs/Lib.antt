@@ -1,3 +1,4 @@
+pub mod AlphaMemories
 pub mod Buckets
 pub mod Internal
 pub mod JoinValues

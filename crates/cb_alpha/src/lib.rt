@@ -1,13 +1,22 @@
 //! Alpha memories: the facts that could fit a pattern, found by the values that patterns are joined on.
 //!
+//! Patterns that are equal but for their variables share one alpha memory. What stands before a pattern is found by the same values,
+//! in `Buckets` of the pattern's own.
+//!
 //! `docs/ARCHITECTURE.md` says where it belongs.
 #![tactic(auto)]
 
-mod buckets; // facts and partial matches by these values
+mod alpha_memory; // the facts that could fit a pattern
+mod buckets; // members by the values that they are joined on
+mod candidate; // a fact with its index
+mod candidates; // the facts of an alpha memory by number and by index
 mod fact_values; // the values of join fields in a fact
+mod join_index; // the facts of an alpha memory by the values of join fields
 mod join_values; // values that facts and partial matches are joined on
 mod numbering; // the numbers of buckets
 
+pub use alpha_memory::AlphaMemory;
 pub use buckets::Buckets;
+pub use candidate::Candidate;
 pub use fact_values::values_of_fact;
 pub use join_values::JoinValues;

@@ -67,16 +67,14 @@ fn add(
 pub(crate) fn drop_empty(
     numbers: &mut BTreeMap<JoinValues, u32>,
     buckets: &mut Slab<JoinValues>,
-    facts: &Groups,
-    partials: &Groups,
+    members: &Groups,
     bucket: u32,
 )
     requires { AreNumbered numbers.old buckets.old.slots }
     ensures is { AreNumbered numbers.new buckets.new.slots }
-    ensures facts { KeepsValues buckets.old.slots buckets.new.slots facts.now }
-    ensures partials { KeepsValues buckets.old.slots buckets.new.slots partials.now }
+    ensures members { KeepsValues buckets.old.slots buckets.new.slots members.now }
 {
-    if facts.has_any(bucket) || partials.has_any(bucket) {
+    if members.has_any(bucket) {
         return;
     }
     let Some(values) = buckets.try_remove(bucket as usize) else {

@@ -1,4 +1,4 @@
--- The numbers of buckets by their values, and who stands in them.
+-- Numbers by their keys, and buckets by their values and who stands in them.
 use Rattle.std.specs.Prelude.{◌≡◌, ◌≢◌, ◌↔◌, ℕ, List, Option, Some, None, map}
 use Rattle.std.specs.BTreeMap as tree
 use Rattle.std.specs.BTreeMap.{BTreeMap}
@@ -14,9 +14,13 @@ use Rattle.cb_groups.specs.Groups.{Membership, group_of}
 abbrev pub values_cmp : List Value → List Value → Ordering
 values_cmp = slice_cmp value_ord.ghosts.cmp
 
+-- the map has the number of each key under it
+abbrev pub AreNumbers : {K : Type 0} → (K → K → Ordering) → BTreeMap K ℕ → (ℕ → Option K) → Type 0
+AreNumbers {K} cmp numbers key = (k : K) (n : ℕ) → (tree.get cmp numbers k ≡ Some n) ↔ (key n ≡ Some k)
+
 -- the map has the number of each bucket under its values
 abbrev pub AreNumbered : BTreeMap (List Value) ℕ → Filing → Type 0
-AreNumbered numbers buckets = (values : List Value) (n : ℕ) → (tree.get values_cmp numbers values ≡ Some n) ↔ (values_at buckets n ≡ Some values)
+AreNumbered numbers buckets = AreNumbers values_cmp numbers (values_at buckets)
 
 -- the values of a member, by those of its bucket
 abbrev pub values_in_bucket : Filing → Option ℕ → Option (List Value)
@@ -34,7 +38,6 @@ abbrev pub KeepsValues : Filing → Filing → Membership → Type 0
 KeepsValues old new members = (member n : ℕ) → group_of members member ≡ Some n → values_at new n ≡ values_at old n
 
 -- the numbers of buckets are those of their values, and who stands in one has its values
-pub record AreBuckets (numbers : BTreeMap (List Value) ℕ) (buckets : Filing) (facts partials : Membership) : Type 0 where
+pub record AreBuckets (numbers : BTreeMap (List Value) ℕ) (buckets : Filing) (members : Membership) : Type 0 where
   pub numbered : AreNumbered numbers buckets
-  pub facts_have : HaveValues buckets facts
-  pub partials_have : HaveValues buckets partials
+  pub have : HaveValues buckets members

@@ -1,6 +1,7 @@
 use Rattle.std.proofs.Common.{rules, ◌≡◌, ◌≢◌, ℕ, None, Some}
 use Rattle.std.specs.BTreeMap as tree
 use Rattle.cb_alpha.proofs.Numbers.{numbered_more}
+use Rattle.cb_alpha.proofs.ValuesOrder.{values_exact, values_level}
 use Rattle.cb_alpha.specs.Buckets.{values_at}
 use Rattle.cb_alpha.specs.Internal.Numbered.{values_cmp}
 use Rattle.cb_alpha.proofs.numbering.add.Goals as goal
@@ -17,4 +18,4 @@ returns-clause-is c =
     let free : values_at vs n ≡ None = search rules in
     let there : values_at vs' n ≡ Some ws = search rules in
     let updates : tree.Updates values_cmp m m' ws (Some n) = search rules in
-    numbered_more m m' vs vs' ws n c.requires.is others c.requires.absent free there updates
+    numbered_more values_cmp values_exact values_level m m' (values_at vs) (values_at vs') ws n c.requires.is others c.requires.absent free there updates
