@@ -22,6 +22,7 @@ use cb_exprs::Env;
 use cb_facts::{Content, Fact, Multifield};
 use cb_forms::NoMemory;
 use cb_functions::Constants;
+use smallvec::SmallVec;
 use std::alloc::Global;
 
 /// All ways in which a pattern fits a fact, where variables have these values, in the order of the lengths of their segments
@@ -42,7 +43,7 @@ pub fn fit<T>(
     fact: &Fact,
     env: &Env,
     meter: &mut Meter<T>,
-) -> Result<Vec<Way>, NoMemory>
+) -> Result<SmallVec<Way, 1>, NoMemory>
     ensures ways { IfOk result (λ all. map way_of all.items ≡ ways pattern.now fact.now env.now) }
     ensures counted { meter.new ≡ one_test_more meter.old }
 {
@@ -75,17 +76,17 @@ fn find_ways<T>(
     env: &Env,
     is_one_enough: bool,
     meter: &mut Meter<T>,
-) -> Result<Vec<Way>, NoMemory>
+) -> Result<SmallVec<Way, 1>, NoMemory>
     ensures ways { IfOk result (λ found. AreEnough is_one_enough (map way_of found.items)
         (ways pattern.now fact.now env.now)) }
     ensures counted { meter.new ≡ one_test_more meter.old }
 {
     let body = pattern.open(meter);
     if !take_lengths(body.parts(), fact.content()) {
-        return Ok(Vec::new(alloc));
+        return Ok(SmallVec::new(alloc));
     }
     if pattern.relation().as_slice() != fact.relation() {
-        return Ok(Vec::new(alloc));
+        return Ok(SmallVec::new(alloc));
     }
     search_body(alloc, constants, body, fact.content(), env, is_one_enough)
 }
@@ -99,7 +100,7 @@ fn search_body(
     content: &Content,
     env: &Env,
     is_one_enough: bool,
-) -> Result<Vec<Way>, NoMemory>
+) -> Result<SmallVec<Way, 1>, NoMemory>
     ensures { IfOk result (λ found. AreEnough is_one_enough (map way_of found.items)
         (map (way_with body.now env.now)
         (ways_of_parts body.now (content_of content.now) env.now))) }
@@ -127,7 +128,7 @@ fn search_body(
             };
             search_slots(search, rows, is_one_enough)
         }
-        _ => Ok(Vec::new(alloc)),
+        _ => Ok(SmallVec::new(alloc)),
     }
 }
 
@@ -138,13 +139,13 @@ fn search_fields<'a>(
     row: &'a Row,
     fields: &'a Multifield,
     is_one_enough: bool,
-) -> Result<Vec<Way>, NoMemory>
+) -> Result<SmallVec<Way, 1>, NoMemory>
     requires row { search.body.now ≡ fields_parts row.now }
     requires content { content_of search.content.now ≡ fact.fields fields.now }
     ensures { IfOk result (λ found. AreEnough is_one_enough (map way_of found.items)
         (as_ways search.entry (ways_of_row row.now fields.now search.entry.before.now))) }
 {
-    let mut all = Vec::new(search.alloc);
+    let mut all = SmallVec::new(search.alloc);
     if !may_take_row(Fields::All(fields), row) {
         return Ok(all);
     }
@@ -160,14 +161,14 @@ fn search_slots<'a>(
     search: Search<'a>,
     rows: &'a [SlotRow],
     is_one_enough: bool,
-) -> Result<Vec<Way>, NoMemory>
+) -> Result<SmallVec<Way, 1>, NoMemory>
     requires rows { search.body.now ≡ slots_parts (map asked_slot rows.now) }
     requires content { content_of search.content.now ≡ fact.slots search.slots.now }
     ensures { IfOk result (λ found. AreEnough is_one_enough (map way_of found.items)
         (as_ways search.entry (ways_of_slots (map asked_slot rows.now)
         search.entry.slots.now search.entry.before.now))) }
 {
-    let mut all = Vec::new(search.alloc);
+    let mut all = SmallVec::new(search.alloc);
     if !may_take_slots(rows, search.slots) {
         return Ok(all);
     }

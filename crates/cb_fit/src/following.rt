@@ -18,6 +18,7 @@ use crate::slots::slot_value;
 use crate::way::Way;
 use cb_constraints::{Fields, Row, Segments, SlotRow, newly_bound};
 use cb_forms::NoMemory;
+use smallvec::SmallVec;
 
 impl<'a> Search<'a> {
     /// Goes on with what is left of a row, and with the rows of slots that follow: returns the choice that comes next, or keeps
@@ -28,7 +29,7 @@ impl<'a> Search<'a> {
         rest: Rest<'a>,
         rows: &'a [SlotRow],
         cuts: &mut Segments,
-        kept: &mut Vec<Way>,
+        kept: &mut SmallVec<Way, 1>,
     ) -> Result<Option<Choice<'a>>, NoMemory>
         requires rest { IsRest rest }
         requires within { rest.at ≤ length (row_fields fields) }
@@ -62,7 +63,7 @@ impl<'a> Search<'a> {
         self,
         rows: &'a [SlotRow],
         cuts: &mut Segments,
-        kept: &mut Vec<Way>,
+        kept: &mut SmallVec<Way, 1>,
     ) -> Result<Option<Choice<'a>>, NoMemory>
         requires may { may_take_slots (map asked_slot rows.now) self.slots.now ≡ true }
         requires next { AreNext self (length cuts.old) (map asked_slot rows.now) }
@@ -95,7 +96,7 @@ impl<'a> Search<'a> {
     }
 
     /// Keeps the way of segments with these lengths, one for each constraint of the pattern.
-    fn keep(self, cuts: &Segments, kept: &mut Vec<Way>) -> Result<(), NoMemory>
+    fn keep(self, cuts: &Segments, kept: &mut SmallVec<Way, 1>) -> Result<(), NoMemory>
         requires { AreNext self (length cuts.now) [] }
         ensures { OnOk result (map way_of kept.new.items
             ≡ map way_of kept.old.items ++ as_ways self.entry (taken_by self.entry cuts.now ∷ [])) }
@@ -115,7 +116,7 @@ impl<'a> Search<'a> {
         row: &'a Row,
         fields: Fields<'a>,
         cuts: &mut Segments,
-        kept: &mut Vec<Way>,
+        kept: &mut SmallVec<Way, 1>,
     ) -> Result<Option<Choice<'a>>, NoMemory>
         requires may { may_take_row row.now (row_fields fields) ≡ true }
         requires place { IsAt self (row_fields fields) cuts.old 0 row.now }

@@ -13,6 +13,7 @@ use cb_exprs::Env;
 use cb_facts::{Content, Name, Value};
 use cb_forms::NoMemory;
 use cb_functions::Constants;
+use smallvec::SmallVec;
 use std::alloc::Global;
 
 /// What a search looks with.
@@ -38,7 +39,7 @@ impl<'a> Search<'a> {
         first: Option<Choice<'a>>,
         is_one_enough: bool,
         cuts: &mut Segments,
-        kept: &mut Vec<Way>,
+        kept: &mut SmallVec<Way, 1>,
     ) -> Result<(), NoMemory>
         requires { IfSome first (IsOpen self cuts.old) }
         ensures { OnOk result (AreEnough is_one_enough (map way_of kept.new.items)
@@ -56,7 +57,7 @@ impl<'a> Search<'a> {
         first: Choice<'a>,
         is_one_enough: bool,
         cuts: &mut Segments,
-        kept: &mut Vec<Way>,
+        kept: &mut SmallVec<Way, 1>,
     ) -> Result<(), NoMemory>
         requires { IsOpen self cuts.old first }
         ensures { OnOk result (AreEnough is_one_enough (map way_of kept.new.items)
@@ -79,7 +80,7 @@ impl<'a> Search<'a> {
         next: Option<Choice<'a>>,
         choices: &mut OpenChoices<'a>,
         cuts: &mut Segments,
-        kept: &mut Vec<Way>,
+        kept: &mut SmallVec<Way, 1>,
     ) -> Result<(), NoMemory>
         requires choice { IsSomeAnd next (IsOpen self cuts.old) }
         requires open { AreOpen self cuts.old choices.old.items }
