@@ -11,7 +11,7 @@ use Rattle.cb_facts.specs.FactLists.{IndexedFacts}
 use Rattle.cb_joins.proofs.Deltas.{key_Decides}
 use Rattle.cb_joins.proofs.Ends.{last_holds}
 use Rattle.cb_joins.specs.Internal.Memories.{IsFound}
-use Rattle.cb_joins.specs.Internal.Rules.{HaveOwnKeys, HaveOwnNumbers, IsBranch, IsKeeping, IsRule, branch_elements, kept_branches, kept_matches, kept_partials, kept_rule, kept_rules, keys_at, partials_at}
+use Rattle.cb_joins.specs.Internal.Rules.{HaveOwnKeys, HaveOwnNumbers, IsBranch, IsRule, branch_elements, kept_branches, kept_matches, kept_partials, kept_rule, kept_rules, keys_at, partials_at}
 use Rattle.cb_joins.specs.declared.branch.Branch.{Branch}
 use Rattle.cb_joins.specs.declared.rules.Rule.{Rule}
 use Rattle.cb_matches.specs.Keys.{KeyValue, key_eq}
@@ -227,15 +227,15 @@ module _ {T : Type 0} where
         (kept_from k rs (other_rules r rs are) e (subst (λ b. In (k, e) (chosen k r rs b)) t h)))
 
     -- the match with a key is the one that is kept under it
-    pub found_kept : (k : KeyValue) (rules : List (Rule T)) → IsKeeping fs rules
+    pub found_kept : (k : KeyValue) (rules : List (Rule T)) → HaveOwnNumbers (kept_rules rules) → All (IsRule fs) rules
         → lookup (key_eq k) (kept_matches k.rule k.branch rules) ≡ lookup (key_eq k) (all_matches (record { rules = kept_rules rules; facts = fs }))
     unfolding all_matches
-    found_kept k rules keeping =
-        found_alike k (flat_map (rule_matches fs) (kept_rules rules)) (kept_matches k.rule k.branch rules) (kept_once k rules keeping.kept)
-        (kept_to k rules keeping.numbers keeping.kept) (kept_from k rules keeping.kept)
+    found_kept k rules numbers kept =
+        found_alike k (flat_map (rule_matches fs) (kept_rules rules)) (kept_matches k.rule k.branch rules) (kept_once k rules kept)
+        (kept_to k rules numbers kept) (kept_from k rules kept)
 
     -- and so is what variables have by it
-    pub bindings_kept : (k : KeyValue) (rules : List (Rule T)) → IsKeeping fs rules
+    pub bindings_kept : (k : KeyValue) (rules : List (Rule T)) → HaveOwnNumbers (kept_rules rules) → All (IsRule fs) rules
         → option_map_or (λ env. env) (lookup (key_eq k) (kept_matches k.rule k.branch rules)) no_bindings ≡ bindings_of (record { rules = kept_rules rules; facts = fs }) k
     unfolding bindings_of
-    bindings_kept k rules keeping = ap (λ o. option_map_or (λ env. env) o no_bindings) (found_kept k rules keeping)
+    bindings_kept k rules numbers kept = ap (λ o. option_map_or (λ env. env) o no_bindings) (found_kept k rules numbers kept)

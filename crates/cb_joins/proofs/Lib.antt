@@ -1,8 +1,6 @@
 mod AllOrNone
 mod Answered
 mod Around
-mod AskedFound
-mod AskedOrder
 mod AtOnce
 mod Beginnings
 mod Begun
@@ -30,12 +28,15 @@ mod Missed
 mod Moves
 mod Named
 mod Networks
+mod Numbered
 mod OneMore
 mod Ordered
 mod Origins
 mod Patterns
 mod Pieces
 mod Planned
+mod Ranged
+mod Reached
 mod Results
 mod Skipped
 mod Sorting

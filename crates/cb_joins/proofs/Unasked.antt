@@ -1,21 +1,20 @@
 -- A change of a fact that no pattern of a branch takes leaves its matches as they are.
-use Rattle.std.proofs.Common.{◌≡◌, ◌∙◌, ◌+◌, ◌<◌, ◌++◌, ◌||◌, ℕ, zero, suc, Bool, true, false, List, [], ◌∷◌, Option, None, ap, ap₂, arith, cond, filter, flat_map, get_or, inl, inr, length, map, not, refl, subst, sym, if◌then◌else◌}
+use Rattle.std.proofs.Common.{◌≡◌, ◌∙◌, ◌+◌, ◌<◌, ◌++◌, ℕ, Bool, true, false, List, [], ◌∷◌, Option, None, ap, ap₂, arith, cond, filter, flat_map, get_or, inl, inr, length, map, not, refl, subst, sym}
 use Rattle.std.proofs.lemmas.List.{append-nil, get_or-map, length-map}
 use Rattle.std.specs.List.{All}
 use Rattle.std.specs.BTreeSet.{BTreeSet}
 use Rattle.std.specs.Prelude.{slice_index_or}
-use Rattle.std.specs.Str.{bytes_eq}
 use Rattle.cb_constraints.specs.PatternValues.{PatternValue}
 use Rattle.cb_exprs.specs.Bindings.{no_bindings}
 use Rattle.cb_facts.specs.FactLists.{IndexedFacts}
 use Rattle.cb_fit.specs.Shapes.{has_way, loose}
-use Rattle.cb_fit.specs.Ways.{WayValue, way_with, ways, ways_of_parts}
+use Rattle.cb_fit.specs.Ways.{WayValue, ways}
 use Rattle.cb_joins.proofs.Deltas.{in_any, key_Decides, same_test}
 use Rattle.cb_joins.proofs.Facts.{flat_with, flat_without}
 use Rattle.cb_joins.proofs.Ends.{end_is}
 use Rattle.cb_joins.proofs.Networks.{branch_keys_more}
 use Rattle.cb_joins.proofs.OneMore.{first_of, others_of}
-use Rattle.cb_joins.specs.Internal.Asked.{NoneTakes, ask_for, asks_for, takes}
+use Rattle.cb_joins.specs.Internal.Asked.{NoneTakes, takes}
 use Rattle.cb_joins.specs.Internal.Changes.{Holds, IsMade, fact_changed, facts_before}
 use Rattle.cb_joins.specs.Internal.Flat.{FlatNode, Lists, all_hold, alone, flat_node, flat_nodes, grouping, holds_alone, joining, lists_from, node_list, testing}
 use Rattle.cb_joins.specs.Internal.Keys.{Tells, branch_keys, key_of, keys_in_branch}
@@ -34,30 +33,6 @@ use Rattle.cb_matches.specs.Order.{WaysRise}
 use Rattle.cb_matches.specs.Matches.{Partial, extended, group_holds, grown, matches_of, next, no_parts, with_address}
 use Rattle.cb_matches.specs.declared.delta.Delta.{Delta}
 use Rattle.cb_partials.specs.Probes.{is_candidate}
-
-first_false : (a b : Bool) → (a || b) ≡ false → a ≡ false
-first_false false b h = refl
-first_false true b h = cc
-
-second_false : (a b : Bool) → (a || b) ≡ false → b ≡ false
-second_false false b h = h
-second_false true b h = cc
-
--- a fact of another relation hasn't the shape
-pub no_shape : (p : PatternValue) (f : Fact) → bytes_eq p.relation f.1.relation ≡ false → is_candidate p f ≡ false
-no_shape p f other = ap (λ b. has_way (if b then map (way_with (loose p).parts no_bindings) (ways_of_parts (loose p).parts f.1.content no_bindings) else [])) other
-
--- so no pattern takes a fact where none is for its relation
-pub none_for_relation : (f : Fact) (ns : List FlatNode) → ask_for f.1.relation ns ≡ false → NoneTakes f ns
-none_for_relation f [] other k d h = absurd (omega (arith, h))
-none_for_relation f (n ∷ ns) other zero d h = not_for n (first_false (asks_for f.1.relation n) (ask_for f.1.relation ns) other)
-  where
-    not_for : (m : FlatNode) → asks_for f.1.relation m ≡ false → takes f m ≡ false
-    not_for (joining from x p ts) apart = no_shape p f apart
-    not_for (testing from t) apart = refl
-    not_for (grouping from inner positive width) apart = refl
-    not_for (alone from p positive) apart = no_shape p f apart
-none_for_relation f (n ∷ ns) other (suc k) d h = none_for_relation f ns (second_false (asks_for f.1.relation n) (ask_for f.1.relation ns) other) k d (omega (arith, h))
 
 -- a pattern whose shape a fact hasn't has no way
 no_ways : (ws : List WayValue) → has_way ws ≡ false → ws ≡ []

@@ -1,39 +1,34 @@
 //! What the nodes of rules ask for.
-ghost use Rattle.std.specs.Prelude.{◌≡◌, ◌≢◌, All, OnOk, nat_eq, not};
+ghost use Rattle.std.specs.Prelude.{◌≡◌, ◌<◌, ℕ, All, OnOk, false, nat_eq, not};
 ghost use Rattle.std.specs.List.{filter};
-ghost use Rattle.cb_joins.specs.Internal.Asked.{AreEntered, AreNodesEntered, IsNodeEntered, IsRuleEntered, KeepsEntered, LosesOnly, ask_for, asks_for};
+ghost use Rattle.std.specs.List.Sorted.{IsStrictlySortedBy};
+ghost use Rattle.cb_asked.specs.Asked.{KeepsEntered};
+ghost use Rattle.cb_asked.specs.Places.{place_cmp};
+ghost use Rattle.cb_joins.specs.Internal.Asked.{AreBranchNodesEntered, AreEntered, AreNodesEntered, IsNodeEntered, IsRuleEntered, LosesRule, node_at};
 ghost use Rattle.cb_joins.specs.Internal.Flat.{flat_node, flat_nodes};
 ghost use Rattle.cb_joins.specs.Internal.Rules.{CanBeFilled, kept_rule};
+ghost use Rattle.cb_matches.specs.Chains.{In};
 ghost use Rattle.cb_matches.specs.Networks.{Conditions};
 
-use crate::asked::{Asked, asked_by};
 use crate::branch::Branch;
 use crate::node::Node;
 use crate::rules::Rule;
+use cb_asked::{Asked, NodePlace, is_found};
 use cb_forms::NoMemory;
 use std::alloc::Global;
+use std::collections::BTreeMap;
 
-/// Whether a pattern of these nodes is for facts of this relation.
-pub(crate) fn nodes_ask_for<T>(nodes: &[Node<T>], relation: &[u8]) -> bool
-    ensures { result ≡ ask_for relation.now (flat_nodes nodes.now) }
+/// Whether one of the first nodes of a branch, of which there are so many, is among those that are found.
+pub(crate) fn is_branch_found(found: &[NodePlace], rule: u64, branch: u64, count: usize) -> bool
+    requires { IsStrictlySortedBy place_cmp found.now }
+    ensures { result ≡ false → (k : ℕ) → k < count → In (node_at rule branch k) found.now → ⊥ }
 {
-    for node in nodes {
-        if node_asks_for(node, relation) {
+    for node in 0..count {
+        if is_found(found, NodePlace { rule, branch, node }) {
             return true;
         }
     }
     false
-}
-
-/// Whether this node is a pattern for them.
-fn node_asks_for<T>(node: &Node<T>, relation: &[u8]) -> bool
-    ensures { result ≡ asks_for relation.now (flat_node node.now) }
-{
-    match node {
-        Node::Pattern { place, .. } => place.pattern.relation().as_slice() == relation,
-        Node::Alone { lone, .. } => lone.pattern.relation().as_slice() == relation,
-        Node::Test { .. } | Node::Group { .. } => false,
-    }
 }
 
 /// Enters what the patterns of a rule ask for.
@@ -56,27 +51,37 @@ fn enter_branches<T>(
     rule: u64,
     branches: &[Branch<T>],
 ) -> Result<(), NoMemory>
-    ensures entered { OnOk result (All (λ b. AreNodesEntered asked.new rule (flat_nodes b.nodes.items)) branches.now) }
+    ensures entered { OnOk result (AreBranchNodesEntered asked.new rule branches.now) }
     ensures stay { OnOk result (KeepsEntered asked.old asked.new) }
 {
+    let mut number = 0;
     for branch in branches {
-        enter_nodes(alloc, asked, rule, branch.nodes.as_slice())?;
+        enter_nodes(alloc, asked, rule, number, branch.nodes.as_slice())?;
+        number += 1;
     }
     Ok(())
 }
 
-/// The same of nodes.
+/// The same of the nodes of the branch at this place.
 fn enter_nodes<T>(
     alloc: Global,
     asked: &mut Asked,
     rule: u64,
+    branch: u64,
     nodes: &[Node<T>],
 ) -> Result<(), NoMemory>
-    ensures entered { OnOk result (AreNodesEntered asked.new rule (flat_nodes nodes.now)) }
+    ensures entered { OnOk result (AreNodesEntered asked.new rule branch (flat_nodes nodes.now)) }
     ensures stay { OnOk result (KeepsEntered asked.old asked.new) }
 {
+    let mut number = 0;
     for node in nodes {
-        enter_node(alloc, asked, rule, node)?;
+        let place = NodePlace {
+            rule,
+            branch,
+            node: number,
+        };
+        enter_node(alloc, asked, place, node)?;
+        number += 1;
     }
     Ok(())
 }
@@ -85,15 +90,15 @@ fn enter_nodes<T>(
 fn enter_node<T>(
     alloc: Global,
     asked: &mut Asked,
-    rule: u64,
+    place: NodePlace,
     node: &Node<T>,
 ) -> Result<(), NoMemory>
-    ensures entered { OnOk result (IsNodeEntered asked.new rule (flat_node node.now)) }
+    ensures entered { OnOk result (IsNodeEntered asked.new place (flat_node node.now)) }
     ensures stay { OnOk result (KeepsEntered asked.old asked.new) }
 {
     match node {
-        Node::Pattern { place, .. } => asked.add(asked_by(alloc, &place.pattern, rule)?),
-        Node::Alone { lone, .. } => asked.add(asked_by(alloc, &lone.pattern, rule)?),
+        Node::Pattern { place: at, .. } => asked.add(alloc, &at.pattern, place),
+        Node::Alone { lone, .. } => asked.add(alloc, &lone.pattern, place),
         Node::Test { .. } | Node::Group { .. } => Ok(()),
     }
 }
@@ -102,18 +107,16 @@ fn enter_node<T>(
 pub(crate) fn leave_rule<T>(
     alloc: Global,
     asked: &mut Asked,
-    rules: &[Rule<T>],
+    rules: &BTreeMap<u64, Rule<T>>,
     id: u64,
 ) -> Result<(), NoMemory>
     ensures { OnOk result ((rules : Conditions) → AreEntered asked.old rules
         → AreEntered asked.new (filter (λ r. not (nat_eq id r.0)) rules)) }
 {
-    for rule in rules {
-        if id == rule.id {
-            return leave_branches(alloc, asked, id, rule.branches.as_slice());
-        }
+    match rules.get(&id) {
+        Some(rule) => leave_branches(alloc, asked, id, rule.branches.as_slice()),
+        None => Ok(()),
     }
-    Ok(())
 }
 
 /// Takes out what the branches of the rule with this number ask for.
@@ -123,25 +126,35 @@ fn leave_branches<T>(
     rule: u64,
     branches: &[Branch<T>],
 ) -> Result<(), NoMemory>
-    ensures { OnOk result (LosesOnly rule asked.old asked.new) }
+    ensures { OnOk result (LosesRule rule asked.old asked.new) }
 {
+    let mut number = 0;
     for branch in branches {
-        leave_nodes(alloc, asked, rule, branch.nodes.as_slice())?;
+        leave_nodes(alloc, asked, rule, number, branch.nodes.as_slice())?;
+        number += 1;
     }
     Ok(())
 }
 
-/// The same of nodes.
+/// The same of the nodes of the branch at this place.
 fn leave_nodes<T>(
     alloc: Global,
     asked: &mut Asked,
     rule: u64,
+    branch: u64,
     nodes: &[Node<T>],
 ) -> Result<(), NoMemory>
-    ensures { OnOk result (LosesOnly rule asked.old asked.new) }
+    ensures { OnOk result (LosesRule rule asked.old asked.new) }
 {
+    let mut number = 0;
     for node in nodes {
-        leave_node(alloc, asked, rule, node)?;
+        let place = NodePlace {
+            rule,
+            branch,
+            node: number,
+        };
+        leave_node(alloc, asked, place, node)?;
+        number += 1;
     }
     Ok(())
 }
@@ -150,14 +163,14 @@ fn leave_nodes<T>(
 fn leave_node<T>(
     alloc: Global,
     asked: &mut Asked,
-    rule: u64,
+    place: NodePlace,
     node: &Node<T>,
 ) -> Result<(), NoMemory>
-    ensures { OnOk result (LosesOnly rule asked.old asked.new) }
+    ensures { OnOk result (LosesRule place.rule asked.old asked.new) }
 {
     match node {
-        Node::Pattern { place, .. } => asked.remove(&asked_by(alloc, &place.pattern, rule)?),
-        Node::Alone { lone, .. } => asked.remove(&asked_by(alloc, &lone.pattern, rule)?),
+        Node::Pattern { place: at, .. } => asked.remove(alloc, &at.pattern, place),
+        Node::Alone { lone, .. } => asked.remove(alloc, &lone.pattern, place),
         Node::Test { .. } | Node::Group { .. } => Ok(()),
     }
 }

@@ -1,19 +1,24 @@
 //! A branch, and what a change does to it.
 ghost use Rattle.std.specs.Prelude.{◌≡◌, ◌≤◌, ◌+◌, ◌++◌, All, IfOk, OnOk, map};
+ghost use Rattle.std.specs.List.Sorted.{IsStrictlySortedBy};
+ghost use Rattle.cb_asked.specs.Places.{place_cmp};
 ghost use Rattle.cb_facts.specs.FactLists.{IsFactBase};
-ghost use Rattle.cb_joins.specs.Internal.Changes.{IsMade, fact_added, facts_before};
+ghost use Rattle.cb_joins.specs.Internal.Asked.{AreNodesFound};
+ghost use Rattle.cb_joins.specs.Internal.Flat.{branch_nodes};
+ghost use Rattle.cb_joins.specs.Internal.Changes.{IsMade, fact_added, fact_changed, facts_before};
 ghost use Rattle.cb_joins.specs.Internal.Keys.{Tells, keys_in_branch};
 ghost use Rattle.cb_joins.specs.Internal.Rules.{CanBeFilled, IsBranch, branch_elements, kept_branches};
 ghost use Rattle.cb_partials.specs.Probes.{branch_probes};
 ghost use Rattle.cb_rules.specs.Elements.{branches_of, element_of, elements};
 
-use crate::asking::nodes_ask_for;
+use crate::asking::is_branch_found;
 use crate::fact_change::FactChange;
 use crate::filling::fill_nodes;
 use crate::node::Node;
 use crate::nodes::change_nodes;
 use crate::planning::plan_nodes;
 use crate::telling::{tell_list, tell_moved};
+use cb_asked::NodePlace;
 use cb_fit::Meter;
 use cb_fit::laws::{no_shape_gives_no_ways, the_ways_rise_by_their_cuts};
 use cb_forms::{History, NoMemory};
@@ -83,18 +88,22 @@ fn history_of<T>(branch: &[Ce<T>]) -> History<Ce<T>>
 }
 
 /// Changes the facts of a branch. The keys of the matches that go and come stand behind those that are told of before, in their
-/// order. The facts are those after the change. Where no pattern is for the fact, all stays as it is.
+/// order. The facts are those after the change. Each node that is for the fact is among those that are found; where none is of this
+/// branch, all stays as it is.
 pub(crate) fn change_branch<T>(
     setting: &Setting<'_>,
     rule: u64,
     number: u64,
     branch: &mut Branch<T>,
+    found: &[NodePlace],
     change: &FactChange,
     delta: &mut Delta,
     meter: &mut Meter<T>,
 ) -> Result<(), NoMemory>
     requires base { IsFactBase setting.now.facts.now }
     requires made { IsMade change.now setting.now.facts.now }
+    requires ordered { IsStrictlySortedBy place_cmp found.now }
+    requires found { AreNodesFound (fact_changed change.now) found.now rule number (branch_nodes (branch_elements branch.old)) }
     requires branch { IsBranch (facts_before change.now setting.now.facts.now) branch.old }
     ensures elements { OnOk result (branch_elements branch.new ≡ branch_elements branch.old) }
     ensures branch { OnOk result (IsBranch setting.now.facts.now branch.new) }
@@ -108,7 +117,7 @@ pub(crate) fn change_branch<T>(
 {
     no_shape_gives_no_ways();
     the_ways_rise_by_their_cuts();
-    if !nodes_ask_for(branch.nodes.as_slice(), change.fact().relation()) {
+    if !is_branch_found(found, rule, number, branch.nodes.len()) {
         return Ok(());
     }
     let mut all = change_nodes(

@@ -1,63 +1,57 @@
 //! What each call of the matcher does to its rules and facts.
 ghost use Rattle.std.specs.Prelude.{◌≡◌, ◌≤◌, ◌+◌, ◌++◌, ◌∷◌, [], All, None, Some, IfOk, IsSome, OnOk, nat_eq, not};
+ghost use Rattle.std.specs.BTreeMap.{values};
 ghost use Rattle.std.specs.List.{filter};
 ghost use Rattle.cb_facts.specs.FactLists.{IsAbsent, IsFactBase, fact_at, with_fact, without_fact};
 ghost use Rattle.cb_joins.specs.Internal.Asked.{AreEntered};
 ghost use Rattle.cb_joins.specs.Internal.Changes.{IsMade, fact_added, facts_before};
 ghost use Rattle.cb_joins.specs.Internal.Keys.{rule_keys};
-ghost use Rattle.cb_joins.specs.Internal.Rules.{CanBeFilled, HaveOwnNumbers, IsKeeping, kept_rule, kept_rules};
+ghost use Rattle.cb_joins.specs.Internal.Rules.{AreNamed, CanBeFilled, HaveOwnNumbers, IsKeeping, kept_rule, kept_rules};
 ghost use Rattle.cb_matches.specs.Changes.{IsAbove, IsDelta};
 ghost use Rattle.cb_partials.specs.Probes.{rules_probes};
 
-use crate::asked::Asked;
 use crate::fact_change::FactChange;
 use crate::indexed::Indexed;
 use crate::rules::{Rule, change_rules, drop_numbered, fill_rule, fill_rules};
+use cb_asked::{Asked, NodePlace};
 use cb_facts::FactList;
 use cb_fit::Meter;
-use cb_fit::laws::a_fact_with_the_shape_has_the_constants;
 use cb_forms::NoMemory;
 use cb_functions::Constants;
 use cb_matches::{Delta, Key};
 use cb_partials::{Setting, made};
 use std::alloc::Global;
+use std::collections::BTreeMap;
 
 /// Adds a fact.
 pub(crate) fn assert_fact<T>(
     alloc: Global,
     constants: &mut Option<Constants>,
     asked: &Asked,
-    rules: &mut Vec<Rule<T>>,
+    found: &mut Vec<NodePlace>,
+    rules: &mut BTreeMap<u64, Rule<T>>,
     facts: &mut FactList,
     one: Indexed,
     meter: &mut Meter<T>,
 ) -> Result<Delta, NoMemory>
-    requires keeping { IsKeeping facts.old rules.old.items }
-    requires asked { AreEntered asked.now (kept_rules rules.old.items) }
+    requires keeping { IsKeeping facts.old rules.old }
+    requires asked { AreEntered asked.now (kept_rules (values rules.old)) }
     requires free { fact_at facts.old one.0 ≡ None }
     requires absent { IsAbsent facts.old one.1 }
     ensures facts { OnOk result (facts.new ≡ with_fact facts.old one.0 one.1) }
-    ensures rules { OnOk result (kept_rules rules.new.items ≡ kept_rules rules.old.items) }
-    ensures keeping { OnOk result (IsKeeping (with_fact facts.old one.0 one.1) rules.new.items) }
+    ensures rules { OnOk result (kept_rules (values rules.new) ≡ kept_rules (values rules.old)) }
+    ensures keeping { OnOk result (IsKeeping (with_fact facts.old one.0 one.1) rules.new) }
     ensures delta { IfOk result (IsDelta
-        (record { rules = kept_rules rules.old.items; facts = facts.old })
-        (record { rules = kept_rules rules.old.items; facts = with_fact facts.old one.0 one.1 })) }
+        (record { rules = kept_rules (values rules.old); facts = facts.old })
+        (record { rules = kept_rules (values rules.old); facts = with_fact facts.old one.0 one.1 })) }
     ensures probes { OnOk result
         (meter.new ≤ meter.old + rules_probes (Some one.1) facts.old
-        (with_fact facts.old one.0 one.1) (kept_rules rules.old.items)) }
+        (with_fact facts.old one.0 one.1) (kept_rules (values rules.old))) }
 {
     let _count = facts.len();
     add_fact(facts, &one)?;
     let change = FactChange::Assert(one);
-    change_facts(
-        alloc,
-        constants,
-        asked,
-        rules.as_mut_slice(),
-        facts,
-        &change,
-        meter,
-    )
+    change_facts(alloc, constants, asked, found, rules, facts, &change, meter)
 }
 
 /// Adds a fact to the facts.
@@ -76,36 +70,29 @@ pub(crate) fn retract_fact<T>(
     alloc: Global,
     constants: &mut Option<Constants>,
     asked: &Asked,
-    rules: &mut Vec<Rule<T>>,
+    found: &mut Vec<NodePlace>,
+    rules: &mut BTreeMap<u64, Rule<T>>,
     facts: &mut FactList,
     ix: u64,
     meter: &mut Meter<T>,
 ) -> Result<Delta, NoMemory>
-    requires keeping { IsKeeping facts.old rules.old.items }
-    requires asked { AreEntered asked.now (kept_rules rules.old.items) }
+    requires keeping { IsKeeping facts.old rules.old }
+    requires asked { AreEntered asked.now (kept_rules (values rules.old)) }
     requires there { IsSome (fact_at facts.old ix) }
     ensures facts { OnOk result (facts.new ≡ without_fact facts.old ix) }
-    ensures rules { OnOk result (kept_rules rules.new.items ≡ kept_rules rules.old.items) }
-    ensures keeping { OnOk result (IsKeeping (without_fact facts.old ix) rules.new.items) }
+    ensures rules { OnOk result (kept_rules (values rules.new) ≡ kept_rules (values rules.old)) }
+    ensures keeping { OnOk result (IsKeeping (without_fact facts.old ix) rules.new) }
     ensures delta { IfOk result (IsDelta
-        (record { rules = kept_rules rules.old.items; facts = facts.old })
-        (record { rules = kept_rules rules.old.items; facts = without_fact facts.old ix })) }
+        (record { rules = kept_rules (values rules.old); facts = facts.old })
+        (record { rules = kept_rules (values rules.old); facts = without_fact facts.old ix })) }
     ensures probes { OnOk result
         (meter.new ≤ meter.old + rules_probes None facts.old
-        (without_fact facts.old ix) (kept_rules rules.old.items)) }
+        (without_fact facts.old ix) (kept_rules (values rules.old))) }
 {
     let _count = facts.len();
     let one = take_fact(facts, ix)?;
     let change = FactChange::Retract(one);
-    change_facts(
-        alloc,
-        constants,
-        asked,
-        rules.as_mut_slice(),
-        facts,
-        &change,
-        meter,
-    )
+    change_facts(alloc, constants, asked, found, rules, facts, &change, meter)
 }
 
 /// Takes the fact with this index out of the facts.
@@ -130,7 +117,8 @@ fn change_facts<T>(
     alloc: Global,
     constants: &mut Option<Constants>,
     asked: &Asked,
-    rules: &mut [Rule<T>],
+    found: &mut Vec<NodePlace>,
+    rules: &mut BTreeMap<u64, Rule<T>>,
     facts: &FactList,
     change: &FactChange,
     meter: &mut Meter<T>,
@@ -138,25 +126,24 @@ fn change_facts<T>(
     requires base { IsFactBase facts.now }
     requires made { IsMade change.now facts.now }
     requires keeping { IsKeeping (facts_before change.now facts.now) rules.old }
-    requires asked { AreEntered asked.now (kept_rules rules.old) }
-    ensures rules { OnOk result (kept_rules rules.new ≡ kept_rules rules.old) }
+    requires asked { AreEntered asked.now (kept_rules (values rules.old)) }
+    ensures rules { OnOk result (kept_rules (values rules.new) ≡ kept_rules (values rules.old)) }
     ensures keeping { OnOk result (IsKeeping facts.now rules.new) }
     ensures delta { IfOk result (IsDelta
-        (record { rules = kept_rules rules.old; facts = facts_before change.now facts.now })
-        (record { rules = kept_rules rules.old; facts = facts.now })) }
+        (record { rules = kept_rules (values rules.old); facts = facts_before change.now facts.now })
+        (record { rules = kept_rules (values rules.old); facts = facts.now })) }
     ensures probes { OnOk result
         (meter.new ≤ meter.old + rules_probes (fact_added change.now)
-        (facts_before change.now facts.now) facts.now (kept_rules rules.old)) }
+        (facts_before change.now facts.now) facts.now (kept_rules (values rules.old))) }
 {
-    a_fact_with_the_shape_has_the_constants();
     let setting = Setting {
         alloc,
         constants: made(alloc, constants)?,
         facts,
     };
-    let found = asked.rules_for(alloc, change.fact())?;
+    asked.places_for(alloc, change.fact(), found)?;
     let mut delta = no_delta(alloc);
-    change_rules(&setting, rules, &found, change, &mut delta, meter)?;
+    change_rules(&setting, rules, found.as_slice(), change, &mut delta, meter)?;
     Ok(delta)
 }
 
@@ -175,21 +162,21 @@ fn no_delta(alloc: Global) -> Delta
 pub(crate) fn add_planned<T>(
     alloc: Global,
     constants: &mut Option<Constants>,
-    rules: &mut Vec<Rule<T>>,
+    rules: &mut BTreeMap<u64, Rule<T>>,
     facts: &FactList,
     mut rule: Rule<T>,
     meter: &mut Meter<T>,
 ) -> Result<Delta, NoMemory>
-    requires keeping { IsKeeping facts.now rules.old.items }
-    requires above { IsAbove rule.id (kept_rules rules.old.items) }
+    requires keeping { IsKeeping facts.now rules.old }
+    requires above { IsAbove rule.id (kept_rules (values rules.old)) }
     requires plans { All CanBeFilled rule.branches.items }
-    ensures rules { OnOk result (kept_rules rules.new.items
-        ≡ kept_rules rules.old.items ++ kept_rule rule ∷ []) }
-    ensures keeping { OnOk result (IsKeeping facts.now rules.new.items) }
+    ensures rules { OnOk result (kept_rules (values rules.new)
+        ≡ kept_rules (values rules.old) ++ kept_rule rule ∷ []) }
+    ensures keeping { OnOk result (IsKeeping facts.now rules.new) }
     ensures delta { IfOk result (IsDelta
-        (record { rules = kept_rules rules.old.items; facts = facts.now })
+        (record { rules = kept_rules (values rules.old); facts = facts.now })
         (record {
-          rules = kept_rules rules.old.items ++ kept_rule rule ∷ [];
+          rules = kept_rules (values rules.old) ++ kept_rule rule ∷ [];
           facts = facts.now;
         })) }
 {
@@ -200,7 +187,7 @@ pub(crate) fn add_planned<T>(
     };
     let mut delta = no_delta(alloc);
     fill_rule(&setting, &mut rule, &mut delta.come, meter)?;
-    rules.push(rule)?;
+    rules.insert(rule.id, rule)?;
     Ok(delta)
 }
 
@@ -208,19 +195,19 @@ pub(crate) fn add_planned<T>(
 pub(crate) fn drop_rule<T>(
     alloc: Global,
     constants: &mut Option<Constants>,
-    rules: &mut Vec<Rule<T>>,
+    rules: &mut BTreeMap<u64, Rule<T>>,
     facts: &FactList,
     id: u64,
 ) -> Result<Delta, NoMemory>
-    requires keeping { IsKeeping facts.now rules.old.items }
-    ensures rules { OnOk result (kept_rules rules.new.items
-        ≡ filter (λ r. not (nat_eq id r.0)) (kept_rules rules.old.items)) }
-    ensures keeping { OnOk result (IsKeeping facts.now rules.new.items) }
+    requires keeping { IsKeeping facts.now rules.old }
+    ensures rules { OnOk result (kept_rules (values rules.new)
+        ≡ filter (λ r. not (nat_eq id r.0)) (kept_rules (values rules.old))) }
+    ensures keeping { OnOk result (IsKeeping facts.now rules.new) }
     ensures delta { IfOk result (IsDelta
-        (record { rules = kept_rules rules.old.items; facts = facts.now })
+        (record { rules = kept_rules (values rules.old); facts = facts.now })
         (record {
           rules = filter (λ r. not (nat_eq id r.0))
-              (kept_rules rules.old.items);
+              (kept_rules (values rules.old));
           facts = facts.now;
         })) }
 {
@@ -239,15 +226,16 @@ pub(crate) fn drop_rule<T>(
 pub(crate) fn fill_anew<T>(
     alloc: Global,
     constants: &mut Option<Constants>,
-    rules: &mut [Rule<T>],
+    rules: &mut BTreeMap<u64, Rule<T>>,
     facts: &FactList,
     meter: &mut Meter<T>,
 ) -> Result<Vec<Key>, NoMemory>
-    requires numbers { HaveOwnNumbers (kept_rules rules.old) }
-    requires plans { All (λ r. All CanBeFilled r.branches.items) rules.old }
-    ensures rules { OnOk result (kept_rules rules.new ≡ kept_rules rules.old) }
+    requires named { AreNamed rules.old.entries }
+    requires numbers { HaveOwnNumbers (kept_rules (values rules.old)) }
+    requires plans { All (λ r. All CanBeFilled r.branches.items) (values rules.old) }
+    ensures rules { OnOk result (kept_rules (values rules.new) ≡ kept_rules (values rules.old)) }
     ensures keeping { OnOk result (IsKeeping facts.now rules.new) }
-    ensures keys { IfOk result (λ keys. keys.items ≡ rule_keys (kept_rules rules.old) facts.now) }
+    ensures keys { IfOk result (λ keys. keys.items ≡ rule_keys (kept_rules (values rules.old)) facts.now) }
 {
     let setting = Setting {
         alloc,

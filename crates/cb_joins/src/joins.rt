@@ -8,12 +8,12 @@ ghost use Rattle.cb_matches.specs.Networks.{bindings_of, with_one, with_rule, wi
 ghost use Rattle.cb_partials.specs.Probes.{rules_probes};
 ghost use Rattle.cb_rules.specs.Elements.{branches_of};
 
-use crate::asked::Asked;
 use crate::asking::{enter_rule, leave_rule};
 use crate::changes::{add_planned, assert_fact, drop_rule, fill_anew, retract_fact};
 use crate::finding::find_env;
 use crate::indexed::Indexed;
 use crate::rules::{Rule, plan_rule};
+use cb_asked::{Asked, NodePlace};
 use cb_exprs::Env;
 use cb_facts::{Fact, FactList};
 use cb_fit::Meter;
@@ -23,6 +23,7 @@ use cb_functions::Constants;
 use cb_matches::{Delta, Key, Matcher};
 use cb_rules::Ce;
 use std::alloc::Global;
+use std::collections::BTreeMap;
 use std::marker::Model;
 
 /// A matcher that keeps partial matches, and goes on from what changed alone.
@@ -31,15 +32,19 @@ pub struct Joins<T> {
     alloc: Global,
     /// The symbols that functions return, made when the first is wanted.
     constants: Option<Constants>,
-    rules: Vec<Rule<T>>,
+    /// Each under its number.
+    rules: BTreeMap<u64, Rule<T>>,
     /// What the rules ask for.
     asked: Asked,
+    /// The places of the patterns that the last change was for, kept for its memory.
+    found: Vec<NodePlace>,
     facts: FactList,
     failed: bool,
 }
 
 impl<T> Model for Joins<T> {
     ghost use Rattle.std.specs.Prelude.{◌≡◌, false};
+    ghost use Rattle.std.specs.BTreeMap.{values};
     ghost use Rattle.std.specs.Coded.{codes};
     ghost use Rattle.cb_joins.specs.Internal.Asked.{AreEntered};
     ghost use Rattle.cb_joins.specs.Internal.Rules.{IsKeeping, kept_rules};
@@ -50,10 +55,10 @@ impl<T> Model for Joins<T> {
 
     ghost coded = { matcher_code (Prim.hlevel codes) (Prim.hlevel codes) (Prim.hlevel codes) (Prim.hlevel codes) };
 
-    ghost view = { λ m. record { network = record { rules = kept_rules m.rules.items; facts = m.facts }; is_failed = m.failed } };
+    ghost view = { λ m. record { network = record { rules = kept_rules (values m.rules); facts = m.facts }; is_failed = m.failed } };
 
     ghost invariant = { λ m. m.failed ≡ false
-        → IsKeeping m.facts m.rules.items × AreEntered m.asked (kept_rules m.rules.items) };
+        → IsKeeping m.facts m.rules × AreEntered m.asked (kept_rules (values m.rules)) };
 }
 
 impl<T> Joins<T> {
@@ -64,8 +69,9 @@ impl<T> Joins<T> {
         Joins {
             alloc,
             constants: None,
-            rules: Vec::new(alloc),
+            rules: BTreeMap::new(alloc),
             asked: Asked::new(alloc),
+            found: Vec::new(alloc),
             facts: FactList::new(alloc),
             failed: false,
         }
@@ -114,7 +120,7 @@ impl<T> Matcher<T> for Joins<T> {
             return Err(NoMemory);
         }
         self.failed = true;
-        leave_rule(self.alloc, &mut self.asked, self.rules.as_slice(), id)?;
+        leave_rule(self.alloc, &mut self.asked, &self.rules, id)?;
         let delta = drop_rule(
             self.alloc,
             &mut self.constants,
@@ -146,6 +152,7 @@ impl<T> Matcher<T> for Joins<T> {
             self.alloc,
             &mut self.constants,
             &self.asked,
+            &mut self.found,
             &mut self.rules,
             &mut self.facts,
             Indexed { ix, fact },
@@ -174,6 +181,7 @@ impl<T> Matcher<T> for Joins<T> {
             self.alloc,
             &mut self.constants,
             &self.asked,
+            &mut self.found,
             &mut self.rules,
             &mut self.facts,
             ix,
@@ -193,7 +201,7 @@ impl<T> Matcher<T> for Joins<T> {
         let come = fill_anew(
             self.alloc,
             &mut self.constants,
-            self.rules.as_mut_slice(),
+            &mut self.rules,
             &self.facts,
             meter,
         )?;
@@ -207,7 +215,7 @@ impl<T> Matcher<T> for Joins<T> {
     fn bindings(&self, key: &Key) -> Result<Env, NoMemory> {
         the_ways_rise_by_their_cuts();
         let _facts = self.facts.len();
-        find_env(self.alloc, self.rules.as_slice(), key)
+        find_env(self.alloc, &self.rules, key)
     }
 
     fn facts(&self) -> &FactList {

@@ -12,14 +12,14 @@
 //! a pattern is tested for what came before it alone, as where a negated group holds again. A group holds for a partial match by
 //! whether one of those at the end of the group goes on from it, so that it is looked at again for those alone that something went
 //! on from, or did before. A group of one pattern without variables and expressions holds for all partial matches or for none, so that
-//! it is one node and joins nothing (`alone.rt`). A branch of which no pattern is for the changed fact stays as it is.
+//! it is one node and joins nothing (`alone.rt`). The patterns that a fact could fit are looked up by their constants (`cb_asked`); a
+//! branch that has none of them stays as it is.
 //!
 //! `docs/ARCHITECTURE.md` says where it belongs.
 #![tactic(auto)]
 
 mod alone; // a group of one pattern that stands alone, and what a change does behind it
-mod asked; // the rules that ask for a fact, looked up
-mod asking; // which facts the nodes of a branch ask for
+mod asking; // what the nodes of rules ask for
 mod branch; // a branch, and what a change does to it
 mod changes; // what each call of the matcher does to its rules and facts
 mod fact_change; // a change of the facts

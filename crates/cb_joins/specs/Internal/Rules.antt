@@ -1,5 +1,6 @@
 -- What is kept for branches and rules.
 use Rattle.std.specs.Prelude.{◌≡◌, ◌≢◌, ℕ, List, [], ◌∷◌, Option, Some, None, All, if◌then◌else◌, map, nat_eq, slice_get}
+use Rattle.std.specs.BTreeMap.{BTreeMap, values}
 use Rattle.std.specs.BTreeSet.{BTreeSet}
 use Rattle.cb_exprs.specs.Bindings.{Bindings}
 use Rattle.cb_facts.specs.FactLists.{IndexedFacts}
@@ -74,10 +75,15 @@ module _ {T : Type 0} where
   abbrev pub IsRule : IndexedFacts → Rule T → Type 0
   IsRule fs r = All (IsBranch fs) r.branches.items
 
+  -- each rule stands under its number
+  abbrev pub AreNamed : List (ℕ × Rule T) → Type 0
+  AreNamed rules = (e : ℕ × Rule T) → In e rules → e.0 ≡ e.1.id
+
   -- what a matcher keeps of its rules, over these facts
-  pub record IsKeeping (fs : IndexedFacts) (rules : List (Rule T)) : Type 0 where
-    pub numbers : HaveOwnNumbers (kept_rules rules)
-    pub kept : All (IsRule fs) rules
+  pub record IsKeeping (fs : IndexedFacts) (rules : BTreeMap ℕ (Rule T)) : Type 0 where
+    pub named : AreNamed rules.entries
+    pub numbers : HaveOwnNumbers (kept_rules (values rules))
+    pub kept : All (IsRule fs) (values rules)
 
   -- those at the end of the branch at this place, and of that of the rule with this number
   abbrev pub partials_at : Option (Branch T) → List Partial

@@ -1,7 +1,7 @@
-use Rattle.std.proofs.Common.{ℕ, ◌<◌, arith, get_or, length}
-use Rattle.cb_joins.proofs.Concerned.{all_mapped, entered_still, one_more}
+use Rattle.std.proofs.Common.{◌≡◌, ℕ, ◌<◌, arith, get_or, length, subst}
+use Rattle.cb_joins.proofs.Concerned.{all_mapped, entered_still, one_more_at}
 use Rattle.cb_joins.proofs.asking.enter_nodes.Goals as goal
-use Rattle.cb_joins.specs.Internal.Asked.{IsNodeEntered}
+use Rattle.cb_joins.specs.Internal.Asked.{IsNodeEntered, node_at}
 use Rattle.cb_joins.specs.Internal.Flat.{flat_node}
 use Rattle.cb_joins.specs.declared.node.Node.{Node}
 
@@ -13,13 +13,17 @@ loop-node-preserved g c =
     let nodes = c.args.nodes.now in
     let i : ℕ = c.loop-node.node-index in
     let rule = c.args.rule in
+    let branch = c.args.branch in
     let l : i < length nodes = omega arith in
+    let place : c.loop-node.number ≡ i = inv.place in
     record {
-      entered = one_more (λ (n : Node g.row.T.Denot). IsNodeEntered table rule (flat_node n)) nodes i c.node-item.result l c.node-item.is
-          (λ k d h. entered_still c.loop-node.asked table now.stay rule (flat_node (get_or nodes k d)) (inv.entered k d h)) now.entered;
-      stay = λ other was. now.stay other (inv.stay other was);
+      place = omega (arith, place);
+      entered = one_more_at (λ k (n : Node g.row.T.Denot). IsNodeEntered table (node_at rule branch k) (flat_node n)) nodes i c.node-item.result l c.node-item.is
+          (λ k d h. entered_still c.loop-node.asked table now.stay (node_at rule branch k) (flat_node (get_or nodes k d)) (inv.entered k d h))
+          (subst (λ n. IsNodeEntered table (node_at rule branch n) (flat_node c.node-item.result)) place now.entered);
+      stay = λ p at was. now.stay p at (inv.stay p at was);
     }
 
 pub returns-clause-entered : goal.returns-clause-entered
 returns-clause-entered g c =
-    all_mapped flat_node (IsNodeEntered c.loop-node.asked c.args.rule) c.args.nodes.now (λ k d h. c.loop-node.invariant.entered k d (omega (arith, h)))
+    all_mapped flat_node (λ k n. IsNodeEntered c.loop-node.asked (node_at c.args.rule c.args.branch k) n) c.args.nodes.now (λ k d h. c.loop-node.invariant.entered k d (omega (arith, h)))

@@ -1,10 +1,8 @@
 use Rattle.std.proofs.lemmas.Result.{on_ok_weaker}
 use Rattle.std.proofs.Common.{List, subst}
-use Rattle.std.specs.List.{All}
 use Rattle.cb_joins.proofs.Concerned.{rule_entered, rules_still}
 use Rattle.cb_joins.proofs.asking.enter_rule.Goals as goal
-use Rattle.cb_joins.specs.Internal.Asked.{AreNodesEntered}
-use Rattle.cb_joins.specs.Internal.Flat.{flat_nodes}
+use Rattle.cb_joins.specs.Internal.Asked.{AreBranchNodesEntered}
 use Rattle.cb_joins.specs.declared.branch.Branch.{Branch}
 
 pub returns-clause-entered : goal.returns-clause-entered
@@ -13,7 +11,7 @@ returns-clause-entered g c =
     let rule = c.args.rule.now in
     on_ok_weaker c.enter_branches.result
     (λ entered. rule_entered table rule.id rule.branches.items c.requires
-    (subst (λ (bs : List (Branch g.row.T.Denot)). All (λ (b : Branch g.row.T.Denot). AreNodesEntered table rule.id (flat_nodes b.nodes.items)) bs) c.as_slice.ensures.value entered))
+    (subst (λ (bs : List (Branch g.row.T.Denot)). AreBranchNodesEntered table rule.id bs) c.as_slice.ensures.value entered))
     c.enter_branches.ensures.entered
 
 pub returns-clause-stay : goal.returns-clause-stay

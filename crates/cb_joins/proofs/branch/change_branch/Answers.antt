@@ -1,4 +1,4 @@
-use Rattle.std.proofs.Common.{List, ap, arith, false, inl, length, refl, rules, subst, sym, ◌+◌, ◌∙◌, ◌≡◌, ◌≤◌}
+use Rattle.std.proofs.Common.{List, ap, arith, inl, length, refl, rules, subst, sym, ◌+◌, ◌∙◌, ◌≡◌, ◌≤◌}
 use Rattle.std.specs.BTreeSet.{BTreeSet}
 use Rattle.std.specs.Cmp.Lexicographic.{slice_cmp}
 use Rattle.std.specs.Ordering.{nat_cmp}
@@ -6,8 +6,8 @@ use Rattle.std.specs.declared.cmp.Ordering.TheVariants.{Less}
 use Rattle.cb_fit.specs.Ways.{WayValue, ways}
 use Rattle.cb_facts.specs.FactLists.{IndexedFacts}
 use Rattle.cb_joins.proofs.Facts.{indices_before, indices_of, rising_base, rising_before}
-use Rattle.cb_joins.proofs.Unasked.{branch_unasked, keys_unasked, none_for_relation, nothing_told}
-use Rattle.cb_joins.specs.Internal.Asked.{ask_for}
+use Rattle.cb_joins.proofs.Concerned.{none_of_branch}
+use Rattle.cb_joins.proofs.Unasked.{branch_unasked, keys_unasked, nothing_told}
 use Rattle.cb_joins.specs.Internal.Changes.{fact_added, fact_changed, facts_before}
 use Rattle.cb_joins.specs.Internal.Flat.{FlatNode, flat_nodes, flat_probes}
 use Rattle.cb_matches.proofs.Lists.{chain_from_pairs, in_right}
@@ -25,23 +25,23 @@ use Rattle.cb_matches.specs.Matches.{Partial, matches_of}
 use Rattle.cb_rules.specs.Elements.{Elements}
 use Rattle.cb_joins.proofs.branch.change_branch.Goals as goal
 
-pub returns-then-not-nodes_ask_for-clause-branch : goal.returns-then-not-nodes_ask_for-clause-branch
-returns-then-not-nodes_ask_for-clause-branch g c =
+pub returns-then-not-is_branch_found-clause-branch : goal.returns-then-not-is_branch_found-clause-branch
+returns-then-not-is_branch_found-clause-branch g c =
     let b = c.args.branch.now in
     let change = c.args.change.now in
-    let other : ask_for (fact_changed change).1.relation (flat_nodes b.nodes.items) ≡ false = search rules in
-    branch_unasked c.no_shape_gives_no_ways.ensures change c.args.setting.now.facts.now c.requires.made b (none_for_relation (fact_changed change) (flat_nodes b.nodes.items) other) c.requires.branch
+    let none = none_of_branch (fact_changed change) c.args.found.now c.args.rule c.args.number b c.requires.branch.planned c.requires.found (λ k h i. c.is_branch_found.ensures c.if-not-is_branch_found.true k (let len : c.len.result ≡ length b.nodes.items = search rules in omega (arith, len, h)) i) in
+    branch_unasked c.no_shape_gives_no_ways.ensures change c.args.setting.now.facts.now c.requires.made b none c.requires.branch
 
-pub returns-then-not-nodes_ask_for-clause-delta : goal.returns-then-not-nodes_ask_for-clause-delta
-returns-then-not-nodes_ask_for-clause-delta g c =
+pub returns-then-not-is_branch_found-clause-delta : goal.returns-then-not-is_branch_found-clause-delta
+returns-then-not-is_branch_found-clause-delta g c =
     let fs : IndexedFacts = c.args.setting.now.facts.now in
     let b = c.args.branch.now in
     let change = c.args.change.now in
     let rise : WaysRise = λ p f b. chain_from_pairs (λ (v : WayValue) (w : WayValue). slice_cmp nat_cmp v.cuts w.cuts ≡ Less) (ways p f b) (c.the_ways_rise_by_their_cuts.ensures p f b) in
     let rising : IsRising fs = rising_base fs c.requires.base in
-    let other : ask_for (fact_changed change).1.relation (flat_nodes b.nodes.items) ≡ false = search rules in
+    let none = none_of_branch (fact_changed change) c.args.found.now c.args.rule c.args.number b c.requires.branch.planned c.requires.found (λ k h i. c.is_branch_found.ensures c.if-not-is_branch_found.true k (let len : c.len.result ≡ length b.nodes.items = search rules in omega (arith, len, h)) i) in
     nothing_told c.args.delta.now (keys_in_branch c.args.rule c.args.number (branch_elements b) (facts_before change fs)) (keys_in_branch c.args.rule c.args.number (branch_elements b) fs)
-    (keys_unasked c.no_shape_gives_no_ways.ensures change fs c.requires.made b (none_for_relation (fact_changed change) (flat_nodes b.nodes.items) other)
+    (keys_unasked c.no_shape_gives_no_ways.ensures change fs c.requires.made b none
     rise (indices_before change fs rising c.requires.made) (indices_of fs rising) c.requires.branch.planned c.args.rule c.args.number)
 
 pub change_nodes-requires-clause-whole : goal.change_nodes-requires-clause-whole

@@ -1,22 +1,33 @@
-use Rattle.std.proofs.Common.{ℕ, Option, subst}
+use Rattle.std.proofs.Common.{◌≡◌, List, subst, sym, true}
+use Rattle.std.specs.BTreeMap.{values}
+use Rattle.std.specs.List.Sorted.{IsStrictlySortedBy}
+use Rattle.cb_asked.specs.Asked.{IsEntered}
+use Rattle.cb_asked.specs.Places.{place_cmp}
+use Rattle.cb_asked.specs.declared.node_place.NodePlace.{NodePlace}
+use Rattle.cb_constraints.specs.PatternValues.{PatternValue}
 use Rattle.cb_facts.specs.Facts.{FactValue}
-use Rattle.cb_fit.specs.declared.field_place.FieldPlace.{FieldPlace}
+use Rattle.cb_fit.specs.Shapes.{has_shape}
 use Rattle.cb_joins.proofs.Answered.{delta_is}
 use Rattle.cb_joins.proofs.Concerned.{all_found}
 use Rattle.cb_joins.proofs.changes.change_facts.Goals as goal
-use Rattle.cb_joins.specs.Internal.Asked.{IsEntered, asked_of}
+use Rattle.cb_joins.specs.Internal.Asked.{AreAllFound}
 use Rattle.cb_joins.specs.Internal.Changes.{fact_changed, facts_before}
 use Rattle.cb_joins.specs.Internal.Rules.{kept_rules}
 use Rattle.cb_matches.specs.Chains.{In}
 
 pub returns-clause-delta : goal.returns-clause-delta
 returns-clause-delta g c =
-    delta_is (kept_rules c.args.rules.now) (facts_before c.args.change.now c.args.facts.now) c.args.facts.now c.no_delta-delta.result c.change_rules.new.delta
+    delta_is (kept_rules (values c.args.rules.now)) (facts_before c.args.change.now c.args.facts.now) c.args.facts.now c.no_delta-delta.result c.change_rules.new.delta
     c.no_delta-delta.ensures.gone c.no_delta-delta.ensures.come c.in_ok-change_rules.ensures.delta
 
 pub change_rules-requires-clause-found : goal.change_rules-requires-clause-found
 change_rules-requires-clause-found g c =
     let table = c.args.asked.now in
-    let numbers = c.in_ok-found.found.keys in
-    let found = subst (λ (f : FactValue). (place : Option FieldPlace) (rule : ℕ) → IsEntered table (asked_of f place rule) → In rule numbers) c.fact.ensures c.in_ok-found.ensures in
-    all_found c.a_fact_with_the_shape_has_the_constants.ensures table (fact_changed c.args.change.now) numbers found (kept_rules c.args.rules.now) c.requires.asked
+    let places : List NodePlace = c.places_for.new.found.items in
+    let rules = kept_rules (values c.args.rules.now) in
+    let found = subst (λ (f : FactValue). (p : PatternValue) (place : NodePlace) → IsEntered table p place → has_shape p f ≡ true → In place places) c.fact.ensures c.in_ok-places_for.ensures.found in
+    subst (λ (them : List NodePlace). AreAllFound (fact_changed c.args.change.now) them rules) (sym c.as_slice.ensures.value)
+    (all_found table (fact_changed c.args.change.now) places found rules c.requires.asked)
+
+pub change_rules-requires-clause-ordered : goal.change_rules-requires-clause-ordered
+change_rules-requires-clause-ordered g c = subst (IsStrictlySortedBy place_cmp) (sym c.as_slice.ensures.value) c.in_ok-places_for.ensures.ordered

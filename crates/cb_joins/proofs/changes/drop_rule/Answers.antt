@@ -1,4 +1,5 @@
 use Rattle.std.proofs.Common.{◌++◌, nat_eq, not, sym, ap, subst, ◌∙◌}
+use Rattle.std.specs.BTreeMap.{values}
 use Rattle.std.specs.List.{filter, flat_map}
 use Rattle.cb_facts.specs.FactLists.{IndexedFacts}
 use Rattle.cb_joins.proofs.Answered.{come_is, gone_is}
@@ -9,14 +10,15 @@ use Rattle.cb_matches.specs.Networks.{Conditions}
 
 pub returns-clause-keeping : goal.returns-clause-keeping
 returns-clause-keeping g c = record {
-  numbers = subst HaveOwnNumbers (sym c.in_ok-drop_numbered.ensures.stay) (numbers_left c.args.id c.args.facts.now (kept_rules c.args.rules.now.items) c.requires.keeping.numbers);
+  named = c.in_ok-drop_numbered.ensures.named;
+  numbers = subst HaveOwnNumbers (sym c.in_ok-drop_numbered.ensures.stay) (numbers_left c.args.id c.args.facts.now (kept_rules (values c.args.rules.now)) c.requires.keeping.numbers);
   kept = c.in_ok-drop_numbered.ensures.rules;
 }
 
 pub returns-clause-delta : goal.returns-clause-delta
 returns-clause-delta g c =
     let fs : IndexedFacts = c.args.facts.now in
-    let rs : Conditions = kept_rules c.args.rules.now.items in
+    let rs : Conditions = kept_rules (values c.args.rules.now) in
     let left : Conditions = filter (λ r. not (nat_eq c.args.id r.0)) rs in
     record {
       gone = gone_is rs left fs fs c.drop_numbered.new.gone.items

@@ -1,13 +1,12 @@
-use Rattle.std.proofs.Common.{◌≡◌, ◌≤◌, ◌+◌, ℕ, List, Some, None, sym, ap, subst, ◌∙◌}
+use Rattle.std.proofs.Common.{◌≡◌, ◌≤◌, ◌+◌, ℕ, Some, None, sym, ap, subst, subst₂, ◌∙◌}
+use Rattle.std.specs.BTreeMap.{values}
 use Rattle.std.specs.Result.{IfOk, OnOk}
 use Rattle.cb_facts.specs.FactLists.{IndexedFacts, IsFactBase, fact_at, with_fact, without_fact}
 use Rattle.cb_facts.specs.Facts.{FactValue}
-use Rattle.cb_joins.proofs.Answered.{in_place, over}
+use Rattle.cb_joins.proofs.Answered.{over}
 use Rattle.cb_joins.proofs.Facts.{before_taken, rising_base}
 use Rattle.cb_joins.proofs.changes.retract_fact.Goals as goal
-use Rattle.cb_joins.specs.Internal.Asked.{AreEntered}
 use Rattle.cb_joins.specs.Internal.Rules.{IsKeeping, kept_rules}
-use Rattle.cb_joins.specs.declared.rules.Rule.{Rule}
 use Rattle.cb_matches.specs.Changes.{IsDelta}
 use Rattle.cb_partials.specs.Probes.{rules_probes}
 
@@ -20,22 +19,18 @@ pub change_facts-requires-clause-keeping : goal.change_facts-requires-clause-kee
 change_facts-requires-clause-keeping g c =
     let now = c.in_ok-one.ensures in
     let old = before c.args.ix c.in_ok-one.one.0 c.in_ok-one.one.1 c.args.facts.now c.take_fact.new.facts c.len-count.ensures.base now.index now.fact now.facts now.gone in
-    in_place (λ (fs : IndexedFacts) (xs : List (Rule g.row.T.Denot)) (ys : List (Rule g.row.T.Denot)). IsKeeping fs xs) (sym old) (sym c.as_mut_slice.ensures.value) (sym c.as_mut_slice.ensures.value) c.requires.keeping
-
-pub change_facts-requires-clause-asked : goal.change_facts-requires-clause-asked
-change_facts-requires-clause-asked g c =
-    subst (λ (xs : List (Rule g.row.T.Denot)). AreEntered c.args.asked.now (kept_rules xs)) (sym c.as_mut_slice.ensures.value) c.requires.asked
+    subst (λ (fs : IndexedFacts). IsKeeping fs c.args.rules.now) (sym old) c.requires.keeping
 
 pub returns-clause-delta : goal.returns-clause-delta
 returns-clause-delta g c =
     let now = c.in_ok-one.ensures in
     let old = before c.args.ix c.in_ok-one.one.0 c.in_ok-one.one.1 c.args.facts.now c.take_fact.new.facts c.len-count.ensures.base now.index now.fact now.facts now.gone in
-    in_place (λ (xs : List (Rule g.row.T.Denot)) (fs : IndexedFacts) (gs : IndexedFacts). IfOk c.change_facts.result (IsDelta (over (kept_rules xs) fs) (over (kept_rules xs) gs)))
-    c.as_mut_slice.ensures.value old now.facts c.change_facts.ensures.delta
+    subst₂ (λ (fs : IndexedFacts) (gs : IndexedFacts). IfOk c.change_facts.result (IsDelta (over (kept_rules (values c.args.rules.now)) fs) (over (kept_rules (values c.args.rules.now)) gs)))
+    old now.facts c.change_facts.ensures.delta
 
 pub returns-clause-probes : goal.returns-clause-probes
 returns-clause-probes g c =
     let now = c.in_ok-one.ensures in
     let old = before c.args.ix c.in_ok-one.one.0 c.in_ok-one.one.1 c.args.facts.now c.take_fact.new.facts c.len-count.ensures.base now.index now.fact now.facts now.gone in
-    in_place (λ (xs : List (Rule g.row.T.Denot)) (fs : IndexedFacts) (gs : IndexedFacts). OnOk c.change_facts.result (c.change_facts.new.meter ≤ c.args.meter.now + rules_probes None fs gs (kept_rules xs)))
-    c.as_mut_slice.ensures.value old now.facts c.change_facts.ensures.probes
+    subst₂ (λ (fs : IndexedFacts) (gs : IndexedFacts). OnOk c.change_facts.result (c.change_facts.new.meter ≤ c.args.meter.now + rules_probes None fs gs (kept_rules (values c.args.rules.now))))
+    old now.facts c.change_facts.ensures.probes

@@ -1,10 +1,13 @@
-use Rattle.std.proofs.Common.{◌≡◌, ℕ, ◌+◌, ◌<◌, ◌∷◌, drop, length, ap, subst, arith, get_or}
+use Rattle.std.proofs.Common.{◌≡◌, ℕ, ◌+◌, ◌<◌, ◌∷◌, ◌∙◌, List, drop, length, ap, subst, sym, arith, get_or}
 use Rattle.std.proofs.Math.ListN.{length-set}
+use Rattle.std.proofs.lemmas.List.{get_or-map, length-map}
 use Rattle.cb_facts.specs.FactLists.{IndexedFacts}
 use Rattle.cb_joins.proofs.Networks.{done_more, left_more}
 use Rattle.cb_joins.proofs.OneMore.{branch_come, branch_tests, drop_mapped, stay_mapped}
 use Rattle.cb_joins.proofs.rules.change_branches.Goals as goal
-use Rattle.cb_joins.specs.Internal.Changes.{fact_added, facts_before}
+use Rattle.cb_joins.specs.Internal.Asked.{AreNodesFound}
+use Rattle.cb_joins.specs.Internal.Changes.{fact_added, fact_changed, facts_before}
+use Rattle.cb_joins.specs.Internal.Flat.{branch_nodes}
 use Rattle.cb_joins.specs.Internal.Keys.{Tells, keys_in_branch}
 use Rattle.cb_joins.specs.Internal.Rules.{IsBranch, kept_branches, branch_elements}
 use Rattle.cb_rules.specs.Elements.{Elements}
@@ -36,3 +39,21 @@ loop-branch-preserved g c =
       told = branch_come c.args.rule i fs fs' bs es d c.loop-branch.delta.come.items c.change_branch.new.delta.come.items _ inv.told told.come;
       tests = branch_tests c.args.rule i fs fs' bs es d (fact_added c.args.change.now) c.loop-branch.meter c.change_branch.new.meter _ inv.tests now.probes;
     }
+
+pub change_branch-requires-clause-found : goal.change_branch-requires-clause-found
+change_branch-requires-clause-found g c =
+    let inv = c.loop-branch.invariant in
+    let f = fact_changed c.args.change.now in
+    let found = c.args.found.now in
+    let rule = c.args.rule in
+    let xs = c.loop-branch.branches in
+    let i : ℕ = c.loop-branch.branch-index in
+    let bs = kept_branches c.args.branches.now in
+    let old = get_or xs i c.branch-item.result in
+    let l : i < length xs = omega arith in
+    let place : c.loop-branch.number ≡ i = inv.place in
+    let long : length bs ≡ length xs = ap length (sym inv.stays) ∙ length-map xs branch_elements in
+    let is : get_or bs i (branch_elements c.branch-item.result) ≡ branch_elements old =
+    ap (λ (es : List Elements). get_or es i (branch_elements c.branch-item.result)) (sym inv.stays) ∙ get_or-map branch_elements xs i c.branch-item.result (branch_elements c.branch-item.result) l in
+    subst (λ n. AreNodesFound f found rule n (branch_nodes (branch_elements old))) (sym place)
+    (subst (λ (es : Elements). AreNodesFound f found rule i (branch_nodes es)) is (c.requires.found i (branch_elements c.branch-item.result) (omega (arith, l, long))))

@@ -1,48 +1,75 @@
-use Rattle.std.proofs.Common.{◌≡◌, ◌++◌, ◌∷◌, [], true, false, nat_eq, not, sym, ap, subst, ◌∙◌}
-use Rattle.std.proofs.lemmas.Bool.Decides.{Decides-eqb}
-use Rattle.std.proofs.lemmas.List.{map-append}
-use Rattle.std.proofs.lemmas.List.Elements.{All-append}
-use Rattle.std.specs.List.{All, filter, flat_map}
+use Rattle.std.proofs.Common.{◌≡◌, ◌++◌, ◌∙◌, ℕ, List, Some, None, ap, nat_cmp, subst, sym}
+use Rattle.std.specs.BTreeMap.{is_at}
+use Rattle.std.specs.List.{All}
+use Rattle.std.specs.Map.{lookup, remove_entry, values_of}
 use Rattle.cb_facts.specs.FactLists.{IndexedFacts}
-use Rattle.cb_joins.proofs.Dropped.{differs, dropped, goes, goes_told, stays, stays_told}
-use Rattle.cb_joins.proofs.OneMore.{first_of, others_of, only_of}
+use Rattle.cb_joins.proofs.IndexLists.{entry_left}
+use Rattle.cb_joins.proofs.Numbered.{all_in, found_in, in_all, in_value, kept_left, told_found, told_nothing, value_in}
+use Rattle.cb_joins.proofs.Results.{always}
 use Rattle.cb_joins.proofs.rules.drop_numbered.Goals as goal
 use Rattle.cb_joins.specs.Internal.Keys.{branch_keys}
-use Rattle.cb_joins.specs.Internal.Rules.{IsRule, kept_branches, kept_rule, kept_rules}
+use Rattle.cb_joins.specs.Internal.Rules.{AreNamed, IsBranch, IsRule, kept_branches, kept_rules}
+use Rattle.cb_joins.specs.declared.branch.Branch.{Branch}
+use Rattle.cb_joins.specs.declared.rules.Rule.{Rule}
+use Rattle.cb_matches.specs.Chains.{In}
+use Rattle.std.proofs.lemmas.List.{append-nil}
+use Rattle.std.proofs.lemmas.Result.{on_ok_weaker}
 
-pub loop-rule-preserved-then-id-rule : goal.loop-rule-preserved-then-id-rule
-loop-rule-preserved-then-id-rule g c =
-    let inv = c.loop-rule.invariant in
-    let fs : IndexedFacts = c.args.setting.now.facts.now in
-    let r = c.in-Some.rule in
-    let rest = c.next.new.self.rest.items in
-    let kept = c.loop-rule.kept.items in
-    let is : c.loop-rule.rule-iterator.rest.items ≡ r ∷ rest = c.in-Some.ensures.steps.0 in
-    let t : nat_eq c.args.id r.id ≡ true = (Decides-eqb c.args.id r.id).1 c.if-id-rule.true in
-    record {
-      stays = goes c.args.id fs (kept_rule r) (kept_rules rest) t (kept_rules kept) _ (sym (ap (λ it. kept_rules kept ++ filter (λ q. not (nat_eq c.args.id q.0)) (kept_rules it)) is) ∙ inv.stays);
-      done = inv.done;
-      left = others_of (IsRule fs) r rest (subst (All (IsRule fs)) is inv.left);
-      told = goes_told c.args.id fs (kept_rule r) (kept_rules rest) t c.loop-rule.gone.items c.tell_branches.new.keys.items _
-          (sym (ap (λ it. c.loop-rule.gone.items ++ flat_map (dropped c.args.id fs) (kept_rules it)) is) ∙ inv.told)
-          (c.in_ok-tell_branches.ensures ∙ ap (λ bs. c.loop-rule.gone.items ++ branch_keys r.id 0 (kept_branches bs) fs) c.as_slice.ensures.value);
-    }
+-- what is left where the rule is taken out
+all_left : {T : Type 0} (id : ℕ) (fs : IndexedFacts) (es es' : List (ℕ × Rule T)) → es' ≡ remove_entry (is_at (nat_cmp id)) es → All (IsRule fs) (values_of es) → All (IsRule fs) (values_of es')
+all_left id fs es es' is all =
+    in_all (IsRule fs) (values_of es')
+    (λ r i. let e = value_in es' r i in
+    subst (IsRule fs) (sym e.2) (all_in (IsRule fs) (values_of es) all e.0.1 (in_value es e.0 (entry_left (is_at (nat_cmp id)) es e.0 (subst (In e.0) is e.1)))))
 
-pub loop-rule-preserved : goal.loop-rule-preserved
-loop-rule-preserved g c =
-    let inv = c.loop-rule.invariant in
+named_left : {T : Type 0} (id : ℕ) (es es' : List (ℕ × Rule T)) → es' ≡ remove_entry (is_at (nat_cmp id)) es → AreNamed es → AreNamed es'
+named_left id es es' is named e i = named e (entry_left (is_at (nat_cmp id)) es e (subst (In e) is i))
+
+pub returns-in-Some-clause-stay : goal.returns-in-Some-clause-stay
+returns-in-Some-clause-stay g c =
+    always c.tell_branches.result
+    (ap (λ (es : List (ℕ × Rule g.row.T.Denot)). kept_rules (values_of es)) c.remove.ensures.entries ∙ kept_left c.args.id c.args.rules.now.entries c.requires.named c.len-count.ensures.ordered)
+
+pub returns-in-Some-clause-named : goal.returns-in-Some-clause-named
+returns-in-Some-clause-named g c = always c.tell_branches.result (named_left c.args.id c.args.rules.now.entries c.remove.new.self.entries c.remove.ensures.entries c.requires.named)
+
+pub returns-in-Some-clause-rules : goal.returns-in-Some-clause-rules
+returns-in-Some-clause-rules g c =
+    always c.tell_branches.result (all_left c.args.id c.args.setting.now.facts.now c.args.rules.now.entries c.remove.new.self.entries c.remove.ensures.entries c.requires.rules)
+
+pub returns-in-Some-clause-gone : goal.returns-in-Some-clause-gone
+returns-in-Some-clause-gone g c =
     let fs : IndexedFacts = c.args.setting.now.facts.now in
-    let r = c.in-Some.rule in
-    let rest = c.next.new.self.rest.items in
-    let kept = c.loop-rule.kept.items in
-    let is : c.loop-rule.rule-iterator.rest.items ≡ r ∷ rest = c.in-Some.ensures.steps.0 in
-    let t : nat_eq c.args.id r.id ≡ false = differs c.args.id r.id c.if-id-rule.false in
-    let now : c.push.new.self.items ≡ kept ++ r ∷ [] = c.in_ok-push.ensures.items in
-    let all = subst (All (IsRule fs)) is inv.left in
-    record {
-      stays = ap (λ it. it ++ filter (λ q. not (nat_eq c.args.id q.0)) (kept_rules rest)) (ap kept_rules now ∙ map-append kept_rule kept (r ∷ []))
-          ∙ stays c.args.id fs (kept_rule r) (kept_rules rest) t (kept_rules kept) _ (sym (ap (λ it. kept_rules kept ++ filter (λ q. not (nat_eq c.args.id q.0)) (kept_rules it)) is) ∙ inv.stays);
-      done = subst (All (IsRule fs)) (sym now) (All-append (IsRule fs) kept (r ∷ []) inv.done (only_of (IsRule fs) r (first_of (IsRule fs) r rest all)));
-      left = others_of (IsRule fs) r rest all;
-      told = stays_told c.args.id fs (kept_rule r) (kept_rules rest) t c.loop-rule.gone.items _ (sym (ap (λ it. c.loop-rule.gone.items ++ flat_map (dropped c.args.id fs) (kept_rules it)) is) ∙ inv.told);
-    }
+    let es = c.args.rules.now.entries in
+    let rule : Rule g.row.T.Denot = c.in-Some.rule in
+    let found : lookup (is_at (nat_cmp c.args.id)) es ≡ Some rule = sym c.remove.ensures.value ∙ c.in-Some.is in
+    let told = told_found c.args.id fs es rule c.requires.named c.len-count.ensures.ordered found in
+    on_ok_weaker c.tell_branches.result
+    (λ now. now ∙ (ap (λ bs. c.args.gone.now.items ++ branch_keys rule.id 0 (kept_branches bs) fs) c.as_slice.ensures.value ∙ ap (λ it. c.args.gone.now.items ++ it) (sym told)))
+    c.tell_branches.ensures
+
+pub returns-in-None-clause-stay : goal.returns-in-None-clause-stay
+returns-in-None-clause-stay g c =
+    ap (λ (es : List (ℕ × Rule g.row.T.Denot)). kept_rules (values_of es)) c.remove.ensures.entries ∙ kept_left c.args.id c.args.rules.now.entries c.requires.named c.len-count.ensures.ordered
+
+pub returns-in-None-clause-named : goal.returns-in-None-clause-named
+returns-in-None-clause-named g c = named_left c.args.id c.args.rules.now.entries c.remove.new.self.entries c.remove.ensures.entries c.requires.named
+
+pub returns-in-None-clause-rules : goal.returns-in-None-clause-rules
+returns-in-None-clause-rules g c = all_left c.args.id c.args.setting.now.facts.now c.args.rules.now.entries c.remove.new.self.entries c.remove.ensures.entries c.requires.rules
+
+pub returns-in-None-clause-gone : goal.returns-in-None-clause-gone
+returns-in-None-clause-gone g c =
+    let fs : IndexedFacts = c.args.setting.now.facts.now in
+    let es = c.args.rules.now.entries in
+    let absent : lookup (is_at (nat_cmp c.args.id)) es ≡ None = sym c.remove.ensures.value ∙ c.in-None.is in
+    sym (append-nil c.args.gone.now.items) ∙ ap (λ it. c.args.gone.now.items ++ it) (sym (told_nothing c.args.id fs es c.requires.named absent))
+
+pub tell_branches-requires-clause-branches : goal.tell_branches-requires-clause-branches
+tell_branches-requires-clause-branches g c =
+    let fs : IndexedFacts = c.args.setting.now.facts.now in
+    let es = c.args.rules.now.entries in
+    let rule : Rule g.row.T.Denot = c.in-Some.rule in
+    let found : lookup (is_at (nat_cmp c.args.id)) es ≡ Some rule = sym c.remove.ensures.value ∙ c.in-Some.is in
+    subst (λ (bs : List (Branch g.row.T.Denot)). All (IsBranch fs) bs) (sym c.as_slice.ensures.value)
+    (all_in (IsRule fs) (values_of es) c.requires.rules rule (in_value es (c.args.id, rule) (found_in c.args.id es rule found)))

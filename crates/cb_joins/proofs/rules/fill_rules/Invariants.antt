@@ -1,17 +1,12 @@
-use Rattle.std.proofs.Common.{◌≡◌, ℕ, ◌<◌, ◌≤◌, ◌++◌, drop, length, get_or}
-use Rattle.std.specs.List.{All}
-use Rattle.cb_joins.specs.Internal.Keys.{rule_keys}
-use Rattle.cb_joins.specs.Internal.Rules.{CanBeFilled, IsRule, kept_rules}
-use Rattle.cb_joins.specs.declared.rules.Rule.{Rule}
+use Rattle.std.proofs.Common.{◌++◌}
+use Rattle.std.specs.BTreeMap.{values}
+use Rattle.cb_joins.proofs.Numbered.{IsTurn}
 use Rattle.cb_joins.proofs.rules.fill_rules.Given as goal
+use Rattle.cb_joins.specs.Internal.Keys.{rule_keys}
+use Rattle.cb_joins.specs.Internal.Rules.{kept_rules}
 
-abbrev pub invariant-loop-rule : goal.invariant-loop-rule
-invariant-loop-rule g l =
-    let rs = kept_rules l.initial.rules in
+abbrev pub invariant-loop-id : goal.invariant-loop-id
+invariant-loop-id g l =
+    let rs = kept_rules (values l.fn.rules) in
     let fs = l.setting.facts.now in
-    record {
-      stays : kept_rules l.rules ≡ rs;
-      done : (k : ℕ) (d : Rule g.row.T.Denot) → k < l.rule-index → IsRule fs (get_or l.rules k d);
-      left : (k : ℕ) (d : Rule g.row.T.Denot) → l.rule-index ≤ k → k < length l.rules → All CanBeFilled (get_or l.rules k d).branches.items;
-      told : l.come.items ++ rule_keys (drop l.rule-index rs) fs ≡ l.initial.come.items ++ rule_keys rs fs;
-    }
+    IsTurn fs rs (l.initial.come.items ++ rule_keys rs fs) l.filled.entries l.id-iterator l.come.items

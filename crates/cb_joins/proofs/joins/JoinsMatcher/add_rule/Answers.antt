@@ -1,5 +1,6 @@
 use Rattle.std.proofs.Common.{[], ◌∷◌, subst, sym}
 use Rattle.std.proofs.lemmas.List.Elements.{All-append}
+use Rattle.std.specs.BTreeMap.{values}
 use Rattle.cb_joins.proofs.OneMore.{only_of}
 use Rattle.cb_joins.proofs.joins.JoinsMatcher.add_rule.Goals as goal
 use Rattle.cb_joins.specs.Internal.Asked.{AreEntered, IsRuleEntered}
@@ -9,7 +10,7 @@ pub invariant_of-self-2 : goal.invariant_of-self-2
 invariant_of-self-2 g c =
     λ works.
     let table = c.enter_rule.new.asked in
-    let old = kept_rules c.self.inside.rules.items in
+    let old = kept_rules (values c.self.inside.rules) in
     let rule = kept_rule c.in_ok-rule.rule in
     let was = c.in_ok-enter_rule.ensures.stay old (c.self.invariant c.if-self.false).1 in (
       c.in_ok-delta.ensures.keeping,
