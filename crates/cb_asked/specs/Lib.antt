@@ -1,3 +1,4 @@
 pub mod Asked
+pub mod KeptPlaces
 pub mod Places
 pub mod Wanted

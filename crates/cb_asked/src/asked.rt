@@ -142,7 +142,7 @@ impl Asked {
     {
         let first = Spot {
             relation: fact.relation_name().clone()?,
-            places: FieldPlaces::none(alloc)?,
+            places: FieldPlaces::none(),
         };
         for spot in self
             .spots

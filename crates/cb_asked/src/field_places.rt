@@ -16,20 +16,21 @@ use std::cmp::Ordering;
 use std::marker::Model;
 use std::rc::RcSlice;
 
-/// Places of fields in a fact, in an order. Contracts see their list.
+/// Places of fields in a fact, in an order. No places take no memory. Contracts see their list.
 #[derive(Drop)]
 pub(crate) struct FieldPlaces {
-    shared: RcSlice<FieldPlace>,
+    /// `None` where there are none.
+    shared: Option<RcSlice<FieldPlace>>,
 }
 
 impl Model for FieldPlaces {
     ghost use Rattle.std.specs.Prelude.{List};
-    ghost use Rattle.std.specs.Rc.{rc_slice_items};
+    ghost use Rattle.cb_asked.specs.KeptPlaces.{places_in};
     ghost use Rattle.cb_fit.specs.declared.field_place.FieldPlace.{FieldPlace as Place};
 
     ghost Value = { List Place };
 
-    ghost view = { λ p. rc_slice_items p.shared };
+    ghost view = { λ p. places_in p.shared };
 }
 
 impl FieldPlaces {
@@ -37,23 +38,29 @@ impl FieldPlaces {
     pub(crate) fn from_vec(places: Vec<FieldPlace>) -> Result<FieldPlaces, NoMemory>
         ensures { IfOk result (λ p. p ≡ places.items) }
     {
+        if places.is_empty() {
+            return Ok(FieldPlaces::none());
+        }
         Ok(FieldPlaces {
-            shared: RcSlice::from_vec(places)?,
+            shared: Some(RcSlice::from_vec(places)?),
         })
     }
 
     /// No places.
-    pub(crate) fn none(alloc: Global) -> Result<FieldPlaces, NoMemory>
-        ensures { IfOk result (λ p. p ≡ []) }
+    pub(crate) fn none() -> FieldPlaces
+        ensures { result ≡ [] }
     {
-        FieldPlaces::from_vec(Vec::new(alloc))
+        FieldPlaces { shared: None }
     }
 
     /// The places.
     fn as_slice(&self) -> &[FieldPlace]
         ensures { result.now ≡ self.now }
     {
-        self.shared.as_slice()
+        match &self.shared {
+            Some(shared) => shared.as_slice(),
+            None => &[],
+        }
     }
 
     /// The values of a fact there, or `None` where it lacks one.
@@ -95,8 +102,12 @@ impl Clone for FieldPlaces {
     ghost is_clone = { λ places copy. copy ≡ places };
 
     fn clone(&self) -> Result<FieldPlaces, AllocError> {
-        let shared = self.shared.clone()?;
-        Ok(FieldPlaces { shared })
+        match &self.shared {
+            Some(shared) => Ok(FieldPlaces {
+                shared: Some(shared.clone()?),
+            }),
+            None => Ok(FieldPlaces::none()),
+        }
     }
 }
 

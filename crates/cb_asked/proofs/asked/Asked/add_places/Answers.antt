@@ -22,7 +22,7 @@ returns-then-ne c =
     let is : r ≡ c.args.fact.now.relation = search rules in
     let keys = c.args.self.now.spots.keys in
     let spot : Spot = entry.wanted.spot in
-    let begun = from r c.in_ok-none.field-0 keys spot (sym c.in_ok-none.ensures) (in_relation keys c.range-spot-items.ensures.ordered r spot there.1 (wants.0 ∙ sym is)) in
+    let begun = from r c.none.result keys spot (sym c.none.ensures) (in_relation keys c.range-spot-items.ensures.ordered r spot there.1 (wants.0 ∙ sym is)) in
     let at : Spot = c.in-Some.spot.now in
     let rest : List Spot = c.next.new.self in
     let cut : c.loop-spot.spot-iterator ≡ at ∷ rest = search rules in
@@ -58,7 +58,7 @@ returns c =
     let is : r ≡ c.args.fact.now.relation = search rules in
     let keys = c.args.self.now.spots.keys in
     let spot : Spot = entry.wanted.spot in
-    let begun = from r c.in_ok-none.field-0 keys spot (sym c.in_ok-none.ensures) (in_relation keys c.range-spot-items.ensures.ordered r spot there.1 (wants.0 ∙ sym is)) in
+    let begun = from r c.none.result keys spot (sym c.none.ensures) (in_relation keys c.range-spot-items.ensures.ordered r spot there.1 (wants.0 ∙ sym is)) in
     let none : c.loop-spot.spot-iterator ≡ [] = search rules in
     elim (c.loop-spot.invariant spot begun) as (λ _. In entry.place c.loop-spot.found.items) [
       | inl added ↦ added entry there.0 (cc) wants
