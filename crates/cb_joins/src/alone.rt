@@ -3,14 +3,14 @@
 //! Whether such a pattern fits a fact doesn't depend on what is before the group, so that the group holds for all partial matches before
 //! it or for none. Where that changes, all of them come or go at once; else only what came to the list before the group or went from it
 //! moves behind it.
-ghost use Rattle.std.specs.Prelude.{◌≡◌, ◌≤◌, ◌+◌, [], ℕ, IfOk, List, None, OnOk, Some, if◌then◌else◌};
+ghost use Rattle.std.specs.Prelude.{◌≡◌, ◌≤◌, ◌+◌, [], ℕ, IfOk, List, None, OnOk, Some, false, if◌then◌else◌};
 ghost use Rattle.cb_facts.specs.FactLists.{IndexedFacts, IsFactBase, fact_at, with_fact, without_fact};
-ghost use Rattle.cb_joins.specs.Internal.Changes.{Holds, IsMade, IsMoved, fact_added, facts_before};
+ghost use Rattle.cb_joins.specs.Internal.Changes.{Holds, IsMade, IsMoved, fact_added, fact_changed, facts_before};
 ghost use Rattle.cb_joins.specs.Internal.Flat.{holds_by};
 ghost use Rattle.cb_joins.specs.Internal.Nodes.{HaveParts, IsLone, any_there};
 ghost use Rattle.cb_joins.specs.Internal.Steps.{IsLoneChanged};
 ghost use Rattle.cb_matches.specs.Matches.{Partial};
-ghost use Rattle.cb_partials.specs.Probes.{added_probes};
+ghost use Rattle.cb_partials.specs.Probes.{added_probes, is_candidate};
 
 use crate::fact_change::FactChange;
 use crate::indexed::Indexed;
@@ -27,18 +27,21 @@ use std::alloc::Global;
 use std::collections::BTreeSet;
 
 /// Changes the facts of the pattern, and the list behind the group. `before` is the list before it, as it is after the change, and
-/// `moved` what went from it and came to it. The facts are those after the change.
+/// `moved` what went from it and came to it. A fact that is not found for the pattern has not its shape. The facts are those after
+/// the change.
 pub(crate) fn change_lone<T>(
     setting: &Setting<'_>,
     lone: &mut Lone<T>,
     before: &BTreeSet<Partial>,
     moved: &Moved,
     own: &mut BTreeSet<Partial>,
+    is_found: bool,
     change: &FactChange,
     meter: &mut Meter<T>,
 ) -> Result<Moved, NoMemory>
     requires base { IsFactBase setting.now.facts.now }
     requires made { IsMade change.now setting.now.facts.now }
+    requires found { is_found ≡ false → is_candidate lone.old.pattern (fact_changed change.now) ≡ false }
     ensures pattern { OnOk result (lone.new.pattern ≡ lone.old.pattern) }
     ensures positive { OnOk result (lone.new.positive ≡ lone.old.positive) }
     ensures after { IfOk result (IsLoneChanged (facts_before change.now setting.now.facts.now) setting.now.facts.now
@@ -47,7 +50,7 @@ pub(crate) fn change_lone<T>(
 {
     no_shape_gives_no_ways();
     let held = holds(lone);
-    change_candidates(setting, lone, change, meter)?;
+    change_candidates(setting, lone, is_found, change, meter)?;
     move_list(setting.alloc, held, holds(lone), before, moved, own)
 }
 
@@ -62,11 +65,13 @@ pub(crate) fn holds<T>(lone: &Lone<T>) -> bool
 fn change_candidates<T>(
     setting: &Setting<'_>,
     lone: &mut Lone<T>,
+    is_found: bool,
     change: &FactChange,
     meter: &mut Meter<T>,
 ) -> Result<(), NoMemory>
     requires base { IsFactBase setting.now.facts.now }
     requires made { IsMade change.now setting.now.facts.now }
+    requires found { is_found ≡ false → is_candidate lone.old.pattern (fact_changed change.now) ≡ false }
     ensures pattern { OnOk result (lone.new.pattern ≡ lone.old.pattern) }
     ensures positive { OnOk result (lone.new.positive ≡ lone.old.positive) }
     ensures lone { OnOk result (IsLone lone.old (facts_before change.now setting.now.facts.now)
@@ -74,7 +79,7 @@ fn change_candidates<T>(
     ensures probes { meter.new ≤ meter.old + added_probes lone.old.pattern (fact_added change.now) 0 }
 {
     match change {
-        FactChange::Assert(one) => add_candidate(setting, lone, one, meter),
+        FactChange::Assert(one) => add_candidate(setting, lone, is_found, one, meter),
         FactChange::Retract(one) => {
             drop_candidate(lone, one);
             Ok(())
@@ -82,21 +87,26 @@ fn change_candidates<T>(
     }
 }
 
-/// Keeps a fact that is added, if it has the shape.
+/// Keeps a fact that is added, if it has the shape. One that is not found for the pattern has not.
 fn add_candidate<T>(
     setting: &Setting<'_>,
     lone: &mut Lone<T>,
+    is_found: bool,
     one: &Indexed,
     meter: &mut Meter<T>,
 ) -> Result<(), NoMemory>
     requires base { IsFactBase setting.now.facts.now }
     requires there { fact_at setting.now.facts.now one.now.0 ≡ Some one.now.1 }
+    requires found { is_found ≡ false → is_candidate lone.old.pattern one.now ≡ false }
     ensures pattern { OnOk result (lone.new.pattern ≡ lone.old.pattern) }
     ensures positive { OnOk result (lone.new.positive ≡ lone.old.positive) }
     ensures lone { OnOk result (IsLone lone.old (without_fact setting.now.facts.now one.now.0)
         → IsLone lone.new setting.now.facts.now) }
     ensures probes { meter.new ≤ meter.old + 1 }
 {
+    if !is_found {
+        return Ok(());
+    }
     if !fits_loosely(setting, &lone.pattern, &one.fact, meter)? {
         return Ok(());
     }

@@ -124,6 +124,9 @@ pub(crate) fn change_branch<T>(
         setting,
         branch.nodes.as_mut_slice(),
         branch.lists.as_mut_slice(),
+        found,
+        rule,
+        number,
         change,
         meter,
     )?;

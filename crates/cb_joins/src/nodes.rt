@@ -1,7 +1,10 @@
 //! The nodes of a branch, and what a change does to their lists.
-ghost use Rattle.std.specs.Prelude.{◌≡◌, ◌≤◌, ◌+◌, ℕ, [], IfOk, OnOk, length};
+ghost use Rattle.std.specs.Prelude.{◌≡◌, ◌≤◌, ◌+◌, ℕ, [], IfOk, OnOk, false, length};
+ghost use Rattle.std.specs.List.Sorted.{IsStrictlySortedBy};
+ghost use Rattle.cb_asked.specs.Places.{place_cmp};
 ghost use Rattle.cb_facts.specs.FactLists.{IsFactBase};
-ghost use Rattle.cb_joins.specs.Internal.Changes.{IsMade, fact_added, facts_before};
+ghost use Rattle.cb_joins.specs.Internal.Asked.{AreNodesFound, takes};
+ghost use Rattle.cb_joins.specs.Internal.Changes.{IsMade, fact_added, fact_changed, facts_before};
 ghost use Rattle.cb_joins.specs.Internal.Flat.{flat_node, flat_nodes, flat_probes, flat_probes_of, node_list, Lists};
 ghost use Rattle.cb_joins.specs.Internal.Nodes.{AreKept, AreMoved, AreReady, AreWhole, branch_lists};
 ghost use Rattle.cb_joins.specs.Internal.Steps.{AreAround, IsStep, NamesListsBelow};
@@ -12,6 +15,7 @@ use crate::group::{change_group, change_test};
 use crate::moved::Moved;
 use crate::node::Node;
 use crate::place::change_place;
+use cb_asked::{NodePlace, is_found};
 use cb_fit::Meter;
 use cb_fit::laws::the_ways_rise_by_their_cuts;
 use cb_forms::NoMemory;
@@ -20,17 +24,22 @@ use std::alloc::Global;
 use std::collections::BTreeSet;
 use std::mem;
 
-/// Changes the facts of the nodes of a branch, one after another. The answer is what went and came at each list. The facts are those
-/// after the change.
+/// Changes the facts of the nodes of a branch, one after another. The answer is what went and came at each list. Each node
+/// that is for the fact is among those that are found. The facts are those after the change.
 pub(crate) fn change_nodes<T>(
     setting: &Setting<'_>,
     nodes: &mut [Node<T>],
     lists: &mut [BTreeSet<Partial>],
+    found: &[NodePlace],
+    rule: u64,
+    branch: u64,
     change: &FactChange,
     meter: &mut Meter<T>,
 ) -> Result<Vec<Moved>, NoMemory>
     requires base { IsFactBase setting.now.facts.now }
     requires made { IsMade change.now setting.now.facts.now }
+    requires ordered { IsStrictlySortedBy place_cmp found.now }
+    requires found { AreNodesFound (fact_changed change.now) found.now rule branch (flat_nodes nodes.old) }
     requires whole { AreWhole (flat_nodes nodes.old) }
     requires ready { AreReady (facts_before change.now setting.now.facts.now) nodes.old }
     requires kept { AreKept (flat_nodes nodes.old) (facts_before change.now setting.now.facts.now) lists.old }
@@ -47,7 +56,14 @@ pub(crate) fn change_nodes<T>(
     the_ways_rise_by_their_cuts();
     let mut all = Vec::new(setting.alloc);
     all.push(no_moves(setting.alloc))?;
+    let mut number = 0;
     for node in nodes.iter_mut() {
+        let place = NodePlace {
+            rule,
+            branch,
+            node: number,
+        };
+        let named = is_found(found, place);
         let own = all.len();
         let mut list = mem::replace(&mut lists[own], BTreeSet::new(setting.alloc));
         let moved = change_node(
@@ -56,11 +72,13 @@ pub(crate) fn change_nodes<T>(
             lists,
             all.as_slice(),
             &mut list,
+            named,
             change,
             meter,
         )?;
         lists[own] = list;
         all.push(moved)?;
+        number += 1;
     }
     Ok(all)
 }
@@ -83,11 +101,13 @@ fn change_node<T>(
     lists: &[BTreeSet<Partial>],
     moved: &[Moved],
     own: &mut BTreeSet<Partial>,
+    is_found: bool,
     change: &FactChange,
     meter: &mut Meter<T>,
 ) -> Result<Moved, NoMemory>
     requires base { IsFactBase setting.now.facts.now }
     requires made { IsMade change.now setting.now.facts.now }
+    requires found { is_found ≡ false → takes (fact_changed change.now) (flat_node node.old) ≡ false }
     requires below { NamesListsBelow (length moved.now) (flat_node node.old) }
     requires there { length moved.now ≤ length lists.now }
     ensures node { OnOk result (flat_node node.new ≡ flat_node node.old) }
@@ -105,6 +125,7 @@ fn change_node<T>(
             &lists[*from],
             &moved[*from],
             own,
+            is_found,
             change,
             meter,
         ),
@@ -130,6 +151,7 @@ fn change_node<T>(
             &lists[*from],
             &moved[*from],
             own,
+            is_found,
             change,
             meter,
         ),

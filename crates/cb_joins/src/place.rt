@@ -1,10 +1,10 @@
 //! A pattern of a branch, and what a change does at it.
-ghost use Rattle.std.specs.Prelude.{◌≡◌, ◌≤◌, ◌+◌, ◌*◌, ℕ, [], IfOk, List, OnOk, None, Some, length, true};
+ghost use Rattle.std.specs.Prelude.{◌≡◌, ◌≤◌, ◌+◌, ◌*◌, ℕ, [], IfOk, List, OnOk, None, Some, false, length, true};
 ghost use Rattle.std.specs.List.{list_any};
 ghost use Rattle.cb_facts.specs.FactLists.{IsFactBase, fact_at, with_fact, without_fact};
 ghost use Rattle.cb_facts.specs.Facts.{FactValue};
 ghost use Rattle.cb_fit.specs.Shapes.{loose};
-ghost use Rattle.cb_joins.specs.Internal.Changes.{IsMade, fact_added, facts_before};
+ghost use Rattle.cb_joins.specs.Internal.Changes.{IsMade, fact_added, fact_changed, facts_before};
 ghost use Rattle.cb_joins.specs.Internal.Flat.{begins, tests_of};
 ghost use Rattle.cb_joins.specs.Internal.Indexes.{HasIndex, index_fields};
 ghost use Rattle.cb_joins.specs.Internal.Nodes.{AreEnough, AreJoinFields, IsJoined, candidates_with, filed_facts, found_with};
@@ -12,7 +12,7 @@ ghost use Rattle.cb_joins.specs.Internal.Steps.{IsChanged, IsTaken, IsTakenWith,
 ghost use Rattle.cb_matches.specs.Chains.{In};
 ghost use Rattle.cb_matches.specs.Matches.{Partial};
 ghost use Rattle.cb_matches.specs.Order.{IsRising};
-ghost use Rattle.cb_partials.specs.Probes.{added_probes};
+ghost use Rattle.cb_partials.specs.Probes.{added_probes, is_candidate};
 
 use crate::fact_change::FactChange;
 use crate::index::{file_fact, file_facts, file_moved, unfile_fact};
@@ -30,18 +30,21 @@ use std::alloc::Global;
 use std::collections::BTreeSet;
 
 /// Changes the facts of a pattern. `before` is the list that it goes on from, as it is after the change, and `moved` what went from
-/// it and came to it; `own` is the list behind the pattern. The facts are those after the change.
+/// it and came to it; `own` is the list behind the pattern. A fact that is not found for the pattern has not its shape. The facts are
+/// those after the change.
 pub(crate) fn change_place<T>(
     setting: &Setting<'_>,
     place: &mut Place<T>,
     before: &BTreeSet<Partial>,
     moved: &Moved,
     own: &mut BTreeSet<Partial>,
+    is_found: bool,
     change: &FactChange,
     meter: &mut Meter<T>,
 ) -> Result<Moved, NoMemory>
     requires base { IsFactBase setting.now.facts.now }
     requires made { IsMade change.now setting.now.facts.now }
+    requires found { is_found ≡ false → is_candidate place.old.pattern (fact_changed change.now) ≡ false }
     ensures address { OnOk result (place.new.address ≡ place.old.address) }
     ensures pattern { OnOk result (place.new.pattern ≡ place.old.pattern) }
     ensures tests { OnOk result (tests_of place.new ≡ tests_of place.old) }
@@ -52,7 +55,9 @@ pub(crate) fn change_place<T>(
         place.old before.now.keys own.old.keys moved.now meter.old meter.new) }
 {
     match change {
-        FactChange::Assert(one) => assert_place(setting, place, before, moved, own, one, meter),
+        FactChange::Assert(one) => {
+            assert_place(setting, place, before, moved, own, is_found, one, meter)
+        }
         FactChange::Retract(one) => retract_place(setting, place, before, moved, own, one, meter),
     }
 }
@@ -64,11 +69,13 @@ fn assert_place<T>(
     before: &BTreeSet<Partial>,
     moved: &Moved,
     own: &mut BTreeSet<Partial>,
+    is_found: bool,
     one: &Indexed,
     meter: &mut Meter<T>,
 ) -> Result<Moved, NoMemory>
     requires base { IsFactBase setting.now.facts.now }
     requires there { fact_at setting.now.facts.now one.now.0 ≡ Some one.now.1 }
+    requires found { is_found ≡ false → is_candidate place.old.pattern one.now ≡ false }
     ensures address { OnOk result (place.new.address ≡ place.old.address) }
     ensures pattern { OnOk result (place.new.pattern ≡ place.old.pattern) }
     ensures tests { OnOk result (tests_of place.new ≡ tests_of place.old) }
@@ -83,7 +90,15 @@ fn assert_place<T>(
     file_candidates(setting.alloc, place, moved.come.as_slice())?;
     let mut gone = Vec::new(setting.alloc);
     take_gone(setting.alloc, before, moved, own, &mut gone)?;
-    let come = find_with(setting, place, before, moved.come.as_slice(), one, meter)?;
+    let come = find_with(
+        setting,
+        place,
+        before,
+        moved.come.as_slice(),
+        is_found,
+        one,
+        meter,
+    )?;
     add_all(own, come.as_slice())?;
     Ok(Moved { gone, come })
 }
@@ -107,8 +122,44 @@ fn take_gone(
     take_behind(own, moved.gone.as_slice(), gone)
 }
 
-/// Finds what comes behind a pattern where a fact is added, and keeps the fact if it has the shape.
+/// Finds what comes behind a pattern where a fact is added, and keeps the fact if it has the shape. Where the fact is not found for the
+/// pattern it has not, and isn't tested.
 fn find_with<T>(
+    setting: &Setting<'_>,
+    place: &mut Place<T>,
+    before: &BTreeSet<Partial>,
+    came: &[Partial],
+    is_found: bool,
+    one: &Indexed,
+    meter: &mut Meter<T>,
+) -> Result<Vec<Partial>, NoMemory>
+    requires { is_found ≡ false → is_candidate place.old.pattern one.now ≡ false }
+    ensures address { OnOk result (place.new.address ≡ place.old.address) }
+    ensures pattern { OnOk result (place.new.pattern ≡ place.old.pattern) }
+    ensures tests { OnOk result (tests_of place.new ≡ tests_of place.old) }
+    ensures loose { OnOk result (place.new.loose ≡ place.old.loose) }
+    ensures fields { OnOk result (AreJoinFields (index_fields place.old.index) place.old.address place.old.pattern
+        → AreJoinFields (index_fields place.new.index) place.old.address place.old.pattern) }
+    ensures candidates { OnOk result (place.old.loose ≡ loose place.old.pattern
+        → place.new.candidates.entries ≡ candidates_with place.old one.now) }
+    ensures index { OnOk result (place.old.loose ≡ loose place.old.pattern → fact_at place.old.candidates.entries one.now.0 ≡ None
+        → (ms : List Partial) → HasIndex place.old.index (filed_facts place.old) ms
+        → HasIndex place.new.index (filed_facts place.new) ms) }
+    ensures come { IfOk result (λ all. place.old.loose ≡ loose place.old.pattern → IsJoined place.old before.now.keys
+        → all.items ≡ found_with place.old one.now came.now before.now.keys) }
+    ensures probes { OnOk result (place.old.loose ≡ loose place.old.pattern → IsJoined place.old before.now.keys
+        → meter.new ≤ meter.old + (length came.now * length place.old.candidates.entries
+        + added_probes place.old.pattern (Some one.now.1) (length before.now.keys))) }
+{
+    if is_found {
+        find_tested(setting, place, before, came, one, meter)
+    } else {
+        find_without(setting, place, before, came, one, meter)
+    }
+}
+
+/// The same where it has to be tested.
+fn find_tested<T>(
     setting: &Setting<'_>,
     place: &mut Place<T>,
     before: &BTreeSet<Partial>,
@@ -140,6 +191,38 @@ fn find_with<T>(
     }
     join_fact(setting, place, one, before, &mut come, meter)?;
     add_candidate(setting.alloc, place, one)?;
+    Ok(come)
+}
+
+/// The same where the fact has not the shape.
+fn find_without<T>(
+    setting: &Setting<'_>,
+    place: &mut Place<T>,
+    before: &BTreeSet<Partial>,
+    came: &[Partial],
+    one: &Indexed,
+    meter: &mut Meter<T>,
+) -> Result<Vec<Partial>, NoMemory>
+    requires { is_candidate place.old.pattern one.now ≡ false }
+    ensures address { OnOk result (place.new.address ≡ place.old.address) }
+    ensures pattern { OnOk result (place.new.pattern ≡ place.old.pattern) }
+    ensures tests { OnOk result (tests_of place.new ≡ tests_of place.old) }
+    ensures loose { OnOk result (place.new.loose ≡ place.old.loose) }
+    ensures fields { OnOk result (AreJoinFields (index_fields place.old.index) place.old.address place.old.pattern
+        → AreJoinFields (index_fields place.new.index) place.old.address place.old.pattern) }
+    ensures candidates { OnOk result (place.old.loose ≡ loose place.old.pattern
+        → place.new.candidates.entries ≡ candidates_with place.old one.now) }
+    ensures index { OnOk result (place.old.loose ≡ loose place.old.pattern → fact_at place.old.candidates.entries one.now.0 ≡ None
+        → (ms : List Partial) → HasIndex place.old.index (filed_facts place.old) ms
+        → HasIndex place.new.index (filed_facts place.new) ms) }
+    ensures come { IfOk result (λ all. place.old.loose ≡ loose place.old.pattern → IsJoined place.old before.now.keys
+        → all.items ≡ found_with place.old one.now came.now before.now.keys) }
+    ensures probes { OnOk result (place.old.loose ≡ loose place.old.pattern → IsJoined place.old before.now.keys
+        → meter.new ≤ meter.old + (length came.now * length place.old.candidates.entries
+        + added_probes place.old.pattern (Some one.now.1) (length before.now.keys))) }
+{
+    let mut come = Vec::new(setting.alloc);
+    join(setting, place, came, &mut come, meter)?;
     Ok(come)
 }
 

@@ -28,3 +28,11 @@ returns-clause-lone g c is =
     let fits : has_way (ways lone.pattern f.1 no_bindings) ≡ true = search rules in
     let entries : c.insert.new.self.entries ≡ with_fact lone.candidates.entries f.0 f.1 = search rules in
     one_added lone lone' f (without_fact fs' f.0) fs' is refl added (ap (λ q. has_way (ways q f.1 no_bindings)) is.is_loose ∙ fits) entries
+
+pub returns-then-not-is_found-clause-lone : goal.returns-then-not-is_found-clause-lone
+returns-then-not-is_found-clause-lone g c is =
+    let fs' : IndexedFacts = c.args.setting.now.facts.now in
+    let f = c.args.one.now in
+    let lone = c.args.lone.now in
+    let added : Added f (without_fact fs' f.0) fs' = taken_fact f.0 f.1 fs' (rising_base fs' c.requires.base) c.requires.there in
+    none_added lone lone f (without_fact fs' f.0) fs' is refl added (c.requires.found c.if-not-is_found.true) refl

@@ -8,6 +8,7 @@ use Rattle.cb_facts.specs.FactLists.{IndexedFacts}
 use Rattle.cb_joins.proofs.Facts.{indices_before, indices_of, rising_base, rising_before}
 use Rattle.cb_joins.proofs.Concerned.{none_of_branch}
 use Rattle.cb_joins.proofs.Unasked.{branch_unasked, keys_unasked, nothing_told}
+use Rattle.cb_joins.specs.Internal.Asked.{AreNodesFound}
 use Rattle.cb_joins.specs.Internal.Changes.{fact_added, fact_changed, facts_before}
 use Rattle.cb_joins.specs.Internal.Flat.{FlatNode, flat_nodes, flat_probes}
 use Rattle.cb_matches.proofs.Lists.{chain_from_pairs, in_right}
@@ -111,3 +112,10 @@ returns-clause-probes g c =
     let bound : c.change_nodes.new.meter ≤ c.args.meter.now + flat_probes added fs' (branch_lists ns fs) (branch_lists ns fs') ns =
     subst (λ it. c.change_nodes.new.meter ≤ c.args.meter.now + flat_probes added fs' (branch_lists (flat_nodes it) fs) (branch_lists (flat_nodes it) fs') (flat_nodes it)) c.as_mut_slice.ensures.value c.in_ok-all.ensures.probes in
     let most = probes_within rise es fs fs' ns (indices_of fs rising) (indices_of fs' rising') c.requires.branch.planned.nodes added in omega (arith, most, bound)
+
+pub change_nodes-requires-clause-found : goal.change_nodes-requires-clause-found
+change_nodes-requires-clause-found g c =
+    let b = c.args.branch.now in
+    let f = fact_changed c.args.change.now in
+    subst (λ it. AreNodesFound f c.args.found.now c.args.rule c.args.number (flat_nodes it)) (sym c.as_mut_slice.ensures.value)
+    (subst (AreNodesFound f c.args.found.now c.args.rule c.args.number) (sym c.requires.branch.planned.nodes) c.requires.found)

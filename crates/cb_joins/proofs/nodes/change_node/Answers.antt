@@ -1,9 +1,11 @@
-use Rattle.std.proofs.Common.{◌≤◌, ◌+◌, subst, sym}
+use Rattle.std.proofs.Common.{◌≡◌, false, ◌≤◌, ◌+◌, subst, sym}
 use Rattle.cb_joins.proofs.Around.{before_group, before_lone, before_place, before_test}
 use Rattle.cb_joins.proofs.Results.{always, if_ok, on_ok}
-use Rattle.cb_joins.specs.Internal.Changes.{fact_added}
+use Rattle.cb_joins.specs.Internal.Asked.{takes}
+use Rattle.cb_joins.specs.Internal.Changes.{fact_added, fact_changed}
 use Rattle.cb_joins.specs.Internal.Flat.{flat_node, flat_probes_of}
 use Rattle.cb_joins.proofs.nodes.change_node.Goals as goal
+use Rattle.cb_joins.specs.declared.node.Node.{Node}
 
 pub returns-in-Pattern-clause-step : goal.returns-in-Pattern-clause-step
 returns-in-Pattern-clause-step g c =
@@ -60,3 +62,11 @@ returns-in-Alone-clause-probes g c =
     always c.change_lone.result
     (λ ws old new a.
     subst (λ it. c.change_lone.new.meter ≤ c.args.meter.now + flat_probes_of (fact_added c.args.change.now) c.args.setting.now.facts.now old new (flat_node it)) (sym c.in-Alone.is) c.change_lone.ensures.probes)
+
+pub change_place-requires-clause-found : goal.change_place-requires-clause-found
+change_place-requires-clause-found g c =
+    λ no. subst (λ (n : Node g.row.T.Denot). takes (fact_changed c.args.change.now) (flat_node n) ≡ false) c.in-Pattern.is (c.requires.found no)
+
+pub change_lone-requires-clause-found : goal.change_lone-requires-clause-found
+change_lone-requires-clause-found g c =
+    λ no. subst (λ (n : Node g.row.T.Denot). takes (fact_changed c.args.change.now) (flat_node n) ≡ false) c.in-Alone.is (c.requires.found no)

@@ -1,15 +1,18 @@
-use Rattle.std.proofs.Common.{◌≡◌, ◌∙◌, ◌++◌, ◌∷◌, [], ℕ, suc, ◌+◌, ◌<◌, List, ap, arith, get_or, length, refl, set, subst, sym}
+use Rattle.std.proofs.Common.{◌≡◌, ◌∙◌, ◌++◌, ◌∷◌, [], ℕ, suc, ◌+◌, ◌<◌, List, true, false, ap, arith, get_or, length, refl, set, subst, sym}
 use Rattle.std.proofs.Math.ListN.{length-set}
+use Rattle.std.proofs.lemmas.List.{get_or-map, length-map}
 use Rattle.std.specs.BTreeSet.{BTreeSet}
 use Rattle.cb_facts.specs.FactLists.{IndexedFacts}
 use Rattle.cb_joins.proofs.Facts.{indices_before, indices_of, rising_base}
 use Rattle.cb_joins.proofs.Steps.{ways_rise}
 use Rattle.cb_joins.proofs.Turns.{all_long_now, around, below, done_now, left_now, lists_done_now, lists_left_now, lists_long_now, moves_now, nothing_moves, stay_now, tests_now}
-use Rattle.cb_joins.specs.Internal.Changes.{Holds, IsMoved, fact_added, facts_before}
+use Rattle.cb_joins.specs.Internal.Asked.{node_at, takes}
+use Rattle.cb_joins.specs.Internal.Changes.{Holds, IsMoved, fact_added, fact_changed, facts_before}
 use Rattle.cb_joins.specs.Internal.Flat.{FlatNode, flat_node, flat_nodes}
 use Rattle.cb_joins.specs.Internal.Nodes.{HaveIndices, branch_lists}
 use Rattle.cb_joins.specs.Internal.Steps.{AreAround, IsStep, NamesListsBelow}
 use Rattle.cb_joins.specs.declared.moved.Moved.{Moved}
+use Rattle.cb_matches.specs.Chains.{In}
 use Rattle.cb_matches.specs.Order.{WaysRise}
 use Rattle.cb_matches.specs.Matches.{Partial, no_parts}
 use Rattle.cb_joins.proofs.nodes.change_nodes.Goals as goal
@@ -26,6 +29,7 @@ loop-node-init g c =
     let zero_is : (k : ℕ) → k < 1 → 0 ≡ k = λ k h. omega (arith, h) in
     let lists_long = kept.long in
     record {
+      place = refl;
       stay = refl;
       done = λ k d h. absurd (omega (arith, h));
       left = λ k d h j. c.requires.ready k d j;
@@ -93,7 +97,9 @@ loop-node-preserved g c =
     let probes = ensured.probes c.requires.whole.widths.0 (branch_lists ns fs) (branch_lists ns fs') a' in
     let lists' = set (set lists c.len-own.result none) c.len-own.result own' in
     let all_is : c.push-in-loop-node.new.self.items ≡ all ++ r ∷ [] = c.in_ok-push-2.ensures.items in
+    let counted : c.loop-node.number ≡ i = inv.place in
     record {
+      place = omega (arith, counted);
       stay = stay_now rise fs fs' indices indices' ns c.requires.whole nodes lists all i n l is inv.stay inv.lists_long inv.all_long inv.left inv.lists_done inv.lists_left inv.moves q own' none r ensured.node step inv.done;
       done = done_now rise fs fs' indices indices' ns c.requires.whole nodes lists all i n l is inv.stay inv.lists_long inv.all_long inv.left inv.lists_done inv.lists_left inv.moves q own' none r ensured.node step inv.done;
       left = λ k d h j. left_now rise fs fs' indices indices' ns c.requires.whole nodes lists all i n l is inv.stay inv.lists_long inv.all_long inv.left inv.lists_done inv.lists_left inv.moves q own' none r ensured.node step inv.done k d h (subst (λ it. k < it) (length-set nodes i q) j);
@@ -104,3 +110,21 @@ loop-node-preserved g c =
       moves = subst (λ it. (k : ℕ) (d : Moved) → k < suc (i + 1) → IsMoved (branch_lists ns fs k) (branch_lists ns fs' k) (get_or it k d)) (sym all_is) (moves_now rise fs fs' indices indices' ns c.requires.whole nodes lists all i n l is inv.stay inv.lists_long inv.all_long inv.left inv.lists_done inv.lists_left inv.moves q own' none r ensured.node step inv.done);
       tests = tests_now rise fs fs' indices indices' ns c.requires.whole nodes lists all i n l is inv.stay inv.lists_long inv.all_long inv.left inv.lists_done inv.lists_left inv.moves q own' none r ensured.node step inv.done (fact_added c.args.change.now) c.loop-node.meter c.change_node.new.meter _ inv.tests probes;
     }
+
+pub change_node-requires-clause-found : goal.change_node-requires-clause-found
+change_node-requires-clause-found g c =
+    λ no.
+    let f = fact_changed c.args.change.now in
+    let found = c.args.found.now in
+    let inv = c.loop-node.invariant in
+    let nodes = c.loop-node.nodes in
+    let i : ℕ = c.loop-node.node-index in
+    let n = c.node-item.result in
+    let l : i < length nodes = omega arith in
+    let counted : c.loop-node.number ≡ i = inv.place in
+    let long : length (flat_nodes c.args.nodes.now) ≡ length nodes = ap length (sym inv.stay) ∙ length-map nodes flat_node in
+    let is : get_or (flat_nodes c.args.nodes.now) i (flat_node n) ≡ flat_node (get_or nodes i n) =
+    ap (λ (ns : List FlatNode). get_or ns i (flat_node n)) (sym inv.stay) ∙ get_or-map flat_node nodes i n (flat_node n) l in
+    subst (λ it. takes f it ≡ false) is
+    (c.requires.found i (flat_node n) (omega (arith, l, long))
+    (λ there. let yes : true ≡ false = sym (c.is_found-named.ensures.1 (subst (λ k. In (node_at c.args.rule c.args.branch k) found) (sym counted) there)) ∙ no in cc))

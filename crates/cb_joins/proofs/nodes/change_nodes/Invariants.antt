@@ -14,6 +14,7 @@ invariant-loop-node g l =
     let fs' = l.setting.facts.now in
     let fs = facts_before l.change fs' in
     record {
+      place : l.number ≡ l.node-index;
       stay : flat_nodes l.nodes ≡ ns;
       done : (k : ℕ) (d : Node g.row.T.Denot) → k < l.node-index → IsReady fs' (branch_lists ns fs') (get_or l.nodes k d);
       left : (k : ℕ) (d : Node g.row.T.Denot) → l.node-index ≤ k → k < length l.nodes → IsReady fs (branch_lists ns fs) (get_or l.nodes k d);

@@ -1,4 +1,4 @@
-use Rattle.std.proofs.Common.{◌≡◌, ◌≤◌, ◌+◌, ◌*◌, ◌∙◌, [], List, None, Some, ap, length, rules, subst, sym}
+use Rattle.std.proofs.Common.{◌≡◌, ◌≤◌, ◌+◌, ◌*◌, ◌∙◌, [], List, None, Some, ap, false, length, rules, subst, sym}
 use Rattle.std.specs.List.{list_any}
 use Rattle.cb_facts.specs.FactLists.{IndexedFacts, fact_at, without_fact}
 use Rattle.cb_joins.proofs.Facts.{rising_base, taken_fact}
@@ -14,7 +14,7 @@ use Rattle.cb_joins.specs.declared.node.Place.{Place}
 use Rattle.cb_joins.specs.Internal.Steps.{IsTaken, IsWith}
 use Rattle.cb_matches.specs.Order.{IsRising, WaysRise}
 use Rattle.cb_matches.specs.Matches.{Partial}
-use Rattle.cb_partials.specs.Probes.{added_probes}
+use Rattle.cb_partials.specs.Probes.{added_probes, is_candidate}
 use Rattle.cb_joins.proofs.place.assert_place.Goals as goal
 
 pub returns-clause-after : goal.returns-clause-after
@@ -84,3 +84,7 @@ returns-clause-probes g c n old new b =
     (subst (λ it. c.find_with.new.meter ≤ c.args.meter.now + (length it * length c.args.place.now.candidates.entries + added_probes c.args.place.now.pattern (Some f.1) (length c.args.before.now.keys))) s2
     (subst (λ it. c.find_with.new.meter ≤ c.args.meter.now + (length c.as_slice-2.result.now * length c.args.place.now.candidates.entries + added_probes it (Some f.1) (length c.args.before.now.keys))) filed.pattern
     (subst (λ it. c.find_with.new.meter ≤ c.args.meter.now + (length c.as_slice-2.result.now * length it + added_probes place2.pattern (Some f.1) (length c.args.before.now.keys))) filed.candidates bound)))
+
+pub find_with-requires : goal.find_with-requires
+find_with-requires g c =
+    λ no. subst (λ p. is_candidate p c.args.one.now ≡ false) (sym c.in_ok-file_candidates.ensures.pattern) (c.requires.found no)

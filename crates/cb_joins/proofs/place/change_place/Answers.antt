@@ -1,9 +1,10 @@
-use Rattle.std.proofs.Common.{subst, sym}
+use Rattle.std.proofs.Common.{◌≡◌, false, subst, sym}
 use Rattle.std.specs.Result.{IfOk, OnOk}
-use Rattle.cb_joins.specs.Internal.Changes.{fact_added, facts_before}
+use Rattle.cb_joins.specs.Internal.Changes.{fact_added, fact_changed, facts_before}
 use Rattle.cb_joins.specs.Internal.Steps.{IsChanged, IsWithinProbes}
 use Rattle.cb_joins.specs.declared.fact_change.FactChange.{FactChange}
 use Rattle.cb_joins.proofs.place.change_place.Goals as goal
+use Rattle.cb_partials.specs.Probes.{is_candidate}
 
 pub returns-in-Assert-clause-after : goal.returns-in-Assert-clause-after
 returns-in-Assert-clause-after g c =
@@ -28,3 +29,7 @@ returns-in-Retract-clause-probes g c =
     let fs' = c.args.setting.now.facts.now in
     subst (λ (it : FactChange). OnOk c.retract_place.result (IsWithinProbes (fact_added it) (facts_before it fs') fs'
     c.args.place.now c.args.before.now.keys c.args.own.now.keys c.args.moved.now c.args.meter.now c.retract_place.new.meter)) (sym c.in-Retract.is) c.retract_place.ensures.probes
+
+pub assert_place-requires-clause-found : goal.assert_place-requires-clause-found
+assert_place-requires-clause-found g c =
+    λ no. subst (λ (it : FactChange). is_candidate c.args.place.now.pattern (fact_changed it) ≡ false) c.in-Assert.is (c.requires.found no)
