@@ -7,11 +7,14 @@ use Rattle.cb_facts.specs.FactLists.{IndexedFacts, fact_at, with_fact, without_f
 use Rattle.cb_facts.specs.Facts.{FactValue}
 use Rattle.cb_fit.specs.Shapes.{has_shape, has_way, loose}
 use Rattle.cb_fit.specs.Ways.{WayValue, ways}
-use Rattle.cb_joins.proofs.Facts.{added_fact, left_in, rising_with, rising_without}
-use Rattle.cb_joins.proofs.Patterns.{free_among, other_without, shape_of_way, without_other}
-use Rattle.cb_joins.specs.Internal.Changes.{Added, Holds, IsMoved}
-use Rattle.cb_joins.specs.Internal.Flat.{holds_alone, holds_by}
-use Rattle.cb_joins.specs.Internal.Nodes.{IsLone, Shapeless, any_there}
+use Rattle.cb_nodes.proofs.Facts.{added_fact, left_in, rising_with, rising_without}
+use Rattle.cb_joins.proofs.Patterns.{free_among, other_without, without_other}
+use Rattle.cb_nodes.proofs.Shapes.{shape_of_way}
+use Rattle.cb_nodes.specs.Changes.{Added, Holds}
+use Rattle.cb_joins.specs.Internal.Changes.{IsMoved}
+use Rattle.cb_nodes.specs.Flat.{holds_alone, holds_by}
+use Rattle.cb_joins.specs.Internal.Nodes.{IsLone, any_there}
+use Rattle.cb_nodes.specs.Patterns.{Shapeless}
 use Rattle.cb_joins.specs.declared.moved.Moved.{Moved}
 use Rattle.cb_joins.specs.declared.node.Lone.{Lone}
 use Rattle.cb_matches.proofs.Growth.{Fact, in_next, is_grown}

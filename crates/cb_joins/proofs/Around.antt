@@ -4,10 +4,13 @@ use Rattle.std.specs.BTreeSet.{BTreeSet}
 use Rattle.cb_exprs.specs.Terms.{term_of}
 use Rattle.cb_exprs.specs.declared.expr.Expr.{Expr}
 use Rattle.cb_facts.specs.FactLists.{IndexedFacts}
-use Rattle.cb_joins.specs.Internal.Changes.{Holds, IsMoved}
-use Rattle.cb_joins.specs.Internal.Flat.{Lists, flat_node}
-use Rattle.cb_joins.specs.Internal.Nodes.{HaveParts}
-use Rattle.cb_joins.specs.Internal.Steps.{AreAround, IsBefore, IsLoneBefore, NamesListsBelow, group_with}
+use Rattle.cb_nodes.specs.Changes.{Holds}
+use Rattle.cb_joins.specs.Internal.Changes.{IsMoved}
+use Rattle.cb_nodes.specs.Flat.{Lists}
+use Rattle.cb_joins.specs.Internal.Flat.{flat_node}
+use Rattle.cb_nodes.specs.Lists.{HaveParts}
+use Rattle.cb_joins.specs.Internal.Steps.{AreAround, IsBefore, IsLoneBefore}
+use Rattle.cb_nodes.specs.Lists.{NamesListsBelow, group_with}
 use Rattle.cb_joins.specs.declared.moved.Moved.{Moved}
 use Rattle.cb_joins.specs.declared.node.Lone.{Lone}
 use Rattle.cb_joins.specs.declared.node.Node.{Node}

@@ -7,10 +7,11 @@ use Rattle.cb_joins.proofs.Beginnings.{in_some}
 use Rattle.cb_joins.proofs.Groups.{begins_itself, whole_beginning}
 use Rattle.cb_joins.proofs.IndexLists.{all_pass}
 use Rattle.cb_joins.proofs.Pieces.{none_pass}
-use Rattle.cb_joins.specs.Internal.Changes.{Holds, PartialMoves}
-use Rattle.cb_joins.specs.Internal.Flat.{begins}
-use Rattle.cb_joins.specs.Internal.Nodes.{HaveParts}
-use Rattle.cb_joins.specs.Internal.Steps.{IsSettled, IsTaken, IsWith, beginnings}
+use Rattle.cb_nodes.specs.Changes.{Holds, PartialMoves}
+use Rattle.cb_nodes.specs.Flat.{begins}
+use Rattle.cb_nodes.specs.Lists.{HaveParts}
+use Rattle.cb_joins.specs.Internal.Steps.{IsSettled, IsTaken, IsWith}
+use Rattle.cb_nodes.specs.Lists.{beginnings}
 use Rattle.cb_matches.specs.Keys.{PartValue}
 use Rattle.cb_matches.proofs.Lists.{chain_append, chain_filter, filter_in, in_either, in_filter, in_left, in_map, in_right}
 use Rattle.cb_matches.specs.Chains.{In}

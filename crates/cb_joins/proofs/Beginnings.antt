@@ -4,8 +4,8 @@ use Rattle.std.proofs.Math.Seq.{take-append_seam}
 use Rattle.std.proofs.lemmas.List.{take-append-drop}
 use Rattle.std.specs.List.{list_any}
 use Rattle.cb_joins.proofs.Deltas.{or_second, parts_Decides}
-use Rattle.cb_joins.proofs.Origins.{Begins}
-use Rattle.cb_joins.specs.Internal.Flat.{begins}
+use Rattle.cb_nodes.proofs.Origins.{Begins}
+use Rattle.cb_nodes.specs.Flat.{begins}
 use Rattle.cb_matches.specs.Keys.{PartValue}
 use Rattle.cb_matches.proofs.Lists.{by_test}
 use Rattle.cb_matches.specs.Chains.{In}

@@ -3,10 +3,10 @@ use Rattle.std.proofs.Common.{◌≡◌, ℕ, ◌||◌, Bool, true, false, List,
 use Rattle.std.specs.Bool.{Decides}
 use Rattle.std.specs.List.{list_any}
 use Rattle.cb_facts.specs.FactLists.{IndexedFacts}
-use Rattle.cb_joins.specs.Internal.Flat.{begins, holds_by}
+use Rattle.cb_nodes.specs.Flat.{begins, holds_by}
 use Rattle.cb_joins.proofs.Beginnings.{begins_to, to_begins}
-use Rattle.cb_joins.proofs.Origins.{Begins, more_all, of_that_alone, only_one, origin_all}
-use Rattle.cb_joins.specs.Internal.Nodes.{HaveParts}
+use Rattle.cb_nodes.proofs.Origins.{Begins, more_all, of_that_alone, only_one, origin_all}
+use Rattle.cb_nodes.specs.Lists.{HaveParts}
 use Rattle.cb_matches.specs.Keys.{PartValue}
 use Rattle.cb_matches.proofs.Lists.{filter_in, in_filter}
 use Rattle.cb_matches.specs.Chains.{AreSame, In}

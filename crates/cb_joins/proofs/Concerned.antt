@@ -10,7 +10,8 @@ use Rattle.cb_asked.specs.declared.node_place.NodePlace.{NodePlace}
 use Rattle.cb_constraints.specs.PatternValues.{PatternValue}
 use Rattle.cb_fit.specs.Shapes.{has_shape}
 use Rattle.cb_joins.specs.Internal.Asked.{AreAllFound, AreBranchNodesEntered, AreBranchesFound, AreEntered, AreNodesEntered, AreNodesFound, IsNodeEntered, IsRuleEntered, IsUnconcerned, LosesRule, NoneTakes, node_at, takes}
-use Rattle.cb_joins.specs.Internal.Flat.{FlatNode, alone, branch_nodes, flat_node, flat_nodes, grouping, joining, testing}
+use Rattle.cb_nodes.specs.Flat.{FlatNode, alone, branch_nodes, grouping, joining, testing}
+use Rattle.cb_joins.specs.Internal.Flat.{flat_node, flat_nodes}
 use Rattle.cb_joins.specs.Internal.Rules.{CanBeFilled, IsPlanned, branch_elements, kept_branches}
 use Rattle.cb_joins.specs.declared.branch.Branch.{Branch}
 use Rattle.cb_matches.proofs.Growth.{Fact}

@@ -4,12 +4,12 @@ use Rattle.std.proofs.lemmas.Bool.Decides.{Decides-eqb}
 use Rattle.std.specs.Bool.{Decides}
 use Rattle.std.specs.Cmp.Lexicographic.{pointwise, pointwise_decides}
 use Rattle.std.specs.List.{list_any}
-use Rattle.cb_joins.specs.Internal.Changes.{PartialMoves}
+use Rattle.cb_nodes.specs.Changes.{PartialMoves}
 use Rattle.cb_joins.specs.Internal.Keys.{key_of}
 use Rattle.cb_matches.specs.Chains.{AreSame, In}
 use Rattle.cb_partials.specs.Probes.{has_parts}
 use Rattle.cb_matches.proofs.Lists.{by_test, filter_in, in_filter, in_map, map_in}
-use Rattle.cb_joins.proofs.Steps.{and_both, and_first, and_second, not_true}
+use Rattle.cb_nodes.proofs.Grown.{and_both, and_first, and_second, not_true}
 use Rattle.cb_matches.specs.Changes.{come_of}
 use Rattle.cb_matches.specs.Keys.{KeyValue, PartValue, key_eq, part_eq}
 use Rattle.cb_matches.specs.Matches.{Partial}

@@ -4,16 +4,20 @@ use Rattle.std.specs.BTreeSet.{BTreeSet}
 use Rattle.std.specs.List.Sorted.{IsStrictlySortedBy}
 use Rattle.cb_facts.specs.FactLists.{IndexedFacts}
 use Rattle.cb_facts.specs.Facts.{FactValue}
-use Rattle.cb_joins.proofs.Facts.{indices_of}
+use Rattle.cb_nodes.proofs.Facts.{indices_of}
 use Rattle.cb_joins.proofs.Flat.{branch_lists as lists_made}
 use Rattle.cb_joins.proofs.FlatProbes.{branch_probes_within}
 use Rattle.cb_joins.proofs.Last.{last_is}
 use Rattle.cb_joins.proofs.Named.{last_below, long_flat_all}
 use Rattle.cb_joins.proofs.Ordered.{in_one_order, sorted_matches}
 use Rattle.cb_joins.proofs.Widths.{branch_widths}
-use Rattle.cb_joins.specs.Internal.Changes.{Holds, IsMoved}
-use Rattle.cb_joins.specs.Internal.Flat.{FlatNode, branch_last, branch_nodes, flat_nodes, flat_probes, widths_of}
-use Rattle.cb_joins.specs.Internal.Nodes.{AreKept, AreMoved, AreWhole, HaveIndices, branch_lists}
+use Rattle.cb_nodes.specs.Changes.{Holds}
+use Rattle.cb_joins.specs.Internal.Changes.{IsMoved}
+use Rattle.cb_nodes.specs.Flat.{FlatNode, branch_last, branch_nodes, flat_probes, widths_of}
+use Rattle.cb_joins.specs.Internal.Flat.{flat_nodes}
+use Rattle.cb_joins.specs.Internal.Nodes.{AreKept, AreMoved}
+use Rattle.cb_nodes.specs.Lists.{AreWhole, branch_lists}
+use Rattle.cb_nodes.specs.Patterns.{HaveIndices}
 use Rattle.cb_joins.specs.Internal.Rules.{IsBranch, IsPlanned, branch_elements, keys_at}
 use Rattle.cb_joins.specs.declared.branch.Branch.{Branch}
 use Rattle.cb_joins.specs.declared.moved.Moved.{Moved}

@@ -13,15 +13,18 @@ use Rattle.cb_facts.specs.Facts.{FactValue}
 use Rattle.cb_fit.specs.Shapes.{has_way, loose}
 use Rattle.cb_fit.specs.Ways.{WayValue, ways}
 use Rattle.cb_joins.proofs.Ends.{keys_before, keys_got, keys_last}
-use Rattle.cb_joins.proofs.Facts.{put}
+use Rattle.cb_nodes.proofs.Facts.{put}
 use Rattle.cb_joins.proofs.Flat.{list_local}
 use Rattle.cb_joins.proofs.Named.{IsBelow, at_each}
 use Rattle.cb_joins.proofs.Ordered.{lists_are_sorted, once_of_sorted, start_is_sorted}
 use Rattle.cb_joins.proofs.Widths.{below_by_widths}
-use Rattle.cb_joins.specs.Internal.Flat.{FlatNode, Lists, alone, flat_node, flat_nodes, grouping, joining, node_list, testing}
-use Rattle.cb_joins.specs.Internal.Nodes.{AreKept, AreWhole, IsPlace, IsReady, Shapeless, branch_lists}
+use Rattle.cb_nodes.specs.Flat.{FlatNode, Lists, alone, grouping, joining, node_list, testing}
+use Rattle.cb_joins.specs.Internal.Flat.{flat_node, flat_nodes}
+use Rattle.cb_joins.specs.Internal.Nodes.{AreKept, IsPlace, IsReady}
+use Rattle.cb_nodes.specs.Lists.{AreWhole, branch_lists}
+use Rattle.cb_nodes.specs.Patterns.{Shapeless}
 use Rattle.cb_joins.specs.Internal.Rules.{keys_at}
-use Rattle.cb_joins.specs.Internal.Steps.{NamesListsBelow}
+use Rattle.cb_nodes.specs.Lists.{NamesListsBelow}
 use Rattle.cb_joins.specs.declared.node.Node.{Node}
 use Rattle.cb_joins.specs.declared.node.Node.TheVariants as node
 use Rattle.cb_matches.proofs.Growth.{Fact}

@@ -3,7 +3,7 @@ use Rattle.std.proofs.Common.{◌≡◌, ℕ, zero, suc, ◌+◌, ◌<◌, List,
 use Rattle.std.specs.List.{list_any}
 use Rattle.std.specs.Prelude.{slice_index_or}
 use Rattle.cb_facts.specs.FactLists.{IndexedFacts}
-use Rattle.cb_joins.specs.Internal.Flat.{AreLists, FlatNode, Lists, alone, begins, branch_nodes, grouping, holds_alone, holds_by, joining, lists_from, lists_of, next_where, node_list, testing}
+use Rattle.cb_nodes.specs.Flat.{AreLists, FlatNode, Lists, alone, begins, branch_nodes, grouping, holds_alone, holds_by, joining, lists_from, lists_of, next_where, node_list, testing}
 use Rattle.cb_joins.proofs.Named.{AllAt, IsBelow, at_each, below_all, from_each}
 use Rattle.cb_matches.specs.Matches.{Partial, test_holds}
 use Rattle.cb_rules.specs.Elements.{Elements}

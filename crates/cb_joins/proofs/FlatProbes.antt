@@ -3,8 +3,8 @@ use Rattle.std.proofs.Common.{◌≡◌, ◌≤◌, ℕ, suc, ◌+◌, Bool, tru
 use Rattle.cb_constraints.specs.PatternValues.{PatternValue}
 use Rattle.cb_facts.specs.FactLists.{IndexedFacts}
 use Rattle.cb_facts.specs.Facts.{FactValue}
-use Rattle.cb_joins.specs.Internal.Flat.{AreLists, FlatNode, Lists, branch_nodes, count_inside, flat_all, flat_probes, flat_probes_of, group_node, joining, last_list, lists_of, lone_pattern, node_count, nodes_inside, tests_first}
-use Rattle.cb_joins.specs.Internal.Nodes.{HaveIndices}
+use Rattle.cb_nodes.specs.Flat.{AreLists, FlatNode, Lists, branch_nodes, count_inside, flat_all, flat_probes, flat_probes_of, group_node, joining, last_list, lists_of, lone_pattern, node_count, nodes_inside, tests_first}
+use Rattle.cb_nodes.specs.Patterns.{HaveIndices}
 use Rattle.cb_joins.proofs.Named.{AllAt, all_first, all_second, place_behind}
 use Rattle.cb_joins.proofs.Flat.{MakeLists, branch_lists, each_made}
 use Rattle.cb_joins.proofs.Last.{GoOn, behind_folded, behind_node, behind_pattern, behind_test, inside_group, last_of_all, start_has_no_parts, start_is_once, starts_from}

@@ -5,16 +5,17 @@ use Rattle.std.proofs.Math.Seq.{take-append_seam, take-length}
 use Rattle.std.proofs.lemmas.List.{append-nil}
 use Rattle.std.specs.List.{list_any}
 use Rattle.cb_joins.proofs.Beginnings.{begins_to, in_some, some_in, to_begins, true_false}
-use Rattle.cb_joins.proofs.Origins.{Begins, one_by_parts, same_begin}
+use Rattle.cb_nodes.proofs.Origins.{Begins, one_by_parts, same_begin}
 use Rattle.cb_joins.proofs.Moves.{Leaves, leaves_apart}
 use Rattle.cb_joins.proofs.Deltas.{any_parts, parts_any}
-use Rattle.cb_joins.proofs.Steps.{not_true}
-use Rattle.cb_joins.specs.Internal.Changes.{Holds, PartialMoves}
-use Rattle.cb_joins.specs.Internal.Flat.{begins, holds_by}
+use Rattle.cb_nodes.proofs.Grown.{not_true}
+use Rattle.cb_nodes.specs.Changes.{Holds, PartialMoves}
+use Rattle.cb_nodes.specs.Flat.{begins, holds_by}
 use Rattle.cb_joins.specs.Internal.Memories.{IsAdded}
-use Rattle.cb_joins.specs.Internal.Nodes.{HaveParts}
+use Rattle.cb_nodes.specs.Lists.{HaveParts}
 use Rattle.cb_partials.specs.Probes.{has_parts}
-use Rattle.cb_joins.specs.Internal.Steps.{IsSettled, beginnings, group_with}
+use Rattle.cb_joins.specs.Internal.Steps.{IsSettled}
+use Rattle.cb_nodes.specs.Lists.{beginnings, group_with}
 use Rattle.cb_joins.specs.declared.moved.Moved.{Moved}
 use Rattle.cb_matches.specs.Keys.{PartValue}
 use Rattle.cb_matches.proofs.Lists.{by_test, chain_append, chain_filter, filter_in, in_either, in_filter, in_left, in_right, map_in}

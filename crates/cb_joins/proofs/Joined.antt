@@ -19,9 +19,11 @@ use Rattle.cb_fit.specs.declared.join_fields.JoinField.{JoinField}
 use Rattle.cb_functions.specs.Comparison.{same}
 use Rattle.cb_joins.proofs.Beginnings.{true_false}
 use Rattle.cb_joins.specs.Internal.Changes.{IsMoved}
-use Rattle.cb_joins.specs.Internal.Flat.{all_hold, next_where, tests_of}
+use Rattle.cb_nodes.specs.Flat.{all_hold, next_where}
+use Rattle.cb_joins.specs.Internal.Flat.{tests_of}
 use Rattle.cb_joins.specs.Internal.Indexes.{HasIndex, IsIndex, KeepsFields, are_values, binds_values, field_values, has_values, index_fields, variable_values, with_first}
-use Rattle.cb_joins.specs.Internal.Nodes.{AreEnough, AreFound, AreJoinFields, FieldsAgree, IsJoined, candidates_with, filed_facts, found_with}
+use Rattle.cb_joins.specs.Internal.Nodes.{AreEnough, AreFound, IsJoined, candidates_with, filed_facts, found_with}
+use Rattle.cb_nodes.specs.Patterns.{AreJoinFields, FieldsAgree}
 use Rattle.cb_joins.specs.declared.index.Index.{Index}
 use Rattle.cb_joins.specs.declared.moved.Moved.{Moved}
 use Rattle.cb_joins.specs.declared.node.Place.{Place}

@@ -5,13 +5,14 @@ use Rattle.std.specs.Prelude.{slice_index_or}
 use Rattle.cb_constraints.specs.PatternValues.{PatternValue}
 use Rattle.cb_exprs.specs.Terms.{Term}
 use Rattle.cb_facts.specs.FactLists.{IndexedFacts}
-use Rattle.cb_joins.specs.Internal.Flat.{AreLists, FlatNode, Lists, all_hold, alone, begins, branch_last, branch_nodes, count_inside, flat_all, group_node, grouping, holds_alone, holds_by, joining, last_list, lists_from, lists_of, lone_pattern, next_where, node_count, node_list, nodes_inside, testing, tests_first}
-use Rattle.cb_joins.specs.Internal.Nodes.{HaveIndices, HaveParts}
+use Rattle.cb_nodes.specs.Flat.{AreLists, FlatNode, Lists, all_hold, alone, begins, branch_last, branch_nodes, count_inside, flat_all, group_node, grouping, holds_alone, holds_by, joining, last_list, lists_from, lists_of, lone_pattern, next_where, node_count, node_list, nodes_inside, testing, tests_first}
+use Rattle.cb_nodes.specs.Patterns.{HaveIndices}
+use Rattle.cb_nodes.specs.Lists.{HaveParts}
 use Rattle.cb_joins.proofs.Begun.{group_by_any}
 use Rattle.cb_joins.proofs.Deltas.{same_test}
 use Rattle.cb_joins.proofs.InOrder.{once_one}
 use Rattle.cb_joins.proofs.Lone.{lone_elements}
-use Rattle.cb_joins.proofs.Origins.{long_filter, long_pattern}
+use Rattle.cb_nodes.proofs.Origins.{long_filter, long_pattern}
 use Rattle.cb_joins.proofs.Named.{AllAt, all_first, all_second, place_behind}
 use Rattle.cb_joins.proofs.Flat.{MakeLists, branch_lists, each_made}
 use Rattle.cb_matches.specs.Chains.{AreSame}

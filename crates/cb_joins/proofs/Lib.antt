@@ -5,7 +5,6 @@ mod AtOnce
 mod Beginnings
 mod Begun
 mod Concerned
-mod Counts
 mod Deltas
 mod Dropped
 mod Ends
@@ -31,7 +30,6 @@ mod Networks
 mod Numbered
 mod OneMore
 mod Ordered
-mod Origins
 mod Patterns
 mod Pieces
 mod Planned
@@ -40,7 +38,6 @@ mod Reached
 mod Results
 mod Skipped
 mod Sorting
-mod Steps
 mod Takings
 mod TakenOut
 mod Tested

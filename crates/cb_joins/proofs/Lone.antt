@@ -2,7 +2,7 @@
 use Rattle.std.proofs.Common.{◌≡◌, ◌∷◌, ℕ, Bool, true, false, List, [], Option, Some, None, cond, is_some, length, map, refl, ap, subst, sym}
 use Rattle.cb_constraints.specs.PatternValues.{PatternValue}
 use Rattle.cb_fit.specs.StandsAlone.{stands_alone}
-use Rattle.cb_joins.specs.Internal.Flat.{FlatNode, count_inside, group_node, lone_pattern, nodes_inside, node_width}
+use Rattle.cb_nodes.specs.Flat.{FlatNode, count_inside, group_node, lone_pattern, nodes_inside, node_width}
 use Rattle.cb_matches.proofs.Lists.{by_test}
 use Rattle.cb_rules.specs.Elements.{Element, pattern, test, group, Elements, elements, no_elements, element}
 

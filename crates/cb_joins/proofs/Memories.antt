@@ -11,7 +11,7 @@ use Rattle.std.specs.List.Sorted.{IsStrictlySortedBy}
 use Rattle.std.specs.Option.{option_map_or}
 use Rattle.std.specs.Ordering.{match_ordering, ordering_reverse, ordering_then}
 use Rattle.cb_joins.proofs.Pieces.{IsPiece, false_true, first_passing, less_in, passing}
-use Rattle.cb_joins.specs.Internal.Flat.{begins}
+use Rattle.cb_nodes.specs.Flat.{begins}
 use Rattle.cb_matches.specs.Internal.KeyLaws.{part_equiv, part_tied, part_total}
 use Rattle.cb_joins.specs.Internal.Memories.{IsAdded, IsFound, begins_as, first_part}
 use Rattle.cb_partials.specs.Internal.PartialLaws.{partial_tied, partial_total}

@@ -8,10 +8,12 @@ use Rattle.cb_exprs.specs.Bindings.{no_bindings}
 use Rattle.cb_facts.specs.FactLists.{IndexedFacts, fact_at}
 use Rattle.cb_fit.specs.Shapes.{loose}
 use Rattle.cb_fit.specs.Ways.{ways}
-use Rattle.cb_joins.proofs.Facts.{none_of_some}
-use Rattle.cb_joins.proofs.Patterns.{empty, no_way_without_shape, not_at}
+use Rattle.cb_nodes.proofs.Facts.{none_of_some}
+use Rattle.cb_nodes.proofs.Shapes.{empty, no_way_without_shape}
+use Rattle.cb_joins.proofs.Patterns.{not_at}
 use Rattle.cb_joins.specs.Internal.Memories.{begins_with}
-use Rattle.cb_joins.specs.Internal.Nodes.{AreEnough, IsPlace, Shapeless}
+use Rattle.cb_joins.specs.Internal.Nodes.{AreEnough, IsPlace}
+use Rattle.cb_nodes.specs.Patterns.{Shapeless}
 use Rattle.cb_joins.specs.Internal.Steps.{IsTaken}
 use Rattle.cb_joins.specs.declared.node.Place.{Place}
 use Rattle.cb_matches.proofs.Growth.{Fact}

@@ -2,7 +2,7 @@
 use Rattle.std.proofs.Common.{◌≡◌, ℕ, zero, suc, ◌+◌, ◌<◌, Bool, true, false, List, [], ◌∷◌, ◌++◌, Option, Some, None, length, refl, ◌∙◌, ap, ap₂, subst, arith}
 use Rattle.std.proofs.lemmas.List.{length-append}
 use Rattle.std.specs.Prelude.{slice_index_or}
-use Rattle.cb_joins.specs.Internal.Flat.{FlatNode, alone, branch_last, branch_nodes, count_inside, flat_all, group_node, grouping, joining, last_list, lone_pattern, node_count, nodes_inside, testing}
+use Rattle.cb_nodes.specs.Flat.{FlatNode, alone, branch_last, branch_nodes, count_inside, flat_all, group_node, grouping, joining, last_list, lone_pattern, node_count, nodes_inside, testing}
 use Rattle.cb_joins.proofs.Lone.{long_inside}
 use Rattle.cb_constraints.specs.PatternValues.{PatternValue}
 use Rattle.cb_rules.specs.Elements.{pattern, test, group, Elements, no_elements, element}

@@ -10,7 +10,7 @@ use Rattle.cb_facts.specs.FactLists.{IndexedFacts}
 use Rattle.cb_joins.proofs.InOrder.{sorted_all}
 use Rattle.cb_joins.proofs.Pieces.{less_in}
 use Rattle.cb_joins.proofs.Widths.{up_to}
-use Rattle.cb_joins.specs.Internal.Flat.{AreLists, AreWidths, FlatNode, IsWell, Lists, all_hold, alone, begins, grouping, holds_alone, holds_by, joining, node_list, testing}
+use Rattle.cb_nodes.specs.Flat.{AreLists, AreWidths, FlatNode, IsWell, Lists, all_hold, alone, begins, grouping, holds_alone, holds_by, joining, node_list, testing}
 use Rattle.cb_joins.specs.Internal.Steps.{IsWith}
 use Rattle.cb_matches.proofs.Growth.{sorted_next}
 use Rattle.cb_matches.proofs.Lists.{chain_filter, chain_weaker, one_chain}

@@ -12,27 +12,30 @@ use Rattle.std.specs.List.{list_any}
 use Rattle.std.specs.Option.{option_map_or}
 use Rattle.std.specs.Ordering.{nat_cmp}
 use Rattle.cb_constraints.specs.PatternValues.{PatternValue}
-use Rattle.cb_exprs.specs.Bindings.{Bindings, no_bindings}
 use Rattle.cb_exprs.specs.Terms.{Term}
 use Rattle.cb_facts.specs.FactLists.{IndexedFacts, fact_at, with_fact, without_fact}
 use Rattle.cb_facts.specs.Facts.{FactValue}
-use Rattle.cb_fit.specs.Shapes.{has_way, loose}
-use Rattle.cb_fit.specs.Ways.{WayValue, ways}
+use Rattle.cb_fit.specs.Shapes.{loose}
 use Rattle.cb_joins.proofs.AtOnce.{all_lost}
 use Rattle.cb_joins.proofs.Beginnings.{begins_to, in_some, some_in, to_begins, true_false}
-use Rattle.cb_joins.proofs.Origins.{same_begin}
-use Rattle.cb_joins.proofs.Counts.{as_long, same_length}
+use Rattle.cb_nodes.proofs.Origins.{same_begin}
+use Rattle.cb_nodes.proofs.Counts.{as_long, same_length}
 use Rattle.cb_joins.proofs.Deltas.{any_parts, parts_any}
-use Rattle.cb_joins.proofs.Facts.{added_fact, indices_of, left_in, looked, none_of_some, put, rising_with, rising_without}
+use Rattle.cb_nodes.proofs.Facts.{added_fact, indices_of, left_in, looked, none_of_some, put, rising_with, rising_without}
 use Rattle.cb_joins.proofs.Joined.{joined_moved}
-use Rattle.cb_joins.proofs.Moves.{behind, fact_more, first_leaves, held_after, leaves_apart, Leaves, place_moves, second_leaves, swapped}
-use Rattle.cb_joins.proofs.Steps.{and_both, and_second, moved as moved_in, not_true, regrown, same_parents}
-use Rattle.cb_joins.specs.Internal.Changes.{Added, Holds, IsMoved, PartialMoves, index_of_fact}
-use Rattle.cb_joins.specs.Internal.Flat.{all_hold, begins, next_where, tests_of}
+use Rattle.cb_nodes.proofs.Moves.{behind, fact_more, place_moves, swapped}
+use Rattle.cb_joins.proofs.Moves.{first_leaves, held_after, leaves_apart, Leaves, second_leaves}
+use Rattle.cb_nodes.proofs.Grown.{and_both, and_second, moved as moved_in, not_true, regrown, same_parents}
+use Rattle.cb_nodes.specs.Changes.{Added, Holds, PartialMoves, index_of_fact}
+use Rattle.cb_joins.specs.Internal.Changes.{IsMoved}
+use Rattle.cb_nodes.specs.Flat.{all_hold, begins, next_where}
+use Rattle.cb_joins.specs.Internal.Flat.{tests_of}
 use Rattle.cb_joins.specs.Internal.Indexes.{HasIndex, KeepsFields, index_fields}
 use Rattle.cb_joins.specs.Internal.Memories.{begins_with, ends_with}
-use Rattle.cb_joins.specs.Internal.Nodes.{AreEnough, AreJoinFields, IsJoined, Shapeless, candidates_with, filed_facts, found_with}
-use Rattle.cb_joins.specs.Internal.Steps.{IsAfter, IsBefore, IsTaken, IsTakenWith, IsWith, pattern_probes}
+use Rattle.cb_joins.specs.Internal.Nodes.{AreEnough, IsJoined, candidates_with, filed_facts, found_with}
+use Rattle.cb_nodes.specs.Patterns.{AreJoinFields, Shapeless}
+use Rattle.cb_joins.specs.Internal.Steps.{IsAfter, IsBefore, IsTaken, IsTakenWith, IsWith}
+use Rattle.cb_nodes.specs.Patterns.{pattern_probes}
 use Rattle.cb_joins.specs.declared.index.Index.{Index}
 use Rattle.cb_joins.specs.declared.moved.Moved.{Moved}
 use Rattle.cb_joins.specs.declared.node.Place.{Place}
@@ -45,18 +48,7 @@ use Rattle.cb_matches.specs.Order.{IsApart, IsOnce, IsRising, WaysRise}
 use Rattle.cb_matches.proofs.PartOrder.{part}
 use Rattle.cb_matches.specs.Matches.{Partial, next}
 use Rattle.cb_partials.specs.Probes.{added_probes, has_parts, is_candidate, partials_come, partials_kept}
-
-pub empty : (ws : List WayValue) → has_way ws ≡ false → ws ≡ []
-empty [] e = refl
-empty (v ∷ ws) e = cc
-
--- a fact without the shape has no way
-pub no_way_without_shape : Shapeless → (p : PatternValue) (f : Fact) (env : Bindings) → is_candidate p f ≡ false → (w : WayValue) → In w (ways p f.1 env) → ⊥
-no_way_without_shape shapeless p f env none w h =
-    subst (λ it. In w it) (shapeless p f.1 env no_bindings (empty (ways (loose p) f.1 no_bindings) none)) h
-
-pub shape_of_way : Shapeless → (p : PatternValue) (f : Fact) (env : Bindings) (w : WayValue) → In w (ways p f.1 env) → is_candidate p f ≡ true
-shape_of_way shapeless p f env w h = by_test (is_candidate p f) (λ t. t) (λ t. absurd (no_way_without_shape shapeless p f env t w h))
+use Rattle.cb_nodes.proofs.Shapes.{shape_of_way}
 
 only_one : (g f : Fact) → In g (f ∷ []) → g ≡ f
 only_one g f (inl e) = e

@@ -5,7 +5,8 @@ use Rattle.cb_constraints.specs.PatternValues.{PatternValue}
 use Rattle.cb_exprs.specs.Terms.{Term, term_of}
 use Rattle.cb_exprs.specs.declared.expr.Expr.{Expr}
 use Rattle.cb_joins.proofs.Named.{long_flat_all}
-use Rattle.cb_joins.specs.Internal.Flat.{FlatNode, alone, count_inside, flat_all, flat_node, flat_nodes, group_node, grouping, joining, last_list, lone_pattern, node_count, nodes_inside, testing, tests_first}
+use Rattle.cb_nodes.specs.Flat.{FlatNode, alone, count_inside, flat_all, group_node, grouping, joining, last_list, lone_pattern, node_count, nodes_inside, testing, tests_first}
+use Rattle.cb_joins.specs.Internal.Flat.{flat_node, flat_nodes}
 use Rattle.cb_joins.specs.Internal.Plans.{IsFurther, last_tested, last_with, node_with, nodes_with}
 use Rattle.cb_joins.specs.declared.node.Node.{Node}
 use Rattle.cb_joins.specs.declared.planning.End.{End}

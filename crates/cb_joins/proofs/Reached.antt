@@ -12,7 +12,7 @@ use Rattle.cb_joins.proofs.Ranged.{IsBound, bound_below, none_after, none_betwee
 use Rattle.cb_joins.proofs.Skipped.{AreChanged, passed}
 use Rattle.cb_joins.specs.Internal.Asked.{AreAllFound, AreBranchesFound}
 use Rattle.cb_joins.specs.Internal.Changes.{IsMade, fact_changed, facts_before}
-use Rattle.cb_joins.specs.Internal.Nodes.{HaveIndices, Shapeless}
+use Rattle.cb_nodes.specs.Patterns.{HaveIndices, Shapeless}
 use Rattle.cb_joins.specs.Internal.Rules.{HaveOwnNumbers, kept_rule, kept_rules}
 use Rattle.cb_joins.specs.declared.fact_change.FactChange.{FactChange}
 use Rattle.cb_joins.specs.declared.rules.Rule.{Rule}

@@ -17,7 +17,7 @@ use Rattle.cb_joins.specs.Internal.Changes.{IsMade, fact_added, fact_changed, fa
 use Rattle.cb_joins.specs.Internal.Changing.{IsChangedAt, IsChangedFrom, IsRuleChanged}
 use Rattle.cb_joins.specs.Internal.Flat.{flat_nodes}
 use Rattle.cb_joins.specs.Internal.Keys.{branch_keys, rule_keys}
-use Rattle.cb_joins.specs.Internal.Nodes.{HaveIndices, Shapeless}
+use Rattle.cb_nodes.specs.Patterns.{HaveIndices, Shapeless}
 use Rattle.cb_joins.specs.Internal.Rules.{AreNamed, HaveOwnNumbers, IsRule, kept_rule, kept_rules}
 use Rattle.cb_joins.specs.declared.branch.Branch.{Branch}
 use Rattle.cb_joins.specs.declared.fact_change.FactChange.{FactChange}

@@ -10,8 +10,9 @@ use Rattle.std.specs.List.Sorted.{IsPermutation, IsSorted}
 use Rattle.std.specs.Ordering.{is_eq, is_lt, nat_cmp, ordering_reverse, ordering_then}
 use Rattle.std.specs.declared.cmp.Ordering.{Ordering}
 use Rattle.std.specs.declared.cmp.Ordering.TheVariants.{Less, Equal, Greater}
-use Rattle.cb_joins.proofs.Moves.{swapped}
-use Rattle.cb_joins.specs.Internal.Changes.{IsMoved, PartialMoves, parts_of_partial}
+use Rattle.cb_nodes.proofs.Moves.{swapped}
+use Rattle.cb_joins.specs.Internal.Changes.{IsMoved}
+use Rattle.cb_nodes.specs.Changes.{PartialMoves, parts_of_partial}
 use Rattle.cb_joins.specs.Internal.Keys.{Tells, key_of}
 use Rattle.cb_joins.specs.declared.moved.Moved.{Moved}
 use Rattle.cb_matches.specs.Chains.{AreSame, Chain}

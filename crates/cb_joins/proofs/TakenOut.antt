@@ -13,7 +13,7 @@ use Rattle.std.specs.declared.ops.Bound.TheVariants.{Included, Unbounded}
 use Rattle.cb_joins.proofs.IndexLists.{chain_of_keys, run, run_is}
 use Rattle.cb_joins.proofs.Memories.{equal_is, exact_apart, once_of_ordered, piece}
 use Rattle.cb_joins.proofs.Pieces.{all_left, first_out, none_pass}
-use Rattle.cb_joins.specs.Internal.Flat.{begins}
+use Rattle.cb_nodes.specs.Flat.{begins}
 use Rattle.cb_joins.specs.Internal.Memories.{begins_as, first_part}
 use Rattle.cb_matches.specs.Internal.KeyLaws.{part_equiv}
 use Rattle.cb_matches.specs.Keys.{PartValue, part_eq}

@@ -2,9 +2,9 @@
 use Rattle.std.proofs.Common.{◌≡◌, ◌≢◌, ℕ, zero, suc, ◌||◌, ◌<◌, ◌≤◌, ◌+◌, not, Bool, true, false, List, [], ◌∷◌, ◌++◌, ◌⊎◌, drop, length, filter, inl, inr, refl, sym, ◌∙◌, ap, subst, cond, arith, get_or}
 use Rattle.std.proofs.lemmas.List.{drop_more}
 use Rattle.cb_joins.proofs.Beginnings.{true_false}
-use Rattle.cb_joins.proofs.Origins.{one_by_parts}
+use Rattle.cb_nodes.proofs.Origins.{one_by_parts}
 use Rattle.cb_joins.proofs.Deltas.{same_test}
-use Rattle.cb_joins.proofs.Steps.{not_true}
+use Rattle.cb_nodes.proofs.Grown.{not_true}
 use Rattle.cb_joins.specs.Internal.Memories.{IsAdded}
 use Rattle.cb_joins.specs.Internal.Steps.{IsTaken, IsWith}
 use Rattle.cb_matches.proofs.Lists.{by_test, chain_append, chain_filter, filter_in, in_either, in_filter, in_left, in_right}

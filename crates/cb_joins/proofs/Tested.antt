@@ -4,7 +4,7 @@ use Rattle.std.proofs.Math.Seq.{drop-append_seam, take-append_seam}
 use Rattle.std.proofs.lemmas.List.Elements.{filter-append}
 use Rattle.std.specs.List.{flat_map}
 use Rattle.cb_exprs.specs.Terms.{Term}
-use Rattle.cb_joins.specs.Internal.Flat.{all_hold}
+use Rattle.cb_nodes.specs.Flat.{all_hold}
 use Rattle.cb_matches.proofs.Lists.{by_test}
 use Rattle.cb_matches.specs.Matches.{Partial, test_holds}
 

@@ -9,11 +9,16 @@ use Rattle.cb_facts.specs.FactLists.{IndexedFacts}
 use Rattle.cb_facts.specs.Facts.{FactValue}
 use Rattle.cb_joins.proofs.Flat.{at_end, in_front}
 use Rattle.cb_joins.proofs.Widths.{lists_are_once, lists_are_wide}
-use Rattle.cb_joins.proofs.Moves.{none_moves}
-use Rattle.cb_joins.specs.Internal.Changes.{Holds, IsMoved, PartialMoves, parts_of_partial}
-use Rattle.cb_joins.specs.Internal.Flat.{AreWidths, FlatNode, IsWell, alone, flat_node, flat_nodes, flat_probes, flat_probes_of, grouping, joining, node_list, testing}
-use Rattle.cb_joins.specs.Internal.Nodes.{AreWhole, HaveIndices, HaveParts, IsReady, branch_lists}
-use Rattle.cb_joins.specs.Internal.Steps.{AreAround, HasWidth, IsStep, NamesListsBelow}
+use Rattle.cb_nodes.proofs.Moves.{none_moves}
+use Rattle.cb_nodes.specs.Changes.{Holds, PartialMoves, parts_of_partial}
+use Rattle.cb_joins.specs.Internal.Changes.{IsMoved}
+use Rattle.cb_nodes.specs.Flat.{AreWidths, FlatNode, IsWell, alone, flat_probes, flat_probes_of, grouping, joining, node_list, testing}
+use Rattle.cb_joins.specs.Internal.Flat.{flat_node, flat_nodes}
+use Rattle.cb_nodes.specs.Lists.{AreWhole, HaveParts, branch_lists}
+use Rattle.cb_nodes.specs.Patterns.{HaveIndices}
+use Rattle.cb_joins.specs.Internal.Nodes.{IsReady}
+use Rattle.cb_joins.specs.Internal.Steps.{AreAround, IsStep}
+use Rattle.cb_nodes.specs.Lists.{HasWidth, NamesListsBelow}
 use Rattle.cb_joins.specs.declared.moved.Moved.{Moved}
 use Rattle.cb_joins.specs.declared.node.Node.{Node}
 use Rattle.cb_matches.specs.Order.{IsOnce, WaysRise}

@@ -10,15 +10,19 @@ use Rattle.cb_facts.specs.FactLists.{IndexedFacts}
 use Rattle.cb_fit.specs.Shapes.{has_way, loose}
 use Rattle.cb_fit.specs.Ways.{WayValue, ways}
 use Rattle.cb_joins.proofs.Deltas.{in_any, key_Decides, same_test}
-use Rattle.cb_joins.proofs.Facts.{flat_with, flat_without}
+use Rattle.cb_nodes.proofs.Facts.{flat_with, flat_without}
 use Rattle.cb_joins.proofs.Ends.{end_is}
 use Rattle.cb_joins.proofs.Networks.{branch_keys_more}
 use Rattle.cb_joins.proofs.OneMore.{first_of, others_of}
 use Rattle.cb_joins.specs.Internal.Asked.{NoneTakes, takes}
-use Rattle.cb_joins.specs.Internal.Changes.{Holds, IsMade, fact_changed, facts_before}
-use Rattle.cb_joins.specs.Internal.Flat.{FlatNode, Lists, all_hold, alone, flat_node, flat_nodes, grouping, holds_alone, joining, lists_from, node_list, testing}
+use Rattle.cb_nodes.specs.Changes.{Holds}
+use Rattle.cb_joins.specs.Internal.Changes.{IsMade, fact_changed, facts_before}
+use Rattle.cb_nodes.specs.Flat.{FlatNode, Lists, all_hold, alone, grouping, holds_alone, joining, lists_from, node_list, testing}
+use Rattle.cb_joins.specs.Internal.Flat.{flat_node, flat_nodes}
 use Rattle.cb_joins.specs.Internal.Keys.{Tells, branch_keys, key_of, keys_in_branch}
-use Rattle.cb_joins.specs.Internal.Nodes.{AreKept, AreReady, HaveIndices, IsJoined, IsReady, Shapeless, branch_lists}
+use Rattle.cb_joins.specs.Internal.Nodes.{AreKept, AreReady, IsJoined, IsReady}
+use Rattle.cb_nodes.specs.Patterns.{HaveIndices, Shapeless}
+use Rattle.cb_nodes.specs.Lists.{branch_lists}
 use Rattle.cb_joins.specs.Internal.Rules.{IsBranch, IsPlanned, branch_elements, kept_branches}
 use Rattle.cb_joins.specs.declared.branch.Branch.{Branch}
 use Rattle.cb_joins.specs.declared.fact_change.FactChange.{FactChange}

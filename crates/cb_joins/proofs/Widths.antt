@@ -4,9 +4,10 @@ use Rattle.std.specs.List.{list_any}
 use Rattle.std.specs.Prelude.{slice_index_or}
 use Rattle.cb_constraints.specs.PatternValues.{PatternValue}
 use Rattle.cb_facts.specs.FactLists.{IndexedFacts}
-use Rattle.cb_joins.specs.Internal.Flat.{AreLists, AreWidths, FlatNode, IsWell, Lists, all_hold, alone, begins, branch_nodes, count_inside, flat_all, group_node, grouping, holds_alone, holds_by, joining, last_list, lists_of, lone_pattern, node_count, node_list, node_width, nodes_inside, testing, widths_from, widths_of}
-use Rattle.cb_joins.specs.Internal.Nodes.{HaveIndices, HaveParts}
-use Rattle.cb_joins.proofs.Origins.{long_filter, long_pattern}
+use Rattle.cb_nodes.specs.Flat.{AreLists, AreWidths, FlatNode, IsWell, Lists, all_hold, alone, begins, branch_nodes, count_inside, flat_all, group_node, grouping, holds_alone, holds_by, joining, last_list, lists_of, lone_pattern, node_count, node_list, node_width, nodes_inside, testing, widths_from, widths_of}
+use Rattle.cb_nodes.specs.Patterns.{HaveIndices}
+use Rattle.cb_nodes.specs.Lists.{HaveParts}
+use Rattle.cb_nodes.proofs.Origins.{long_filter, long_pattern}
 use Rattle.cb_joins.proofs.Named.{AllAt, IsBelow, all_both, all_first, all_second, at_each, below_all, from_each, from_inside, place_behind}
 use Rattle.cb_joins.proofs.Lone.{group_width}
 use Rattle.cb_joins.proofs.Flat.{are_lists, gathered, gathered_front, gathered_is, list_local}

@@ -5,9 +5,11 @@
 //! moves behind it.
 ghost use Rattle.std.specs.Prelude.{◌≡◌, ◌≤◌, ◌+◌, [], ℕ, IfOk, List, None, OnOk, Some, false, if◌then◌else◌};
 ghost use Rattle.cb_facts.specs.FactLists.{IndexedFacts, IsFactBase, fact_at, with_fact, without_fact};
-ghost use Rattle.cb_joins.specs.Internal.Changes.{Holds, IsMade, IsMoved, fact_added, fact_changed, facts_before};
-ghost use Rattle.cb_joins.specs.Internal.Flat.{holds_by};
-ghost use Rattle.cb_joins.specs.Internal.Nodes.{HaveParts, IsLone, any_there};
+ghost use Rattle.cb_nodes.specs.Changes.{Holds};
+ghost use Rattle.cb_joins.specs.Internal.Changes.{IsMade, IsMoved, fact_added, fact_changed, facts_before};
+ghost use Rattle.cb_nodes.specs.Flat.{holds_by};
+ghost use Rattle.cb_nodes.specs.Lists.{HaveParts};
+ghost use Rattle.cb_joins.specs.Internal.Nodes.{IsLone, any_there};
 ghost use Rattle.cb_joins.specs.Internal.Steps.{IsLoneChanged};
 ghost use Rattle.cb_matches.specs.Matches.{Partial};
 ghost use Rattle.cb_partials.specs.Probes.{added_probes, is_candidate};

@@ -4,7 +4,7 @@ ghost use Rattle.std.specs.List.Sorted.{IsStrictlySortedBy};
 ghost use Rattle.cb_asked.specs.Places.{place_cmp};
 ghost use Rattle.cb_facts.specs.FactLists.{IsFactBase};
 ghost use Rattle.cb_joins.specs.Internal.Asked.{AreNodesFound};
-ghost use Rattle.cb_joins.specs.Internal.Flat.{branch_nodes};
+ghost use Rattle.cb_nodes.specs.Flat.{branch_nodes};
 ghost use Rattle.cb_joins.specs.Internal.Changes.{IsMade, fact_added, fact_changed, facts_before};
 ghost use Rattle.cb_joins.specs.Internal.Keys.{Tells, keys_in_branch};
 ghost use Rattle.cb_joins.specs.Internal.Rules.{CanBeFilled, IsBranch, branch_elements, kept_branches};

@@ -5,11 +5,14 @@ ghost use Rattle.cb_exprs.specs.Bindings.{no_bindings};
 ghost use Rattle.cb_facts.specs.FactLists.{IsFactBase};
 ghost use Rattle.cb_fit.specs.Shapes.{has_way, loose};
 ghost use Rattle.cb_fit.specs.Ways.{ways};
-ghost use Rattle.cb_joins.specs.Internal.Flat.{flat_node, flat_nodes, holds_alone, next_where, node_list, tests_of};
+ghost use Rattle.cb_joins.specs.Internal.Flat.{flat_node, flat_nodes, tests_of};
+ghost use Rattle.cb_nodes.specs.Flat.{holds_alone, next_where, node_list};
 ghost use Rattle.cb_joins.specs.Internal.Indexes.{index_fields};
-ghost use Rattle.cb_joins.specs.Internal.Nodes.{AreJoinFields, AreKept, AreReady, AreWhole, IsLone, IsPlace, IsPrepared, IsReady};
+ghost use Rattle.cb_nodes.specs.Patterns.{AreJoinFields};
+ghost use Rattle.cb_joins.specs.Internal.Nodes.{AreKept, AreReady, IsLone, IsPlace, IsPrepared, IsReady};
+ghost use Rattle.cb_nodes.specs.Lists.{AreWhole};
 ghost use Rattle.cb_joins.specs.Internal.Rules.{keys_at};
-ghost use Rattle.cb_joins.specs.Internal.Steps.{NamesListsBelow, group_with};
+ghost use Rattle.cb_nodes.specs.Lists.{NamesListsBelow, group_with};
 ghost use Rattle.cb_matches.specs.Order.{IsOnce, IsSorted};
 ghost use Rattle.cb_matches.specs.Matches.{no_parts};
 

@@ -2,10 +2,12 @@
 ghost use Rattle.std.specs.Prelude.{◌≡◌, ◌++◌, ◌∷◌, [], ℕ, IfOk, List, OnOk, length, take};
 ghost use Rattle.std.specs.List.{filter, list_any};
 ghost use Rattle.cb_exprs.specs.Terms.{term_of};
-ghost use Rattle.cb_joins.specs.Internal.Changes.{Holds, IsMoved};
-ghost use Rattle.cb_joins.specs.Internal.Flat.{begins};
-ghost use Rattle.cb_joins.specs.Internal.Nodes.{HaveParts};
-ghost use Rattle.cb_joins.specs.Internal.Steps.{IsSettled, IsTaken, beginnings, group_with};
+ghost use Rattle.cb_nodes.specs.Changes.{Holds};
+ghost use Rattle.cb_joins.specs.Internal.Changes.{IsMoved};
+ghost use Rattle.cb_nodes.specs.Flat.{begins};
+ghost use Rattle.cb_nodes.specs.Lists.{HaveParts};
+ghost use Rattle.cb_joins.specs.Internal.Steps.{IsSettled, IsTaken};
+ghost use Rattle.cb_nodes.specs.Lists.{beginnings, group_with};
 ghost use Rattle.cb_matches.specs.Keys.{PartValue};
 ghost use Rattle.cb_matches.specs.Chains.{In};
 ghost use Rattle.cb_matches.specs.Matches.{Partial, test_holds};

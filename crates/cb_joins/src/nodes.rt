@@ -5,9 +5,12 @@ ghost use Rattle.cb_asked.specs.Places.{place_cmp};
 ghost use Rattle.cb_facts.specs.FactLists.{IsFactBase};
 ghost use Rattle.cb_joins.specs.Internal.Asked.{AreNodesFound, takes};
 ghost use Rattle.cb_joins.specs.Internal.Changes.{IsMade, fact_added, fact_changed, facts_before};
-ghost use Rattle.cb_joins.specs.Internal.Flat.{flat_node, flat_nodes, flat_probes, flat_probes_of, node_list, Lists};
-ghost use Rattle.cb_joins.specs.Internal.Nodes.{AreKept, AreMoved, AreReady, AreWhole, branch_lists};
-ghost use Rattle.cb_joins.specs.Internal.Steps.{AreAround, IsStep, NamesListsBelow};
+ghost use Rattle.cb_joins.specs.Internal.Flat.{flat_node, flat_nodes};
+ghost use Rattle.cb_nodes.specs.Flat.{flat_probes, flat_probes_of, node_list, Lists};
+ghost use Rattle.cb_joins.specs.Internal.Nodes.{AreKept, AreMoved, AreReady};
+ghost use Rattle.cb_nodes.specs.Lists.{AreWhole, branch_lists};
+ghost use Rattle.cb_joins.specs.Internal.Steps.{AreAround, IsStep};
+ghost use Rattle.cb_nodes.specs.Lists.{NamesListsBelow};
 
 use crate::alone::change_lone;
 use crate::fact_change::FactChange;

@@ -5,9 +5,11 @@ ghost use Rattle.cb_facts.specs.FactLists.{IsFactBase, fact_at, with_fact, witho
 ghost use Rattle.cb_facts.specs.Facts.{FactValue};
 ghost use Rattle.cb_fit.specs.Shapes.{loose};
 ghost use Rattle.cb_joins.specs.Internal.Changes.{IsMade, fact_added, fact_changed, facts_before};
-ghost use Rattle.cb_joins.specs.Internal.Flat.{begins, tests_of};
+ghost use Rattle.cb_nodes.specs.Flat.{begins};
+ghost use Rattle.cb_joins.specs.Internal.Flat.{tests_of};
 ghost use Rattle.cb_joins.specs.Internal.Indexes.{HasIndex, index_fields};
-ghost use Rattle.cb_joins.specs.Internal.Nodes.{AreEnough, AreJoinFields, IsJoined, candidates_with, filed_facts, found_with};
+ghost use Rattle.cb_joins.specs.Internal.Nodes.{AreEnough, IsJoined, candidates_with, filed_facts, found_with};
+ghost use Rattle.cb_nodes.specs.Patterns.{AreJoinFields};
 ghost use Rattle.cb_joins.specs.Internal.Steps.{IsChanged, IsTaken, IsTakenWith, IsWithinProbes};
 ghost use Rattle.cb_matches.specs.Chains.{In};
 ghost use Rattle.cb_matches.specs.Matches.{Partial};

@@ -2,9 +2,11 @@
 ghost use Rattle.std.specs.Prelude.{◌≡◌, ◌≢◌, ◌≤◌, [], ◌∷◌, All, IfOk, OnOk, Some, is_some, length, map, true};
 ghost use Rattle.cb_constraints.specs.PatternValues.{PatternValue};
 ghost use Rattle.cb_exprs.specs.Terms.{term_of};
-ghost use Rattle.cb_joins.specs.Internal.Flat.{alone, branch_last, branch_nodes, flat_node, flat_nodes, joining, lone_pattern};
+ghost use Rattle.cb_nodes.specs.Flat.{alone, branch_last, branch_nodes, joining, lone_pattern};
+ghost use Rattle.cb_joins.specs.Internal.Flat.{flat_node, flat_nodes};
 ghost use Rattle.cb_joins.specs.Internal.Indexes.{index_fields};
-ghost use Rattle.cb_joins.specs.Internal.Nodes.{AreJoinFields, IsPrepared};
+ghost use Rattle.cb_nodes.specs.Patterns.{AreJoinFields};
+ghost use Rattle.cb_joins.specs.Internal.Nodes.{IsPrepared};
 ghost use Rattle.cb_joins.specs.Internal.Plans.{IsFurther, last_tested, last_with, node_with, nodes_with};
 ghost use Rattle.cb_rules.specs.Elements.{element_of, elements, group, test};
 

@@ -1,9 +1,9 @@
 //! What is taken out of a list of partial matches, and what is added to it.
 ghost use Rattle.std.specs.Prelude.{◌≡◌, ◌++◌, ◌⊎◌, ℕ, OnOk};
 ghost use Rattle.std.specs.List.{filter, list_any};
-ghost use Rattle.cb_joins.specs.Internal.Flat.{begins};
+ghost use Rattle.cb_nodes.specs.Flat.{begins};
 ghost use Rattle.cb_joins.specs.Internal.Memories.{begins_with, ends_with};
-ghost use Rattle.cb_joins.specs.Internal.Nodes.{HaveParts};
+ghost use Rattle.cb_nodes.specs.Lists.{HaveParts};
 ghost use Rattle.cb_joins.specs.Internal.Steps.{IsTaken, IsWith};
 
 use crate::memory::{add, copy_list, ends_with, take_begun, take_out, take_same, take_with_fact};

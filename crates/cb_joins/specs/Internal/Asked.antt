@@ -5,7 +5,8 @@ use Rattle.cb_asked.specs.declared.asked.Asked.{Asked}
 use Rattle.cb_asked.specs.declared.node_place.NodePlace.{NodePlace}
 use Rattle.cb_constraints.specs.PatternValues.{PatternValue}
 use Rattle.cb_facts.specs.Facts.{FactValue}
-use Rattle.cb_joins.specs.Internal.Flat.{FlatNode, joining, testing, grouping, alone, branch_nodes, flat_nodes}
+use Rattle.cb_nodes.specs.Flat.{FlatNode, joining, testing, grouping, alone, branch_nodes}
+use Rattle.cb_joins.specs.Internal.Flat.{flat_nodes}
 use Rattle.cb_joins.specs.declared.branch.Branch.{Branch}
 use Rattle.cb_matches.specs.Chains.{In}
 use Rattle.cb_matches.specs.Networks.{Conditions}

@@ -1,7 +1,7 @@
 -- Sets of partial matches in the order of their parts.
 use Rattle.std.specs.Prelude.{◌≡◌, ◌≢◌, ◌⊎◌, ◌-◌, ℕ, Bool, false, ◌&&◌, List, [], ◌∷◌, Option, Some, None, length, nat_eq, slice_get}
 use Rattle.std.specs.Option.{option_map_or}
-use Rattle.cb_joins.specs.Internal.Flat.{begins}
+use Rattle.cb_nodes.specs.Flat.{begins}
 use Rattle.cb_matches.specs.Keys.{PartValue}
 use Rattle.cb_matches.specs.Chains.{In}
 use Rattle.cb_matches.specs.Matches.{Partial}

@@ -1,48 +1,27 @@
 -- What is kept for each node of a branch.
-use Rattle.std.specs.Prelude.{◌≡◌, ◌≢◌, ◌<◌, ◌≤◌, ◌+◌, ◌++◌, ℕ, suc, Bool, true, false, Contains, List, [], ◌∷◌, Option, Some, filter, flat_map, length, slice_index_or, if◌then◌else◌}
+use Rattle.std.specs.Prelude.{◌≡◌, ◌<◌, ◌≤◌, ◌+◌, ◌++◌, ℕ, suc, Bool, true, false, List, [], ◌∷◌, Option, filter, flat_map, length, slice_index_or, if◌then◌else◌}
 use Rattle.std.specs.BTreeSet.{BTreeSet}
 use Rattle.cb_constraints.specs.PatternValues.{PatternValue}
-use Rattle.cb_exprs.specs.Bindings.{Bindings, value_at}
 use Rattle.cb_facts.specs.FactLists.{IndexedFacts, with_fact}
 use Rattle.cb_facts.specs.Facts.{FactValue}
-use Rattle.cb_facts.specs.declared.value.Value.{Value}
-use Rattle.cb_fit.specs.JoinFields.{join_fields, value_in}
 use Rattle.cb_fit.specs.Shapes.{loose}
 use Rattle.cb_fit.specs.Ways.{WayValue, ways}
-use Rattle.cb_fit.specs.declared.join_fields.JoinField.{JoinField}
-use Rattle.cb_joins.specs.Internal.Changes.{Holds, IsMoved}
-use Rattle.cb_joins.specs.Internal.Flat.{FlatNode, AreLists, AreWidths, Lists, flat_nodes, lists_of, next_where, tests_of}
+use Rattle.cb_nodes.specs.Changes.{Holds}
+use Rattle.cb_joins.specs.Internal.Changes.{IsMoved}
+use Rattle.cb_nodes.specs.Flat.{FlatNode, Lists, next_where}
+use Rattle.cb_joins.specs.Internal.Flat.{flat_nodes, tests_of}
 use Rattle.cb_joins.specs.Internal.Indexes.{HasIndex, index_fields}
 use Rattle.cb_joins.specs.declared.moved.Moved.{Moved}
 use Rattle.cb_joins.specs.declared.node.Lone.{Lone}
 use Rattle.cb_joins.specs.declared.node.Node.{Node}
 use Rattle.cb_joins.specs.declared.node.Node.TheVariants as node
 use Rattle.cb_joins.specs.declared.node.Place.{Place}
-use Rattle.cb_matches.specs.Chains.{AreSame, Chain, In}
+use Rattle.cb_matches.specs.Chains.{AreSame, In}
 use Rattle.cb_matches.specs.Order.{IsRising}
-use Rattle.cb_matches.specs.Matches.{Partial, extended, next, no_parts, with_address}
+use Rattle.cb_matches.specs.Matches.{Partial, extended, next, with_address}
 use Rattle.cb_partials.specs.Probes.{is_candidate}
-
--- a pattern whose shape a fact doesn't have fits it in no way
-abbrev pub Shapeless : Type 0
-Shapeless = (p : PatternValue) (f : FactValue) (before any : Bindings) → ways (loose p) f any ≡ [] → ways p f before ≡ []
-
--- where a pattern fits a fact, the fields that have to be equal to variables are
-abbrev pub FieldsAgree : Type 0
-FieldsAgree = (p : PatternValue) (f : FactValue) (before : Bindings) (w : WayValue) → Contains (ways p f before) w → (j : JoinField) → Contains (join_fields p.parts) j
-    → (v : Value) → value_at j.variable before.variables ≡ Some v → value_in j f.content ≡ Some v
-
--- no index twice
-abbrev pub HaveIndices : IndexedFacts → Type 0
-HaveIndices fs = Chain (λ (f : ℕ × FactValue) (g : ℕ × FactValue). f.0 ≢ g.0) fs
-
--- each of these has so many parts
-abbrev pub HaveParts : ℕ → List Partial → Type 0
-HaveParts n ms = (m : Partial) → In m ms → length m.parts ≡ n
-
--- each of these fields of a fact has to be equal to a variable, whatever the fact's address is
-abbrev pub AreJoinFields : List JoinField → Option (List ℕ) → PatternValue → Type 0
-AreJoinFields js x p = (j : JoinField) → In j js → Contains (join_fields p.parts) j × (x ≢ Some j.variable)
+use Rattle.cb_nodes.specs.Patterns.{AreJoinFields}
+use Rattle.cb_nodes.specs.Lists.{branch_lists}
 
 -- these are among the partial matches before a pattern, and those that go on with the fact are among them
 pub record AreEnough (x : Option (List ℕ)) (p : PatternValue) (f : ℕ × FactValue) (ms found : List Partial) : Type 0 where
@@ -55,10 +34,6 @@ pub record AreEnough (x : Option (List ℕ)) (p : PatternValue) (f : ℕ × Fact
 abbrev pub any_there : IndexedFacts → Bool
 any_there [] = false
 any_there (f ∷ fs) = true
-
--- the lists of partial matches of a branch
-abbrev pub branch_lists : List FlatNode → IndexedFacts → Lists
-branch_lists ns fs = lists_of ns fs (no_parts ∷ [])
 
 module _ {T : Type 0} where
   -- the facts that are filed by their values
@@ -129,8 +104,3 @@ pub record AreKept (ns : List FlatNode) (fs : IndexedFacts) (lists : List (BTree
 pub record AreMoved (ns : List FlatNode) (fs fs' : IndexedFacts) (moved : List Moved) : Type 0 where
   pub long : length moved ≡ suc (length ns)
   pub each : (k : ℕ) (d : Moved) → k < length moved → IsMoved (branch_lists ns fs k) (branch_lists ns fs' k) (slice_index_or moved k d)
-
--- the nodes are those of a branch: each names lists before its own, and these have widths
-pub record AreWhole (ns : List FlatNode) : Type 0 where
-  pub widths : (ws : ℕ → ℕ) × AreWidths ns ws
-  pub lists : (fs : IndexedFacts) (first : List Partial) → AreLists ns fs first (lists_of ns fs first)

@@ -1,7 +1,7 @@
 -- The nodes of elements, while they are made one element after another.
 use Rattle.std.specs.Prelude.{◌≡◌, ◌+◌, ℕ, List, [], ◌∷◌, ◌++◌, length, if◌then◌else◌}
 use Rattle.cb_exprs.specs.Terms.{Term}
-use Rattle.cb_joins.specs.Internal.Flat.{FlatNode, alone, flat_all, grouping, joining, last_list, testing, tests_first}
+use Rattle.cb_nodes.specs.Flat.{FlatNode, alone, flat_all, grouping, joining, last_list, testing, tests_first}
 use Rattle.cb_joins.specs.declared.planning.End.{End}
 use Rattle.cb_rules.specs.Elements.{Element, Elements, element}
 

@@ -4,7 +4,8 @@ use Rattle.std.specs.BTreeMap.{BTreeMap, values}
 use Rattle.std.specs.BTreeSet.{BTreeSet}
 use Rattle.cb_exprs.specs.Bindings.{Bindings}
 use Rattle.cb_facts.specs.FactLists.{IndexedFacts}
-use Rattle.cb_joins.specs.Internal.Flat.{Lists, branch_last, branch_nodes, flat_nodes}
+use Rattle.cb_nodes.specs.Flat.{Lists, branch_last, branch_nodes}
+use Rattle.cb_joins.specs.Internal.Flat.{flat_nodes}
 use Rattle.cb_joins.specs.Internal.Nodes.{AreKept, AreReady, IsPrepared}
 use Rattle.cb_joins.specs.declared.branch.Branch.{Branch}
 use Rattle.cb_joins.specs.declared.rules.Rule.{Rule}

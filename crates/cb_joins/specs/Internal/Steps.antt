@@ -1,14 +1,17 @@
 -- What a change does at one node.
-use Rattle.std.specs.Prelude.{◌≡◌, ◌≢◌, ◌⊎◌, ◌+◌, ◌*◌, ◌<◌, ◌≤◌, ℕ, Bool, true, false, List, Option, filter, length, map, not, slice_index_or, take}
+use Rattle.std.specs.Prelude.{◌≡◌, ◌≢◌, ◌⊎◌, ◌+◌, ◌<◌, ◌≤◌, ℕ, Bool, true, false, List, Option, filter, length, not, slice_index_or}
 use Rattle.std.specs.BTreeSet.{BTreeSet}
 use Rattle.std.specs.List.{list_any}
 use Rattle.cb_constraints.specs.PatternValues.{PatternValue}
 use Rattle.cb_facts.specs.FactLists.{IndexedFacts}
 use Rattle.cb_facts.specs.Facts.{FactValue}
-use Rattle.cb_joins.specs.Internal.Changes.{Holds, IsMoved}
-use Rattle.cb_joins.specs.Internal.Flat.{FlatNode, joining, testing, grouping, alone, Lists, begins, flat_node, holds_alone, holds_by, next_where, node_list, tests_of}
+use Rattle.cb_nodes.specs.Changes.{Holds}
+use Rattle.cb_joins.specs.Internal.Changes.{IsMoved}
+use Rattle.cb_nodes.specs.Flat.{Lists, holds_alone, next_where, node_list}
+use Rattle.cb_joins.specs.Internal.Flat.{flat_node, tests_of}
 use Rattle.cb_joins.specs.Internal.Memories.{begins_with, ends_with}
-use Rattle.cb_joins.specs.Internal.Nodes.{AreEnough, HaveParts, IsLone, IsPlace, IsReady}
+use Rattle.cb_joins.specs.Internal.Nodes.{AreEnough, IsLone, IsPlace, IsReady}
+use Rattle.cb_nodes.specs.Lists.{HaveParts}
 use Rattle.cb_joins.specs.declared.moved.Moved.{Moved}
 use Rattle.cb_joins.specs.declared.node.Lone.{Lone}
 use Rattle.cb_joins.specs.declared.node.Node.{Node}
@@ -17,7 +20,8 @@ use Rattle.cb_matches.specs.Keys.{PartValue}
 use Rattle.cb_matches.specs.Chains.{In}
 use Rattle.cb_matches.specs.Order.{IsOnce}
 use Rattle.cb_matches.specs.Matches.{Partial}
-use Rattle.cb_partials.specs.Probes.{added_probes, is_candidate, partials_come, partials_kept}
+use Rattle.cb_nodes.specs.Patterns.{pattern_probes}
+use Rattle.cb_nodes.specs.Lists.{HasWidth}
 
 -- those of a list that pass a test are taken out of it, and stand behind what was gone before, in any order
 pub record IsTaken (test : Partial → Bool) (list list' gone gone' : List Partial) : Type 0 where
@@ -39,10 +43,6 @@ pub record IsWith (list more list' : List Partial) : Type 0 where
   pub only : (z : Partial) → In z list' → In z list ⊎ In z more
   pub added : IsOnce more → ((z y : Partial) → In z more → In y list → z.parts ≢ y.parts) → (z : Partial) → In z more → In z list'
   pub once : IsOnce list → IsOnce list'
-
--- how often a pattern may be tested where a change leads from one list before it to another
-abbrev pub pattern_probes : PatternValue → Option FactValue → IndexedFacts → List Partial → List Partial → ℕ
-pattern_probes p added fs' old new = length (partials_come old new) * length (filter (is_candidate p) fs') + added_probes p added (length (partials_kept old new))
 
 module _ {T : Type 0} where
   -- a pattern before a change: the list before it has changed already, and its own list not yet
@@ -97,14 +97,6 @@ module _ {T : Type 0} where
   IsLoneChanged fs fs' lone before own m lone' own' m' =
       (n : ℕ) (old new : List Partial) → IsLoneBefore n fs old new lone before own m → IsLoneAfter fs fs' old new lone' own' m'
 
--- the group holds for m, where these are complete
-abbrev pub group_with : Bool → List Partial → Partial → Bool
-group_with positive complete m = holds_by positive (list_any (begins m.parts) complete)
-
--- the first parts of each
-abbrev pub beginnings : ℕ → List Partial → List (List PartValue)
-beginnings n ms = map (λ m. take n m.parts) ms
-
 -- while the partial matches before a group are settled one by one: `old` is what was behind it, `new` what is before it now,
 -- `lost` what went before it, and of those with these parts it is known already whether they are behind it
 pub record IsSettled (is : Partial → Bool) (old new lost : List Partial) (settled : List (List PartValue)) (own gone come : List Partial) : Type 0 where
@@ -120,20 +112,6 @@ pub record IsSettled (is : Partial → Bool) (old new lost : List Partial) (sett
   pub own_once : IsOnce own
   pub gone_once : IsOnce gone
   pub come_once : IsOnce come
-
--- the node goes on from lists with smaller numbers
-abbrev pub NamesListsBelow : ℕ → FlatNode → Type 0
-NamesListsBelow k (joining from x p ts) = from < k
-NamesListsBelow k (testing from t) = from < k
-NamesListsBelow k (grouping from inner positive width) = (from < k) × (inner < k)
-NamesListsBelow k (alone from p positive) = from < k
-
--- the group's width is that of the list before it
-abbrev pub HasWidth : (ℕ → ℕ) → FlatNode → Type 0
-HasWidth ws (joining from x p ts) = Unit {0}
-HasWidth ws (testing from t) = Unit {0}
-HasWidth ws (grouping from inner positive width) = width ≡ ws from
-HasWidth ws (alone from p positive) = Unit {0}
 
 module _ {T : Type 0} where
   -- a node before a change, where the lists before it have changed already

@@ -4,8 +4,8 @@ use Rattle.cb_facts.specs.FactLists.{IndexedFacts, with_fact, without_fact}
 use Rattle.cb_fit.specs.Shapes.{has_way}
 use Rattle.cb_fit.specs.Ways.{ways}
 use Rattle.cb_joins.proofs.AllOrNone.{none_added, one_added}
-use Rattle.cb_joins.proofs.Facts.{rising_base, taken_fact}
-use Rattle.cb_joins.specs.Internal.Changes.{Added}
+use Rattle.cb_nodes.proofs.Facts.{rising_base, taken_fact}
+use Rattle.cb_nodes.specs.Changes.{Added}
 use Rattle.cb_joins.specs.declared.node.Lone.{Lone}
 use Rattle.cb_joins.proofs.alone.add_candidate.Goals as goal
 

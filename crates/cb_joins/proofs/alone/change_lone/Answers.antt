@@ -2,8 +2,9 @@ use Rattle.std.proofs.Common.{◌≡◌, [], Bool, List, ap, cond, filter, subst
 use Rattle.cb_facts.specs.FactLists.{IndexedFacts}
 use Rattle.cb_joins.proofs.AllOrNone.{all_or_none, holds_for}
 use Rattle.cb_joins.proofs.Results.{if_ok}
-use Rattle.cb_joins.specs.Internal.Changes.{Holds, IsMoved, facts_before}
-use Rattle.cb_joins.specs.Internal.Flat.{holds_alone}
+use Rattle.cb_nodes.specs.Changes.{Holds}
+use Rattle.cb_joins.specs.Internal.Changes.{IsMoved, facts_before}
+use Rattle.cb_nodes.specs.Flat.{holds_alone}
 use Rattle.cb_constraints.specs.PatternValues.{PatternValue}
 use Rattle.cb_joins.specs.Internal.Nodes.{IsLone}
 use Rattle.cb_joins.specs.declared.moved.Moved.{Moved}

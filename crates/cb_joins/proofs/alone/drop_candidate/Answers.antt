@@ -1,8 +1,8 @@
 use Rattle.std.proofs.Common.{◌≡◌, ap, refl, ◌∙◌}
 use Rattle.cb_facts.specs.FactLists.{with_fact, without_fact}
 use Rattle.cb_joins.proofs.AllOrNone.{one_taken}
-use Rattle.cb_joins.proofs.Facts.{added_fact}
-use Rattle.cb_joins.specs.Internal.Changes.{Added}
+use Rattle.cb_nodes.proofs.Facts.{added_fact}
+use Rattle.cb_nodes.specs.Changes.{Added}
 use Rattle.cb_joins.specs.declared.node.Lone.{Lone}
 use Rattle.cb_joins.proofs.alone.drop_candidate.Goals as goal
 

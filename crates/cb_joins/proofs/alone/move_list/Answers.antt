@@ -2,7 +2,8 @@ use Rattle.std.proofs.Common.{◌≡◌, ◌∙◌, ◌++◌, Bool, List, [], ap
 use Rattle.std.specs.List.{each_same}
 use Rattle.cb_joins.proofs.AllOrNone.{all_come, all_go}
 use Rattle.cb_joins.proofs.Results.{if_ok}
-use Rattle.cb_joins.specs.Internal.Changes.{Holds, IsMoved}
+use Rattle.cb_nodes.specs.Changes.{Holds}
+use Rattle.cb_joins.specs.Internal.Changes.{IsMoved}
 use Rattle.cb_joins.specs.declared.moved.Moved.{Moved}
 use Rattle.cb_matches.specs.Matches.{Partial}
 use Rattle.cb_joins.proofs.alone.move_list.Goals as goal

@@ -5,12 +5,14 @@ use Rattle.std.specs.Ordering.{nat_cmp}
 use Rattle.std.specs.declared.cmp.Ordering.TheVariants.{Less}
 use Rattle.cb_fit.specs.Ways.{WayValue, ways}
 use Rattle.cb_facts.specs.FactLists.{IndexedFacts}
-use Rattle.cb_joins.proofs.Facts.{indices_before, indices_of, rising_base, rising_before}
+use Rattle.cb_joins.proofs.Facts.{indices_before, rising_before}
+use Rattle.cb_nodes.proofs.Facts.{indices_of, rising_base}
 use Rattle.cb_joins.proofs.Concerned.{none_of_branch}
 use Rattle.cb_joins.proofs.Unasked.{branch_unasked, keys_unasked, nothing_told}
 use Rattle.cb_joins.specs.Internal.Asked.{AreNodesFound}
 use Rattle.cb_joins.specs.Internal.Changes.{fact_added, fact_changed, facts_before}
-use Rattle.cb_joins.specs.Internal.Flat.{FlatNode, flat_nodes, flat_probes}
+use Rattle.cb_nodes.specs.Flat.{FlatNode, flat_probes}
+use Rattle.cb_joins.specs.Internal.Flat.{flat_nodes}
 use Rattle.cb_matches.proofs.Lists.{chain_from_pairs, in_right}
 use Rattle.cb_matches.specs.Order.{IsRising, WaysRise}
 use Rattle.std.proofs.lemmas.List.{with_items_is}
@@ -19,7 +21,8 @@ use Rattle.std.specs.Vec.{vec_len, with_items}
 use Rattle.cb_joins.proofs.Ends.{came_kept, end_moved, last_within, probes_within, whole_of}
 use Rattle.cb_joins.proofs.Ordered.{sorted_matches}
 use Rattle.cb_joins.specs.Internal.Keys.{keys_in_branch}
-use Rattle.cb_joins.specs.Internal.Nodes.{AreKept, AreMoved, AreReady, AreWhole, branch_lists}
+use Rattle.cb_joins.specs.Internal.Nodes.{AreKept, AreMoved, AreReady}
+use Rattle.cb_nodes.specs.Lists.{AreWhole, branch_lists}
 use Rattle.cb_joins.specs.Internal.Rules.{branch_elements, keys_at}
 use Rattle.cb_matches.specs.Chains.{In}
 use Rattle.cb_matches.specs.Matches.{Partial, matches_of}

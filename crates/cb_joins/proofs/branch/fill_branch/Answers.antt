@@ -7,11 +7,12 @@ use Rattle.std.specs.declared.cmp.Ordering.TheVariants.{Less}
 use Rattle.cb_facts.specs.FactLists.{IndexedFacts}
 use Rattle.cb_fit.specs.Ways.{WayValue, ways}
 use Rattle.cb_joins.proofs.Ends.{end_keys, last_within, whole_of}
-use Rattle.cb_joins.proofs.Facts.{rising_base}
+use Rattle.cb_nodes.proofs.Facts.{rising_base}
 use Rattle.cb_joins.proofs.branch.fill_branch.Goals as goal
 use Rattle.cb_joins.specs.Internal.Flat.{flat_nodes}
 use Rattle.cb_joins.specs.Internal.Keys.{key_of}
-use Rattle.cb_joins.specs.Internal.Nodes.{AreKept, AreWhole}
+use Rattle.cb_joins.specs.Internal.Nodes.{AreKept}
+use Rattle.cb_nodes.specs.Lists.{AreWhole}
 use Rattle.cb_joins.specs.Internal.Rules.{branch_elements}
 use Rattle.cb_matches.proofs.Lists.{chain_from_pairs}
 use Rattle.cb_matches.specs.Order.{WaysRise}

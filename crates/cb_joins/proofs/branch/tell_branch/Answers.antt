@@ -7,7 +7,7 @@ use Rattle.std.specs.declared.cmp.Ordering.TheVariants.{Less}
 use Rattle.cb_facts.specs.FactLists.{IndexedFacts}
 use Rattle.cb_fit.specs.Ways.{WayValue, ways}
 use Rattle.cb_joins.proofs.Ends.{end_keys, last_there}
-use Rattle.cb_joins.proofs.Facts.{rising_base}
+use Rattle.cb_nodes.proofs.Facts.{rising_base}
 use Rattle.cb_joins.proofs.branch.tell_branch.Goals as goal
 use Rattle.cb_joins.specs.Internal.Flat.{flat_nodes}
 use Rattle.cb_joins.specs.Internal.Keys.{key_of}

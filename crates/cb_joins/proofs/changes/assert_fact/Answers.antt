@@ -4,7 +4,7 @@ use Rattle.std.specs.Result.{IfOk, OnOk}
 use Rattle.cb_facts.specs.FactLists.{IndexedFacts, IsFactBase, fact_at, with_fact, without_fact}
 use Rattle.cb_facts.specs.Facts.{FactValue}
 use Rattle.cb_joins.proofs.Answered.{over}
-use Rattle.cb_joins.proofs.Facts.{before_added, rising_base}
+use Rattle.cb_nodes.proofs.Facts.{before_added, rising_base}
 use Rattle.cb_joins.proofs.changes.assert_fact.Goals as goal
 use Rattle.cb_joins.specs.Internal.Rules.{IsKeeping, kept_rules}
 use Rattle.cb_matches.specs.Changes.{IsDelta}

@@ -1,6 +1,6 @@
 use Rattle.std.proofs.Common.{◌≡◌, ◌++◌}
 use Rattle.std.specs.List.{filter}
-use Rattle.cb_joins.specs.Internal.Steps.{group_with}
+use Rattle.cb_nodes.specs.Lists.{group_with}
 use Rattle.cb_joins.proofs.filling.fill_group.Given as goal
 
 abbrev pub invariant-loop-partial : goal.invariant-loop-partial

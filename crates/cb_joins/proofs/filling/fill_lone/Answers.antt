@@ -1,8 +1,8 @@
 use Rattle.std.proofs.Common.{false, sym, true, ◌∙◌}
 use Rattle.cb_facts.specs.FactLists.{IndexedFacts}
 use Rattle.cb_joins.proofs.AllOrNone.{all_or_none, filled, holds_for}
-use Rattle.cb_joins.proofs.Facts.{rising_base}
-use Rattle.cb_joins.specs.Internal.Flat.{holds_alone}
+use Rattle.cb_nodes.proofs.Facts.{rising_base}
+use Rattle.cb_nodes.specs.Flat.{holds_alone}
 use Rattle.cb_joins.specs.Internal.Nodes.{IsLone}
 use Rattle.cb_joins.specs.declared.node.Lone.{Lone}
 use Rattle.cb_joins.proofs.filling.fill_lone.Goals as goal

@@ -1,9 +1,10 @@
 use Rattle.std.proofs.Common.{◌≡◌, ◌<◌, length, filter, List, ap, ap₂, sym, subst, ◌∙◌}
 use Rattle.std.specs.Result.{IfOk}
 use Rattle.cb_joins.proofs.Ends.{keys_got}
-use Rattle.cb_joins.specs.Internal.Flat.{flat_node, holds_alone, node_list}
+use Rattle.cb_joins.specs.Internal.Flat.{flat_node}
+use Rattle.cb_nodes.specs.Flat.{holds_alone, node_list}
 use Rattle.cb_joins.specs.Internal.Rules.{keys_at}
-use Rattle.cb_joins.specs.Internal.Steps.{NamesListsBelow, group_with}
+use Rattle.cb_nodes.specs.Lists.{NamesListsBelow, group_with}
 use Rattle.cb_joins.proofs.filling.fill_node.Goals as goal
 use Rattle.cb_matches.specs.Matches.{Partial}
 

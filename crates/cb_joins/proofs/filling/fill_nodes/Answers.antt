@@ -3,16 +3,18 @@ use Rattle.std.proofs.Math.ListN.{length-set}
 use Rattle.std.proofs.lemmas.List.{length-map}
 use Rattle.std.specs.BTreeSet.{BTreeSet}
 use Rattle.cb_facts.specs.FactLists.{IndexedFacts}
-use Rattle.cb_joins.proofs.Facts.{rising_base}
+use Rattle.cb_nodes.proofs.Facts.{rising_base}
 use Rattle.cb_joins.proofs.Filled.{below, found_now, found_sorted, kept_found, long_now, ready_for}
 use Rattle.cb_joins.proofs.Networks.{done_more, left_more}
 use Rattle.cb_joins.proofs.OneMore.{stay_mapped}
-use Rattle.cb_joins.proofs.Steps.{ways_rise}
+use Rattle.cb_nodes.proofs.Grown.{ways_rise}
 use Rattle.cb_joins.proofs.filling.fill_nodes.Goals as goal
-use Rattle.cb_joins.specs.Internal.Flat.{FlatNode, flat_node, flat_nodes, node_list}
-use Rattle.cb_joins.specs.Internal.Nodes.{AreKept, IsPrepared, IsReady, branch_lists}
+use Rattle.cb_nodes.specs.Flat.{FlatNode, node_list}
+use Rattle.cb_joins.specs.Internal.Flat.{flat_node, flat_nodes}
+use Rattle.cb_joins.specs.Internal.Nodes.{AreKept, IsPrepared, IsReady}
+use Rattle.cb_nodes.specs.Lists.{branch_lists}
 use Rattle.cb_joins.specs.Internal.Rules.{keys_at}
-use Rattle.cb_joins.specs.Internal.Steps.{NamesListsBelow}
+use Rattle.cb_nodes.specs.Lists.{NamesListsBelow}
 use Rattle.cb_matches.specs.Order.{IsRising, IsSorted, WaysRise}
 use Rattle.cb_matches.specs.Matches.{Partial}
 

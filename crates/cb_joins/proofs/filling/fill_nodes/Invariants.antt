@@ -1,6 +1,7 @@
 use Rattle.std.proofs.Common.{◌≡◌, ℕ, suc, ◌<◌, ◌≤◌, length, get_or}
 use Rattle.cb_joins.specs.Internal.Flat.{flat_nodes}
-use Rattle.cb_joins.specs.Internal.Nodes.{IsPrepared, IsReady, branch_lists}
+use Rattle.cb_joins.specs.Internal.Nodes.{IsPrepared, IsReady}
+use Rattle.cb_nodes.specs.Lists.{branch_lists}
 use Rattle.cb_joins.specs.Internal.Rules.{keys_at}
 use Rattle.cb_joins.specs.declared.node.Node.{Node}
 use Rattle.cb_joins.proofs.filling.fill_nodes.Given as goal

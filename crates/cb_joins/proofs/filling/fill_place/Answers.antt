@@ -3,10 +3,11 @@ use Rattle.cb_exprs.specs.Bindings.{no_bindings}
 use Rattle.cb_facts.specs.FactLists.{IndexedFacts}
 use Rattle.cb_fit.specs.Shapes.{has_way}
 use Rattle.cb_fit.specs.Ways.{ways}
-use Rattle.cb_joins.proofs.Facts.{rising_base}
+use Rattle.cb_nodes.proofs.Facts.{rising_base}
 use Rattle.cb_joins.proofs.Filled.{next_of_candidates}
 use Rattle.cb_joins.proofs.Joined.{filed_or_none, still_join_fields}
-use Rattle.cb_joins.specs.Internal.Flat.{all_hold, next_where, tests_of}
+use Rattle.cb_nodes.specs.Flat.{all_hold, next_where}
+use Rattle.cb_joins.specs.Internal.Flat.{tests_of}
 use Rattle.cb_joins.specs.Internal.Indexes.{HasIndex, KeepsFields, index_fields}
 use Rattle.cb_joins.specs.Internal.Nodes.{IsJoined}
 use Rattle.cb_joins.specs.declared.node.Place.{Place}

@@ -3,7 +3,7 @@ use Rattle.cb_exprs.specs.Bindings.{no_bindings}
 use Rattle.cb_facts.specs.FactLists.{IndexedFacts, with_fact}
 use Rattle.cb_fit.specs.Shapes.{has_way}
 use Rattle.cb_fit.specs.Ways.{ways}
-use Rattle.cb_joins.proofs.Facts.{rising_base}
+use Rattle.cb_nodes.proofs.Facts.{rising_base}
 use Rattle.cb_joins.proofs.Filled.{one_more}
 use Rattle.cb_joins.proofs.filling.find_candidates.Goals as goal
 use Rattle.cb_matches.proofs.Growth.{Fact}

@@ -3,9 +3,10 @@ use Rattle.std.specs.List.{each_same, list_any}
 use Rattle.cb_joins.proofs.AtOnce.{come_settled}
 use Rattle.cb_joins.proofs.Groups.{beginnings_in, group_holds_now, group_moves, nothing_settled, whole_beginning}
 use Rattle.cb_joins.proofs.Moves.{Leaves, first_leaves}
-use Rattle.cb_joins.proofs.Origins.{one_by_parts}
-use Rattle.cb_joins.specs.Internal.Flat.{begins}
-use Rattle.cb_joins.specs.Internal.Steps.{IsSettled, IsTaken, IsWith, beginnings, group_with}
+use Rattle.cb_nodes.proofs.Origins.{one_by_parts}
+use Rattle.cb_nodes.specs.Flat.{begins}
+use Rattle.cb_joins.specs.Internal.Steps.{IsSettled, IsTaken, IsWith}
+use Rattle.cb_nodes.specs.Lists.{beginnings, group_with}
 use Rattle.cb_matches.specs.Keys.{PartValue}
 use Rattle.cb_matches.proofs.Lists.{chain_filter, in_filter, in_left, in_right}
 use Rattle.cb_matches.specs.Chains.{In}

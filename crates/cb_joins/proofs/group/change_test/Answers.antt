@@ -3,9 +3,9 @@ use Rattle.std.specs.List.{each_same, list_any}
 use Rattle.cb_exprs.specs.Terms.{term_of}
 use Rattle.cb_joins.proofs.Groups.{gone_out, out_gone, tested_moves}
 use Rattle.cb_joins.proofs.Moves.{Leaves, first_leaves, held_after}
-use Rattle.cb_joins.specs.Internal.Changes.{PartialMoves}
-use Rattle.cb_joins.specs.Internal.Flat.{begins}
-use Rattle.cb_joins.specs.Internal.Nodes.{HaveParts}
+use Rattle.cb_nodes.specs.Changes.{PartialMoves}
+use Rattle.cb_nodes.specs.Flat.{begins}
+use Rattle.cb_nodes.specs.Lists.{HaveParts}
 use Rattle.cb_joins.specs.Internal.Steps.{IsTaken, IsWith}
 use Rattle.cb_matches.proofs.Lists.{chain_filter, filter_in, in_filter}
 use Rattle.cb_matches.specs.Chains.{In}

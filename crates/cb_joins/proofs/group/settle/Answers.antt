@@ -2,8 +2,9 @@ use Rattle.std.proofs.Common.{◌≡◌, ◌++◌, ◌∷◌, [], false, length,
 use Rattle.cb_joins.proofs.Groups.{not_there, put_in, taken_out, there_already}
 use Rattle.cb_joins.proofs.Results.{on_ok}
 use Rattle.cb_joins.specs.Internal.Memories.{IsAdded, IsFound}
-use Rattle.cb_joins.specs.Internal.Nodes.{HaveParts}
-use Rattle.cb_joins.specs.Internal.Steps.{IsSettled, group_with}
+use Rattle.cb_nodes.specs.Lists.{HaveParts}
+use Rattle.cb_joins.specs.Internal.Steps.{IsSettled}
+use Rattle.cb_nodes.specs.Lists.{group_with}
 use Rattle.cb_matches.specs.Matches.{Partial}
 use Rattle.cb_partials.specs.Probes.{has_parts}
 use Rattle.cb_joins.proofs.group.settle.Goals as goal

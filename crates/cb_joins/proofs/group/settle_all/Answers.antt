@@ -3,7 +3,8 @@ use Rattle.std.proofs.lemmas.List.{append-nil, append_assoc}
 use Rattle.cb_joins.proofs.AtOnce.{none_to_settle}
 use Rattle.cb_joins.proofs.TakenOut.{none_long}
 use Rattle.cb_joins.proofs.Takings.{cut_at, none_left}
-use Rattle.cb_joins.specs.Internal.Steps.{IsSettled, beginnings, group_with}
+use Rattle.cb_joins.specs.Internal.Steps.{IsSettled}
+use Rattle.cb_nodes.specs.Lists.{beginnings, group_with}
 use Rattle.cb_matches.specs.Keys.{PartValue}
 use Rattle.cb_matches.specs.Chains.{In}
 use Rattle.cb_joins.proofs.group.settle_all.Goals as goal

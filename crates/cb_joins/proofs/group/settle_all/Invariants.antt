@@ -1,7 +1,8 @@
 use Rattle.std.proofs.Common.{◌≡◌, ◌++◌, List, drop}
-use Rattle.cb_joins.specs.Internal.Changes.{Holds}
-use Rattle.cb_joins.specs.Internal.Nodes.{HaveParts}
-use Rattle.cb_joins.specs.Internal.Steps.{IsSettled, beginnings, group_with}
+use Rattle.cb_nodes.specs.Changes.{Holds}
+use Rattle.cb_nodes.specs.Lists.{HaveParts}
+use Rattle.cb_joins.specs.Internal.Steps.{IsSettled}
+use Rattle.cb_nodes.specs.Lists.{beginnings, group_with}
 use Rattle.cb_matches.specs.Keys.{PartValue}
 use Rattle.cb_matches.specs.Matches.{Partial}
 use Rattle.cb_joins.proofs.group.settle_all.Given as goal

@@ -2,8 +2,9 @@ use Rattle.std.proofs.Common.{◌≡◌, ◌∙◌, ◌++◌, ◌∷◌, [], ◌
 use Rattle.std.proofs.lemmas.List.{length-take-le}
 use Rattle.cb_joins.proofs.Groups.{alike, too_short}
 use Rattle.cb_joins.proofs.Results.{on_ok}
-use Rattle.cb_joins.specs.Internal.Nodes.{HaveParts}
-use Rattle.cb_joins.specs.Internal.Steps.{IsSettled, group_with}
+use Rattle.cb_nodes.specs.Lists.{HaveParts}
+use Rattle.cb_joins.specs.Internal.Steps.{IsSettled}
+use Rattle.cb_nodes.specs.Lists.{group_with}
 use Rattle.cb_joins.proofs.group.settle_one.Goals as goal
 
 pub returns-then-parts-width : goal.returns-then-parts-width

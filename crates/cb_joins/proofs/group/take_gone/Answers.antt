@@ -3,8 +3,8 @@ use Rattle.std.specs.List.{list_any}
 use Rattle.cb_joins.proofs.AtOnce.{all_lost, all_taken, goes_itself}
 use Rattle.cb_joins.proofs.Results.{on_ok}
 use Rattle.cb_joins.proofs.TakenOut.{none_long}
-use Rattle.cb_joins.specs.Internal.Flat.{begins}
-use Rattle.cb_joins.specs.Internal.Nodes.{HaveParts}
+use Rattle.cb_nodes.specs.Flat.{begins}
+use Rattle.cb_nodes.specs.Lists.{HaveParts}
 use Rattle.cb_joins.specs.Internal.Steps.{IsTaken}
 use Rattle.cb_matches.specs.Matches.{Partial}
 use Rattle.cb_joins.proofs.group.take_gone.Goals as goal

@@ -1,5 +1,6 @@
 use Rattle.std.proofs.Common.{◌≡◌, ◌≤◌, ◌+◌, ◌++◌, ◌∷◌, [], length}
-use Rattle.cb_joins.specs.Internal.Flat.{next_where, tests_of}
+use Rattle.cb_nodes.specs.Flat.{next_where}
+use Rattle.cb_joins.specs.Internal.Flat.{tests_of}
 use Rattle.cb_joins.proofs.joining.join_all.Given as goal
 
 abbrev pub invariant-loop-partial : goal.invariant-loop-partial

@@ -2,7 +2,8 @@ use Rattle.std.proofs.Common.{◌≡◌, ◌∙◌, ◌∷◌, ◌++◌, [], Lis
 use Rattle.cb_joins.proofs.Joined.{enough_of, index}
 use Rattle.cb_joins.proofs.Results.{on_ok}
 use Rattle.cb_joins.proofs.TakenOut.{none_long}
-use Rattle.cb_joins.specs.Internal.Flat.{all_hold, next_where, tests_of}
+use Rattle.cb_nodes.specs.Flat.{all_hold, next_where}
+use Rattle.cb_joins.specs.Internal.Flat.{tests_of}
 use Rattle.cb_joins.specs.Internal.Indexes.{IsIndex, binds_values, field_values}
 use Rattle.cb_joins.specs.Internal.Nodes.{AreEnough, IsJoined, filed_facts}
 use Rattle.cb_matches.specs.Matches.{Partial}

@@ -3,7 +3,8 @@ use Rattle.cb_joins.proofs.IndexLists.{run, run_goes, run_stops}
 use Rattle.cb_joins.proofs.Indexes.{filed_has, partial_of, partials_found}
 use Rattle.cb_joins.proofs.Joined.{joined_more}
 use Rattle.cb_joins.proofs.joining.join_filed.Goals as goal
-use Rattle.cb_joins.specs.Internal.Flat.{next_where, tests_of}
+use Rattle.cb_nodes.specs.Flat.{next_where}
+use Rattle.cb_joins.specs.Internal.Flat.{tests_of}
 use Rattle.cb_joins.specs.declared.index.Filed.{Filed}
 use Rattle.cb_matches.specs.Matches.{Partial}
 

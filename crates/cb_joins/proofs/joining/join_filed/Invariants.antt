@@ -4,7 +4,8 @@ use Rattle.std.specs.declared.ops.Bound.TheVariants.{Included, Unbounded}
 use Rattle.cb_joins.proofs.IndexKeys.{filed_cmp}
 use Rattle.cb_joins.proofs.IndexLists.{run}
 use Rattle.cb_joins.proofs.Indexes.{filed_has, partial_of}
-use Rattle.cb_joins.specs.Internal.Flat.{next_where, tests_of}
+use Rattle.cb_nodes.specs.Flat.{next_where}
+use Rattle.cb_joins.specs.Internal.Flat.{tests_of}
 use Rattle.cb_matches.specs.Matches.{Partial}
 use Rattle.cb_joins.proofs.joining.join_filed.Given as goal
 

@@ -2,7 +2,7 @@ use Rattle.std.proofs.Common.{◌≡◌, ◌∙◌, ◌++◌, [], ap, arith, fil
 use Rattle.std.proofs.lemmas.Grind.{common_steps}
 use Rattle.cb_exprs.specs.Terms.{term_of}
 use Rattle.cb_joins.proofs.Tested.{all_kept}
-use Rattle.cb_joins.specs.Internal.Flat.{all_hold}
+use Rattle.cb_nodes.specs.Flat.{all_hold}
 use Rattle.cb_matches.specs.Matches.{extended}
 use Rattle.cb_joins.proofs.joining.join_pair.Goals as goal
 

@@ -2,7 +2,7 @@ use Rattle.std.proofs.Common.{◌≡◌, ◌∙◌, ◌+◌, ◌<◌, ◌∷◌,
 use Rattle.cb_exprs.specs.Terms.{term_of}
 use Rattle.cb_joins.proofs.Takings.{cut_at, none_left}
 use Rattle.cb_joins.proofs.Tested.{all_kept, first_and_others}
-use Rattle.cb_joins.specs.Internal.Flat.{all_hold}
+use Rattle.cb_nodes.specs.Flat.{all_hold}
 use Rattle.cb_joins.proofs.joining.satisfy_tests.Goals as goal
 
 pub loop-test-preserved : goal.loop-test-preserved

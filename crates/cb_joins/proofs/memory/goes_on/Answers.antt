@@ -2,7 +2,7 @@ use Rattle.std.proofs.Common.{◌≡◌, ◌∙◌, ◌&&◌, Some, None, ap, fa
 use Rattle.std.specs.Cmp.Lexicographic.{pointwise}
 use Rattle.std.specs.Option.{option_map_or}
 use Rattle.cb_joins.proofs.Memories.{begins_not, starts}
-use Rattle.cb_joins.specs.Internal.Flat.{begins}
+use Rattle.cb_nodes.specs.Flat.{begins}
 use Rattle.cb_joins.specs.Internal.Memories.{begins_as}
 use Rattle.cb_matches.specs.Keys.{PartValue, part_eq}
 use Rattle.cb_joins.proofs.memory.goes_on.Goals as goal

@@ -1,7 +1,7 @@
 use Rattle.std.proofs.Common.{◌≡◌, ◌∙◌, ap, is_some, rules}
 use Rattle.std.specs.List.{list_any}
 use Rattle.cb_joins.proofs.Pieces.{any_passes, some_copied}
-use Rattle.cb_joins.specs.Internal.Flat.{begins}
+use Rattle.cb_nodes.specs.Flat.{begins}
 use Rattle.cb_joins.proofs.memory.has_begun.Goals as goal
 
 pub returns : goal.returns

@@ -1,7 +1,7 @@
 use Rattle.std.proofs.Common.{◌≡◌, ◌∙◌, ◌++◌, [], ◌∷◌, None, Some, ap, append-nil, filter, find, sym}
 use Rattle.std.specs.BTreeMap.{is_at}
 use Rattle.cb_joins.proofs.TakenOut.{found_items, one_begun}
-use Rattle.cb_joins.specs.Internal.Flat.{begins}
+use Rattle.cb_nodes.specs.Flat.{begins}
 use Rattle.cb_joins.proofs.memory.take_same.Goals as goal
 use Rattle.cb_matches.specs.Matches.{Partial}
 use Rattle.cb_partials.specs.Partials.{partial_cmp}

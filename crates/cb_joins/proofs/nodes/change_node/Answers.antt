@@ -3,7 +3,8 @@ use Rattle.cb_joins.proofs.Around.{before_group, before_lone, before_place, befo
 use Rattle.cb_joins.proofs.Results.{always, if_ok, on_ok}
 use Rattle.cb_joins.specs.Internal.Asked.{takes}
 use Rattle.cb_joins.specs.Internal.Changes.{fact_added, fact_changed}
-use Rattle.cb_joins.specs.Internal.Flat.{flat_node, flat_probes_of}
+use Rattle.cb_joins.specs.Internal.Flat.{flat_node}
+use Rattle.cb_nodes.specs.Flat.{flat_probes_of}
 use Rattle.cb_joins.proofs.nodes.change_node.Goals as goal
 use Rattle.cb_joins.specs.declared.node.Node.{Node}
 

@@ -3,14 +3,19 @@ use Rattle.std.proofs.Math.ListN.{length-set}
 use Rattle.std.proofs.lemmas.List.{get_or-map, length-map}
 use Rattle.std.specs.BTreeSet.{BTreeSet}
 use Rattle.cb_facts.specs.FactLists.{IndexedFacts}
-use Rattle.cb_joins.proofs.Facts.{indices_before, indices_of, rising_base}
-use Rattle.cb_joins.proofs.Steps.{ways_rise}
+use Rattle.cb_joins.proofs.Facts.{indices_before}
+use Rattle.cb_nodes.proofs.Facts.{indices_of, rising_base}
+use Rattle.cb_nodes.proofs.Grown.{ways_rise}
 use Rattle.cb_joins.proofs.Turns.{all_long_now, around, below, done_now, left_now, lists_done_now, lists_left_now, lists_long_now, moves_now, nothing_moves, stay_now, tests_now}
 use Rattle.cb_joins.specs.Internal.Asked.{node_at, takes}
-use Rattle.cb_joins.specs.Internal.Changes.{Holds, IsMoved, fact_added, fact_changed, facts_before}
-use Rattle.cb_joins.specs.Internal.Flat.{FlatNode, flat_node, flat_nodes}
-use Rattle.cb_joins.specs.Internal.Nodes.{HaveIndices, branch_lists}
-use Rattle.cb_joins.specs.Internal.Steps.{AreAround, IsStep, NamesListsBelow}
+use Rattle.cb_nodes.specs.Changes.{Holds}
+use Rattle.cb_joins.specs.Internal.Changes.{IsMoved, fact_added, fact_changed, facts_before}
+use Rattle.cb_nodes.specs.Flat.{FlatNode}
+use Rattle.cb_joins.specs.Internal.Flat.{flat_node, flat_nodes}
+use Rattle.cb_nodes.specs.Patterns.{HaveIndices}
+use Rattle.cb_nodes.specs.Lists.{branch_lists}
+use Rattle.cb_joins.specs.Internal.Steps.{AreAround, IsStep}
+use Rattle.cb_nodes.specs.Lists.{NamesListsBelow}
 use Rattle.cb_joins.specs.declared.moved.Moved.{Moved}
 use Rattle.cb_matches.specs.Chains.{In}
 use Rattle.cb_matches.specs.Order.{WaysRise}

@@ -1,8 +1,11 @@
 use Rattle.std.proofs.Common.{◌≡◌, ℕ, suc, ◌+◌, ◌<◌, ◌≤◌, drop, length, get_or}
 use Rattle.std.specs.BTreeSet.{BTreeSet}
-use Rattle.cb_joins.specs.Internal.Changes.{Holds, IsMoved, fact_added, facts_before}
-use Rattle.cb_joins.specs.Internal.Flat.{flat_nodes, flat_probes}
-use Rattle.cb_joins.specs.Internal.Nodes.{IsReady, branch_lists}
+use Rattle.cb_nodes.specs.Changes.{Holds}
+use Rattle.cb_joins.specs.Internal.Changes.{IsMoved, fact_added, facts_before}
+use Rattle.cb_joins.specs.Internal.Flat.{flat_nodes}
+use Rattle.cb_nodes.specs.Flat.{flat_probes}
+use Rattle.cb_joins.specs.Internal.Nodes.{IsReady}
+use Rattle.cb_nodes.specs.Lists.{branch_lists}
 use Rattle.cb_joins.specs.declared.moved.Moved.{Moved}
 use Rattle.cb_joins.specs.declared.node.Node.{Node}
 use Rattle.cb_matches.specs.Matches.{Partial}

@@ -3,7 +3,7 @@ use Rattle.cb_joins.proofs.Joined.{still_join_fields}
 use Rattle.cb_joins.proofs.place.add_candidate.Goals as goal
 use Rattle.cb_joins.proofs.place.add_candidate.Goals.{else-place, then-place+in_ok-file_fact}
 use Rattle.cb_joins.specs.Internal.Indexes.{KeepsFields, index_fields}
-use Rattle.cb_joins.specs.Internal.Nodes.{AreJoinFields}
+use Rattle.cb_nodes.specs.Patterns.{AreJoinFields}
 
 pub returns-clause-fields : goal.returns-clause-fields
 returns-clause-fields g c =

@@ -1,15 +1,16 @@
 use Rattle.std.proofs.Common.{◌≡◌, ◌≤◌, ◌+◌, ◌*◌, ◌∙◌, [], List, None, Some, ap, false, length, rules, subst, sym}
 use Rattle.std.specs.List.{list_any}
 use Rattle.cb_facts.specs.FactLists.{IndexedFacts, fact_at, without_fact}
-use Rattle.cb_joins.proofs.Facts.{rising_base, taken_fact}
+use Rattle.cb_nodes.proofs.Facts.{rising_base, taken_fact}
 use Rattle.cb_joins.proofs.Joined.{candidates_same, found_same, joined_alike, joined_moved, joined_with}
 use Rattle.cb_joins.proofs.Patterns.{added_bound, added_now, all_behind_gone, free}
-use Rattle.cb_joins.proofs.Steps.{ways_rise}
-use Rattle.cb_joins.specs.Internal.Changes.{Added}
-use Rattle.cb_joins.specs.Internal.Flat.{begins}
+use Rattle.cb_nodes.proofs.Grown.{ways_rise}
+use Rattle.cb_nodes.specs.Changes.{Added}
+use Rattle.cb_nodes.specs.Flat.{begins}
 use Rattle.cb_fit.specs.Shapes.{loose}
 use Rattle.cb_joins.specs.Internal.Indexes.{index_fields}
-use Rattle.cb_joins.specs.Internal.Nodes.{AreJoinFields, IsJoined, found_with}
+use Rattle.cb_nodes.specs.Patterns.{AreJoinFields}
+use Rattle.cb_joins.specs.Internal.Nodes.{IsJoined, found_with}
 use Rattle.cb_joins.specs.declared.node.Place.{Place}
 use Rattle.cb_joins.specs.Internal.Steps.{IsTaken, IsWith}
 use Rattle.cb_matches.specs.Order.{IsRising, WaysRise}

@@ -4,7 +4,7 @@ use Rattle.cb_joins.proofs.Joined.{all_filed, none_filed, none_were_filed, still
 use Rattle.cb_joins.proofs.place.drop_candidate.Goals as goal
 use Rattle.cb_joins.proofs.place.drop_candidate.Goals.{else-place, then-place+in_ok-unfile_fact}
 use Rattle.cb_joins.specs.Internal.Indexes.{HasIndex, KeepsFields, index_fields}
-use Rattle.cb_joins.specs.Internal.Nodes.{AreJoinFields}
+use Rattle.cb_nodes.specs.Patterns.{AreJoinFields}
 
 pub returns-clause-fields : goal.returns-clause-fields
 returns-clause-fields g c =

@@ -1,13 +1,14 @@
 use Rattle.std.proofs.Common.{◌≡◌, ◌≤◌, ◌+◌, ◌*◌, ◌++◌, ◌∙◌, [], List, ap, length, rules, subst, sym}
 use Rattle.std.specs.List.{list_any}
 use Rattle.cb_facts.specs.FactLists.{IndexedFacts, with_fact, without_fact}
-use Rattle.cb_joins.proofs.Facts.{added_fact, rising_base}
+use Rattle.cb_nodes.proofs.Facts.{added_fact, rising_base}
 use Rattle.cb_joins.proofs.Joined.{joined_alike, joined_moved, joined_with}
 use Rattle.cb_joins.proofs.Missed.{no_shape, none_enough}
 use Rattle.cb_joins.proofs.Patterns.{all_behind_gone, joined_without, taken_bound, taken_with_now}
-use Rattle.cb_joins.proofs.Steps.{ways_rise}
-use Rattle.cb_joins.specs.Internal.Changes.{Added}
-use Rattle.cb_joins.specs.Internal.Flat.{begins, next_where, tests_of}
+use Rattle.cb_nodes.proofs.Grown.{ways_rise}
+use Rattle.cb_nodes.specs.Changes.{Added}
+use Rattle.cb_nodes.specs.Flat.{begins, next_where}
+use Rattle.cb_joins.specs.Internal.Flat.{tests_of}
 use Rattle.cb_joins.specs.Internal.Nodes.{IsJoined}
 use Rattle.cb_joins.specs.Internal.Steps.{IsTaken, IsTakenWith, IsWith}
 use Rattle.cb_joins.specs.declared.node.Place.{Place}

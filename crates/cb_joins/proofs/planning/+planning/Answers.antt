@@ -1,7 +1,8 @@
 use Rattle.std.proofs.Common.{◌≡◌, ◌∙◌, ◌+◌, [], ap, false, is_some, length, map, refl, rules, subst, sym, true}
 use Rattle.std.specs.Result.{IfOk}
 use Rattle.std.proofs.lemmas.List.{length-map, nil_from_length}
-use Rattle.cb_joins.specs.Internal.Flat.{alone, flat_node, flat_nodes, grouping, joining, lone_pattern}
+use Rattle.cb_nodes.specs.Flat.{alone, grouping, joining, lone_pattern}
+use Rattle.cb_joins.specs.Internal.Flat.{flat_node, flat_nodes}
 use Rattle.cb_joins.proofs.Lone.{no_pattern, some_pattern}
 use Rattle.cb_joins.specs.Internal.Plans.{IsFurther, nodes_with}
 use Rattle.cb_joins.proofs.Planned.{alone_further, group_further, nodes_pushed, nothing_follows, of_group, of_pattern, pattern_further}

@@ -1,7 +1,8 @@
 use Rattle.std.proofs.Common.{◌≡◌, ◌∙◌, length, refl, rules, sym}
 use Rattle.std.proofs.lemmas.List.{length-map}
 use Rattle.cb_exprs.specs.Terms.{term_of}
-use Rattle.cb_joins.specs.Internal.Flat.{flat_node, flat_nodes, testing}
+use Rattle.cb_joins.specs.Internal.Flat.{flat_node, flat_nodes}
+use Rattle.cb_nodes.specs.Flat.{testing}
 use Rattle.cb_joins.proofs.Planned.{folded_further, nodes_pushed, test_further}
 use Rattle.cb_joins.proofs.planning.add_test.Goals as goal
 

@@ -2,7 +2,7 @@ use Rattle.std.proofs.Common.{◌≡◌, ◌≢◌, ◌∷◌, ◌++◌, [], Som
 use Rattle.std.specs.List.{Contains}
 use Rattle.cb_fit.specs.JoinFields.{join_fields}
 use Rattle.cb_joins.specs.Internal.Indexes.{index_fields}
-use Rattle.cb_joins.specs.Internal.Nodes.{AreJoinFields}
+use Rattle.cb_nodes.specs.Patterns.{AreJoinFields}
 use Rattle.cb_matches.proofs.Lists.{in_contains, in_either}
 use Rattle.cb_matches.specs.Chains.{In}
 use Rattle.cb_joins.proofs.planning.plan_index.Goals as goal

@@ -1,6 +1,6 @@
 use Rattle.cb_fit.specs.JoinFields.{join_fields}
 use Rattle.cb_fit.specs.declared.join_fields.JoinField.{JoinField}
-use Rattle.cb_joins.specs.Internal.Nodes.{AreJoinFields}
+use Rattle.cb_nodes.specs.Patterns.{AreJoinFields}
 use Rattle.cb_matches.specs.Chains.{In}
 use Rattle.cb_joins.proofs.planning.plan_index.Given as goal
 

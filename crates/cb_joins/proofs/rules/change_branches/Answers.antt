@@ -7,7 +7,7 @@ use Rattle.cb_joins.proofs.OneMore.{branch_come, branch_tests, drop_mapped, stay
 use Rattle.cb_joins.proofs.rules.change_branches.Goals as goal
 use Rattle.cb_joins.specs.Internal.Asked.{AreNodesFound}
 use Rattle.cb_joins.specs.Internal.Changes.{fact_added, fact_changed, facts_before}
-use Rattle.cb_joins.specs.Internal.Flat.{branch_nodes}
+use Rattle.cb_nodes.specs.Flat.{branch_nodes}
 use Rattle.cb_joins.specs.Internal.Keys.{Tells, keys_in_branch}
 use Rattle.cb_joins.specs.Internal.Rules.{IsBranch, kept_branches, branch_elements}
 use Rattle.cb_rules.specs.Elements.{Elements}

@@ -5,7 +5,8 @@ use Rattle.std.specs.declared.cmp.Ordering.TheVariants.{Less}
 use Rattle.cb_asked.specs.declared.node_place.NodePlace.{NodePlace}
 use Rattle.cb_facts.specs.FactLists.{IndexedFacts}
 use Rattle.cb_fit.specs.Ways.{WayValue, ways}
-use Rattle.cb_joins.proofs.Facts.{indices_before, indices_of, rising_base}
+use Rattle.cb_joins.proofs.Facts.{indices_before}
+use Rattle.cb_nodes.proofs.Facts.{indices_of, rising_base}
 use Rattle.cb_joins.proofs.Numbered.{found_in}
 use Rattle.cb_joins.proofs.Ranged.{begins, bound_below, goes_on}
 use Rattle.cb_joins.proofs.Reached.{le_further, le_itself, up_to_end, up_to_next}

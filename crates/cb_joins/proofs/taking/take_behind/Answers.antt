@@ -2,7 +2,7 @@ use Rattle.std.proofs.Common.{◌≡◌, ◌+◌, ◌<◌, ◌∷◌, drop, leng
 use Rattle.std.specs.List.{list_any}
 use Rattle.cb_joins.proofs.Beginnings.{in_some}
 use Rattle.cb_joins.proofs.Takings.{cut_at, in_drop, none_left, taking_first, taking_last, taking_next}
-use Rattle.cb_joins.specs.Internal.Flat.{begins}
+use Rattle.cb_nodes.specs.Flat.{begins}
 use Rattle.cb_matches.specs.Chains.{In}
 use Rattle.cb_joins.proofs.taking.take_behind.Goals as goal
 

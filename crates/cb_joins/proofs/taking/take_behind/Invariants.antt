@@ -1,7 +1,7 @@
 use Rattle.std.proofs.Common.{drop}
 use Rattle.std.specs.List.{list_any}
 use Rattle.cb_joins.proofs.Takings.{Taking}
-use Rattle.cb_joins.specs.Internal.Flat.{begins}
+use Rattle.cb_nodes.specs.Flat.{begins}
 use Rattle.cb_joins.proofs.taking.take_behind.Given as goal
 
 abbrev pub invariant-loop-partial : goal.invariant-loop-partial

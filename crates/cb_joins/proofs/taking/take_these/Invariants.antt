@@ -1,8 +1,8 @@
 use Rattle.std.proofs.Common.{ℕ, drop}
 use Rattle.std.specs.List.{list_any}
 use Rattle.cb_joins.proofs.Takings.{Taking}
-use Rattle.cb_joins.specs.Internal.Flat.{begins}
-use Rattle.cb_joins.specs.Internal.Nodes.{HaveParts}
+use Rattle.cb_nodes.specs.Flat.{begins}
+use Rattle.cb_nodes.specs.Lists.{HaveParts}
 use Rattle.cb_joins.proofs.taking.take_these.Given as goal
 
 abbrev pub invariant-loop-partial : goal.invariant-loop-partial

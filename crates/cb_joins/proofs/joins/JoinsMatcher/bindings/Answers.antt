@@ -6,7 +6,7 @@ use Rattle.std.specs.Result.{IfOk}
 use Rattle.std.specs.declared.cmp.Ordering.TheVariants.{Less}
 use Rattle.cb_facts.specs.FactLists.{IndexedFacts}
 use Rattle.cb_fit.specs.Ways.{WayValue, ways}
-use Rattle.cb_joins.proofs.Facts.{rising_base}
+use Rattle.cb_nodes.proofs.Facts.{rising_base}
 use Rattle.cb_joins.proofs.Found.{bindings_kept, kept_once}
 use Rattle.cb_joins.proofs.joins.JoinsMatcher.bindings.Goals as goal
 use Rattle.cb_joins.specs.Internal.Rules.{IsKeeping}

@@ -3,8 +3,8 @@ use Rattle.std.proofs.Common.{◌≡◌, ℕ, suc, Bool, List, [], ◌∷◌, �
 use Rattle.std.proofs.lemmas.List.{append-nil, append_assoc}
 use Rattle.cb_constraints.specs.PatternValues.{PatternValue}
 use Rattle.cb_facts.specs.FactLists.{IndexedFacts}
-use Rattle.cb_joins.specs.Internal.Nodes.{HaveParts}
-use Rattle.cb_joins.proofs.Steps.{moved, regrown}
+use Rattle.cb_nodes.specs.Lists.{HaveParts}
+use Rattle.cb_nodes.proofs.Grown.{moved, regrown}
 use Rattle.cb_matches.specs.Keys.{PartValue}
 use Rattle.cb_matches.proofs.Growth.{is_grown}
 use Rattle.cb_matches.proofs.Lists.{chain_compares, filter_in, in_filter}

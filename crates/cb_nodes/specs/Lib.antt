@@ -1,0 +1,4 @@
+pub mod Changes
+pub mod Flat
+pub mod Lists
+pub mod Patterns
