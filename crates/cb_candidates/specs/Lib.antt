@@ -1,0 +1,2 @@
+pub mod AlphaMemories
+pub mod Internal

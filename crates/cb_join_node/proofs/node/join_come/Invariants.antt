@@ -1,0 +1,21 @@
+use Rattle.std.proofs.Common.{◌≢◌, ◌≤◌, ◌+◌, ◌*◌, ◌⊎◌, ℕ, take}
+use Rattle.cb_alpha.specs.Buckets.{AreSameFilings}
+use Rattle.cb_beta.specs.BetaMemories.{BetaMemoryValue}
+use Rattle.cb_candidates.specs.AlphaMemories.{fact_under}
+use Rattle.cb_join_node.specs.Filings.{AreFactsFiled, ArePartialsFiled}
+use Rattle.cb_join_node.specs.Joins.{Joins}
+use Rattle.cb_join_node.specs.Nodes.{AreAtMost, IsUnder, Stays, tests_of}
+use Rattle.cb_matches.specs.Chains.{Chain, In}
+use Rattle.cb_nodes.specs.Patterns.{AreJoinFields}
+use Rattle.cb_token_lists.specs.Growth.{Comes}
+use Rattle.cb_token_lists.specs.Partials.{partial_at}
+use Rattle.cb_join_node.proofs.node.join_come.Given as goal
+
+abbrev pub invariant-loop-number : goal.invariant-loop-number
+invariant-loop-number g l =
+    ((before : BetaMemoryValue) → ArePartialsFiled l.asked.fields.items l.initial.buckets.partials l.initial.strays (partial_at l.lists.sources.now l.lists.lists.now l.from) (Stays before)
+    → ArePartialsFiled l.asked.fields.items l.buckets.partials l.strays (partial_at l.lists.sources.now l.lists.lists.now l.from) (λ number. Stays before number ⊎ In number (take l.number-index l.come)))
+    × AreSameFilings l.initial.buckets.facts l.buckets.facts
+    × (Chain (λ (i : ℕ) (j : ℕ). i ≢ j) l.come → AreFactsFiled l.asked.fields.items l.initial.buckets.facts (fact_under l.alpha) → AreJoinFields l.asked.fields.items l.asked.address l.asked.pattern
+    → Comes l.initial.own l.own (Joins l.asked.address l.asked.pattern (tests_of l.asked) (partial_at l.lists.sources.now l.lists.lists.now l.from) (λ number. In number (take l.number-index l.come)) (fact_under l.alpha)))
+    × ((most : ℕ) → AreFactsFiled l.asked.fields.items l.initial.buckets.facts (fact_under l.alpha) → AreAtMost (IsUnder (fact_under l.alpha)) most → l.meter ≤ l.initial.meter + l.number-index * most)

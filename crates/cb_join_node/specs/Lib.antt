@@ -1,0 +1,3 @@
+pub mod Filings
+pub mod Joins
+pub mod Nodes

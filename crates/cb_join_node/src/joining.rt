@@ -1,0 +1,211 @@
+//! Partial matches joined with facts.
+ghost use Rattle.std.specs.Prelude.{◌≡◌, ◌≢◌, ◌≤◌, ◌+◌, ℕ, IfOk, OnOk, length, map};
+ghost use Rattle.cb_exprs.specs.Bindings.{with_variables};
+ghost use Rattle.cb_exprs.specs.Terms.{term_of};
+ghost use Rattle.cb_fit.specs.WayValues.{way_of};
+ghost use Rattle.cb_join_node.specs.Joins.{IsOfFact, IsOfFacts, IsOfPartials, IsOfWay, IsOfWays, IsPair};
+ghost use Rattle.cb_join_node.specs.Nodes.{tests_of};
+ghost use Rattle.cb_matches.specs.Chains.{Chain};
+ghost use Rattle.cb_matches.specs.Matches.{Partial, with_address};
+ghost use Rattle.cb_nodes.specs.Flat.{all_hold};
+ghost use Rattle.cb_token_lists.specs.Growth.{Comes};
+ghost use Rattle.cb_token_lists.specs.Partials.{partial_at};
+
+use cb_beta::{BetaMemory, Taken, Token};
+use cb_candidates::{AlphaMemory, Candidate};
+use cb_exprs::{Env, Expr};
+use cb_facts::Name;
+use cb_fit::laws::the_ways_rise_by_their_cuts;
+use cb_fit::{JoinField, Meter, Pattern, Way, fit};
+use cb_forms::NoMemory;
+use cb_token_lists::{TokenLists, bind_address, bind_all};
+use smallvec::SmallVec;
+
+/// What a join node asks of a fact.
+#[derive(Drop)]
+pub struct Joining<T> {
+    /// The variable of the `?f <-` before the pattern.
+    pub address: Option<Name>,
+    /// The pattern.
+    pub pattern: Pattern<T>,
+    /// The tests directly behind the pattern.
+    pub tests: Vec<Expr>,
+    /// The fields of a fact that have to be equal to variables, by which partial matches and facts are filed.
+    pub fields: Vec<JoinField>,
+}
+
+/// Joins a partial match with each of these facts.
+pub(crate) fn join_facts<T>(
+    lists: &TokenLists<'_>,
+    asked: &Joining<T>,
+    alpha: &AlphaMemory,
+    number: u32,
+    env: &Env,
+    candidates: &[u32],
+    own: &mut BetaMemory,
+    meter: &mut Meter<T>,
+) -> Result<(), NoMemory>
+    ensures come { OnOk result ((m : Partial) → m.env ≡ env.now
+        → Chain (λ (i : ℕ) (j : ℕ). i ≢ j) candidates.now → Comes own.old own.new
+        (IsOfFacts asked.now.address asked.now.pattern (tests_of asked.now) m number
+        alpha.now.candidates candidates.now)) }
+    ensures probes { OnOk result (meter.new ≤ meter.old + length candidates.now) }
+{
+    for candidate in candidates {
+        join_candidate(lists, asked, alpha, number, env, *candidate, own, meter)?;
+    }
+    Ok(())
+}
+
+/// Joins a partial match with the fact of this number.
+fn join_candidate<T>(
+    lists: &TokenLists<'_>,
+    asked: &Joining<T>,
+    alpha: &AlphaMemory,
+    number: u32,
+    env: &Env,
+    candidate: u32,
+    own: &mut BetaMemory,
+    meter: &mut Meter<T>,
+) -> Result<(), NoMemory>
+    ensures come { OnOk result ((m : Partial) → m.env ≡ env.now → Comes own.old own.new
+        (IsOfFact asked.now.address asked.now.pattern (tests_of asked.now) m number
+        alpha.now.candidates candidate)) }
+    ensures probes { meter.new ≤ meter.old + 1 }
+{
+    match alpha.candidate(candidate) {
+        Some(one) => join_pair(lists, asked, number, env, candidate, one, own, meter),
+        None => Ok(()),
+    }
+}
+
+/// Joins each of these partial matches of a list with a fact.
+pub(crate) fn join_partials<T>(
+    lists: &TokenLists<'_>,
+    from: usize,
+    asked: &Joining<T>,
+    numbers: &[u32],
+    candidate: u32,
+    one: &Candidate,
+    own: &mut BetaMemory,
+    meter: &mut Meter<T>,
+) -> Result<(), NoMemory>
+    ensures come { OnOk result (Chain (λ (i : ℕ) (j : ℕ). i ≢ j) numbers.now → Comes own.old own.new
+        (IsOfPartials asked.now.address asked.now.pattern (tests_of asked.now)
+        (partial_at lists.now.sources.now lists.now.lists.now from) numbers.now candidate one.now)) }
+    ensures probes { OnOk result (meter.new ≤ meter.old + length numbers.now) }
+{
+    for number in numbers {
+        let env = lists.env(from, *number)?;
+        join_pair(lists, asked, *number, &env, candidate, one, own, meter)?;
+    }
+    Ok(())
+}
+
+/// Joins a partial match with a fact: a token comes for each way in which it goes on with it and the tests hold.
+fn join_pair<T>(
+    lists: &TokenLists<'_>,
+    asked: &Joining<T>,
+    number: u32,
+    env: &Env,
+    candidate: u32,
+    one: &Candidate,
+    own: &mut BetaMemory,
+    meter: &mut Meter<T>,
+) -> Result<(), NoMemory>
+    ensures come { OnOk result ((m : Partial) → m.env ≡ env.now → Comes own.old own.new
+        (IsPair asked.now.address asked.now.pattern (tests_of asked.now) m number candidate one.now)) }
+    ensures probes { meter.new ≤ meter.old + 1 }
+{
+    the_ways_rise_by_their_cuts();
+    let mut before = env.clone()?;
+    bind_address(&mut before, &asked.address, one.index)?;
+    let ways = fit(
+        lists.alloc,
+        lists.constants,
+        &asked.pattern,
+        &one.fact,
+        &before,
+        meter,
+    )?;
+    add_ways(
+        lists, asked, number, &before, candidate, one.index, ways, own,
+    )
+}
+
+/// Adds a token for each of these ways by which the tests hold.
+fn add_ways<T>(
+    lists: &TokenLists<'_>,
+    asked: &Joining<T>,
+    number: u32,
+    env: &Env,
+    candidate: u32,
+    index: u64,
+    ways: SmallVec<Way, 1>,
+    own: &mut BetaMemory,
+) -> Result<(), NoMemory>
+    ensures { OnOk result ((m : Partial) → env.now ≡ with_address asked.now.address index m.env
+        → Chain (λ v w. v ≢ w) (map way_of ways.items) → Comes own.old own.new
+        (IsOfWays asked.now.address (tests_of asked.now) m number candidate index (map way_of ways.items))) }
+{
+    for way in ways {
+        add_way(lists, asked, number, env, candidate, index, way, own)?;
+    }
+    Ok(())
+}
+
+/// Adds a token for a way, if the tests hold by it.
+fn add_way<T>(
+    lists: &TokenLists<'_>,
+    asked: &Joining<T>,
+    number: u32,
+    env: &Env,
+    candidate: u32,
+    index: u64,
+    way: Way,
+    own: &mut BetaMemory,
+) -> Result<(), NoMemory>
+    ensures { OnOk result ((m : Partial) → env.now ≡ with_address asked.now.address index m.env
+        → Comes own.old own.new
+        (IsOfWay asked.now.address (tests_of asked.now) m number candidate index (way_of way))) }
+{
+    if !passes(lists, asked.tests.as_slice(), env, &way)? {
+        return Ok(());
+    }
+    let taken = Taken {
+        candidate,
+        index,
+        way,
+    };
+    own.add(Token {
+        parent: number,
+        taken: Some(taken),
+    })?;
+    Ok(())
+}
+
+/// Whether all of these tests hold after a way.
+fn passes(lists: &TokenLists<'_>, tests: &[Expr], env: &Env, way: &Way) -> Result<bool, NoMemory>
+    ensures { IfOk result (λ holds. (m : Partial) → m.env ≡ with_variables (way_of way.now).bound env.now
+        → holds ≡ all_hold (map term_of tests.now) m) }
+{
+    if tests.is_empty() {
+        return Ok(true);
+    }
+    let mut grown = env.clone()?;
+    bind_all(&mut grown, way.bound.as_slice())?;
+    hold_all(lists, tests, &grown)
+}
+
+/// Whether all of these tests hold.
+fn hold_all(lists: &TokenLists<'_>, tests: &[Expr], env: &Env) -> Result<bool, NoMemory>
+    ensures { IfOk result (λ holds. (m : Partial) → m.env ≡ env.now
+        → holds ≡ all_hold (map term_of tests.now) m) }
+{
+    for test in tests {
+        if !lists.holds(test, env)? {
+            return Ok(false);
+        }
+    }
+    Ok(true)
+}

@@ -1,0 +1,18 @@
+//! The join node: a pattern joined with the partial matches of the list before it, over tokens.
+//!
+//! A change is told by what went and came at the list before, and by the fact that came to the pattern's alpha memory or went from
+//! it. What goes on from what is gone, and what has the fact that is gone, is found by number. The fact that came is joined with the
+//! partial matches that were there before and have its values, and what came before the pattern with all facts of its values. So
+//! nothing is joined that isn't new.
+//!
+//! `docs/ARCHITECTURE.md` says where it belongs.
+#![tactic(auto)]
+
+mod filed; // facts and partial matches by the values that they are joined on
+mod joining; // partial matches joined with facts
+pub mod laws; // laws of what a change does to an alpha memory
+mod node; // a change of a join node
+mod partial_values; // the values of variables in a partial match
+
+pub use joining::Joining;
+pub use node::JoinNode;

@@ -1,0 +1,5 @@
+pub mod After
+pub mod Ancestors
+pub mod Arrivals
+pub mod Down
+pub mod Told

@@ -1,0 +1,14 @@
+//! Lists of tokens as lists of partial matches: what a token stands for is found by going down the lists from which it goes on.
+//!
+//! `docs/ARCHITECTURE.md` says where it belongs.
+#![tactic(auto)]
+
+mod binding; // what variables have after a way
+pub mod laws; // laws of lists of tokens
+mod reading; // what variables have by a token
+mod source; // what a list goes on from
+mod testing; // whether a test holds
+
+pub use binding::{bind_address, bind_all};
+pub use reading::TokenLists;
+pub use source::Source;

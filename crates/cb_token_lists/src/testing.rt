@@ -1,0 +1,25 @@
+//! Whether a test holds.
+ghost use Rattle.std.specs.Prelude.{◌≡◌, IfOk};
+ghost use Rattle.cb_exprs.specs.Terms.{term_of};
+ghost use Rattle.cb_matches.specs.Matches.{test_holds};
+
+use crate::reading::TokenLists;
+use cb_eval::eval;
+use cb_exprs::{Env, Expr};
+use cb_facts::Refused;
+use cb_forms::NoMemory;
+use cb_functions::is_true;
+
+impl TokenLists<'_> {
+    /// Whether a test holds, where variables have these values; one that faults doesn't. Growth is refused as `NoMemory`, and so is
+    /// a count of sharers that is full.
+    pub fn holds(&self, test: &Expr, env: &Env) -> Result<bool, NoMemory>
+        ensures { IfOk result (λ holds. holds ≡ test_holds (term_of test.now) env.now) }
+    {
+        match eval(self.alloc, self.constants, test, env) {
+            Ok(value) => Ok(is_true(&value)),
+            Err(Refused::Fault(_)) => Ok(false),
+            Err(Refused::NoMemory) => Err(NoMemory),
+        }
+    }
+}
