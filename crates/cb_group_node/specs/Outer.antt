@@ -1,0 +1,14 @@
+-- What stands before a group, by what stands inside it.
+use Rattle.std.specs.Prelude.{◌≡◌, ◌↔◌, ℕ, Option, Some, length}
+use Rattle.cb_beta.specs.BetaMemories.{BetaMemoryValue}
+use Rattle.cb_matches.specs.Matches.{Partial}
+use Rattle.cb_token_lists.specs.Turns.{IsReadable}
+
+-- what is found is what is met, and nothing else is
+abbrev pub FindsMet : Option ℕ → (ℕ → Type 0) → Type 0
+FindsMet found Met = (a : ℕ) → (found ≡ Some a) ↔ Met a
+
+-- the numbers that can be read stand for partial matches with so many parts, and no two for the same parts
+pub record AreOneByParts (at : ℕ → Partial) (before : BetaMemoryValue) (width : ℕ) : Type 0 where
+  pub long : (a : ℕ) → IsReadable before a → length (at a).parts ≡ width
+  pub one : (a g : ℕ) → IsReadable before a → IsReadable before g → (at a).parts ≡ (at g).parts → a ≡ g

@@ -1,0 +1,44 @@
+//! The partial match before a group that one inside it goes on from.
+ghost use Rattle.std.specs.Prelude.{◌≡◌, ◌≤◌, ℕ, Some};
+ghost use Rattle.cb_group_node.specs.Outer.{FindsMet};
+ghost use Rattle.cb_token_lists.specs.Partials.{AreBelow, Meets};
+
+use cb_token_lists::TokenLists;
+
+/// The token of list `from` that is met by going down from a token of list `inner`, if one is. It takes some steps for each list
+/// that is gone down to.
+pub fn outer(lists: &TokenLists<'_>, from: usize, inner: usize, number: u32) -> Option<u32>
+    ensures { AreBelow lists.now.sources.now
+        → FindsMet result (λ g. Meets lists.now.sources.now lists.now.lists.now from g inner number) }
+{
+    outer_in(lists, from, inner, inner, number)
+}
+
+/// The same by going down so many lists and one more.
+fn outer_in(
+    lists: &TokenLists<'_>,
+    from: usize,
+    turns: usize,
+    list: usize,
+    number: u32,
+) -> Option<u32>
+    ensures { AreBelow lists.now.sources.now → list ≤ turns
+        → FindsMet result (λ g. Meets lists.now.sources.now lists.now.lists.now from g list number) }
+{
+    if list == from {
+        return Some(number);
+    }
+    if list == 0 || turns == 0 {
+        return None;
+    }
+    let Some(source) = lists.sources.get(list - 1) else {
+        return None;
+    };
+    let Some(memory) = lists.lists.get(list) else {
+        return None;
+    };
+    let Some(token) = memory.token(number) else {
+        return None;
+    };
+    outer_in(lists, from, turns - 1, source.from as usize, token.parent)
+}
