@@ -1,2 +1,7 @@
 pub mod Beginnings
+pub mod Changed
+pub mod Filing
 pub mod Meeting
+pub mod Settled
+pub mod Touching
+pub mod Within

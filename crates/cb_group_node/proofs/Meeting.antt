@@ -111,3 +111,21 @@ module _ (sources : List SourceValue) (lists : List BetaMemoryValue) where
           (subst (λ it. Meets sources lists from a k.source.from it) (ap (λ (it : TokenValue). it.parent) token') k.more))
     ],
   )
+
+  -- one alone is met
+  pub met_same : AreBelow sources → (j a b k i : ℕ) → Meets sources lists j a k i → Meets sources lists j b k i → a ≡ b
+  met_same below j a b k i meets_here m = met_itself below j b i m
+  met_same below j a b k i (meets_below l n s t is there more) m = elim (by_step j b k i m) as (λ _. a ≡ b) [
+    | inl e ↦
+        let h = met_before below j a s.from t.parent more in
+        let c = below l s is in
+        absurd (omega (arith, h, c, e.0))
+    | inr d ↦
+        let place : l ≡ d.list = omega (arith, d.behind) in
+        let source : Some s ≡ Some d.source = sym is ∙ (ap (slice_get sources) place ∙ d.names) in
+        let token : Some t ≡ Some d.token = sym there ∙ (ap (λ it. token_at (tokens_in lists it) i) d.behind ∙ d.there) in
+        let source' : d.source ≡ s = cc in
+        let token' : d.token ≡ t = cc in
+        met_same below j a b s.from t.parent more (subst (λ it. Meets sources lists j b it t.parent) (ap (λ (it : SourceValue). it.from) source')
+        (subst (λ it. Meets sources lists j b d.source.from it) (ap (λ (it : TokenValue). it.parent) token') d.more))
+  ]

@@ -3,7 +3,12 @@
 //! `docs/ARCHITECTURE.md` says where it belongs.
 #![tactic(auto)]
 
-pub mod laws; // laws of what goes on from a partial match before a group
 mod descent; // what stands before a group
+mod inside; // the tokens inside a group
+pub mod laws; // laws of what goes on from a partial match before a group
+mod marks; // numbers that are put into groups
+mod node; // a change of a group
+mod passing; // what a group passes on
 
 pub use descent::outer;
+pub use node::GroupNode;

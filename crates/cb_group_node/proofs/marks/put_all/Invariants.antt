@@ -1,0 +1,7 @@
+use Rattle.std.proofs.Common.{Some, take}
+use Rattle.cb_matches.specs.Chains.{In}
+use Rattle.cb_group_node.specs.Marks.{Sets}
+use Rattle.cb_group_node.proofs.marks.put_all.Given as goal
+
+abbrev pub invariant-loop-number : goal.invariant-loop-number
+invariant-loop-number l = Sets l.initial.groups l.groups (λ n. In n (take l.number-index l.numbers)) (Some l.group)
