@@ -3,7 +3,7 @@ ghost use Rattle.std.specs.Prelude.{◌≡◌, ℕ, [], List, OnOk, Some, slice_
 ghost use Rattle.cb_beta.specs.BetaMemories.{BetaMemoryValue};
 ghost use Rattle.cb_group_node.specs.Nodes.{IsAfter, IsBefore, IsReady};
 ghost use Rattle.cb_matches.specs.Matches.{Partial};
-ghost use Rattle.cb_token_lists.specs.Partials.{AreBelow, Meets, partial_at};
+ghost use Rattle.cb_token_lists.specs.Partials.{AreBelow, Meets, SourceValue, partial_at};
 
 use crate::inside::{enter, touch, wait_all};
 use crate::marks::{put_all, remove_all};
@@ -35,7 +35,8 @@ impl GroupNode {
         ensures from { result.from ≡ from }
         ensures inner { result.inner ≡ inner }
         ensures positive { result.positive ≡ positive }
-        ensures ready { (at : ℕ → Partial) → IsReady result (λ g i. ⊥) at (λ number. ⊥) (λ number. ⊥) []
+        ensures ready { (sources : List SourceValue) (lists : List BetaMemoryValue) (at : ℕ → Partial) (begun : List Partial)
+            → IsReady result (λ g i. Meets sources lists from g inner i) at (λ number. ⊥) (λ number. ⊥) begun
             (record { tokens = []; gone = []; come = [] }) }
     {
         GroupNode {
@@ -50,7 +51,10 @@ impl GroupNode {
     /// Changes the tokens behind the group, in `own`. The lists before it have changed already. Growth is refused as `NoMemory`, and
     /// then some of the change may be done.
     pub fn change(&mut self, lists: &TokenLists<'_>, own: &mut BetaMemory) -> Result<(), NoMemory>
-        ensures { OnOk result ((before within : BetaMemoryValue) (width : ℕ) (old new begun begun' : List Partial)
+        ensures from { self.new.from ≡ self.old.from }
+        ensures inner { self.new.inner ≡ self.old.inner }
+        ensures positive { self.new.positive ≡ self.old.positive }
+        ensures after { OnOk result ((before within : BetaMemoryValue) (width : ℕ) (old new begun begun' : List Partial)
             → AreBelow lists.now.sources.now
             → slice_get lists.now.lists.now self.old.from ≡ Some before
             → slice_get lists.now.lists.now self.old.inner ≡ Some within

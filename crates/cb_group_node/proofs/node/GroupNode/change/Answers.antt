@@ -17,8 +17,8 @@ use Rattle.cb_token_lists.specs.Partials.{Meets, partial_at}
 one_some : {A : Type 0} {a b : A} → Some a ≡ Some b → a ≡ b
 one_some {A} {a} {b} e = cc
 
-pub returns : goal.returns
-returns c =
+pub returns-clause-after : goal.returns-clause-after
+returns-clause-after c =
     let ss = c.args.lists.now.sources.now in
     let ls = c.args.lists.now.lists.now in
     let me = c.args.self.now in
