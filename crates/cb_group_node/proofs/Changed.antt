@@ -8,8 +8,9 @@ use Rattle.cb_beta.specs.BetaMemories.{BetaMemoryValue, Loses}
 use Rattle.cb_beta.specs.Tokens.{TokenValue, Tokens, partial_after, token_at, with_taken}
 use Rattle.cb_group_node.proofs.Within.{group_holds, is_inside, is_there, kept, kept_back, same_holds, there_read}
 use Rattle.cb_group_node.proofs.Touching.{AreTouched}
-use Rattle.cb_group_node.specs.Marks.{ArePassed, Enters, Holds, Sets, passed_on}
-use Rattle.cb_group_node.specs.Nodes.{AreBehind, IsAfter, IsInside}
+use Rattle.cb_group_node.specs.Internal.{ArePassedByGroup, Enters, GroupHolds, Sets}
+use Rattle.cb_group_node.specs.Nodes.{AreBehind, IsAfterGroup, IsInside}
+use Rattle.cb_group_node.specs.Outer.{passed_by_group}
 use Rattle.cb_groups.specs.Groups.{AppendsMembers, Membership, Releases, group_of}
 use Rattle.cb_matches.proofs.Lists.{by_test, filter_in, in_filter}
 use Rattle.cb_matches.specs.Chains.{Chain, In}
@@ -21,7 +22,7 @@ use Rattle.cb_token_lists.specs.Growth.{AreTokens, Comes}
 use Rattle.cb_token_lists.specs.Turns.{IsReadable, IsThere, StandFor, Turns, WasThere}
 
 -- what a token behind the group stands for
-stands_for : (at : ℕ → Partial) (ts : Tokens) (i n : ℕ) → token_at ts i ≡ Some (passed_on n) → partial_after None ts at i ≡ at n
+stands_for : (at : ℕ → Partial) (ts : Tokens) (i n : ℕ) → token_at ts i ≡ Some (passed_by_group n) → partial_after None ts at i ≡ at n
 stands_for at ts i n e = ap (λ o. option_map_or (λ (t : TokenValue). with_taken None t.taken (at t.parent)) o no_parts) e
 
 they_stand : (positive : Bool) (complete : List Partial) (at : ℕ → Partial) (ts : Tokens) (Th There : ℕ → Type 0) (ms : List Partial) → StandFor at Th ms
@@ -37,7 +38,7 @@ they_stand positive complete at ts Th There ms stand are all = record {
   from = λ z h.
       let k = in_filter (group_with positive complete) z ms h in
       let n = stand.from z k.0 in
-      let i = all (passed_on n.0) (n.0, n.1, (ap (group_with positive complete) (sym n.2) ∙ k.1), refl) in
+      let i = all (passed_by_group n.0) (n.0, n.1, (ap (group_with positive complete) (sym n.2) ∙ k.1), refl) in
       (i.0, i.1, n.2 ∙ sym (stands_for at ts i.0 n.0 i.2));
 }
 
@@ -48,16 +49,16 @@ module _ (positive : Bool) (Met : ℕ → ℕ → Type 0) (at within_at : ℕ �
     (inside₀ inside₁ inside : Membership) (was_inside : IsInside Met (WasThere within) inside₀)
     (left : Sets inside₀ inside₁ (λ i. In i within.gone) None) (entered : Enters Met (λ i. In i within.come) inside₁ inside)
     (first touched : List ℕ) (touch₁ : AreTouched Met within.gone [] first) (touch₂ : AreTouched Met within.come first touched)
-    (w₀ w₁ w₂ w₃ w : Membership) (none_waiting : (g : ℕ) → group_of w₀ g ≡ None) (wait₁ : Sets w₀ w₁ (λ n. In n touched × (Holds positive inside₀ n → ⊥)) (Some 0))
+    (w₀ w₁ w₂ w₃ w : Membership) (none_waiting : (g : ℕ) → group_of w₀ g ≡ None) (wait₁ : Sets w₀ w₁ (λ n. In n touched × (GroupHolds positive inside₀ n → ⊥)) (Some 0))
     (wait₂ : Sets w₁ w₂ (λ n. In n before.come) (Some 0)) (wait₃ : Sets w₂ w₃ (λ n. In n before.gone) None) (settled : List ℕ)
     (taken : AppendsMembers w₃ 0 [] settled) (released : Releases w₃ w 0) where
   now_inside : IsInside Met (IsThere within) inside
   now_inside = is_inside Met (IsReadable before) within inside₀ inside₁ inside was_inside descend inner_turns.went inner_turns.came left entered
 
-  held : (g : ℕ) → IsReadable before g → (group_with positive begun (at g) ≡ true) ↔ Holds positive inside₀ g
+  held : (g : ℕ) → IsReadable before g → (group_with positive begun (at g) ≡ true) ↔ GroupHolds positive inside₀ g
   held g r = group_holds Met at within_at (WasThere within) begun inner_turns.was inside₀ was_inside g (λ i h. goes g i r h.0) positive
 
-  holds_now : (g : ℕ) → IsReadable before g → (group_with positive begun' (at g) ≡ true) ↔ Holds positive inside g
+  holds_now : (g : ℕ) → IsReadable before g → (group_with positive begun' (at g) ≡ true) ↔ GroupHolds positive inside g
   holds_now g r = group_holds Met at within_at (IsThere within) begun' inner_turns.is inside now_inside g (λ i h. goes g i r (there_read within i h).1) positive
 
   touched_gone : (g i : ℕ) → In i within.gone → Met g i → In g touched
@@ -78,19 +79,19 @@ module _ (positive : Bool) (Met : ℕ → ℕ → Type 0) (at within_at : ℕ �
     ]
   ]
 
-  same_on : (g : ℕ) → (In g touched → ⊥) → Holds positive inside₀ g → Holds positive inside g
+  same_on : (g : ℕ) → (In g touched → ⊥) → GroupHolds positive inside₀ g → GroupHolds positive inside g
   same_on g n = same_holds positive inside₀ inside g
       (kept Met (IsReadable before) within inside₀ inside₁ inside was_inside descend inner_turns.went inner_turns.came left entered g (λ i h m. n (touched_gone g i h m)))
       (kept_back Met (IsReadable before) within inside₀ inside₁ inside was_inside descend inner_turns.went inner_turns.came left entered g (λ i h m. n (touched_come g i h m)))
 
-  same_back : (g : ℕ) → (In g touched → ⊥) → Holds positive inside g → Holds positive inside₀ g
+  same_back : (g : ℕ) → (In g touched → ⊥) → GroupHolds positive inside g → GroupHolds positive inside₀ g
   same_back g n = same_holds positive inside inside₀ g
       (kept_back Met (IsReadable before) within inside₀ inside₁ inside was_inside descend inner_turns.went inner_turns.came left entered g (λ i h m. n (touched_come g i h m)))
       (kept Met (IsReadable before) within inside₀ inside₁ inside was_inside descend inner_turns.went inner_turns.came left entered g (λ i h m. n (touched_gone g i h m)))
 
   -- what waited
   abbrev Waits : ℕ → Type 0
-  Waits g = In g touched × (Holds positive inside₀ g → ⊥)
+  Waits g = In g touched × (GroupHolds positive inside₀ g → ⊥)
 
   waits : (g : ℕ) → group_of w₁ g ≡ Some 0 → Waits g
   waits g e = elim (by_in g touched) as (λ _. Waits g) [
@@ -140,34 +141,34 @@ module _ (positive : Bool) (Met : ℕ → ℕ → Type 0) (at within_at : ℕ �
   ]
 
   module _ (own₀ own₁ own₂ own : BetaMemoryValue) (behind : AreTokens own₀ (AreBehind positive begun at (WasThere before))) (none_gone : own₀.gone ≡ []) (none_come : own₀.come ≡ [])
-      (lost₁ : Loses own₀ own₁ (λ t. In t.parent before.gone)) (lost₂ : Loses own₁ own₂ (λ t. In t.parent touched × (Holds positive inside t.parent → ⊥)))
-      (comes : Chain (λ (i : ℕ) (j : ℕ). i ≢ j) settled → Comes own₂ own (ArePassed positive inside (λ n. In n settled))) where
-    come : Comes own₂ own (ArePassed positive inside (λ n. In n settled))
+      (lost₁ : Loses own₀ own₁ (λ t. In t.parent before.gone)) (lost₂ : Loses own₁ own₂ (λ t. In t.parent touched × (GroupHolds positive inside t.parent → ⊥)))
+      (comes : Chain (λ (i : ℕ) (j : ℕ). i ≢ j) settled → Comes own₂ own (ArePassedByGroup positive inside (λ n. In n settled))) where
+    come : Comes own₂ own (ArePassedByGroup positive inside (λ n. In n settled))
     come = comes settled_once
 
     abbrev Was : TokenValue → Type 0
     Was = AreBehind positive begun at (WasThere before)
 
     abbrev Lost : TokenValue → Type 0
-    Lost t = In t.parent before.gone ⊎ (In t.parent touched × (Holds positive inside t.parent → ⊥))
+    Lost t = In t.parent before.gone ⊎ (In t.parent touched × (GroupHolds positive inside t.parent → ⊥))
 
     abbrev Came : TokenValue → Type 0
-    Came = ArePassed positive inside (λ n. In n settled)
+    Came = ArePassedByGroup positive inside (λ n. In n settled)
 
     abbrev Final : TokenValue → Type 0
     Final = AreBehind positive begun' at (IsThere before)
 
     lost : Loses own₀ own₂ Lost
-    lost = then own₀ own₁ (λ t. In t.parent before.gone) lost₁ own₂ (λ t. In t.parent touched × (Holds positive inside t.parent → ⊥)) lost₂
+    lost = then own₀ own₁ (λ t. In t.parent before.gone) lost₁ own₂ (λ t. In t.parent touched × (GroupHolds positive inside t.parent → ⊥)) lost₂
 
-    parent_is : (t : TokenValue) (n : ℕ) → t ≡ passed_on n → n ≡ t.parent
+    parent_is : (t : TokenValue) (n : ℕ) → t ≡ passed_by_group n → n ≡ t.parent
     parent_is t n e = ap (λ (it : TokenValue). it.parent) (sym e)
 
     -- the group holds still for what isn't lost
-    still : (g : ℕ) → IsReadable before g → Holds positive inside₀ g → (In g touched × (Holds positive inside g → ⊥) → ⊥) → group_with positive begun' (at g) ≡ true
+    still : (g : ℕ) → IsReadable before g → GroupHolds positive inside₀ g → (In g touched × (GroupHolds positive inside g → ⊥) → ⊥) → group_with positive begun' (at g) ≡ true
     still g r h apart = by_test (group_with positive begun' (at g)) (λ t. t)
         (λ f.
-        let no : Holds positive inside g → ⊥ = λ k. absurd (let both : true ≡ false = sym ((holds_now g r).1 k) ∙ f in cc) in
+        let no : GroupHolds positive inside g → ⊥ = λ k. absurd (let both : true ≡ false = sym ((holds_now g r).1 k) ∙ f in cc) in
         elim (by_in g touched) as (λ _. group_with positive begun' (at g) ≡ true) [
           | inl i ↦ absurd (apart (i, no))
           | inr n ↦ absurd (no (same_on g n h))
@@ -178,7 +179,7 @@ module _ (positive : Bool) (Met : ℕ → ℕ → Type 0) (at within_at : ℕ �
         let p = parent_is t h.0 h.3 in (
           h.0,
           is_there before h.0 h.1.0 (λ k. apart (inl (subst (λ it. In it before.gone) p k))),
-          still h.0 h.1.0 ((held h.0 h.1.0).0 h.2) (λ q. apart (inr (subst (λ it. In it touched × (Holds positive inside it → ⊥)) p q))),
+          still h.0 h.1.0 ((held h.0 h.1.0).0 h.2) (λ q. apart (inr (subst (λ it. In it touched × (GroupHolds positive inside it → ⊥)) p q))),
           h.3,
         )
 
@@ -203,11 +204,11 @@ module _ (positive : Bool) (Met : ℕ → ℕ → Type 0) (at within_at : ℕ �
                 (h.0, (r.1, m), t', h.3),
                 λ l. elim l as (λ _. ⊥) [
                   | inl g ↦ r.0 (subst (λ it. In it before.gone) p g)
-                  | inr q ↦ q.1 (subst (Holds positive inside) (sym p) now)
+                  | inr q ↦ q.1 (subst (GroupHolds positive inside) (sym p) now)
                 ],
               ))
               (λ f.
-              let no : Holds positive inside₀ h.0 → ⊥ = λ k. absurd (let both : true ≡ false = sym ((held h.0 r.1).1 k) ∙ f in cc) in
+              let no : GroupHolds positive inside₀ h.0 → ⊥ = λ k. absurd (let both : true ≡ false = sym ((held h.0 r.1).1 k) ∙ f in cc) in
               elim (by_in h.0 touched) as (λ _. (Was t × (Lost t → ⊥)) ⊎ Came t) [
                 | inl i ↦ inr (h.0, to_settled h.0 r.0 (inr (i, no)), (now, h.3))
                 | inr n ↦ absurd (no (same_back h.0 n now))
@@ -219,10 +220,10 @@ module _ (positive : Bool) (Met : ℕ → ℕ → Type 0) (at within_at : ℕ �
         let same : k.0 ≡ h.0 = parent_is t k.0 k.2.1 ∙ sym (parent_is t h.0 h.3) in
         elim (of_settled k.0 k.1).1 as (λ _. ⊥) [
           | inl c ↦ h.1.1 (subst (λ n. In n before.come) same c)
-          | inr q ↦ q.1 (subst (Holds positive inside₀) (sym same) ((held h.0 h.1.0).0 h.2))
+          | inr q ↦ q.1 (subst (GroupHolds positive inside₀) (sym same) ((held h.0 h.1.0).0 h.2))
         ]
 
-    read : (t : TokenValue) → Was t ⊎ Final t → (n : ℕ) × IsReadable before n × (t ≡ passed_on n)
+    read : (t : TokenValue) → Was t ⊎ Final t → (n : ℕ) × IsReadable before n × (t ≡ passed_by_group n)
     read t (inl h) = (h.0, h.1.0, h.3)
     read t (inr h) = (h.0, (there_read before h.0 h.1).1, h.3)
 
@@ -234,7 +235,7 @@ module _ (positive : Bool) (Met : ℕ → ℕ → Type 0) (at within_at : ℕ �
         let one = stands_for at own.tokens i n.0 (e ∙ ap Some n.2) in
         let other = stands_for at own.tokens j m.0 (d ∙ ap Some m.2) in
         let equal : n.0 ≡ m.0 = turns.one n.0 m.0 n.1 m.1 (ap (λ (it : Partial). it.parts) (sym one) ∙ (parts ∙ ap (λ (it : Partial). it.parts) other)) in
-        n.2 ∙ (ap passed_on equal ∙ sym m.2)
+        n.2 ∙ (ap passed_by_group equal ∙ sym m.2)
 
     tokens_after : AreTokens own Final
     tokens_after = they_are own₀ own₂ own Was Lost Came Final none_gone none_come behind lost come stay arrive split apart
@@ -250,5 +251,5 @@ module _ (positive : Bool) (Met : ℕ → ℕ → Type 0) (at within_at : ℕ �
         (new_is own₀ own₂ own Was Lost Came Final none_gone none_come behind lost come stay arrive split apart))
         same
 
-    pub changed : (from inner : ℕ) → IsAfter (record { from = from; inner = inner; positive = positive; inside = inside; waiting = w }) Met at before within own old new begun begun'
+    pub changed : (from inner : ℕ) → IsAfterGroup (record { from = from; inner = inner; positive = positive; inside = inside; waiting = w }) Met at before within own old new begun begun'
     changed from inner = record { ready = record { inside = now_inside; waiting = none_waits; tokens = tokens_after }; turns = turns_after }

@@ -2,7 +2,7 @@
 use Rattle.std.proofs.Common.{◌≡◌, ◌∙◌, ◌+◌, ◌<◌, ℕ, List, Option, Some, ap, get_or, inl, inr, length, refl, subst, take}
 use Rattle.std.proofs.lemmas.Bool.{cases_eq}
 use Rattle.cb_beta.proofs.Members.{in_more, more_in}
-use Rattle.cb_group_node.specs.Marks.{Enters, Sets}
+use Rattle.cb_group_node.specs.Internal.{Enters, Sets}
 use Rattle.cb_groups.specs.Groups.{Membership, Updates, group_of}
 use Rattle.cb_matches.specs.Chains.{In}
 

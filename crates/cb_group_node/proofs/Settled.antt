@@ -4,11 +4,11 @@ use Rattle.cb_beta.proofs.Losses.{alike, then}
 use Rattle.cb_beta.proofs.Members.{in_more, more_in}
 use Rattle.cb_beta.specs.BetaMemories.{BetaMemoryValue, Loses}
 use Rattle.cb_beta.specs.Tokens.{TokenValue}
-use Rattle.cb_group_node.specs.Marks.{IsPassed}
+use Rattle.cb_group_node.specs.Internal.{IsPassedByGroup}
 use Rattle.cb_groups.specs.Groups.{Membership}
 use Rattle.cb_matches.specs.Chains.{In}
 
-pub differ : (positive : Bool) (inside : Membership) (i j : ℕ) (t : TokenValue) → IsPassed positive inside i t → IsPassed positive inside j t → i ≡ j
+pub differ : (positive : Bool) (inside : Membership) (i j : ℕ) (t : TokenValue) → IsPassedByGroup positive inside i t → IsPassedByGroup positive inside j t → i ≡ j
 differ positive inside i j t h k = ap (λ (it : TokenValue). it.parent) (sym h.1 ∙ k.1)
 
 -- what goes on from one number more

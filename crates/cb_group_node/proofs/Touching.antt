@@ -1,7 +1,7 @@
 -- The tokens that are met from numbers, one after another.
 use Rattle.std.proofs.Common.{◌≡◌, ◌+◌, ◌⊎◌, ◌<◌, ℕ, List, [], ◌∷◌, ◌++◌, get_or, inl, inr, length, refl, subst, sym, take}
 use Rattle.cb_beta.proofs.Members.{in_either, in_left, in_more, in_right, more_in}
-use Rattle.cb_group_node.specs.Marks.{Touches}
+use Rattle.cb_group_node.specs.Internal.{Touches}
 use Rattle.cb_matches.specs.Chains.{In}
 
 abbrev pub AreTouched : (ℕ → ℕ → Type 0) → List ℕ → List ℕ → List ℕ → Type 0

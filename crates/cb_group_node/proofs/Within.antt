@@ -5,7 +5,7 @@ use Rattle.cb_beta.proofs.Live.{live_token, some_none, there_is}
 use Rattle.cb_beta.proofs.Members.{by_in}
 use Rattle.cb_beta.specs.BetaMemories.{BetaMemoryValue}
 use Rattle.cb_group_node.proofs.Beginnings.{in_some, some_in}
-use Rattle.cb_group_node.specs.Marks.{Enters, Holds, Sets}
+use Rattle.cb_group_node.specs.Internal.{Enters, GroupHolds, Sets}
 use Rattle.cb_group_node.specs.Nodes.{IsInside}
 use Rattle.cb_groups.specs.Groups.{HasMember, Membership, group_of}
 use Rattle.cb_matches.proofs.Lists.{by_test}
@@ -74,13 +74,13 @@ module _ (Met : ℕ → ℕ → Type 0) (at within_at : ℕ → Partial) (There 
         in_some (begins (at g).parts) (within_at h.0) ms (stand.to h.0 k.0) ((goes h.0 k.0).1 k.1),
   )
 
-  pub group_holds : (positive : Bool) → (group_with positive ms (at g) ≡ true) ↔ Holds positive inside g
+  pub group_holds : (positive : Bool) → (group_with positive ms (at g) ≡ true) ↔ GroupHolds positive inside g
   group_holds true = any_member
   group_holds false = (
     λ e h. not_true (list_any (begins (at g).parts) ms) (any_member.1 h) e,
     λ none. by_test (list_any (begins (at g).parts) ms) (λ t. absurd (none (any_member.0 t))) (λ f. ap not f),
   )
 
-pub same_holds : (positive : Bool) (old new : Membership) (g : ℕ) → (HasMember old g → HasMember new g) → (HasMember new g → HasMember old g) → Holds positive old g → Holds positive new g
+pub same_holds : (positive : Bool) (old new : Membership) (g : ℕ) → (HasMember old g → HasMember new g) → (HasMember new g → HasMember old g) → GroupHolds positive old g → GroupHolds positive new g
 same_holds true old new g to from h = to h
 same_holds false old new g to from h = λ k. h (from k)

@@ -1,3 +1,3 @@
-pub mod Marks
+pub mod Internal
 pub mod Nodes
 pub mod Outer

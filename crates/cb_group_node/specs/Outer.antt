@@ -1,6 +1,7 @@
--- What stands before a group, by what stands inside it.
-use Rattle.std.specs.Prelude.{◌≡◌, ◌↔◌, ℕ, Option, Some, length}
+-- What stands before a group, by what stands inside it, and the tokens behind it.
+use Rattle.std.specs.Prelude.{◌≡◌, ◌↔◌, ℕ, Option, Some, None, length}
 use Rattle.cb_beta.specs.BetaMemories.{BetaMemoryValue}
+use Rattle.cb_beta.specs.Tokens.{TokenValue}
 use Rattle.cb_matches.specs.Matches.{Partial}
 use Rattle.cb_token_lists.specs.Turns.{IsReadable}
 
@@ -12,3 +13,7 @@ FindsMet found Met = (a : ℕ) → (found ≡ Some a) ↔ Met a
 pub record AreOneByParts (at : ℕ → Partial) (before : BetaMemoryValue) (width : ℕ) : Type 0 where
   pub long : (a : ℕ) → IsReadable before a → length (at a).parts ≡ width
   pub one : (a g : ℕ) → IsReadable before a → IsReadable before g → (at a).parts ≡ (at g).parts → a ≡ g
+
+-- the token behind a group, which takes nothing
+abbrev pub passed_by_group : ℕ → TokenValue
+passed_by_group number = record { parent = number; taken = None }

@@ -2,7 +2,7 @@
 ghost use Rattle.std.specs.Prelude.{◌≡◌, ◌⊎◌, ℕ, OnOk, Some};
 ghost use Rattle.std.specs.Bool.{Decides};
 ghost use Rattle.cb_groups.specs.Groups.{group_of};
-ghost use Rattle.cb_group_node.specs.Marks.{Enters, Holds, Sets, Touches};
+ghost use Rattle.cb_group_node.specs.Internal.{Enters, GroupHolds, Sets, Touches};
 ghost use Rattle.cb_matches.specs.Chains.{In};
 ghost use Rattle.cb_token_lists.specs.Partials.{AreBelow, Meets};
 
@@ -14,7 +14,7 @@ use cb_token_lists::TokenLists;
 
 /// Whether a group holds for a token before it.
 pub(crate) fn holds(positive: bool, inside: &Groups, number: u32) -> bool
-    ensures { Decides result (Holds positive inside.now number) }
+    ensures { Decides result (GroupHolds positive inside.now number) }
 {
     inside.has_any(number) == positive
 }
@@ -109,7 +109,7 @@ pub(crate) fn wait_all(
     waiting: &mut Groups,
 ) -> Result<(), NoMemory>
     ensures { OnOk result (Sets waiting.old waiting.new
-        (λ n. In n numbers.now × (Holds positive inside.now n → ⊥)) (Some 0)) }
+        (λ n. In n numbers.now × (GroupHolds positive inside.now n → ⊥)) (Some 0)) }
 {
     for number in numbers {
         wait_one(positive, inside, *number, waiting)?;
@@ -125,7 +125,7 @@ fn wait_one(
     waiting: &mut Groups,
 ) -> Result<(), NoMemory>
     ensures { OnOk result (Sets waiting.old waiting.new
-        (λ n. (n ≡ number) × (Holds positive inside.now n → ⊥)) (Some 0)) }
+        (λ n. (n ≡ number) × (GroupHolds positive inside.now n → ⊥)) (Some 0)) }
 {
     if holds(positive, inside, number) {
         return Ok(());

@@ -1,7 +1,7 @@
 //! Numbers that are put into groups, or taken out, one after another.
 ghost use Rattle.std.specs.Prelude.{None, OnOk, Some};
 ghost use Rattle.cb_groups.specs.Groups.{Updates};
-ghost use Rattle.cb_group_node.specs.Marks.{Sets};
+ghost use Rattle.cb_group_node.specs.Internal.{Sets};
 ghost use Rattle.cb_matches.specs.Chains.{In};
 
 use cb_forms::NoMemory;

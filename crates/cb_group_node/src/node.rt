@@ -1,7 +1,7 @@
 //! A change of a group node.
 ghost use Rattle.std.specs.Prelude.{◌≡◌, ℕ, [], List, OnOk, Some, slice_get};
 ghost use Rattle.cb_beta.specs.BetaMemories.{BetaMemoryValue};
-ghost use Rattle.cb_group_node.specs.Nodes.{IsAfter, IsBefore, IsReady};
+ghost use Rattle.cb_group_node.specs.Nodes.{IsAfterGroup, IsBeforeGroup, IsGroupReady};
 ghost use Rattle.cb_matches.specs.Matches.{Partial};
 ghost use Rattle.cb_token_lists.specs.Partials.{AreBelow, Meets, SourceValue, partial_at};
 
@@ -36,7 +36,7 @@ impl GroupNode {
         ensures inner { result.inner ≡ inner }
         ensures positive { result.positive ≡ positive }
         ensures ready { (sources : List SourceValue) (lists : List BetaMemoryValue) (at : ℕ → Partial) (begun : List Partial)
-            → IsReady result (λ g i. Meets sources lists from g inner i) at (λ number. ⊥) (λ number. ⊥) begun
+            → IsGroupReady result (λ g i. Meets sources lists from g inner i) at (λ number. ⊥) (λ number. ⊥) begun
             (record { tokens = []; gone = []; come = [] }) }
     {
         GroupNode {
@@ -58,11 +58,11 @@ impl GroupNode {
             → AreBelow lists.now.sources.now
             → slice_get lists.now.lists.now self.old.from ≡ Some before
             → slice_get lists.now.lists.now self.old.inner ≡ Some within
-            → IsBefore self.old (λ g i. Meets lists.now.sources.now lists.now.lists.now self.old.from g self.old.inner i)
+            → IsBeforeGroup self.old (λ g i. Meets lists.now.sources.now lists.now.lists.now self.old.from g self.old.inner i)
             (partial_at lists.now.sources.now lists.now.lists.now self.old.from)
             (partial_at lists.now.sources.now lists.now.lists.now self.old.inner)
             before within width own.old old new begun begun'
-            → IsAfter self.new (λ g i. Meets lists.now.sources.now lists.now.lists.now self.old.from g self.old.inner i)
+            → IsAfterGroup self.new (λ g i. Meets lists.now.sources.now lists.now.lists.now self.old.from g self.old.inner i)
             (partial_at lists.now.sources.now lists.now.lists.now self.old.from)
             before within own.new old new begun begun') }
     {

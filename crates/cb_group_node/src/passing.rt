@@ -1,7 +1,7 @@
 //! What a group passes on.
 ghost use Rattle.std.specs.Prelude.{◌≡◌, ◌≢◌, ℕ, OnOk};
 ghost use Rattle.cb_beta.specs.BetaMemories.{Loses};
-ghost use Rattle.cb_group_node.specs.Marks.{ArePassed, Holds, IsPassed};
+ghost use Rattle.cb_group_node.specs.Internal.{ArePassedByGroup, GroupHolds, IsPassedByGroup};
 ghost use Rattle.cb_matches.specs.Chains.{Chain, In};
 ghost use Rattle.cb_token_lists.specs.Growth.{Comes};
 
@@ -19,7 +19,7 @@ pub(crate) fn retract(
     own: &mut BetaMemory,
 ) -> Result<(), NoMemory>
     ensures { OnOk result (Loses own.old own.new
-        (λ t. In t.parent numbers.now × (Holds positive inside.now t.parent → ⊥))) }
+        (λ t. In t.parent numbers.now × (GroupHolds positive inside.now t.parent → ⊥))) }
 {
     for number in numbers {
         retract_one(positive, inside, *number, own)?;
@@ -35,7 +35,7 @@ fn retract_one(
     own: &mut BetaMemory,
 ) -> Result<(), NoMemory>
     ensures { OnOk result (Loses own.old own.new
-        (λ t. (t.parent ≡ number) × (Holds positive inside.now t.parent → ⊥))) }
+        (λ t. (t.parent ≡ number) × (GroupHolds positive inside.now t.parent → ⊥))) }
 {
     if holds(positive, inside, number) {
         return Ok(());
@@ -51,7 +51,7 @@ pub(crate) fn pass_all(
     own: &mut BetaMemory,
 ) -> Result<(), NoMemory>
     ensures { OnOk result (Chain (λ (i : ℕ) (j : ℕ). i ≢ j) numbers.now → Comes own.old own.new
-        (ArePassed positive inside.now (λ n. In n numbers.now))) }
+        (ArePassedByGroup positive inside.now (λ n. In n numbers.now))) }
 {
     for number in numbers {
         pass_one(positive, inside, *number, own)?;
@@ -66,7 +66,7 @@ fn pass_one(
     number: u32,
     own: &mut BetaMemory,
 ) -> Result<(), NoMemory>
-    ensures { OnOk result (Comes own.old own.new (IsPassed positive inside.now number)) }
+    ensures { OnOk result (Comes own.old own.new (IsPassedByGroup positive inside.now number)) }
 {
     if !holds(positive, inside, number) {
         return Ok(());

@@ -1,7 +1,7 @@
 use Rattle.std.proofs.Common.{◌≡◌, ◌∙◌, List, ℕ, ap, arith, length, subst, take}
 use Rattle.std.proofs.Math.Seq.{take-length}
 use Rattle.cb_matches.specs.Chains.{In}
-use Rattle.cb_group_node.specs.Marks.{Enters}
+use Rattle.cb_group_node.specs.Internal.{Enters}
 use Rattle.cb_token_lists.specs.Partials.{Meets}
 use Rattle.cb_group_node.proofs.Filing.{none_enter, more_enter}
 use Rattle.cb_group_node.proofs.inside.enter.Goals as goal

@@ -1,6 +1,6 @@
 use Rattle.std.proofs.Common.{take}
 use Rattle.cb_matches.specs.Chains.{In}
-use Rattle.cb_group_node.specs.Marks.{Enters}
+use Rattle.cb_group_node.specs.Internal.{Enters}
 use Rattle.cb_token_lists.specs.Partials.{AreBelow, Meets}
 use Rattle.cb_group_node.proofs.inside.enter.Given as goal
 

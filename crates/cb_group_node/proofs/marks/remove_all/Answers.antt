@@ -1,7 +1,7 @@
 use Rattle.std.proofs.Common.{◌≡◌, ◌∙◌, List, ℕ, None, ap, arith, length, subst, take}
 use Rattle.std.proofs.Math.Seq.{take-length}
 use Rattle.cb_matches.specs.Chains.{In}
-use Rattle.cb_group_node.specs.Marks.{Sets}
+use Rattle.cb_group_node.specs.Internal.{Sets}
 use Rattle.cb_group_node.proofs.Filing.{none_set, more_set}
 use Rattle.cb_group_node.proofs.marks.remove_all.Goals as goal
 

@@ -1,22 +1,22 @@
 use Rattle.std.proofs.Common.{◌≡◌, ◌∙◌, List, ℕ, ap, arith, length, subst, take}
 use Rattle.std.proofs.Math.Seq.{take-length}
 use Rattle.cb_matches.specs.Chains.{In}
-use Rattle.cb_group_node.specs.Marks.{ArePassed, IsPassed}
+use Rattle.cb_group_node.specs.Internal.{ArePassedByGroup, IsPassedByGroup}
 use Rattle.cb_token_lists.specs.Growth.{Comes}
 use Rattle.cb_token_lists.proofs.Arrivals.{none_come, one_more_comes}
 use Rattle.cb_group_node.proofs.Settled.{differ}
 use Rattle.cb_group_node.proofs.passing.pass_all.Goals as goal
 
 pub loop-number-init : goal.loop-number-init
-loop-number-init c once = none_come c.args.own.now (ArePassed c.args.positive c.args.inside.now (λ n. In n (take 0 c.args.numbers.now))) (λ t h. h.1)
+loop-number-init c once = none_come c.args.own.now (ArePassedByGroup c.args.positive c.args.inside.now (λ n. In n (take 0 c.args.numbers.now))) (λ t h. h.1)
 
 pub loop-number-preserved : goal.loop-number-preserved
 loop-number-preserved c once =
-    one_more_comes c.args.own.now c.loop-number.own c.pass_one.new.own (IsPassed c.args.positive c.args.inside.now) (differ c.args.positive c.args.inside.now) c.args.numbers.now c.loop-number.number-index (omega arith) once (c.loop-number.invariant once) c.in_ok-pass_one.ensures
+    one_more_comes c.args.own.now c.loop-number.own c.pass_one.new.own (IsPassedByGroup c.args.positive c.args.inside.now) (differ c.args.positive c.args.inside.now) c.args.numbers.now c.loop-number.number-index (omega arith) once (c.loop-number.invariant once) c.in_ok-pass_one.ensures
 
 pub returns : goal.returns
 returns c once =
     let xs = c.args.numbers.now in
     let i = c.loop-number.number-index in
     let end : i ≡ length xs = omega (arith, c.loop-number-test.false, c.loop-number.auto.number-index-end) in
-    subst (λ (it : List ℕ). Comes c.args.own.now c.loop-number.own (ArePassed c.args.positive c.args.inside.now (λ n. In n it))) (ap (λ n. take n xs) end ∙ take-length xs) (c.loop-number.invariant once)
+    subst (λ (it : List ℕ). Comes c.args.own.now c.loop-number.own (ArePassedByGroup c.args.positive c.args.inside.now (λ n. In n it))) (ap (λ n. take n xs) end ∙ take-length xs) (c.loop-number.invariant once)

@@ -1,6 +1,7 @@
--- The tokens inside a group, by those before it, and what the group passes on.
-use Rattle.std.specs.Prelude.{◌≡◌, ℕ, Bool, true, false, List, Option, Some, None}
+-- The tokens inside a group, by those before it, and what the group passes on, as the code keeps them.
+use Rattle.std.specs.Prelude.{◌≡◌, ℕ, Bool, true, false, List, Option, Some}
 use Rattle.cb_beta.specs.Tokens.{TokenValue}
+use Rattle.cb_group_node.specs.Outer.{passed_by_group}
 use Rattle.cb_groups.specs.Groups.{HasMember, Membership, group_of}
 use Rattle.cb_matches.specs.Chains.{In}
 
@@ -19,17 +20,13 @@ abbrev pub Touches : (ℕ → ℕ → Type 0) → List ℕ → ℕ → Type 0
 Touches Met numbers g = (i : ℕ) × In i numbers × Met g i
 
 -- a group holds for a token, by whether there is one inside that goes on from it
-abbrev pub Holds : Bool → Membership → ℕ → Type 0
-Holds true inside g = HasMember inside g
-Holds false inside g = HasMember inside g → ⊥
-
--- the token behind a group, which takes nothing
-abbrev pub passed_on : ℕ → TokenValue
-passed_on number = record { parent = number; taken = None }
+abbrev pub GroupHolds : Bool → Membership → ℕ → Type 0
+GroupHolds true inside g = HasMember inside g
+GroupHolds false inside g = HasMember inside g → ⊥
 
 -- the token of this one, if the group holds for it, and those of such ones
-abbrev pub IsPassed : Bool → Membership → ℕ → TokenValue → Type 0
-IsPassed positive inside number t = Holds positive inside number × (t ≡ passed_on number)
+abbrev pub IsPassedByGroup : Bool → Membership → ℕ → TokenValue → Type 0
+IsPassedByGroup positive inside number t = GroupHolds positive inside number × (t ≡ passed_by_group number)
 
-abbrev pub ArePassed : Bool → Membership → (ℕ → Type 0) → TokenValue → Type 0
-ArePassed positive inside There t = (number : ℕ) × There number × IsPassed positive inside number t
+abbrev pub ArePassedByGroup : Bool → Membership → (ℕ → Type 0) → TokenValue → Type 0
+ArePassedByGroup positive inside There t = (number : ℕ) × There number × IsPassedByGroup positive inside number t
