@@ -9,7 +9,7 @@ use Rattle.cb_group_node.specs.Outer.{AreOneByParts, FindsMet}
 use Rattle.cb_nodes.proofs.Origins.{same_begin}
 use Rattle.cb_nodes.specs.Flat.{begins}
 use Rattle.cb_token_lists.proofs.Ancestors.{goes_on_from}
-use Rattle.cb_token_lists.specs.Partials.{AreBelow, Meets, SourceValue, meets_here, meets_below, partial_at, tokens_in}
+use Rattle.cb_token_lists.specs.Partials.{AreBelow, Extends, Meets, SourceValue, meets_here, meets_below, partial_at, tokens_in}
 use Rattle.cb_token_lists.specs.Turns.{IsReadable}
 
 -- behind the last there is nothing
@@ -129,3 +129,16 @@ module _ (sources : List SourceValue) (lists : List BetaMemoryValue) where
         met_same below j a b s.from t.parent more (subst (λ it. Meets sources lists j b it t.parent) (ap (λ (it : SourceValue). it.from) source')
         (subst (λ it. Meets sources lists j b d.source.from it) (ap (λ (it : TokenValue). it.parent) token') d.more))
   ]
+
+-- what is met stays so
+still_met : (sources : List SourceValue) (lists lists' : List BetaMemoryValue) → Extends lists lists' → (j a k i : ℕ) → Meets sources lists j a k i → Meets sources lists' j a k i
+still_met sources lists lists' more j a k i meets_here = meets_here
+still_met sources lists lists' more j a k i (meets_below l n s t is there m) =
+    meets_below l i s t is (more (suc l) i t there) (still_met sources lists lists' more j a s.from t.parent m)
+
+pub met_stays : (sources : List SourceValue) (lists lists' : List BetaMemoryValue) → AreBelow sources → Extends lists lists' → (from inner a g i : ℕ) → Meets sources lists from a inner i
+    → Meets sources lists' from g inner i ↔ Meets sources lists from g inner i
+met_stays sources lists lists' below more from inner a g i m = (
+  λ k. subst (λ it. Meets sources lists from it inner i) (met_same sources lists' below from a g inner i (still_met sources lists lists' more from a inner i m) k) m,
+  λ k. still_met sources lists lists' more from g inner i k,
+)
