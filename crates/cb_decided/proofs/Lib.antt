@@ -1,0 +1,13 @@
+mod Asked
+mod CheckLaws
+mod Compared
+mod Decided
+mod DemandLaws
+mod Examples
+mod Given
+mod Having
+mod Listed
+mod Loose
+mod Placed
+mod Plain
+mod Whole

@@ -1,0 +1,4 @@
+pub mod Comparisons
+pub mod Decided
+pub mod Internal
+pub mod Plain
