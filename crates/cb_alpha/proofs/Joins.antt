@@ -1,5 +1,5 @@
 -- The facts of an alpha memory that are filed in each of its joins, one after another.
-use Rattle.std.proofs.Common.{◌≡◌, ◌≢◌, ◌∙◌, ◌+◌, ◌++◌, ◌<◌, ◌≤◌, ℕ, zero, suc, List, [], ◌∷◌, Option, Some, None, Result, Ok, Err, OnErr, OnOk, ap, ap₂, arith, drop, get_or, get_or-set_other, get_or-set_same, inl, inr, length, map, refl, set, slice_get, subst, sym, take}
+use Rattle.std.proofs.Common.{◌≡◌, ◌≢◌, ◌∙◌, ◌+◌, ◌++◌, ◌<◌, ◌≤◌, ℕ, zero, suc, List, [], ◌∷◌, Option, Some, None, ap, ap₂, arith, drop, get_or, get_or-set_other, get_or-set_same, inl, inr, length, map, set, slice_get, subst, sym, take}
 use Rattle.std.proofs.Math.ListN.{length-set}
 use Rattle.std.proofs.Math.Seq.{map-set_same, take-append_seam}
 use Rattle.std.proofs.lemmas.Option.{get_or_from_slice_get}
@@ -88,12 +88,13 @@ still_at [] j k fs e = absurd (let no : None ≡ Some fs = e in cc)
 still_at (x ∷ xs) j zero fs e = e
 still_at (x ∷ xs) j (suc k) fs e = still_at xs j k fs e
 
-pub join_more : (old new : AlphaMemoryValue) (xs : List JoinIndexValue) (j : JoinIndexValue) → old.joins ≡ map fields_of xs → new.joins ≡ map fields_of (xs ++ j ∷ []) → new.candidates ≡ old.candidates → new.gone ≡ old.gone
+pub join_more : (old new : AlphaMemoryValue) (xs : List JoinIndexValue) (j : JoinIndexValue) → old.joins ≡ map fields_of xs → new.joins ≡ map fields_of (xs ++ j ∷ []) → new.candidates ≡ old.candidates → new.gone ≡ old.gone → new.come ≡ old.come
     → GainsJoin old new (length xs) j.fields
-join_more old new xs j was is candidates gone = record {
+join_more old new xs j was is candidates gone come = record {
   within = let long : length new.joins ≡ length xs + 1 = ap length is ∙ (length-map (xs ++ j ∷ []) fields_of ∙ length-append xs (j ∷ [])) in omega (arith, long);
   same = λ fs got content. ap (λ it. field_values it content) (sym (at_last xs j fs (ap (λ it. slice_get it (length xs)) (sym is) ∙ got)));
   others = λ k fs got. ap (λ it. slice_get it k) is ∙ still_at xs j k fs (ap (λ it. slice_get it k) (sym was) ∙ got);
   candidates = candidates;
   gone = gone;
+  come = come;
 }

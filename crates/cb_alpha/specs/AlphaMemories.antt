@@ -6,6 +6,7 @@ use Rattle.cb_alpha.specs.JoinValues.{field_values}
 use Rattle.cb_facts.specs.Facts.{FactContent, FactValue}
 use Rattle.cb_facts.specs.declared.value.Value.{Value}
 use Rattle.cb_fit.specs.declared.join_fields.JoinField.{JoinField}
+use Rattle.cb_matches.specs.Chains.{Chain, In}
 
 -- the facts with their indices, by number
 abbrev pub Candidates : Type 0
@@ -14,10 +15,12 @@ Candidates = List (Option (ℕ × FactValue))
 abbrev pub candidate_in : Candidates → ℕ → Option (ℕ × FactValue)
 candidate_in cs n = slice_index_or cs n None
 
--- the facts that can be read, the number of the one that went in this change, if one did, and the fields of each join
+-- the facts that can be read, the numbers of the one that went in this change and of the one that came, if one did, and the fields
+-- of each join
 pub record AlphaMemoryValue : Type 0 where
   pub candidates : Candidates
   pub gone : Option ℕ
+  pub come : Option ℕ
   pub joins : List (List JoinField)
 
 -- of the facts that can be read, those that aren't gone
@@ -40,31 +43,41 @@ pub record AreFactsWith (m : AlphaMemoryValue) (fields : List JoinField) (values
   pub are : (n : ℕ) → Contains numbers n ↔ (values_in fields (live m n) ≡ Some values)
   pub once : IsDistinct nat_eq numbers
 
+-- these are the numbers of the facts that are there, in any order, none twice
+pub record AreLiveNumbers (m : AlphaMemoryValue) (numbers : List ℕ) : Type 0 where
+  pub are : (n : ℕ) → In n numbers → (f : ℕ × FactValue) × (live m n ≡ Some f)
+  pub all : (n : ℕ) (f : ℕ × FactValue) → live m n ≡ Some f → In n numbers
+  pub once : Chain (λ (i : ℕ) (j : ℕ). i ≢ j) numbers
+
 -- the two have the same facts and joins
 pub record IsSameMemory (old new : AlphaMemoryValue) : Type 0 where
   pub candidates : (n : ℕ) → candidate_in new.candidates n ≡ candidate_in old.candidates n
   pub gone : new.gone ≡ old.gone
+  pub come : new.come ≡ old.come
   pub joins : new.joins ≡ old.joins
 
--- one fact more, under a number that was free
+-- one fact more, under a number that was free, and it came
 pub record GainsFact (old new : AlphaMemoryValue) (number : ℕ) (f : ℕ × FactValue) : Type 0 where
   pub free : candidate_in old.candidates number ≡ None
   pub there : candidate_in new.candidates number ≡ Some f
   pub others : (n : ℕ) → n ≢ number → candidate_in new.candidates n ≡ candidate_in old.candidates n
   pub gone : new.gone ≡ old.gone
+  pub come : new.come ≡ Some number
   pub joins : new.joins ≡ old.joins
 
 -- one fact went, the one with this index, and can still be read
 pub record LosesFact (old new : AlphaMemoryValue) (number index : ℕ) : Type 0 where
   pub was : index_of (live old number) ≡ Some index
   pub gone : new.gone ≡ Some number
+  pub come : new.come ≡ old.come
   pub candidates : new.candidates ≡ old.candidates
   pub joins : new.joins ≡ old.joins
 
--- what can be read is what was there, and nothing went
+-- what can be read is what was there, and nothing went or came
 pub record IsEnded (old new : AlphaMemoryValue) : Type 0 where
   pub candidates : (n : ℕ) → candidate_in new.candidates n ≡ live old n
   pub gone : new.gone ≡ None
+  pub come : new.come ≡ None
   pub joins : new.joins ≡ old.joins
 
 -- two joins have the same values in every fact
@@ -78,3 +91,4 @@ pub record GainsJoin (old new : AlphaMemoryValue) (join : ℕ) (fields : List Jo
   pub others : (k : ℕ) (fs : List JoinField) → slice_get old.joins k ≡ Some fs → slice_get new.joins k ≡ Some fs
   pub candidates : new.candidates ≡ old.candidates
   pub gone : new.gone ≡ old.gone
+  pub come : new.come ≡ old.come

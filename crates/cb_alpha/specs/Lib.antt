@@ -2,3 +2,4 @@ pub mod AlphaMemories
 pub mod Buckets
 pub mod Internal
 pub mod JoinValues
+pub mod Turning

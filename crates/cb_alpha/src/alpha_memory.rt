@@ -1,11 +1,12 @@
 //! An alpha memory.
-ghost use Rattle.std.specs.Prelude.{◌≡◌, ◌≢◌, ◌↔◌, [], ℕ, IfOk, IfSome, List, None, OnErr, Some, option_copied, slice_get};
-ghost use Rattle.cb_alpha.specs.AlphaMemories.{AreFactsWith, GainsFact, GainsJoin, IsEnded, IsSameMemory, LosesFact, candidate_in, index_of, live};
+ghost use Rattle.std.specs.Prelude.{◌≡◌, ◌≢◌, ◌↔◌, [], ℕ, IfOk, IfSome, List, None, OnErr, Some, option_copied, slice_get, true};
+ghost use Rattle.cb_alpha.specs.AlphaMemories.{AreFactsWith, AreLiveNumbers, GainsFact, GainsJoin, IsEnded, IsSameMemory, LosesFact, candidate_in, index_of, live};
+ghost use Rattle.cb_alpha.specs.Turning.{were_in};
 ghost use Rattle.cb_fit.specs.declared.join_fields.JoinField.{JoinField as Field};
 
 use crate::candidate::Candidate;
 use crate::candidates::{file, insert};
-use crate::join_index::{JoinIndex, fill, find_join, remove_from_all};
+use crate::join_index::{JoinIndex, clear_all, fill, find_join, remove_from_all};
 use crate::join_values::JoinValues;
 use cb_fit::JoinField;
 use cb_forms::NoMemory;
@@ -16,7 +17,8 @@ use std::marker::Model;
 
 /// The facts that have the shape of a pattern, by number, by index, and by the values of join fields.
 ///
-/// A change adds a fact or takes one out. A fact that went can be read until the change ends, and its number is free only then.
+/// A change adds one fact at most, and takes out one at most. Which came and which went can be asked until the change ends. A fact
+/// that went can be read until then, and its number is free only afterwards: so no number means two facts in one change.
 #[derive(Drop)]
 pub struct AlphaMemory {
     alloc: Global,
@@ -25,31 +27,33 @@ pub struct AlphaMemory {
     /// The numbers of those that are there, by index.
     numbers: BTreeMap<u64, u32>,
     gone: Option<u32>,
+    come: Option<u32>,
     joins: Vec<JoinIndex>,
 }
 
 impl Model for AlphaMemory {
     ghost use Rattle.std.specs.Prelude.{map};
     ghost use Rattle.cb_alpha.specs.AlphaMemories.{AlphaMemoryValue};
-    ghost use Rattle.cb_alpha.specs.Internal.Joined.{IsFound, fields_of};
+    ghost use Rattle.cb_alpha.specs.Internal.Joined.{IsFound, IsReadable, fields_of};
 
     ghost Value = { AlphaMemoryValue };
 
-    ghost view = { λ m. record { candidates = m.candidates.slots; gone = m.gone; joins = map fields_of m.joins.items } };
+    ghost view = { λ m. record { candidates = m.candidates.slots; gone = m.gone; come = m.come; joins = map fields_of m.joins.items } };
 
-    ghost invariant = { λ m. IsFound m.candidates.slots m.gone m.numbers m.joins.items };
+    ghost invariant = { λ m. IsFound m.candidates.slots m.gone m.numbers m.joins.items × IsReadable m.candidates.slots m.come };
 }
 
 impl AlphaMemory {
     /// No facts, and no join. It takes no memory.
     pub fn new(alloc: Global) -> AlphaMemory
-        ensures { result ≡ record { candidates = []; gone = None; joins = [] } }
+        ensures { result ≡ record { candidates = []; gone = None; come = None; joins = [] } }
     {
         AlphaMemory {
             alloc,
             candidates: Slab::new(alloc),
             numbers: BTreeMap::new(alloc),
             gone: None,
+            come: None,
             joins: Vec::new(alloc),
         }
     }
@@ -66,6 +70,49 @@ impl AlphaMemory {
         ensures { (n : ℕ) → (result ≡ Some n) ↔ (index_of (live self.now n) ≡ Some index) }
     {
         self.numbers.get(&index).copied()
+    }
+
+    /// The number of the fact that went in this change, if one did.
+    pub fn gone(&self) -> Option<u32>
+        ensures { result ≡ self.now.gone }
+    {
+        self.gone
+    }
+
+    /// The number of the fact that came in this change, if one did.
+    pub fn come(&self) -> Option<u32>
+        ensures { result ≡ self.now.come }
+    {
+        self.come
+    }
+
+    /// Whether no fact is there.
+    pub fn is_empty(&self) -> bool
+        ensures { (result ≡ true) ↔ ((n : ℕ) → live self.now n ≡ None) }
+    {
+        self.numbers.is_empty()
+    }
+
+    /// Whether no fact was there when the change began.
+    pub fn was_empty(&self) -> bool
+        ensures { (result ≡ true) ↔ ((n : ℕ) → were_in self.now n ≡ None) }
+    {
+        match (self.gone, self.come) {
+            (None, None) => self.numbers.is_empty(),
+            (None, Some(_)) => self.numbers.len() == 1,
+            (Some(gone), come) => come == Some(gone) && self.numbers.is_empty(),
+        }
+    }
+
+    /// The numbers of the facts that are there, by rising index. Growth is refused as `NoMemory`.
+    pub fn numbers(&self, alloc: Global) -> Result<Vec<u32>, NoMemory>
+        ensures { IfOk result (λ all. AreLiveNumbers self.now all.items) }
+    {
+        let mut all = Vec::with_capacity(alloc, self.numbers.len())?;
+        for (_index, number) in self.numbers.iter() {
+            all.push(*number)?;
+        }
+        Ok(all)
     }
 
     /// The numbers of the facts with these values in the fields of a join.
@@ -96,9 +143,11 @@ impl AlphaMemory {
         Ok(number)
     }
 
-    /// Adds a fact whose index no other has, and returns its number. Growth is refused as `NoMemory`, and then nothing has changed.
+    /// Adds a fact whose index no other has, and returns its number. A change adds one fact at most. Growth is refused as `NoMemory`,
+    /// and then nothing has changed.
     pub fn add(&mut self, fact: Candidate) -> Result<u32, NoMemory>
-        requires { (n : ℕ) → index_of (live self.old n) ≢ Some fact.0 }
+        requires none_come { self.old.come ≡ None }
+        requires absent { (n : ℕ) → index_of (live self.old n) ≢ Some fact.0 }
         ensures ok { IfOk result (λ number. GainsFact self.old self.new number fact) }
         ensures err { OnErr result (IsSameMemory self.old self.new) }
     {
@@ -110,7 +159,10 @@ impl AlphaMemory {
             number,
         );
         match filed {
-            Ok(()) => Ok(number),
+            Ok(()) => {
+                self.come = Some(number);
+                Ok(number)
+            }
             Err(NoMemory) => {
                 remove_from_all(self.joins.as_mut_slice(), number);
                 self.candidates.try_remove(number as usize);
@@ -119,7 +171,8 @@ impl AlphaMemory {
         }
     }
 
-    /// Takes out the fact with an index, if it is there, and returns its number. It takes no memory.
+    /// Takes out the fact with an index, if it is there, and returns its number. A change takes out one fact at most. It takes no
+    /// memory.
     pub fn remove(&mut self, index: u64) -> Option<u32>
         requires { self.old.gone ≡ None }
         ensures found { IfSome result (λ number. LosesFact self.old self.new number index) }
@@ -136,9 +189,21 @@ impl AlphaMemory {
     pub fn end_change(&mut self)
         ensures { IsEnded self.old self.new }
     {
+        self.come = None;
         if let Some(number) = self.gone {
             self.candidates.try_remove(number as usize);
             self.gone = None;
         }
+    }
+
+    /// Takes out all facts, as if none had ever been there, and frees their memory. The joins stay.
+    pub fn clear(&mut self)
+        ensures { self.new ≡ record { candidates = []; gone = None; come = None; joins = self.old.joins } }
+    {
+        self.candidates = Slab::new(self.alloc);
+        self.numbers = BTreeMap::new(self.alloc);
+        self.gone = None;
+        self.come = None;
+        clear_all(self.joins.as_mut_slice());
     }
 }

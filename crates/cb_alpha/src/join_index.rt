@@ -75,6 +75,14 @@ impl JoinIndex {
         self.facts.remove(number);
     }
 
+    /// Takes all facts out, and frees their memory.
+    pub(crate) fn clear(&mut self)
+        ensures fields { self.new.fields ≡ self.old.fields }
+        ensures none { (n : ℕ) → values_at self.new.facts n ≡ None }
+    {
+        self.facts = Buckets::new(self.alloc);
+    }
+
     /// The numbers of the facts with these values.
     pub(crate) fn facts_with(&self, values: &JoinValues) -> &[u32]
         ensures { AreWithValues self.now.facts values.now result.now }
@@ -106,6 +114,16 @@ pub(crate) fn remove_from_all(joins: &mut [JoinIndex], number: u32)
 {
     for join in joins.iter_mut() {
         join.remove(number);
+    }
+}
+
+/// Takes all facts out of each of these, and frees their memory.
+pub(crate) fn clear_all(joins: &mut [JoinIndex])
+    ensures fields { map fields_of joins.new ≡ map fields_of joins.old }
+    ensures none { All (IsFiled (λ n. None)) joins.new }
+{
+    for join in joins.iter_mut() {
+        join.clear();
     }
 }
 

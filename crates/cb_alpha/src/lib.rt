@@ -13,6 +13,7 @@ mod candidates; // the facts of an alpha memory by number and by index
 mod fact_values; // the values of join fields in a fact
 mod join_index; // the facts of an alpha memory by the values of join fields
 mod join_values; // values that facts and partial matches are joined on
+pub mod laws; // laws of what a change does to an alpha memory
 mod numbering; // the numbers of buckets
 
 pub use alpha_memory::AlphaMemory;

@@ -11,6 +11,7 @@ use Rattle.cb_group_node.proofs.Touching.{AreTouched}
 use Rattle.cb_group_node.specs.Internal.{ArePassedByGroup, Enters, GroupHolds, Sets}
 use Rattle.cb_group_node.specs.Nodes.{AreBehind, IsAfterGroup, IsInside}
 use Rattle.cb_group_node.specs.Outer.{passed_by_group}
+use Rattle.cb_group_node.specs.declared.node.GroupNode.{GroupNode}
 use Rattle.cb_groups.specs.Groups.{AppendsMembers, Membership, Releases, group_of}
 use Rattle.cb_matches.proofs.Lists.{by_test, filter_in, in_filter}
 use Rattle.cb_matches.specs.Chains.{Chain, In}
@@ -251,5 +252,5 @@ module _ (positive : Bool) (Met : ℕ → ℕ → Type 0) (at within_at : ℕ �
         (new_is own₀ own₂ own Was Lost Came Final none_gone none_come behind lost come stay arrive split apart))
         same
 
-    pub changed : (from inner : ℕ) → IsAfterGroup (record { from = from; inner = inner; positive = positive; inside = inside; waiting = w }) Met at before within own old new begun begun'
-    changed from inner = record { ready = record { inside = now_inside; waiting = none_waits; tokens = tokens_after }; turns = turns_after }
+    pub changed : (node : GroupNode) → IsAfterGroup (record node { positive = positive; inside = inside; waiting = w }) Met at before within own old new begun begun'
+    changed node = record { ready = record { inside = now_inside; waiting = none_waits; tokens = tokens_after }; turns = turns_after }

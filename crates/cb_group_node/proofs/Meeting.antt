@@ -1,5 +1,5 @@
 -- What is met by going down from a token.
-use Rattle.std.proofs.Common.{◌≡◌, ◌≢◌, ◌∙◌, ◌-◌, ◌≤◌, ◌⊎◌, ◌↔◌, ℕ, zero, suc, true, List, [], ◌∷◌, Option, Some, None, ap, arith, inl, inr, length, refl, slice_get, subst, sym}
+use Rattle.std.proofs.Common.{◌≡◌, ◌≢◌, ◌∙◌, ◌-◌, ◌<◌, ◌≤◌, ◌⊎◌, ◌↔◌, ℕ, zero, suc, true, List, [], ◌∷◌, Option, Some, None, ap, arith, inl, inr, length, refl, slice_get, subst, sym}
 use Rattle.std.specs.Option.{option_map_or}
 use Rattle.cb_beta.proofs.Live.{some_none}
 use Rattle.cb_beta.specs.BetaMemories.{BetaMemoryValue}
@@ -90,6 +90,12 @@ module _ (sources : List SourceValue) (lists : List BetaMemoryValue) where
           let place : list - 1 ≡ s.list = omega (arith, s.behind) in
           absurd (none s.source s.token n (ap (slice_get sources) place ∙ s.names) (ap (λ k. token_at (tokens_in lists k) i) s.behind ∙ s.there))
     ],
+  )
+
+  pub found_past : AreBelow sources → (from list i : ℕ) → list < from → FindsMet None (λ a. Meets sources lists from a list i)
+  found_past below from list i l a = (
+    λ e. absurd (cc),
+    λ m. let h = met_before below from a list i m in absurd (omega (arith, h, l)),
   )
 
   pub found_below : (from list i : ℕ) (s : SourceValue) (t : TokenValue) (found : Option ℕ) → list ≢ from → list ≢ 0 → slice_get sources (list - 1) ≡ Some s

@@ -1,5 +1,5 @@
 //! The partial match before a group that one inside it goes on from.
-ghost use Rattle.std.specs.Prelude.{◌≡◌, ◌≤◌, ℕ, Some};
+ghost use Rattle.std.specs.Prelude.{◌≡◌, ℕ, Some};
 ghost use Rattle.cb_group_node.specs.Outer.{FindsMet};
 ghost use Rattle.cb_token_lists.specs.Partials.{AreBelow, Meets};
 
@@ -11,34 +11,24 @@ pub fn outer(lists: &TokenLists<'_>, from: usize, inner: usize, number: u32) -> 
     ensures { AreBelow lists.now.sources.now
         → FindsMet result (λ g. Meets lists.now.sources.now lists.now.lists.now from g inner number) }
 {
-    outer_in(lists, from, inner, inner, number)
-}
-
-/// The same by going down so many lists and one more.
-fn outer_in(
-    lists: &TokenLists<'_>,
-    from: usize,
-    turns: usize,
-    list: usize,
-    number: u32,
-) -> Option<u32>
-    ensures { AreBelow lists.now.sources.now → list ≤ turns
-        → FindsMet result (λ g. Meets lists.now.sources.now lists.now.lists.now from g list number) }
-{
-    if list == from {
-        return Some(number);
+    let mut list = inner;
+    let mut current = number;
+    while list > from {
+        let Some(source) = lists.sources.get(list - 1) else {
+            return None;
+        };
+        let Some(memory) = lists.lists.get(list) else {
+            return None;
+        };
+        let Some(token) = memory.token(current) else {
+            return None;
+        };
+        // A list goes on from one before it; so this always ends.
+        if source.from as usize >= list {
+            return None;
+        }
+        list = source.from as usize;
+        current = token.parent;
     }
-    if list == 0 || turns == 0 {
-        return None;
-    }
-    let Some(source) = lists.sources.get(list - 1) else {
-        return None;
-    };
-    let Some(memory) = lists.lists.get(list) else {
-        return None;
-    };
-    let Some(token) = memory.token(number) else {
-        return None;
-    };
-    outer_in(lists, from, turns - 1, source.from as usize, token.parent)
+    if list == from { Some(current) } else { None }
 }

@@ -11,4 +11,5 @@ mod node; // a change of a group
 mod passing; // what a group passes on
 
 pub use descent::outer;
+pub use marks::{put_all, remove_all};
 pub use node::GroupNode;

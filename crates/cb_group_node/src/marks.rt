@@ -16,7 +16,7 @@ pub(crate) fn put(groups: &mut Groups, group: u32, number: u32) -> Result<(), No
 }
 
 /// Puts these numbers into a group. Growth is refused as `NoMemory`, and then some of it may be done.
-pub(crate) fn put_all(groups: &mut Groups, group: u32, numbers: &[u32]) -> Result<(), NoMemory>
+pub fn put_all(groups: &mut Groups, group: u32, numbers: &[u32]) -> Result<(), NoMemory>
     ensures { OnOk result (Sets groups.old groups.new (λ n. In n numbers.now) (Some group)) }
 {
     for number in numbers {
@@ -26,7 +26,7 @@ pub(crate) fn put_all(groups: &mut Groups, group: u32, numbers: &[u32]) -> Resul
 }
 
 /// Takes these numbers out of their groups.
-pub(crate) fn remove_all(groups: &mut Groups, numbers: &[u32])
+pub fn remove_all(groups: &mut Groups, numbers: &[u32])
     ensures { Sets groups.old groups.new (λ n. In n numbers.now) None }
 {
     for number in numbers {

@@ -3,6 +3,7 @@ ghost use Rattle.std.specs.Prelude.{◌≡◌, ℕ, [], List, OnOk, Some, slice_
 ghost use Rattle.cb_beta.specs.BetaMemories.{BetaMemoryValue};
 ghost use Rattle.cb_group_node.specs.Nodes.{IsAfterGroup, IsBeforeGroup, IsGroupReady};
 ghost use Rattle.cb_matches.specs.Matches.{Partial};
+ghost use Rattle.cb_token_lists.specs.Keeping.{KeepsTokens};
 ghost use Rattle.cb_token_lists.specs.Partials.{AreBelow, Meets, SourceValue, partial_at};
 
 use crate::inside::{enter, touch, wait_all};
@@ -17,12 +18,14 @@ use std::alloc::Global;
 /// A group behind a list: it passes on the partial matches for which "one inside the group goes on from it" is `positive`.
 #[derive(Drop)]
 pub struct GroupNode {
+    /// Where memory is from.
+    pub(crate) alloc: Global,
     /// The number of the list before it.
-    pub(crate) from: usize,
+    pub from: usize,
     /// The number of the last list inside it.
-    pub(crate) inner: usize,
+    pub inner: usize,
     /// Whether it passes on where one inside goes on, or where none does.
-    pub(crate) positive: bool,
+    pub positive: bool,
     /// The tokens of the last list inside it, by those before it that they go on from.
     pub(crate) inside: Groups,
     /// In a change, the tokens before it that weren't passed on and may be now, as one group.
@@ -40,12 +43,26 @@ impl GroupNode {
             (record { tokens = []; gone = []; come = [] }) }
     {
         GroupNode {
+            alloc,
             from,
             inner,
             positive,
             inside: Groups::new(alloc),
             waiting: Groups::new(alloc),
         }
+    }
+
+    /// Nothing is inside any more, as in a new one. It takes no memory.
+    pub fn clear(&mut self)
+        ensures from { self.new.from ≡ self.old.from }
+        ensures inner { self.new.inner ≡ self.old.inner }
+        ensures positive { self.new.positive ≡ self.old.positive }
+        ensures ready { (sources : List SourceValue) (lists : List BetaMemoryValue) (at : ℕ → Partial) (begun : List Partial)
+            → IsGroupReady self.new (λ g i. Meets sources lists self.old.from g self.old.inner i) at (λ number. ⊥) (λ number. ⊥) begun
+            (record { tokens = []; gone = []; come = [] }) }
+    {
+        self.inside = Groups::new(self.alloc);
+        self.waiting = Groups::new(self.alloc);
     }
 
     /// Changes the tokens behind the group, in `own`. The lists before it have changed already. Growth is refused as `NoMemory`, and
@@ -65,6 +82,7 @@ impl GroupNode {
             → IsAfterGroup self.new (λ g i. Meets lists.now.sources.now lists.now.lists.now self.old.from g self.old.inner i)
             (partial_at lists.now.sources.now lists.now.lists.now self.old.from)
             before within own.new old new begun begun') }
+        ensures keeps { OnOk result (KeepsTokens own.old own.new) }
     {
         let Some(before) = lists.lists.get(self.from) else {
             return Ok(());

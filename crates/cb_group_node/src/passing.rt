@@ -4,6 +4,7 @@ ghost use Rattle.cb_beta.specs.BetaMemories.{Loses};
 ghost use Rattle.cb_group_node.specs.Internal.{ArePassedByGroup, GroupHolds, IsPassedByGroup};
 ghost use Rattle.cb_matches.specs.Chains.{Chain, In};
 ghost use Rattle.cb_token_lists.specs.Growth.{Comes};
+ghost use Rattle.cb_token_lists.specs.Keeping.{KeepsTokens};
 
 use crate::inside::holds;
 use cb_beta::{BetaMemory, Token};
@@ -50,8 +51,9 @@ pub(crate) fn pass_all(
     numbers: &[u32],
     own: &mut BetaMemory,
 ) -> Result<(), NoMemory>
-    ensures { OnOk result (Chain (λ (i : ℕ) (j : ℕ). i ≢ j) numbers.now → Comes own.old own.new
+    ensures come { OnOk result (Chain (λ (i : ℕ) (j : ℕ). i ≢ j) numbers.now → Comes own.old own.new
         (ArePassedByGroup positive inside.now (λ n. In n numbers.now))) }
+    ensures keeps { OnOk result (KeepsTokens own.old own.new) }
 {
     for number in numbers {
         pass_one(positive, inside, *number, own)?;

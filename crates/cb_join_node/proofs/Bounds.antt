@@ -5,28 +5,31 @@ use Rattle.std.proofs.lemmas.List.{length-append}
 use Rattle.std.specs.Bool.{Decides}
 use Rattle.std.specs.Cmp.Lexicographic.{pointwise, pointwise_decides}
 use Rattle.std.specs.Option.{option_and_then}
+use Rattle.cb_alpha.proofs.ReadFacts.{is_its_number, live_read, none_came, not_both, number_is, read_came, read_live, same_some, some_none, were_read}
+use Rattle.cb_alpha.specs.AlphaMemories.{AlphaMemoryValue, AreFactsWith, candidate_in, live}
 use Rattle.cb_alpha.specs.Buckets.{AreWithValues, Filing, values_at}
 use Rattle.cb_alpha.specs.JoinValues.{variable_values}
+use Rattle.cb_alpha.specs.Turning.{AlphaTurns, came_in, is_number}
 use Rattle.cb_beta.proofs.Live.{live_token, there_is}
-use Rattle.cb_beta.proofs.Members.{in_contains, in_either, once_append}
+use Rattle.cb_beta.proofs.Members.{apart_of, in_contains, in_either, once_append}
 use Rattle.cb_beta.specs.BetaMemories.{BetaMemoryValue}
-use Rattle.cb_candidates.specs.AlphaMemories.{AlphaMemoryValue, candidate_at, fact_under, is_number}
 use Rattle.cb_constraints.specs.PatternValues.{PatternValue}
 use Rattle.cb_facts.specs.FactLists.{IndexedFacts}
 use Rattle.cb_facts.specs.Facts.{FactValue}
 use Rattle.cb_facts.specs.declared.value.Value.{Value}
 use Rattle.cb_fit.specs.declared.join_fields.JoinField.{JoinField}
 use Rattle.cb_groups.specs.Groups.{Membership, group_of}
-use Rattle.cb_join_node.proofs.Agreement.{by_option, has_fact, some_none}
-use Rattle.cb_join_node.proofs.Turning.{number_is, read_there, there_read}
-use Rattle.cb_join_node.specs.Filings.{AreFactsFiled, ArePartialsFiled, stray_group}
-use Rattle.cb_join_node.specs.Nodes.{AlphaTurns, AreAtMost, IsUnder, Stays, added_fact, came_in}
+use Rattle.cb_fit.specs.Shapes.{has_shape}
+use Rattle.cb_join_node.proofs.Agreement.{by_option, has_fact}
+use Rattle.cb_join_node.specs.Bounds.{IsAdded, kept_probes}
+use Rattle.cb_join_node.specs.Filings.{ArePartialsFiled, stray_group}
+use Rattle.cb_join_node.specs.Nodes.{AreAtMost, IsUnder, Stays, added_fact}
 use Rattle.cb_matches.proofs.Lists.{by_test, filter_in}
 use Rattle.cb_matches.specs.Chains.{Chain, In}
 use Rattle.cb_matches.specs.Keys.{PartValue, part_eq}
 use Rattle.cb_matches.specs.Matches.{Partial}
 use Rattle.cb_nodes.proofs.Grown.{and_both, and_first, and_second}
-use Rattle.cb_partials.specs.Probes.{added_probes, has_parts, is_candidate, partials_come, partials_kept}
+use Rattle.cb_partials.specs.Probes.{has_parts, is_candidate, partials_come, partials_kept}
 use Rattle.cb_token_lists.specs.Turns.{IsReadable, IsThere, Turns}
 
 -- a list without one of its members
@@ -50,12 +53,12 @@ no_more R one (x ∷ xs) ys once has =
     omega (arith, more, long)
 
 -- the facts that are there
-pub facts_at_most : (p : PatternValue) (alpha : AlphaMemoryValue) (added : Option ℕ) (fs fs' : IndexedFacts) → AlphaTurns p alpha added fs fs'
-    → AreAtMost (IsUnder (fact_under alpha)) (length (filter (is_candidate p) fs'))
-facts_at_most p alpha added fs fs' turns xs once has =
-    no_more (λ c f. candidate_at alpha.candidates c ≡ Some f) (λ i j f h k. turns.one i j f f h k refl) xs (filter (is_candidate p) fs') once
+pub facts_at_most : (p : PatternValue) (alpha : AlphaMemoryValue) (fs fs' : IndexedFacts) → AlphaTurns p alpha fs fs'
+    → AreAtMost (IsUnder (live alpha)) (length (filter (is_candidate p) fs'))
+facts_at_most p alpha fs fs' turns xs once has =
+    no_more (λ c f. candidate_in alpha.candidates c ≡ Some f) (λ i j f h k. turns.one i j f f h k refl) xs (filter (is_candidate p) fs') once
     (λ c h. let f = has c h in let is = turns.is.are c f.0 f.1 in
-    (f.0, filter_in (is_candidate p) f.0 fs' is.0 is.1, (there_read alpha.candidates alpha.gone c f.0 f.1).0))
+    (f.0, filter_in (is_candidate p) f.0 fs' is.0 is.1, (live_read alpha c f.0 f.1).0))
 
 make_part : ℕ → List ℕ → PartValue
 make_part ix cuts = record { index = ix; cuts = cuts }
@@ -133,45 +136,98 @@ module _ (js : List JoinField) (filing : Filing) (strays : Membership) (at : ℕ
       let sum : length (xs ++ ys) ≡ length xs + length ys = length-append xs ys in
       omega (arith, all, sum)
 
--- who stands beside a member has the values of it
-pub has_values_beside : (members filing : Filing) (member : ℕ) (xs : List ℕ) → ((vs : List Value) → values_at members member ≡ Some vs → AreWithValues filing vs xs)
-    → (values_at members member ≡ None → xs ≡ []) → (n : ℕ) → In n xs → (vs : List Value) × (values_at filing n ≡ Some vs)
-has_values_beside members filing member xs some none n h = by_option (values_at members member)
-    (λ e. absurd (subst (In n) (none e) h))
-    (λ vs e. (vs, ((some vs e).are n).0 (in_contains xs n h)))
+-- who stands with some values, if there are any, has them, and stands there once
+module _ (o : Option (List Value)) (filing : Filing) (xs : List ℕ) (some : (vs : List Value) → o ≡ Some vs → AreWithValues filing vs xs) (none : o ≡ None → xs ≡ []) where
+  pub has_values_beside : (n : ℕ) → In n xs → (vs : List Value) × (values_at filing n ≡ Some vs)
+  has_values_beside n h = by_option o
+      (λ e. absurd (subst (In n) (none e) h))
+      (λ vs e. (vs, ((some vs e).are n).0 (in_contains xs n h)))
 
-pub facts_beside : (js : List JoinField) (members filing : Filing) (member : ℕ) (facts : ℕ → Option (ℕ × FactValue)) (xs : List ℕ)
-    → ((vs : List Value) → values_at members member ≡ Some vs → AreWithValues filing vs xs) → (values_at members member ≡ None → xs ≡ []) → AreFactsFiled js filing facts
-    → (n : ℕ) → In n xs → IsUnder facts n
-facts_beside js members filing member facts xs some none filed n h =
-    let v = has_values_beside members filing member xs some none n h in
-    has_fact js (facts n) v.0 (sym (filed n) ∙ v.1)
+  pub once_beside : Chain (λ (i : ℕ) (j : ℕ). i ≢ j) xs
+  once_beside = by_option o
+      (λ e. subst (Chain (λ (i : ℕ) (j : ℕ). i ≢ j)) (sym (none e)) tt)
+      (λ vs e. apart_of xs (some vs e).once)
 
--- the tests of the fact that came
-module _ (p : PatternValue) (alpha : AlphaMemoryValue) (added : Option ℕ) (fs fs' : IndexedFacts) (turns : AlphaTurns p alpha added fs fs') (kept t t' : ℕ) where
-  pub added_bound : t' ≤ t + kept → (((n : ℕ) → came_in alpha added n ≡ None) → t' ≤ t) → t' ≤ t + added_probes p (added_fact alpha added) kept
-  added_bound some none = by_option added
-      (λ e. at_most (added_fact alpha added) (none (λ n. ap (λ o. came_in alpha o n) e)))
-      (λ n e. by_option (candidate_at alpha.candidates n)
-      (λ no. at_most (added_fact alpha added) (none (λ m. by_test (is_number added m)
-      (λ a. ap (λ b. cond b (candidate_at alpha.candidates m) None) a ∙ (ap (candidate_at alpha.candidates) (same_one m (sym (number_is added m a) ∙ e)) ∙ no))
-      (λ a. ap (λ b. cond b (candidate_at alpha.candidates m) None) a))))
-      (λ f is.
-      let there : fact_under alpha n ≡ Some f = by_test (is_number alpha.gone n)
+-- so do facts
+module _ (js : List JoinField) (o : Option (List Value)) (alpha : AlphaMemoryValue) (xs : List ℕ) (some : (vs : List Value) → o ≡ Some vs → AreFactsWith alpha js vs xs) (none : o ≡ None → xs ≡ []) where
+  pub facts_beside : (n : ℕ) → In n xs → IsUnder (live alpha) n
+  facts_beside n h = by_option o
+      (λ e. absurd (subst (In n) (none e) h))
+      (λ vs e. has_fact js (live alpha n) vs (((some vs e).are n).0 (in_contains xs n h)))
+
+  pub facts_once : Chain (λ (i : ℕ) (j : ℕ). i ≢ j) xs
+  facts_once = by_option o
+      (λ e. subst (Chain (λ (i : ℕ) (j : ℕ). i ≢ j)) (sym (none e)) tt)
+      (λ vs e. apart_of xs (some vs e).once)
+
+-- the fact that came
+module _ (p : PatternValue) (alpha : AlphaMemoryValue) (fs fs' : IndexedFacts) (turns : AlphaTurns p alpha fs fs') where
+  -- it is there now, has the shape, and was not there before
+  record IsNew (f : ℕ × FactValue) : Type 0 where
+    is : In f fs'
+    shape : has_shape p f.1 ≡ true
+    was : In f fs → ⊥
+    added : added_fact alpha ≡ Some f.1
+
+  new_fact : (n : ℕ) (f : ℕ × FactValue) → alpha.come ≡ Some n → candidate_in alpha.candidates n ≡ Some f → IsNew f
+  new_fact n f e is =
+      let come : is_number alpha.come n ≡ true = is_its_number alpha.come n e in
+      let there : live alpha n ≡ Some f = by_test (is_number alpha.gone n)
       (λ g. absurd (turns.apart n e (number_is alpha.gone n g)))
-      (λ g. read_there alpha.candidates alpha.gone n g ∙ is) in
-      let shape = (turns.is.are n f there).1 in
-      let fact : added_fact alpha added ≡ Some f.1 =
-      ap (λ o. option_map (λ (it : ℕ × FactValue). it.1) (option_and_then (candidate_at alpha.candidates) o)) e ∙ ap (option_map (λ (it : ℕ × FactValue). it.1)) is in
-      let whole : added_probes p (added_fact alpha added) kept ≡ 1 + kept = ap (λ o. added_probes p o kept) fact ∙ ap (λ b. 1 + cond b kept 0) shape in
-      omega (arith, some, whole)))
-    where
-      at_most : (o : Option FactValue) → t' ≤ t → t' ≤ t + added_probes p o kept
-      at_most o h = omega (arith, h)
+      (λ g. read_live alpha n g ∙ is) in
+      let a = turns.is.are n f there in
+      record {
+        is = a.0;
+        shape = a.1;
+        was = λ h.
+            let k = turns.was.all f h a.1 in
+            let r = were_read alpha k.0 f k.1 in
+            not_both (is_number alpha.come n) come (ap (is_number alpha.come) (turns.one n k.0 f f is r.0 refl) ∙ r.1);
+        added = ap (λ o. option_map (λ (it : ℕ × FactValue). it.1) (option_and_then (candidate_in alpha.candidates) o)) e ∙ ap (option_map (λ (it : ℕ × FactValue). it.1)) is;
+      }
 
-      same_one : {n : ℕ} (k : ℕ) → Some k ≡ Some n → k ≡ n
-      same_one k e = cc
+  -- a fact came, or none did
+  by_come : {P : Type 0} → (added_fact alpha ≡ None → ((n : ℕ) → came_in alpha n ≡ None) → P) → ((f : ℕ × FactValue) → IsNew f → P) → P
+  by_come none some = by_option alpha.come
+      (λ e. none (ap (λ o. option_map (λ (it : ℕ × FactValue). it.1) (option_and_then (candidate_in alpha.candidates) o)) e) (λ n. none_came alpha n (ap (λ o. is_number o n) e)))
+      (λ n e. by_option (candidate_in alpha.candidates n)
+      (λ no. none (ap (λ o. option_map (λ (it : ℕ × FactValue). it.1) (option_and_then (candidate_in alpha.candidates) o)) e ∙ ap (option_map (λ (it : ℕ × FactValue). it.1)) no)
+      (λ m. by_test (is_number alpha.come m)
+      (λ a. read_came alpha m a ∙ (ap (candidate_in alpha.candidates) (same_some alpha.come (number_is alpha.come m a) e) ∙ no))
+      (λ a. none_came alpha m a)))
+      (λ f is. some f (new_fact n f e is)))
+
+  module _ (kept : ℕ) where
+    whole_kept : (f : ℕ × FactValue) → IsNew f → kept_probes p (added_fact alpha) kept ≡ kept
+    whole_kept f is = ap (λ o. kept_probes p o kept) is.added ∙ ap (λ b. cond b kept 0) is.shape
+
+    -- its tests
+    pub added_bound : (t t' : ℕ) → t' ≤ t + kept → (((n : ℕ) → came_in alpha n ≡ None) → t' ≤ t) → t' ≤ t + kept_probes p (added_fact alpha) kept
+    added_bound t t' some none = by_come
+        (λ e no. let l = none no in omega (arith, l))
+        (λ f is. let whole = whole_kept f is in omega (arith, some, whole))
+
+    -- are no more than those of the fact that is added
+    pub added_within : (added : Option FactValue) → IsAdded added fs fs' → kept_probes p (added_fact alpha) kept ≤ kept_probes p added kept
+    added_within None only = by_come
+        (λ e no. let zero_is : kept_probes p (added_fact alpha) kept ≡ 0 = ap (λ o. kept_probes p o kept) e in omega (arith, zero_is))
+        (λ f is. absurd (is.was (only f is.is)))
+    added_within (Some g) only = by_come
+        (λ e no. let zero_is : kept_probes p (added_fact alpha) kept ≡ 0 = ap (λ o. kept_probes p o kept) e in omega (arith, zero_is))
+        (λ f is. elim (only.1 f is.is) as (λ _. kept_probes p (added_fact alpha) kept ≤ kept_probes p (Some g) kept) [
+          | inl h ↦ absurd (is.was h)
+          | inr h ↦
+              let same : kept_probes p (added_fact alpha) kept ≡ kept_probes p (Some g) kept = ap (λ o. kept_probes p o kept) (is.added ∙ ap (λ (it : ℕ × FactValue). Some it.1) h) in
+              omega (arith, same)
+        ])
 
 -- all tests
 pub whole_bound : (t t₁ t₂ come most kept k : ℕ) → t₁ ≤ t + kept → t₂ ≤ t₁ + come * most → come ≤ k → t₂ ≤ t + (k * most + kept)
 whole_bound t t₁ t₂ come most kept k h i j = grind arith
+
+-- with one for the shape
+pub with_shape : (a k : ℕ) → (a + k) + 1 ≡ a + (1 + k)
+with_shape a k = omega arith
+
+pub without_shape : (a : ℕ) → (a + 0) + 0 ≡ a + 0
+without_shape a = omega arith

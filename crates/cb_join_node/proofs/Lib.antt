@@ -1,7 +1,7 @@
 pub mod Agreement
-pub mod AlphaMoves
 pub mod Bounds
 pub mod Changing
 pub mod Refiled
+pub mod Staying
 pub mod Tokens
 pub mod Turning

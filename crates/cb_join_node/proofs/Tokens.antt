@@ -3,9 +3,9 @@ use Rattle.std.proofs.Common.{◌≡◌, ◌≢◌, ◌∙◌, ◌++◌, ◌⊎�
 use Rattle.std.specs.Cmp.{nat_cmp_total, tied_itself}
 use Rattle.std.specs.Cmp.Lexicographic.{lists_total, slice_cmp}
 use Rattle.std.specs.Ordering.{nat_cmp}
+use Rattle.cb_alpha.specs.AlphaMemories.{Candidates}
 use Rattle.cb_beta.specs.BetaMemories.{BetaMemoryValue, Gains}
 use Rattle.cb_beta.specs.Tokens.{TakenValue, TokenValue, candidate_of}
-use Rattle.cb_candidates.specs.AlphaMemories.{Candidates}
 use Rattle.cb_constraints.specs.PatternValues.{PatternValue}
 use Rattle.cb_exprs.specs.Bindings.{Bindings}
 use Rattle.cb_exprs.specs.Terms.{Term}

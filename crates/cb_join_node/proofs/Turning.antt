@@ -1,21 +1,21 @@
 -- A change of a join node: the tokens that are there afterwards, and the list that they stand for.
-use Rattle.std.proofs.Common.{◌≡◌, ◌∙◌, ◌⊎◌, ℕ, Bool, true, false, List, [], Option, Some, None, ap, arith, cond, inl, inr, nat_eq, refl, subst, sym}
-use Rattle.std.proofs.lemmas.Bool.{eqb-true}
+use Rattle.std.proofs.Common.{◌≡◌, ◌∙◌, ◌⊎◌, ℕ, true, false, List, [], Option, Some, None, ap, inl, inr, refl, subst, sym}
 use Rattle.std.specs.Option.{option_map_or}
+use Rattle.cb_alpha.proofs.ReadFacts.{came_read, is_its_number, live_read, not_both, number_is, read_came, read_live, read_were, same_some, were_read}
+use Rattle.cb_alpha.specs.AlphaMemories.{AlphaMemoryValue, Candidates, candidate_in, live}
+use Rattle.cb_alpha.specs.Turning.{AlphaTurns, AreCandidates, came_in, is_number, were_in}
 use Rattle.cb_beta.proofs.Live.{live_token, there_is}
 use Rattle.cb_beta.proofs.Members.{by_in}
 use Rattle.cb_beta.specs.BetaMemories.{BetaMemoryValue, HasFact, Loses}
 use Rattle.cb_beta.specs.Tokens.{TokenValue, Tokens, candidate_of, partial_after, token_at, with_taken}
-use Rattle.cb_candidates.specs.AlphaMemories.{AlphaMemoryValue, Candidates, candidate_at, fact_under, is_number, there_in}
 use Rattle.cb_constraints.specs.PatternValues.{PatternValue}
 use Rattle.cb_exprs.specs.Terms.{Term}
 use Rattle.cb_facts.specs.FactLists.{IndexedFacts}
 use Rattle.cb_facts.specs.Facts.{FactValue}
 use Rattle.cb_fit.specs.Ways.{WayValue, ways}
-use Rattle.cb_join_node.proofs.Agreement.{same_some, some_none}
 use Rattle.cb_join_node.proofs.Tokens.{one_candidate, one_parent}
 use Rattle.cb_join_node.specs.Joins.{Joins, token_of}
-use Rattle.cb_join_node.specs.Nodes.{AlphaTurns, AreCandidates, Stays, came_in, were_in}
+use Rattle.cb_join_node.specs.Nodes.{Stays}
 use Rattle.cb_matches.proofs.Growth.{in_next, is_grown, ways_differ}
 use Rattle.cb_matches.proofs.Lists.{by_test, filter_in, in_filter}
 use Rattle.cb_matches.proofs.PartOrder.{part, same_last}
@@ -28,33 +28,6 @@ use Rattle.cb_nodes.specs.Patterns.{Shapeless}
 use Rattle.cb_token_lists.proofs.After as after
 use Rattle.cb_token_lists.specs.Growth.{AreTokens, Comes}
 use Rattle.cb_token_lists.specs.Turns.{IsReadable, IsThere, StandFor, Turns, WasThere}
-
--- a fact that is there can be read
-pub there_read : (cs : Candidates) (o : Option ℕ) (c : ℕ) (f : ℕ × FactValue) → there_in cs o c ≡ Some f → (candidate_at cs c ≡ Some f) × (is_number o c ≡ false)
-there_read cs o c f h = by_test (is_number o c)
-    (λ t. some_none (there_in cs o c) h (ap (λ b. cond b None (candidate_at cs c)) t))
-    (λ t. (sym (ap (λ b. cond b None (candidate_at cs c)) t) ∙ h, t))
-
-pub read_there : (cs : Candidates) (o : Option ℕ) (c : ℕ) → is_number o c ≡ false → there_in cs o c ≡ candidate_at cs c
-read_there cs o c t = ap (λ b. cond b None (candidate_at cs c)) t
-
-pub came_read : (alpha : AlphaMemoryValue) (o : Option ℕ) (c : ℕ) (f : ℕ × FactValue) → came_in alpha o c ≡ Some f → (candidate_at alpha.candidates c ≡ Some f) × (is_number o c ≡ true)
-came_read alpha o c f h = by_test (is_number o c)
-    (λ t. (sym (ap (λ b. cond b (candidate_at alpha.candidates c) None) t) ∙ h, t))
-    (λ t. some_none (came_in alpha o c) h (ap (λ b. cond b (candidate_at alpha.candidates c) None) t))
-
-pub number_is : (o : Option ℕ) (c : ℕ) → is_number o c ≡ true → o ≡ Some c
-number_is None c h = absurd (let no : false ≡ true = h in cc)
-number_is (Some d) c h = ap Some (sym (eqb-true c d h))
-
-pub is_its_number : (o : Option ℕ) (c : ℕ) → o ≡ Some c → is_number o c ≡ true
-is_its_number o c e = ap (λ it. is_number it c) e ∙ same_number c
-  where
-    same_number : (n : ℕ) → nat_eq n n ≡ true
-    same_number n = grind arith
-
-pub not_both : {P : Type 0} (b : Bool) → b ≡ true → b ≡ false → P
-not_both {P} b t f = absurd (let no : true ≡ false = sym t ∙ f in cc)
 
 -- what a token that can be read stands for
 pub stands_for : (x : Option (List ℕ)) (ts : Tokens) (at : ℕ → Partial) (i n c ix : ℕ) (w : WayValue) → token_at ts i ≡ Some (token_of n c ix w)
@@ -95,9 +68,9 @@ module _ (rise : WaysRise) (shapeless : Shapeless) (x : Option (List ℕ)) (p : 
     }
 
   -- tokens with the same parts are the same
-  module _ (cs : Candidates) (one_index : (i j : ℕ) (f g : ℕ × FactValue) → candidate_at cs i ≡ Some f → candidate_at cs j ≡ Some g → f.0 ≡ g.0 → i ≡ j)
+  module _ (cs : Candidates) (one_index : (i j : ℕ) (f g : ℕ × FactValue) → candidate_in cs i ≡ Some f → candidate_in cs j ≡ Some g → f.0 ≡ g.0 → i ≡ j)
       (Read : ℕ → Type 0) (one : (i j : ℕ) → Read i → Read j → (at i).parts ≡ (at j).parts → i ≡ j) where
-    pub one_by_parts : (i j : ℕ) (t u : TokenValue) → token_at own i ≡ Some t → token_at own j ≡ Some u → Joins x p ts at Read (candidate_at cs) t → Joins x p ts at Read (candidate_at cs) u
+    pub one_by_parts : (i j : ℕ) (t u : TokenValue) → token_at own i ≡ Some t → token_at own j ≡ Some u → Joins x p ts at Read (candidate_in cs) t → Joins x p ts at Read (candidate_in cs) u
         → (own_at i).parts ≡ (own_at j).parts → t ≡ u
     one_by_parts i j t u e d h k same =
         let f = h.2.1.0 in
@@ -110,7 +83,7 @@ module _ (rise : WaysRise) (shapeless : Shapeless) (x : Option (List ℕ)) (p : 
         let parents : h.0 ≡ k.0 = one h.0 k.0 h.1 k.1 both.0 in
         let index : f.0 ≡ g.0 = ap (λ it. it.index) both.1 in
         let candidates : h.2.0 ≡ k.2.0 = one_index h.2.0 k.2.0 f g h.2.1.1 k.2.1.1 index in
-        let facts : f ≡ g = same_some (candidate_at cs h.2.0) h.2.1.1 (ap (candidate_at cs) candidates ∙ k.2.1.1) in
+        let facts : f ≡ g = same_some (candidate_in cs h.2.0) h.2.1.1 (ap (candidate_in cs) candidates ∙ k.2.1.1) in
         let w_in : In w (ways p f.1 (with_address x f.0 (at h.0).env)) =
         subst (λ n. In w (ways p f.1 (with_address x f.0 (at n).env))) (sym parents) (subst (λ it. In w (ways p it.1 (with_address x it.0 (at k.0).env))) (sym facts) k.2.1.2.1) in
         let way : v ≡ w = ways_differ rise p f.1 (with_address x f.0 (at h.0).env) v w h.2.1.2.1 w_in (ap (λ it. it.cuts) both.1) in
@@ -119,22 +92,22 @@ module _ (rise : WaysRise) (shapeless : Shapeless) (x : Option (List ℕ)) (p : 
         ∙ sym k.2.1.2.2.1
 
 -- what is there after a change
-module _ (x : Option (List ℕ)) (p : PatternValue) (ts : List Term) (at : ℕ → Partial) (before : BetaMemoryValue) (alpha : AlphaMemoryValue) (added : Option ℕ)
-    (apart : (c : ℕ) → added ≡ Some c → alpha.gone ≡ Some c → ⊥) (came_there : (i : ℕ) → In i before.come → IsThere before i)
+module _ (x : Option (List ℕ)) (p : PatternValue) (ts : List Term) (at : ℕ → Partial) (before : BetaMemoryValue) (alpha : AlphaMemoryValue)
+    (apart : (c : ℕ) → alpha.come ≡ Some c → alpha.gone ≡ Some c → ⊥) (came_there : (i : ℕ) → In i before.come → IsThere before i)
     (own₀ own₁ own : BetaMemoryValue) (none_gone : own₀.gone ≡ []) (none_come : own₀.come ≡ [])
-    (was : AreTokens own₀ (Joins x p ts at (WasThere before) (were_in alpha added))) (lost : Loses own₀ own₁ (λ t. In t.parent before.gone ⊎ HasFact alpha.gone t)) where
+    (was : AreTokens own₀ (Joins x p ts at (WasThere before) (were_in alpha))) (lost : Loses own₀ own₁ (λ t. In t.parent before.gone ⊎ HasFact alpha.gone t)) where
   -- those before the pattern that were there and still are
   abbrev pub Kept : ℕ → Type 0
   Kept = Stays before
 
   abbrev pub First : TokenValue → Type 0
-  First = Joins x p ts at Kept (came_in alpha added)
+  First = Joins x p ts at Kept (came_in alpha)
 
   abbrev pub Second : TokenValue → Type 0
-  Second = Joins x p ts at (λ n. In n before.come) (fact_under alpha)
+  Second = Joins x p ts at (λ n. In n before.come) (live alpha)
 
   abbrev pub Final : TokenValue → Type 0
-  Final = Joins x p ts at (IsThere before) (fact_under alpha)
+  Final = Joins x p ts at (IsThere before) (live alpha)
 
   pub kept_there : (n : ℕ) → Kept n → IsThere before n
   kept_there n h = (h.0.0.0, there_is before.tokens before.gone n h.1 ∙ h.0.0.1)
@@ -151,7 +124,7 @@ module _ (x : Option (List ℕ)) (p : PatternValue) (ts : List Term) (at : ℕ �
       h.1.0.1 (subst (λ n. In n before.come) (sym same) k.1)
 
   abbrev pub Was : TokenValue → Type 0
-  Was = Joins x p ts at (WasThere before) (were_in alpha added)
+  Was = Joins x p ts at (WasThere before) (were_in alpha)
 
   abbrev pub Lost : TokenValue → Type 0
   Lost t = In t.parent before.gone ⊎ HasFact alpha.gone t
@@ -161,13 +134,13 @@ module _ (x : Option (List ℕ)) (p : PatternValue) (ts : List Term) (at : ℕ �
 
   new_final : (t : TokenValue) → Came t → Final t
   new_final t (inl h) =
-      let r = came_read alpha added h.2.0 h.2.1.0 h.2.1.1 in
+      let r = came_read alpha h.2.0 h.2.1.0 h.2.1.1 in
       (h.0, kept_there h.0 h.1, (h.2.0, (h.2.1.0, here h.2.0 h.2.1.0 r.0 r.1, h.2.1.2)))
     where
-      here : (c : ℕ) (f : ℕ × FactValue) → candidate_at alpha.candidates c ≡ Some f → is_number added c ≡ true → fact_under alpha c ≡ Some f
+      here : (c : ℕ) (f : ℕ × FactValue) → candidate_in alpha.candidates c ≡ Some f → is_number alpha.come c ≡ true → live alpha c ≡ Some f
       here c f e t = by_test (is_number alpha.gone c)
-          (λ g. absurd (apart c (number_is added c t) (number_is alpha.gone c g)))
-          (λ g. read_there alpha.candidates alpha.gone c g ∙ e)
+          (λ g. absurd (apart c (number_is alpha.come c t) (number_is alpha.gone c g)))
+          (λ g. read_live alpha c g ∙ e)
   new_final t (inr h) = (h.0, came_there h.0 h.1, h.2)
 
   stays_final : (t : TokenValue) → Was t → (Lost t → ⊥) → Final t
@@ -176,15 +149,15 @@ module _ (x : Option (List ℕ)) (p : PatternValue) (ts : List Term) (at : ℕ �
       let n = h.0 in
       let c = h.2.0 in
       let not_gone : In n before.gone → ⊥ = λ k. stays (inl (subst (λ it. In it before.gone) (ap (λ (it : TokenValue). it.parent) (sym e)) k)) in
-      let fact : fact_under alpha c ≡ Some h.2.1.0 = by_test (is_number alpha.gone c)
+      let fact : live alpha c ≡ Some h.2.1.0 = by_test (is_number alpha.gone c)
       (λ g. absurd (stays (inr (subst (λ o. HasFact o t) (sym (number_is alpha.gone c g)) (ap candidate_of e)))))
-      (λ g. read_there alpha.candidates alpha.gone c g ∙ (there_read alpha.candidates added c h.2.1.0 h.2.1.1).0) in
+      (λ g. read_live alpha c g ∙ (were_read alpha c h.2.1.0 h.2.1.1).0) in
       (n, kept_there n (h.1, not_gone), (c, (h.2.1.0, fact, h.2.1.2)))
 
   old_apart : (t : TokenValue) → Was t → Came t → ⊥
   old_apart t h (inl k) =
       let same : h.2.0 ≡ k.2.0 = one_candidate h.0 k.0 h.2.0 k.2.0 h.2.1.0.0 k.2.1.0.0 h.2.1.2.0 k.2.1.2.0 (sym h.2.1.2.2.1 ∙ k.2.1.2.2.1) in
-      not_both (is_number added h.2.0) (ap (is_number added) same ∙ (came_read alpha added k.2.0 k.2.1.0 k.2.1.1).1) (there_read alpha.candidates added h.2.0 h.2.1.0 h.2.1.1).1
+      not_both (is_number alpha.come h.2.0) (ap (is_number alpha.come) same ∙ (came_read alpha k.2.0 k.2.1.0 k.2.1.1).1) (were_read alpha h.2.0 h.2.1.0 h.2.1.1).1
   old_apart t h (inr k) =
       let same : h.0 ≡ k.0 = one_parent h.0 k.0 h.2.0 k.2.0 h.2.1.0.0 k.2.1.0.0 h.2.1.2.0 k.2.1.2.0 (sym h.2.1.2.2.1 ∙ k.2.1.2.2.1) in
       h.1.1 (subst (λ n. In n before.come) (sym same) k.1)
@@ -203,10 +176,10 @@ module _ (x : Option (List ℕ)) (p : PatternValue) (ts : List Term) (at : ℕ �
   split_final t h = elim (there_kept h.0 h.1) as (λ _. (Was t × (Lost t → ⊥)) ⊎ Came t) [
     | inr k ↦ inr (inr (h.0, k, h.2))
     | inl k ↦
-        let r = there_read alpha.candidates alpha.gone h.2.0 h.2.1.0 h.2.1.1 in
-        by_test (is_number added h.2.0)
-        (λ a. inr (inl (h.0, k, (h.2.0, (h.2.1.0, ap (λ b. cond b (candidate_at alpha.candidates h.2.0) None) a ∙ r.0, h.2.1.2)))))
-        (λ a. inl ((h.0, k.0, (h.2.0, (h.2.1.0, read_there alpha.candidates added h.2.0 a ∙ r.0, h.2.1.2))), not_lost t h k r.1))
+        let r = live_read alpha h.2.0 h.2.1.0 h.2.1.1 in
+        by_test (is_number alpha.come h.2.0)
+        (λ a. inr (inl (h.0, k, (h.2.0, (h.2.1.0, read_came alpha h.2.0 a ∙ r.0, h.2.1.2)))))
+        (λ a. inl ((h.0, k.0, (h.2.0, (h.2.1.0, read_were alpha h.2.0 a ∙ r.0, h.2.1.2))), not_lost t h k r.1))
   ]
 
   module _ (come : Comes own₁ own (λ t. First t ⊎ Second t)) where
@@ -214,23 +187,23 @@ module _ (x : Option (List ℕ)) (p : PatternValue) (ts : List Term) (at : ℕ �
     they_are = after.they_are own₀ own₁ own Was Lost Came Final none_gone none_come was lost come stays_final new_final split_final old_apart
 
     -- and what they stand for
-    module _ (rise : WaysRise) (shapeless : Shapeless) (fs fs' : IndexedFacts) (old new : List Partial) (turns : Turns at before old new) (facts : AlphaTurns p alpha added fs fs') where
-      known : (t : TokenValue) → Was t ⊎ Final t → Joins x p ts at (IsReadable before) (candidate_at alpha.candidates) t
-      known t (inl h) = (h.0, h.1.0, (h.2.0, (h.2.1.0, (there_read alpha.candidates added h.2.0 h.2.1.0 h.2.1.1).0, h.2.1.2)))
+    module _ (rise : WaysRise) (shapeless : Shapeless) (fs fs' : IndexedFacts) (old new : List Partial) (turns : Turns at before old new) (facts : AlphaTurns p alpha fs fs') where
+      known : (t : TokenValue) → Was t ⊎ Final t → Joins x p ts at (IsReadable before) (candidate_in alpha.candidates) t
+      known t (inl h) = (h.0, h.1.0, (h.2.0, (h.2.1.0, (were_read alpha h.2.0 h.2.1.0 h.2.1.1).0, h.2.1.2)))
       known t (inr h) = (
         h.0,
         (h.1.0, (live_token before.tokens before.gone h.0 h.1.0 h.1.1).1),
-        (h.2.0, (h.2.1.0, (there_read alpha.candidates alpha.gone h.2.0 h.2.1.0 h.2.1.1).0, h.2.1.2)),
+        (h.2.0, (h.2.1.0, (live_read alpha h.2.0 h.2.1.0 h.2.1.1).0, h.2.1.2)),
       )
 
       pub they_turn : Turns (partial_after x own.tokens at) own (next_where x p ts fs old) (next_where x p ts fs' new)
       they_turn =
           after.they_turn own₀ own₁ own Was Lost Came Final none_gone none_come was lost come stays_final new_final split_final old_apart (partial_after x own.tokens at)
           (next_where x p ts fs old) (next_where x p ts fs' new)
-          (they_stand rise shapeless x p ts at own.tokens (WasThere before) (WasThere own) (were_in alpha added) fs old turns.was facts.was
+          (they_stand rise shapeless x p ts at own.tokens (WasThere before) (WasThere own) (were_in alpha) fs old turns.was facts.was
           (after.was_old own₀ own₁ own Was Lost Came Final none_gone none_come was lost come stays_final new_final split_final old_apart)
           (after.old_was own₀ own₁ own Was Lost Came Final none_gone none_come was lost come stays_final new_final split_final old_apart))
-          (they_stand rise shapeless x p ts at own.tokens (IsThere before) (IsThere own) (fact_under alpha) fs' new turns.is facts.is
+          (they_stand rise shapeless x p ts at own.tokens (IsThere before) (IsThere own) (live alpha) fs' new turns.is facts.is
           (after.is_new own₀ own₁ own Was Lost Came Final none_gone none_come was lost come stays_final new_final split_final old_apart)
           (after.new_is own₀ own₁ own Was Lost Came Final none_gone none_come was lost come stays_final new_final split_final old_apart))
           (λ i j t u e d h k parts.

@@ -1,21 +1,11 @@
--- Facts and partial matches filed by the values that they are joined on.
+-- Partial matches filed by the values that they are joined on.
 use Rattle.std.specs.Prelude.{◌≡◌, ℕ, List, Option, Some, None}
-use Rattle.std.specs.Option.{option_and_then}
 use Rattle.cb_alpha.specs.Buckets.{Filing, values_at}
-use Rattle.cb_alpha.specs.JoinValues.{field_values, variable_values}
-use Rattle.cb_facts.specs.Facts.{FactValue}
+use Rattle.cb_alpha.specs.JoinValues.{variable_values}
 use Rattle.cb_facts.specs.declared.value.Value.{Value}
 use Rattle.cb_fit.specs.declared.join_fields.JoinField.{JoinField}
 use Rattle.cb_groups.specs.Groups.{Membership, group_of}
 use Rattle.cb_matches.specs.Matches.{Partial}
-
--- the values of a fact, if there is one and it has the fields
-abbrev pub values_of : List JoinField → Option (ℕ × FactValue) → Option (List Value)
-values_of js f = option_and_then (λ (it : ℕ × FactValue). field_values js it.1.content) f
-
--- each fact is filed by its values, if it has the fields
-abbrev pub AreFactsFiled : List JoinField → Filing → (ℕ → Option (ℕ × FactValue)) → Type 0
-AreFactsFiled js filing facts = (candidate : ℕ) → values_at filing candidate ≡ values_of js (facts candidate)
 
 -- the group of a partial match among those that can't be filed: 0 if it has not all values, else none
 abbrev pub stray_group : Option (List Value) → Option ℕ

@@ -1,7 +1,7 @@
 -- The tokens by which partial matches go on with facts at a pattern.
 use Rattle.std.specs.Prelude.{◌≡◌, ℕ, true, List, Option, Some}
+use Rattle.cb_alpha.specs.AlphaMemories.{Candidates, candidate_in}
 use Rattle.cb_beta.specs.Tokens.{TokenValue}
-use Rattle.cb_candidates.specs.AlphaMemories.{Candidates, candidate_at}
 use Rattle.cb_constraints.specs.PatternValues.{PatternValue}
 use Rattle.cb_exprs.specs.Terms.{Term}
 use Rattle.cb_facts.specs.Facts.{FactValue}
@@ -30,7 +30,7 @@ module _ (x : Option (List ℕ)) (p : PatternValue) (ts : List Term) where
 
   -- the same of the fact of this number, if there is one
   abbrev pub IsOfFact : Partial → ℕ → Candidates → ℕ → TokenValue → Type 0
-  IsOfFact m number cs candidate t = (f : ℕ × FactValue) × (candidate_at cs candidate ≡ Some f) × IsPair m number candidate f t
+  IsOfFact m number cs candidate t = (f : ℕ × FactValue) × (candidate_in cs candidate ≡ Some f) × IsPair m number candidate f t
 
   -- a token of this partial match and one of these facts
   abbrev pub IsOfFacts : Partial → ℕ → Candidates → List ℕ → TokenValue → Type 0

@@ -1,3 +1,4 @@
+pub mod Bounds
 pub mod Filings
 pub mod Joins
 pub mod Nodes

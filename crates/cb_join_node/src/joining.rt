@@ -11,8 +11,8 @@ ghost use Rattle.cb_nodes.specs.Flat.{all_hold};
 ghost use Rattle.cb_token_lists.specs.Growth.{Comes};
 ghost use Rattle.cb_token_lists.specs.Partials.{partial_at};
 
+use cb_alpha::{AlphaMemory, Candidate};
 use cb_beta::{BetaMemory, Taken, Token};
-use cb_candidates::{AlphaMemory, Candidate};
 use cb_exprs::{Env, Expr};
 use cb_facts::Name;
 use cb_fit::laws::the_ways_rise_by_their_cuts;
@@ -30,7 +30,7 @@ pub struct Joining<T> {
     pub pattern: Pattern<T>,
     /// The tests directly behind the pattern.
     pub tests: Vec<Expr>,
-    /// The fields of a fact that have to be equal to variables, by which partial matches and facts are filed.
+    /// The fields of a fact that have to be equal to variables, by which partial matches and facts find each other.
     pub fields: Vec<JoinField>,
 }
 

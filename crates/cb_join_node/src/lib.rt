@@ -8,9 +8,9 @@
 //! `docs/ARCHITECTURE.md` says where it belongs.
 #![tactic(auto)]
 
-mod filed; // facts and partial matches by the values that they are joined on
+mod filed; // partial matches, and facts, by the values that they are joined on
 mod joining; // partial matches joined with facts
-pub mod laws; // laws of what a change does to an alpha memory
+pub mod laws; // laws of what is ready, and of how often a pattern may be tested
 mod node; // a change of a join node
 mod partial_values; // the values of variables in a partial match
 

@@ -1,25 +1,26 @@
 //! A change of a join node.
-ghost use Rattle.std.specs.Prelude.{◌≡◌, ◌≢◌, ◌≤◌, ◌+◌, ◌*◌, ◌⊎◌, ℕ, [], List, None, OnOk, Some, length, slice_get};
-ghost use Rattle.cb_alpha.specs.Buckets.{AreSameFilings};
+ghost use Rattle.std.specs.Prelude.{◌≡◌, ◌≢◌, ◌≤◌, ◌+◌, ◌*◌, ◌⊎◌, ℕ, [], List, None, OnOk, Option, Some, length, slice_get};
+ghost use Rattle.cb_alpha.specs.AlphaMemories.{live};
+ghost use Rattle.cb_alpha.specs.Buckets.{Filing};
+ghost use Rattle.cb_alpha.specs.Turning.{HasJoin, came_in};
 ghost use Rattle.cb_beta.specs.BetaMemories.{BetaMemoryValue};
-ghost use Rattle.cb_candidates.specs.AlphaMemories.{fact_under};
 ghost use Rattle.cb_facts.specs.FactLists.{IndexedFacts};
-ghost use Rattle.cb_join_node.specs.Filings.{AreFactsFiled, ArePartialsFiled, IsFiled};
+ghost use Rattle.cb_facts.specs.Facts.{FactValue};
+ghost use Rattle.cb_join_node.specs.Bounds.{join_probes};
+ghost use Rattle.cb_join_node.specs.Filings.{ArePartialsFiled, IsFiled};
 ghost use Rattle.cb_join_node.specs.Joins.{Joins, JoinsOne};
-ghost use Rattle.cb_join_node.specs.Nodes.{AreApart, AreAtMost, IsAfter, IsBefore, IsReady, IsUnder, Stays, added_fact, came_in, stay_in, tests_of};
+ghost use Rattle.cb_join_node.specs.Nodes.{AreAtMost, AsksTheSame, IsAfter, IsBefore, IsReady, IsUnder, Stays, added_fact, tests_of};
 ghost use Rattle.cb_matches.specs.Chains.{Chain, In};
 ghost use Rattle.cb_matches.specs.Matches.{Partial};
-ghost use Rattle.cb_nodes.specs.Patterns.{AreJoinFields, pattern_probes};
+ghost use Rattle.cb_nodes.specs.Patterns.{AreJoinFields};
 ghost use Rattle.cb_token_lists.specs.Growth.{Comes};
+ghost use Rattle.cb_token_lists.specs.Keeping.{KeepsTokens};
 ghost use Rattle.cb_token_lists.specs.Partials.{partial_at};
 
-use crate::filed::{
-    JoinBuckets, facts_beside, file_fact, file_partial, forget_fact, forget_partials,
-    partials_beside,
-};
+use crate::filed::{facts_beside, file_partial, forget_partials, partials_beside};
 use crate::joining::{Joining, join_facts, join_partials};
+use cb_alpha::{AlphaMemory, Buckets};
 use cb_beta::BetaMemory;
-use cb_candidates::AlphaMemory;
 use cb_exprs::Env;
 use cb_fit::Meter;
 use cb_fit::laws::{
@@ -35,53 +36,65 @@ use std::alloc::Global;
 #[derive(Drop)]
 pub struct JoinNode<T> {
     /// What is asked of a fact.
-    pub(crate) asked: Joining<T>,
+    pub asked: Joining<T>,
     /// The number of the list before it.
-    pub(crate) from: usize,
-    /// The facts and the partial matches before the pattern, by the values that they are joined on.
-    pub(crate) buckets: JoinBuckets,
+    pub from: usize,
+    /// The number of the join of the pattern's alpha memory that finds facts by the fields.
+    pub join: usize,
+    /// The partial matches before the pattern, by the values that they are joined on.
+    pub(crate) partials: Buckets,
     /// The partial matches that have not all of these values, as one group.
     pub(crate) strays: Groups,
+    alloc: Global,
 }
 
 impl<T> JoinNode<T> {
-    /// A node behind the list with this number, with nothing filed yet. It takes no memory.
+    /// A node behind the list with this number, with nothing filed yet. The join has to be set when the alpha memory has it. It takes
+    /// no memory.
     pub fn new(alloc: Global, from: usize, asked: Joining<T>) -> JoinNode<T>
         ensures asked { result.asked ≡ asked }
         ensures from { result.from ≡ from }
-        ensures ready { (at : ℕ → Partial) → AreJoinFields asked.fields.items asked.address asked.pattern
-            → IsReady result at (λ number. ⊥) (λ number. None) (record { tokens = []; gone = []; come = [] }) }
+        ensures ready { (at : ℕ → Partial) (facts : ℕ → Option (ℕ × FactValue))
+            → AreJoinFields asked.fields.items asked.address asked.pattern
+            → IsReady result at (λ number. ⊥) facts (record { tokens = []; gone = []; come = [] }) }
     {
         JoinNode {
             asked,
             from,
-            buckets: JoinBuckets::new(alloc),
+            join: 0,
+            partials: Buckets::new(alloc),
             strays: Groups::new(alloc),
+            alloc,
         }
     }
 
-    /// Changes the tokens behind the pattern, in `own`. The lists before it have changed already, and the alpha memory is as it is
-    /// after the change; `added` is the number of the fact that came to it, if one did. Growth is refused as `NoMemory`, and then
-    /// some of the change may be done.
+    /// Changes the tokens behind the pattern, in `own`. The lists before it have changed already, and so has the alpha memory of the
+    /// pattern, in which what came and what went can be told. Growth is refused as `NoMemory`, and then some of the change may be
+    /// done.
     pub fn change(
         &mut self,
         lists: &TokenLists<'_>,
         alpha: &AlphaMemory,
-        added: Option<u32>,
         own: &mut BetaMemory,
         meter: &mut Meter<T>,
     ) -> Result<(), NoMemory>
+        ensures same { AsksTheSame self.old self.new }
         ensures after { OnOk result ((before : BetaMemoryValue) (fs fs' : IndexedFacts) (old new : List Partial)
             → slice_get lists.now.lists.now self.old.from ≡ Some before
             → IsBefore self.old (partial_at lists.now.sources.now lists.now.lists.now self.old.from)
-            before alpha.now added own.old fs fs' old new
+            before alpha.now own.old fs fs' old new
             → IsAfter self.new (partial_at lists.now.sources.now lists.now.lists.now self.old.from)
             before alpha.now own.new fs fs' old new) }
+        ensures keeps { OnOk result ((before : BetaMemoryValue) (fs fs' : IndexedFacts) (old new : List Partial)
+            → slice_get lists.now.lists.now self.old.from ≡ Some before
+            → IsBefore self.old (partial_at lists.now.sources.now lists.now.lists.now self.old.from)
+            before alpha.now own.old fs fs' old new
+            → KeepsTokens own.old own.new) }
         ensures probes { OnOk result ((before : BetaMemoryValue) (fs fs' : IndexedFacts) (old new : List Partial)
             → slice_get lists.now.lists.now self.old.from ≡ Some before
             → IsBefore self.old (partial_at lists.now.sources.now lists.now.lists.now self.old.from)
-            before alpha.now added own.old fs fs' old new
-            → meter.new ≤ meter.old + pattern_probes self.old.asked.pattern (added_fact alpha.now added) fs' old new) }
+            before alpha.now own.old fs fs' old new
+            → meter.new ≤ meter.old + join_probes self.old.asked.pattern (added_fact alpha.now) fs' old new) }
     {
         no_shape_gives_no_ways();
         the_ways_rise_by_their_cuts();
@@ -90,24 +103,23 @@ impl<T> JoinNode<T> {
             return Ok(());
         };
         own.retract(before.gone(), alpha.gone())?;
-        forget_partials(&mut self.buckets, &mut self.strays, before.gone());
-        forget_fact(&mut self.buckets, alpha.gone());
-        join_added(
+        forget_partials(&mut self.partials, &mut self.strays, before.gone());
+        join_fact(
             lists,
             self.from,
             &self.asked,
-            &mut self.buckets,
+            &self.partials,
             &self.strays,
             alpha,
-            added,
             own,
             meter,
         )?;
         join_come(
             lists,
             self.from,
+            self.join,
             &self.asked,
-            &mut self.buckets,
+            &mut self.partials,
             &mut self.strays,
             alpha,
             before.come(),
@@ -115,53 +127,51 @@ impl<T> JoinNode<T> {
             meter,
         )
     }
+
+    /// Takes out all that is filed, as if nothing had ever been there, and frees its memory.
+    pub fn clear(&mut self)
+        ensures same { AsksTheSame self.old self.new }
+        ensures ready { (at : ℕ → Partial) (facts : ℕ → Option (ℕ × FactValue))
+            → AreJoinFields self.old.asked.fields.items self.old.asked.address self.old.asked.pattern
+            → IsReady self.new at (λ number. ⊥) facts (record { tokens = []; gone = []; come = [] }) }
+    {
+        self.partials = Buckets::new(self.alloc);
+        self.strays = Groups::new(self.alloc);
+    }
 }
 
-/// Files the fact that came, if one did, and joins it with the partial matches that stand before the pattern.
-fn join_added<T>(
+/// Joins the fact that came, if one did, with the partial matches that stand before the pattern.
+fn join_fact<T>(
     lists: &TokenLists<'_>,
     from: usize,
     asked: &Joining<T>,
-    buckets: &mut JoinBuckets,
+    partials: &Buckets,
     strays: &Groups,
     alpha: &AlphaMemory,
-    added: Option<u32>,
     own: &mut BetaMemory,
     meter: &mut Meter<T>,
 ) -> Result<(), NoMemory>
-    ensures facts { OnOk result (AreApart alpha.now added
-        → AreFactsFiled asked.now.fields.items buckets.old.facts (stay_in alpha.now added)
-        → AreFactsFiled asked.now.fields.items buckets.new.facts (fact_under alpha.now)) }
-    ensures partials { OnOk result (AreSameFilings buckets.old.partials buckets.new.partials) }
     ensures come { OnOk result ((before : BetaMemoryValue)
-        → AreFactsFiled asked.now.fields.items buckets.old.facts (stay_in alpha.now added)
-        → ArePartialsFiled asked.now.fields.items buckets.old.partials strays.now
+        → ArePartialsFiled asked.now.fields.items partials.now strays.now
         (partial_at lists.now.sources.now lists.now.lists.now from) (Stays before)
         → AreJoinFields asked.now.fields.items asked.now.address asked.now.pattern
         → Comes own.old own.new (Joins asked.now.address asked.now.pattern (tests_of asked.now)
-        (partial_at lists.now.sources.now lists.now.lists.now from) (Stays before) (came_in alpha.now added))) }
+        (partial_at lists.now.sources.now lists.now.lists.now from) (Stays before) (came_in alpha.now))) }
     ensures probes { OnOk result ((before : BetaMemoryValue) (kept : ℕ)
-        → ArePartialsFiled asked.now.fields.items buckets.old.partials strays.now
+        → ArePartialsFiled asked.now.fields.items partials.now strays.now
         (partial_at lists.now.sources.now lists.now.lists.now from) (Stays before)
         → AreAtMost (Stays before) kept → meter.new ≤ meter.old + kept) }
-    ensures untested { OnOk result (((number : ℕ) → came_in alpha.now added number ≡ None)
+    ensures untested { OnOk result (((number : ℕ) → came_in alpha.now number ≡ None)
         → meter.new ≤ meter.old) }
 {
     a_fact_that_fits_has_the_values_of_variables();
-    let Some(number) = added else {
+    let Some(number) = alpha.come() else {
         return Ok(());
     };
     let Some(one) = alpha.candidate(number) else {
         return Ok(());
     };
-    file_fact(
-        lists.alloc,
-        asked.fields.as_slice(),
-        buckets,
-        number,
-        &one.fact,
-    )?;
-    let beside = partials_beside(lists.alloc, asked.fields.as_slice(), buckets, &one.fact)?;
+    let beside = partials_beside(lists.alloc, asked.fields.as_slice(), partials, &one.fact)?;
     join_partials(lists, from, asked, beside, number, one, own, meter)?;
     join_partials(
         lists,
@@ -179,8 +189,9 @@ fn join_added<T>(
 fn join_come<T>(
     lists: &TokenLists<'_>,
     from: usize,
+    join: usize,
     asked: &Joining<T>,
-    buckets: &mut JoinBuckets,
+    partials: &mut Buckets,
     strays: &mut Groups,
     alpha: &AlphaMemory,
     come: &[u32],
@@ -188,19 +199,18 @@ fn join_come<T>(
     meter: &mut Meter<T>,
 ) -> Result<(), NoMemory>
     ensures partials { OnOk result ((before : BetaMemoryValue)
-        → ArePartialsFiled asked.now.fields.items buckets.old.partials strays.old
+        → ArePartialsFiled asked.now.fields.items partials.old strays.old
         (partial_at lists.now.sources.now lists.now.lists.now from) (Stays before)
-        → ArePartialsFiled asked.now.fields.items buckets.new.partials strays.new
+        → ArePartialsFiled asked.now.fields.items partials.new strays.new
         (partial_at lists.now.sources.now lists.now.lists.now from) (λ number. Stays before number ⊎ In number come.now)) }
-    ensures facts { OnOk result (AreSameFilings buckets.old.facts buckets.new.facts) }
     ensures come { OnOk result (Chain (λ (i : ℕ) (j : ℕ). i ≢ j) come.now
-        → AreFactsFiled asked.now.fields.items buckets.old.facts (fact_under alpha.now)
+        → HasJoin alpha.now join asked.now.fields.items
         → AreJoinFields asked.now.fields.items asked.now.address asked.now.pattern
         → Comes own.old own.new (Joins asked.now.address asked.now.pattern (tests_of asked.now)
-        (partial_at lists.now.sources.now lists.now.lists.now from) (λ number. In number come.now) (fact_under alpha.now))) }
+        (partial_at lists.now.sources.now lists.now.lists.now from) (λ number. In number come.now) (live alpha.now))) }
     ensures probes { OnOk result ((most : ℕ)
-        → AreFactsFiled asked.now.fields.items buckets.old.facts (fact_under alpha.now)
-        → AreAtMost (IsUnder (fact_under alpha.now)) most
+        → HasJoin alpha.now join asked.now.fields.items
+        → AreAtMost (IsUnder (live alpha.now)) most
         → meter.new ≤ meter.old + length come.now * most) }
 {
     for number in come {
@@ -208,14 +218,12 @@ fn join_come<T>(
         file_partial(
             lists.alloc,
             asked.fields.as_slice(),
-            buckets,
+            partials,
             strays,
             *number,
             &env,
         )?;
-        join_partial(
-            lists, asked, buckets, strays, alpha, *number, &env, own, meter,
-        )?;
+        join_partial(lists, join, asked, strays, alpha, *number, &env, own, meter)?;
     }
     Ok(())
 }
@@ -223,8 +231,8 @@ fn join_come<T>(
 /// Joins a partial match that stands before the pattern with all facts.
 fn join_partial<T>(
     lists: &TokenLists<'_>,
+    join: usize,
     asked: &Joining<T>,
-    buckets: &JoinBuckets,
     strays: &Groups,
     alpha: &AlphaMemory,
     number: u32,
@@ -232,21 +240,21 @@ fn join_partial<T>(
     own: &mut BetaMemory,
     meter: &mut Meter<T>,
 ) -> Result<(), NoMemory>
-    ensures come { OnOk result ((m : Partial) → m.env ≡ env.now
-        → IsFiled asked.now.fields.items buckets.now.partials strays.now number m
-        → AreFactsFiled asked.now.fields.items buckets.now.facts (fact_under alpha.now)
+    ensures come { OnOk result ((m : Partial) (filing : Filing) → m.env ≡ env.now
+        → IsFiled asked.now.fields.items filing strays.now number m
+        → HasJoin alpha.now join asked.now.fields.items
         → AreJoinFields asked.now.fields.items asked.now.address asked.now.pattern
         → Comes own.old own.new (JoinsOne asked.now.address asked.now.pattern (tests_of asked.now)
-        m number (fact_under alpha.now))) }
+        m number (live alpha.now))) }
     ensures probes { OnOk result ((most : ℕ)
-        → AreFactsFiled asked.now.fields.items buckets.now.facts (fact_under alpha.now)
-        → AreAtMost (IsUnder (fact_under alpha.now)) most → meter.new ≤ meter.old + most) }
+        → HasJoin alpha.now join asked.now.fields.items
+        → AreAtMost (IsUnder (live alpha.now)) most → meter.new ≤ meter.old + most) }
 {
     a_fact_that_fits_has_the_values_of_variables();
     if strays.group(number).is_some() {
         let all = alpha.numbers(lists.alloc)?;
         return join_facts(lists, asked, alpha, number, env, all.as_slice(), own, meter);
     }
-    let beside = facts_beside(lists.alloc, asked.fields.as_slice(), buckets, env)?;
+    let beside = facts_beside(lists.alloc, asked.fields.as_slice(), alpha, join, env)?;
     join_facts(lists, asked, alpha, number, env, beside, own, meter)
 }

@@ -7,8 +7,8 @@ ghost use Rattle.cb_session.specs.Sessions.{ArePlacesOf, fresh_session};
 
 use crate::outcome::{Cause, Outcome, Report};
 use cb_forms::{Out, ReadFault, Sink, Source};
-use cb_joins::Joins;
 use cb_matches::Matcher;
+use cb_rete::Joins;
 use cb_session::{Flow, Limits, Mark, Session};
 use std::alloc::Global;
 

@@ -6,6 +6,7 @@ ghost use Rattle.cb_matches.specs.Chains.{Chain, In};
 ghost use Rattle.cb_matches.specs.Matches.{Partial};
 ghost use Rattle.cb_test_node.specs.Tests.{ArePassed, IsAfter, IsBefore, IsPassed};
 ghost use Rattle.cb_token_lists.specs.Growth.{Comes};
+ghost use Rattle.cb_token_lists.specs.Keeping.{KeepsTokens};
 ghost use Rattle.cb_token_lists.specs.Partials.{partial_at};
 
 use cb_beta::{BetaMemory, Token};
@@ -21,12 +22,13 @@ pub fn change_test(
     test: &Expr,
     own: &mut BetaMemory,
 ) -> Result<(), NoMemory>
-    ensures { OnOk result ((before : BetaMemoryValue) (old new : List Partial)
+    ensures after { OnOk result ((before : BetaMemoryValue) (old new : List Partial)
         → slice_get lists.now.lists.now from ≡ Some before
         → IsBefore (term_of test.now) (partial_at lists.now.sources.now lists.now.lists.now from)
         before own.old old new
         → IsAfter (term_of test.now) (partial_at lists.now.sources.now lists.now.lists.now from)
         before own.new old new) }
+    ensures keeps { OnOk result (KeepsTokens own.old own.new) }
 {
     let Some(before) = lists.lists.get(from) else {
         return Ok(());
@@ -43,9 +45,10 @@ fn pass_all(
     come: &[u32],
     own: &mut BetaMemory,
 ) -> Result<(), NoMemory>
-    ensures { OnOk result (Chain (λ (i : ℕ) (j : ℕ). i ≢ j) come.now → Comes own.old own.new
+    ensures come { OnOk result (Chain (λ (i : ℕ) (j : ℕ). i ≢ j) come.now → Comes own.old own.new
         (ArePassed (term_of test.now) (partial_at lists.now.sources.now lists.now.lists.now from)
         (λ number. In number come.now))) }
+    ensures keeps { OnOk result (KeepsTokens own.old own.new) }
 {
     for number in come {
         pass_one(lists, from, test, *number, own)?;

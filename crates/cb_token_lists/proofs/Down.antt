@@ -1,5 +1,5 @@
 -- The partial match of a number, by going down the lists.
-use Rattle.std.proofs.Common.{◌≡◌, ◌≢◌, ◌∙◌, ◌-◌, ◌<◌, ℕ, zero, suc, List, [], ◌∷◌, Option, Some, None, ap, arith, get_or, length, refl, slice_get, sym}
+use Rattle.std.proofs.Common.{◌≡◌, ◌∙◌, ◌<◌, ℕ, zero, suc, List, [], ◌∷◌, Option, Some, None, ap, arith, get_or, length, refl, slice_get, sym}
 use Rattle.std.specs.Option.{option_map_or}
 use Rattle.cb_beta.specs.BetaMemories.{BetaMemoryValue}
 use Rattle.cb_beta.specs.Tokens.{TokenValue, Tokens, partial_after, token_at, with_taken}
@@ -20,20 +20,6 @@ by_source lists k i before o = option_map_or (λ (s : SourceValue). partial_afte
 
 abbrev by_token : Option (List ℕ) → (ℕ → Partial) → Option TokenValue → Partial
 by_token x before o = option_map_or (λ (t : TokenValue). with_taken x t.taken (before t.parent)) o no_parts
-
-module _ (sources : List SourceValue) where
-  -- one list down
-  pub goes_down : (lists : List BetaMemoryValue) (turns list i : ℕ) (s : SourceValue) (t : TokenValue) → list ≢ 0 → turns ≢ 0 → slice_get sources (list - 1) ≡ Some s
-      → token_at (tokens_in lists list) i ≡ Some t
-      → partial_in sources lists (suc turns) list i ≡ with_taken s.address t.taken (partial_in sources lists (suc (turns - 1)) s.from t.parent)
-  goes_down lists zero list i s t n m is there = absurd (m refl)
-  goes_down lists (suc turns) zero i s t n m is there = absurd (n refl)
-  goes_down lists (suc turns) (suc k) i s t n m is there =
-      let below : suc k - 1 ≡ k = omega arith in
-      let fewer : suc turns ≡ suc (suc turns - 1) = omega arith in
-      ap (by_source lists k i (partial_in sources lists (suc turns))) (ap (slice_get sources) (sym below) ∙ is)
-      ∙ (of_token s.address (tokens_in lists (suc k)) (partial_in sources lists (suc turns) s.from) i t there
-      ∙ ap (λ n. with_taken s.address t.taken (partial_in sources lists n s.from t.parent)) fewer)
 
 -- what stands at a place
 pub got : {A : Type 0} (xs : List A) (k : ℕ) (a : A) → k < length xs → a ≡ get_or xs k a → slice_get xs k ≡ Some a

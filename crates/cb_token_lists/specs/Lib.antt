@@ -1,3 +1,5 @@
 pub mod Growth
+pub mod Internal
+pub mod Keeping
 pub mod Partials
 pub mod Turns

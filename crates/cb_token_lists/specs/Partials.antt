@@ -49,3 +49,8 @@ pub data Meets (sources : List SourceValue) (lists : List BetaMemoryValue) (j a 
 -- the second partial match has the parts of the first, and maybe others behind them
 abbrev pub GoesOnFrom : Partial → Partial → Type 0
 GoesOnFrom m z = (rest : List PartValue) × (z.parts ≡ m.parts ++ rest)
+
+-- going down from list k, list j is come to
+pub data LeadsTo (sources : List SourceValue) (j : ℕ) : ℕ → Type 0 where
+  leads_here : LeadsTo sources j j
+  leads_below : (k : ℕ) (s : SourceValue) → slice_get sources k ≡ Some s → LeadsTo sources j s.from → LeadsTo sources j (suc k)

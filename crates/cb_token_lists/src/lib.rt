@@ -5,7 +5,9 @@
 
 mod binding; // what variables have after a way
 pub mod laws; // laws of lists of tokens
-mod reading; // what variables have by a token
+mod parts; // the parts of a path
+mod path; // what is taken on the way down from a token
+mod reading; // what variables have by a token, and its parts
 mod source; // what a list goes on from
 mod testing; // whether a test holds
 

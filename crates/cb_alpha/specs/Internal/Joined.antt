@@ -41,3 +41,7 @@ pub record IsInserted (old new : Candidates) (number : ℕ) (f : ℕ × FactValu
   pub free : candidate_in old number ≡ None
   pub there : candidate_in new number ≡ Some f
   pub others : (n : ℕ) → n ≢ number → candidate_in new n ≡ candidate_in old n
+
+-- what is under this number can be read, if a number is given
+abbrev pub IsReadable : Candidates → Option ℕ → Type 0
+IsReadable cs number = (n : ℕ) → number ≡ Some n → candidate_in cs n ≢ None

@@ -3,8 +3,8 @@ ghost use Rattle.std.specs.Prelude.{◌≡◌, None};
 ghost use Rattle.cb_io.specs.Output.{IsReady};
 
 use cb_forms::{MemSink, NoMemory, Out};
-use cb_joins::Joins;
 use cb_matches::Matcher;
+use cb_rete::Joins;
 use cb_session::{Flow, Limits, Mark, Session};
 use std::alloc::Global;
 

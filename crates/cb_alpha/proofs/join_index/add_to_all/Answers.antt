@@ -1,9 +1,8 @@
-use Rattle.std.proofs.Common.{rules, ◌≡◌, ◌<◌, ◌∙◌, ℕ, Option, Some, ap, arith, get_or, length, subst, sym}
-use Rattle.cb_alpha.proofs.Joins.{ahead_more, all_set, but_refiled, but_same, done_more, fields_set, filed_now}
+use Rattle.std.proofs.Common.{◌≡◌, ◌<◌, ℕ, ap, arith, get_or, length, subst, sym}
+use Rattle.cb_alpha.proofs.Joins.{ahead_more, all_set, but_refiled, done_more, fields_set, filed_now}
 use Rattle.cb_alpha.specs.AlphaMemories.{values_in}
 use Rattle.cb_alpha.specs.Buckets.{Refiles}
 use Rattle.cb_alpha.specs.Internal.Joined.{IsFiled, IsFiledBut, JoinIndexValue}
-use Rattle.cb_facts.specs.Facts.{FactValue}
 use Rattle.cb_alpha.proofs.join_index.add_to_all.Goals as goal
 
 pub returns-in_err-add-clause-fields : goal.returns-in_err-add-clause-fields

@@ -1,4 +1,4 @@
-use Rattle.std.proofs.Common.{◌≡◌, ◌+◌, ◌<◌, ℕ, arith, length}
+use Rattle.std.proofs.Common.{◌≡◌, ◌<◌, arith, length}
 use Rattle.cb_alpha.proofs.Joins.{one_place_more}
 use Rattle.cb_alpha.proofs.join_index.are_at_same_places.Goals as goal
 

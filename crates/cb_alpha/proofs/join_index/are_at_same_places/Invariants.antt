@@ -1,4 +1,4 @@
-use Rattle.std.proofs.Common.{◌≡◌, ◌≤◌, ◌-◌, ℕ, drop, length}
+use Rattle.std.proofs.Common.{◌≡◌, ◌≤◌, ◌-◌, drop, length}
 use Rattle.cb_alpha.specs.AlphaMemories.{AreSameFields}
 use Rattle.cb_alpha.proofs.join_index.are_at_same_places.Given as goal
 

@@ -1,9 +1,8 @@
-use Rattle.std.proofs.Common.{rules, ◌≡◌, ◌<◌, ◌∙◌, ℕ, Option, None, ap, arith, get_or, length, subst, sym}
+use Rattle.std.proofs.Common.{rules, ◌≡◌, ◌<◌, ◌∙◌, ℕ, ap, arith, get_or, length, subst, sym}
 use Rattle.cb_alpha.proofs.Joins.{ahead_more, done_more, fields_set, filed_now}
 use Rattle.cb_alpha.specs.AlphaMemories.{values_in}
 use Rattle.cb_alpha.specs.Buckets.{Refiles}
 use Rattle.cb_alpha.specs.Internal.Joined.{IsFiled, IsFiledBut, JoinIndexValue}
-use Rattle.cb_facts.specs.Facts.{FactValue}
 use Rattle.cb_alpha.proofs.join_index.remove_from_all.Goals as goal
 
 pub loop-join-preserved : goal.loop-join-preserved

@@ -1,7 +1,7 @@
 use Rattle.std.proofs.Common.{◌≡◌, Some, subst, sym}
+use Rattle.cb_alpha.proofs.ReadFacts.{same_some, some_none}
+use Rattle.cb_alpha.specs.AlphaMemories.{candidate_in}
 use Rattle.cb_beta.proofs.Losses.{on_ok}
-use Rattle.cb_candidates.specs.AlphaMemories.{candidate_at}
-use Rattle.cb_join_node.proofs.Agreement.{same_some, some_none}
 use Rattle.cb_join_node.proofs.joining.join_candidate.Goals as goal
 use Rattle.cb_join_node.specs.Joins.{IsOfFact, IsPair}
 use Rattle.cb_join_node.specs.Nodes.{tests_of}
@@ -16,11 +16,11 @@ returns-in-Some-clause-come g c =
     let n = c.args.number in
     let k = c.args.candidate in
     let f = c.in-Some.one.now in
-    let there : candidate_at cs k ≡ Some f = sym c.in-Some.ensures in
+    let there : candidate_in cs k ≡ Some f = sym c.in-Some.ensures in
     on_ok c.join_pair.result
     (λ h m e.
     come_alike c.args.own.now c.join_pair.new.own (IsPair x p ts m n k f) (IsOfFact x p ts m n cs k)
-    (λ t q. (f, there, q)) (λ t q. subst (λ it. IsPair x p ts m n k it t) (same_some (candidate_at cs k) q.1 there) q.2) (h m e))
+    (λ t q. (f, there, q)) (λ t q. subst (λ it. IsPair x p ts m n k it t) (same_some (candidate_in cs k) q.1 there) q.2) (h m e))
     c.join_pair.ensures.come
 
 pub returns-in-None-clause-come : goal.returns-in-None-clause-come
@@ -29,4 +29,4 @@ returns-in-None-clause-come g c m e =
     let p = c.args.asked.now.pattern in
     let ts = tests_of c.args.asked.now in
     let cs = c.args.alpha.now.candidates in
-    none_come c.args.own.now (IsOfFact x p ts m c.args.number cs c.args.candidate) (λ t h. some_none (candidate_at cs c.args.candidate) h.1 (sym c.in-None.ensures))
+    none_come c.args.own.now (IsOfFact x p ts m c.args.number cs c.args.candidate) (λ t h. some_none (candidate_in cs c.args.candidate) h.1 (sym c.in-None.ensures))

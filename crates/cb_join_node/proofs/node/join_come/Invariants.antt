@@ -1,8 +1,8 @@
 use Rattle.std.proofs.Common.{◌≢◌, ◌≤◌, ◌+◌, ◌*◌, ◌⊎◌, ℕ, take}
-use Rattle.cb_alpha.specs.Buckets.{AreSameFilings}
+use Rattle.cb_alpha.specs.AlphaMemories.{live}
+use Rattle.cb_alpha.specs.Turning.{HasJoin}
 use Rattle.cb_beta.specs.BetaMemories.{BetaMemoryValue}
-use Rattle.cb_candidates.specs.AlphaMemories.{fact_under}
-use Rattle.cb_join_node.specs.Filings.{AreFactsFiled, ArePartialsFiled}
+use Rattle.cb_join_node.specs.Filings.{ArePartialsFiled}
 use Rattle.cb_join_node.specs.Joins.{Joins}
 use Rattle.cb_join_node.specs.Nodes.{AreAtMost, IsUnder, Stays, tests_of}
 use Rattle.cb_matches.specs.Chains.{Chain, In}
@@ -13,9 +13,8 @@ use Rattle.cb_join_node.proofs.node.join_come.Given as goal
 
 abbrev pub invariant-loop-number : goal.invariant-loop-number
 invariant-loop-number g l =
-    ((before : BetaMemoryValue) → ArePartialsFiled l.asked.fields.items l.initial.buckets.partials l.initial.strays (partial_at l.lists.sources.now l.lists.lists.now l.from) (Stays before)
-    → ArePartialsFiled l.asked.fields.items l.buckets.partials l.strays (partial_at l.lists.sources.now l.lists.lists.now l.from) (λ number. Stays before number ⊎ In number (take l.number-index l.come)))
-    × AreSameFilings l.initial.buckets.facts l.buckets.facts
-    × (Chain (λ (i : ℕ) (j : ℕ). i ≢ j) l.come → AreFactsFiled l.asked.fields.items l.initial.buckets.facts (fact_under l.alpha) → AreJoinFields l.asked.fields.items l.asked.address l.asked.pattern
-    → Comes l.initial.own l.own (Joins l.asked.address l.asked.pattern (tests_of l.asked) (partial_at l.lists.sources.now l.lists.lists.now l.from) (λ number. In number (take l.number-index l.come)) (fact_under l.alpha)))
-    × ((most : ℕ) → AreFactsFiled l.asked.fields.items l.initial.buckets.facts (fact_under l.alpha) → AreAtMost (IsUnder (fact_under l.alpha)) most → l.meter ≤ l.initial.meter + l.number-index * most)
+    ((before : BetaMemoryValue) → ArePartialsFiled l.asked.fields.items l.initial.partials l.initial.strays (partial_at l.lists.sources.now l.lists.lists.now l.from) (Stays before)
+    → ArePartialsFiled l.asked.fields.items l.partials l.strays (partial_at l.lists.sources.now l.lists.lists.now l.from) (λ number. Stays before number ⊎ In number (take l.number-index l.come)))
+    × (Chain (λ (i : ℕ) (j : ℕ). i ≢ j) l.come → HasJoin l.alpha l.join l.asked.fields.items → AreJoinFields l.asked.fields.items l.asked.address l.asked.pattern
+    → Comes l.initial.own l.own (Joins l.asked.address l.asked.pattern (tests_of l.asked) (partial_at l.lists.sources.now l.lists.lists.now l.from) (λ number. In number (take l.number-index l.come)) (live l.alpha)))
+    × ((most : ℕ) → HasJoin l.alpha l.join l.asked.fields.items → AreAtMost (IsUnder (live l.alpha)) most → l.meter ≤ l.initial.meter + l.number-index * most)

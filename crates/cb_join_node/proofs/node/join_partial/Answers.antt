@@ -1,13 +1,13 @@
-use Rattle.std.proofs.Common.{rules, ◌≡◌, ◌∙◌, None, [], ◌∷◌, ap, ap₂, arith, subst, sym}
+use Rattle.std.proofs.Common.{rules, ◌≡◌, ◌∙◌, List, None, Some, ap, ap₂, arith, subst, sym}
+use Rattle.cb_alpha.specs.AlphaMemories.{AreFactsWith, AreLiveNumbers}
 use Rattle.cb_alpha.specs.JoinValues.{variable_values}
+use Rattle.cb_alpha.proofs.ReadFacts.{some_none}
 use Rattle.cb_beta.proofs.Losses.{on_ok}
 use Rattle.cb_beta.proofs.Members.{apart_of}
-use Rattle.cb_candidates.specs.AlphaMemories.{AreNumbers, fact_under}
+use Rattle.cb_facts.specs.declared.value.Value.{Value}
 use Rattle.cb_groups.specs.Groups.{group_of}
-use Rattle.cb_join_node.proofs.Agreement.{by_numbers, by_option, by_values, some_none}
-use Rattle.cb_join_node.proofs.Bounds.{facts_beside}
-use Rattle.cb_join_node.proofs.Refiled.{apart_beside}
-use Rattle.cb_join_node.proofs.Turning.{there_read}
+use Rattle.cb_join_node.proofs.Agreement.{by_numbers, by_option, by_values, found_by}
+use Rattle.cb_join_node.proofs.Bounds.{facts_beside, facts_once}
 use Rattle.cb_join_node.proofs.node.join_partial.Goals as goal
 use Rattle.cb_join_node.specs.Filings.{stray_group}
 use Rattle.cb_join_node.specs.Nodes.{tests_of}
@@ -19,14 +19,13 @@ returns-then-is_some g c =
     let ts = tests_of c.args.asked.now in
     let alpha = c.args.alpha.now in
     let xs = c.as_slice.result.now in
-    let these : AreNumbers alpha xs = subst (AreNumbers alpha) (sym c.as_slice.ensures.value) c.in_ok-all.ensures in
+    let these : AreLiveNumbers alpha xs = subst (AreLiveNumbers alpha) (sym c.as_slice.ensures.value) c.in_ok-all.ensures in
     record {
       come = on_ok c.join_facts.result
-          (λ h m e filed facts fields.
-          by_numbers x p ts m c.args.number alpha (λ k f i. (there_read alpha.candidates alpha.gone k f i).0) xs these c.args.own.now c.join_facts.new.own (h m e these.once))
+          (λ h m filing e filed has fields. by_numbers x p ts m c.args.number alpha xs these c.args.own.now c.join_facts.new.own (h m e these.once))
           c.join_facts.ensures.come;
       probes = on_ok c.join_facts.result
-          (λ l k filed most. let all = most xs these.once these.are in omega (arith, l, all))
+          (λ l k has most. let all = most xs these.once these.are in omega (arith, l, all))
           c.join_facts.ensures.probes;
     }
 
@@ -43,20 +42,18 @@ returns g c =
     let none : c.group.result ≡ None = search rules in
     record {
       come = on_ok c.join_facts-2.result
-          (λ h m e filed facts fields.
+          (λ h m filing e filed has fields.
           by_option (variable_values js m.env)
           (λ no. some_none (group_of c.args.strays.now n) (filed.stray ∙ ap stray_group no) (sym c.group.ensures ∙ none))
           (λ vs is.
-          let these = c.in_ok-beside.ensures.some vs (ap₂ variable_values c.as_slice-2.ensures.value (sym e) ∙ is) in
-          by_values c.a_fact_that_fits_has_the_values_of_variables.ensures x p ts js fields m n alpha.candidates (fact_under alpha) c.args.buckets.now.facts facts
-          (λ k f i. (there_read alpha.candidates alpha.gone k f i).0) vs is xs these c.args.own.now c.join_facts-2.new.own (h m e (apart_of xs these.once))))
+          let these : AreFactsWith alpha js vs xs = found_by alpha c.args.join js has vs xs (c.in_ok-beside.ensures.some vs has.0 (ap₂ variable_values c.as_slice-2.ensures.value (sym e) ∙ is) has.1) in
+          by_values c.a_fact_that_fits_has_the_values_of_variables.ensures x p ts js fields m n alpha vs is xs these c.args.own.now c.join_facts-2.new.own (h m e (apart_of xs these.once))))
           c.join_facts-2.ensures.come;
       probes = on_ok c.join_facts-2.result
-          (λ l k filed most.
-          let b = c.args.buckets.now in
-          let some = c.in_ok-beside.ensures.some in
+          (λ l k has most.
+          let some = λ (vs : List Value) (e : o ≡ Some vs). found_by alpha c.args.join js has vs xs (c.in_ok-beside.ensures.some vs has.0 e has.1) in
           let none = c.in_ok-beside.ensures.none in
-          let all = most xs (apart_beside (o ∷ []) b.facts 0 xs some none) (facts_beside js (o ∷ []) b.facts 0 (fact_under alpha) xs some none filed) in
+          let all = most xs (facts_once js o alpha xs some none) (facts_beside js o alpha xs some none) in
           omega (arith, l, all))
           c.join_facts-2.ensures.probes;
     }

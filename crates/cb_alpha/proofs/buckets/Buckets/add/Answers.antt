@@ -1,4 +1,4 @@
-use Rattle.std.proofs.Common.{OnErr, Some, subst}
+use Rattle.std.proofs.Common.{Some, subst}
 use Rattle.cb_alpha.proofs.Filings.{failed, filed_more, keeps, same_filing, same_groups, same_then, then_refiled}
 use Rattle.cb_alpha.specs.Buckets.{AreSameFilings, Filing, Refiles}
 use Rattle.cb_alpha.specs.Internal.Numbered.{filing}

@@ -1,6 +1,7 @@
 use Rattle.std.proofs.Common.{◌≡◌, ◌≢◌, ◌∙◌, ℕ, [], List, Some, None, subst, sym}
 use Rattle.cb_beta.proofs.Losses.{on_ok}
 use Rattle.cb_beta.specs.BetaMemories.{BetaMemoryValue, Loses}
+use Rattle.cb_beta.specs.Tokens.{TokenValue}
 use Rattle.cb_group_node.proofs.Changed.{changed}
 use Rattle.cb_group_node.proofs.Meeting.{begins_met, met_same}
 use Rattle.cb_group_node.proofs.Touching.{AreTouched}
@@ -11,6 +12,7 @@ use Rattle.cb_group_node.specs.declared.node.GroupNode.{GroupNode}
 use Rattle.cb_groups.specs.Groups.{AppendsMembers}
 use Rattle.cb_matches.specs.Chains.{Chain, In}
 use Rattle.cb_token_lists.proofs.Down.{got}
+use Rattle.cb_token_lists.proofs.Keeping.{keeps_then, lost_keeps}
 use Rattle.cb_token_lists.specs.Growth.{Comes}
 use Rattle.cb_token_lists.specs.Partials.{Meets, partial_at}
 
@@ -43,7 +45,7 @@ returns-clause-after c =
     let own₁ = c.remove_all_children.new.self in
     let own₂ = c.retract.new.own in
     let own = c.pass_all.new.own in
-    let node : GroupNode = record { from = from; inner = inner; positive = positive; inside = inside; waiting = c.take.new.self } in
+    let node : GroupNode = record me { inside = inside; waiting = c.take.new.self } in
     let Met : ℕ → ℕ → Type 0 = λ g i. Meets ss ls from g inner i in
     on_ok c.pass_all.result
     (λ come m n width old new begun begun' below is is' given.
@@ -80,6 +82,17 @@ returns-clause-after c =
     (λ g h i. met_same ss ls below from g h inner i)
     (λ g i read there. let d = b.descend i there in begins_met ss ls below width from inner d.0 g i before (record { long = b.long; one = b.turns.one }) d.1 read d.2)
     me.inside inside₁ inside b.ready.inside left entered first touched touch₁ touch₂ me.waiting w₁ w₂ w₃ c.take.new.self b.ready.waiting wait₁ wait₂ wait₃ settled taken
-    c.in_ok-take.ensures.groups own₀ own₁ own₂ own b.ready.tokens b.none_gone b.none_come lost₁ lost₂ came from inner in
+    c.in_ok-take.ensures.groups own₀ own₁ own₂ own b.ready.tokens b.none_gone b.none_come lost₁ lost₂ came me in
     subst (λ it. IsAfterGroup node Met at it n own old new begun begun') e (subst (λ it. IsAfterGroup node Met at before it own old new begun begun') e' after))
-    c.pass_all.ensures
+    c.pass_all.ensures.come
+
+pub returns-clause-keeps : goal.returns-clause-keeps
+returns-clause-keeps c =
+    let own₀ = c.args.own.now in
+    let own₁ = c.remove_all_children.new.self in
+    let own₂ = c.retract.new.own in
+    on_ok c.pass_all.result
+    (keeps_then own₀ own₂ c.pass_all.new.own
+    (keeps_then own₀ own₁ own₂ (lost_keeps own₀ own₁ (λ (t : TokenValue). In t.parent c.gone-4.result.now) c.in_ok-remove_all_children.ensures)
+    (lost_keeps own₁ own₂ (λ (t : TokenValue). In t.parent c.as_slice-2.result.now × (GroupHolds c.args.self.now.positive c.enter.new.inside t.parent → ⊥)) c.in_ok-retract.ensures)))
+    c.pass_all.ensures.keeps

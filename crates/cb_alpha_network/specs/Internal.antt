@@ -1,0 +1,43 @@
+-- What only the code needs.
+use Rattle.std.specs.Prelude.{◌≡◌, ◌≢◌, ◌⊎◌, ◌<◌, ℕ, Bool, true, false, List, Option, Some, None}
+use Rattle.cb_alpha.specs.AlphaMemories.{AlphaMemoryValue, GainsFact, LosesFact, index_of, live}
+use Rattle.cb_alpha_network.specs.Asked.{IsEntered}
+use Rattle.cb_alpha_network.specs.Networks.{IsAtRest, MemoryValues, ShapeValue, ShapeValues, memory_in, shape_in}
+use Rattle.cb_alpha_network.specs.declared.asked.Asked.{Asked}
+use Rattle.cb_constraints.specs.PatternValues.{PatternValue}
+use Rattle.cb_exprs.specs.Bindings.{no_bindings}
+use Rattle.cb_facts.specs.Facts.{FactValue}
+use Rattle.cb_fit.specs.Shapes.{has_way, loose}
+use Rattle.cb_fit.specs.Ways.{ways}
+use Rattle.cb_matches.specs.Chains.{In}
+
+-- the number of each memory to which a fact came or from which one went is among these
+abbrev pub AreNoted : MemoryValues → List ℕ → Type 0
+AreNoted ms noted = (n : ℕ) → IsAtRest (memory_in ms n) ⊎ In n noted
+
+-- each shape has a memory, and what it asks for is entered under its number
+pub record IsNetwork (asked : Asked) (shapes : ShapeValues) (count : ℕ) : Type 0 where
+  pub entered : (n : ℕ) (s : ShapeValue) → shape_in shapes n ≡ Some s → (p : PatternValue) × (loose p ≡ s.pattern) × IsEntered asked p n
+  pub within : (n : ℕ) (s : ShapeValue) → shape_in shapes n ≡ Some s → n < count
+
+-- all but one memory stay
+abbrev pub KeepsOtherMemories : ℕ → MemoryValues → MemoryValues → Type 0
+KeepsOtherMemories number old new = (n : ℕ) → n ≢ number → memory_in new n ≡ memory_in old n
+
+-- the pattern without variables fits
+abbrev pub fits : PatternValue → FactValue → Bool
+fits p f = has_way (ways p f no_bindings)
+
+-- a fact comes to a memory if it has the shape that stands there, if one does
+abbrev pub IsAsserted : Option ShapeValue → ℕ → FactValue → AlphaMemoryValue → AlphaMemoryValue → Type 0
+IsAsserted None ix f old new = new ≡ old
+IsAsserted (Some s) ix f old new = (fits s.pattern f ≡ true → (i : ℕ) × GainsFact old new i (ix, f)) × (fits s.pattern f ≡ false → new ≡ old)
+
+-- the fact with an index goes from a memory, if it is there
+abbrev pub IsRetracted : ℕ → AlphaMemoryValue → AlphaMemoryValue → Type 0
+IsRetracted ix old new = ((i : ℕ) × LosesFact old new i ix) ⊎ ((new ≡ old) × ((i : ℕ) → index_of (live old i) ≢ Some ix))
+
+-- the memories with these numbers changed so, and the others stay
+pub record ChangesThose (Changed : ℕ → AlphaMemoryValue → AlphaMemoryValue → Type 0) (numbers : List ℕ) (old new : MemoryValues) : Type 0 where
+  pub changed : (n : ℕ) → In n numbers → Changed n (memory_in old n) (memory_in new n)
+  pub others : (n : ℕ) → (In n numbers → ⊥) → memory_in new n ≡ memory_in old n

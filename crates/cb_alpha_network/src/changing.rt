@@ -1,0 +1,128 @@
+//! The changes of the memories that are found for a fact.
+ghost use Rattle.std.specs.Prelude.{◌≡◌, ◌≢◌, ◌≤◌, ◌<◌, ◌+◌, if◌then◌else◌, is_some, count_by, ℕ, None, OnOk, Some, length};
+ghost use Rattle.std.specs.List.Sorted.{IsStrictlySortedBy};
+ghost use Rattle.std.specs.Ordering.{nat_cmp};
+ghost use Rattle.cb_alpha.specs.AlphaMemories.{index_of, live};
+ghost use Rattle.cb_alpha_network.specs.Internal.{ChangesThose, IsAsserted, IsRetracted, KeepsOtherMemories};
+ghost use Rattle.cb_alpha_network.specs.Networks.{AreAtRest, ShapeValue, memory_in, shape_in};
+ghost use Rattle.cb_alpha_network.specs.declared.node_place.NodePlace.{NodePlace as Place};
+ghost use Rattle.cb_matches.specs.Chains.{In};
+
+use crate::memories::Memories;
+use crate::node_place::NodePlace;
+use crate::shape::{Shape, fits_alone};
+use cb_alpha::Candidate;
+use cb_facts::Fact;
+use cb_fit::Meter;
+use cb_forms::NoMemory;
+use cb_functions::Constants;
+use slab::Slab;
+use std::alloc::Global;
+
+/// Adds a fact to the memories with these numbers of which it has the shape. Growth is refused as `NoMemory`.
+pub(crate) fn assert_found<T>(
+    alloc: Global,
+    constants: &Constants,
+    shapes: &Slab<Shape<T>>,
+    memories: &mut Memories,
+    found: &[u32],
+    index: u64,
+    fact: &Fact,
+    meter: &mut Meter<T>,
+) -> Result<(), NoMemory>
+    requires sorted { IsStrictlySortedBy nat_cmp found.now }
+    requires within { (n : ℕ) (s : ShapeValue) → shape_in shapes.now.slots n ≡ Some s → n < length memories.old }
+    requires rest { AreAtRest memories.old }
+    requires absent { (n : ℕ) (s : ShapeValue) → shape_in shapes.now.slots n ≡ Some s
+        → (i : ℕ) → index_of (live (memory_in memories.old n) i) ≢ Some index }
+    ensures changed { OnOk result (ChangesThose (λ n. IsAsserted (shape_in shapes.now.slots n) index fact.now)
+        found.now memories.old memories.new) }
+    ensures long { length memories.new ≡ length memories.old }
+    ensures probes { meter.new ≤ meter.old + count_by is_some shapes.now.slots }
+{
+    for number in found {
+        assert_at(
+            alloc, constants, shapes, memories, *number, index, fact, meter,
+        )?;
+    }
+    Ok(())
+}
+
+/// Adds a fact to the memory with a number, if it has the shape that stands there. Growth is refused as `NoMemory`.
+fn assert_at<T>(
+    alloc: Global,
+    constants: &Constants,
+    shapes: &Slab<Shape<T>>,
+    memories: &mut Memories,
+    number: u32,
+    index: u64,
+    fact: &Fact,
+    meter: &mut Meter<T>,
+) -> Result<(), NoMemory>
+    requires within { (s : ShapeValue) → shape_in shapes.now.slots number ≡ Some s → number < length memories.old }
+    requires none_come { (memory_in memories.old number).come ≡ None }
+    requires absent { (s : ShapeValue) → shape_in shapes.now.slots number ≡ Some s
+        → (i : ℕ) → index_of (live (memory_in memories.old number) i) ≢ Some index }
+    ensures at { OnOk result (IsAsserted (shape_in shapes.now.slots number) index fact.now
+        (memory_in memories.old number) (memory_in memories.new number)) }
+    ensures others { KeepsOtherMemories number memories.old memories.new }
+    ensures long { length memories.new ≡ length memories.old }
+    ensures probes { meter.new ≤ meter.old + (if is_some (shape_in shapes.now.slots number) then 1 else 0) }
+{
+    let Some(shape) = shapes.get(number as usize) else {
+        return Ok(());
+    };
+    if !fits_alone(alloc, constants, &shape.pattern, fact, meter)? {
+        return Ok(());
+    }
+    let fact = fact.clone()?;
+    memories.add(number, Candidate { index, fact })?;
+    Ok(())
+}
+
+/// Takes the fact with an index out of the memories with these numbers. Growth is refused as `NoMemory`.
+pub(crate) fn retract_found(
+    memories: &mut Memories,
+    found: &[u32],
+    index: u64,
+) -> Result<(), NoMemory>
+    requires sorted { IsStrictlySortedBy nat_cmp found.now }
+    requires rest { AreAtRest memories.old }
+    ensures changed { OnOk result (ChangesThose (λ n. IsRetracted index) found.now memories.old memories.new) }
+    ensures long { length memories.new ≡ length memories.old }
+{
+    for number in found {
+        memories.remove(*number, index)?;
+    }
+    Ok(())
+}
+
+/// Adds the places of the shapes with these numbers. Growth is refused as `NoMemory`.
+pub(crate) fn add_places<T>(
+    shapes: &Slab<Shape<T>>,
+    numbers: &[u32],
+    places: &mut Vec<NodePlace>,
+) -> Result<(), NoMemory>
+    ensures { OnOk result ((n : ℕ) (s : ShapeValue) → In n numbers.now → shape_in shapes.now.slots n ≡ Some s
+        → In s.place places.new.items) }
+{
+    for number in numbers {
+        add_place(shapes, *number, places)?;
+    }
+    Ok(())
+}
+
+/// Adds the place of the shape with a number, if there is one.
+fn add_place<T>(
+    shapes: &Slab<Shape<T>>,
+    number: u32,
+    places: &mut Vec<NodePlace>,
+) -> Result<(), NoMemory>
+    ensures added { OnOk result ((s : ShapeValue) → shape_in shapes.now.slots number ≡ Some s → In s.place places.new.items) }
+    ensures stay { OnOk result ((place : Place) → In place places.old.items → In place places.new.items) }
+{
+    if let Some(shape) = shapes.get(number as usize) {
+        places.push(shape.place)?;
+    }
+    Ok(())
+}

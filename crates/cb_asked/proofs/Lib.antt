@@ -1,4 +1,0 @@
-pub mod Pieces
-mod Found
-pub mod Order
-pub mod Searched

@@ -1,4 +1,0 @@
-pub mod Asked
-pub mod KeptPlaces
-pub mod Places
-pub mod Wanted

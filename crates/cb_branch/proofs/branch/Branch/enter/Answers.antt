@@ -1,0 +1,25 @@
+use Rattle.std.proofs.Common.{◌∙◌, List, refl, subst}
+use Rattle.std.proofs.lemmas.List.{with_items_is}
+use Rattle.cb_beta.proofs.Losses.{on_ok}
+use Rattle.cb_branch.proofs.Entered.{are_used, renumbered}
+use Rattle.cb_branch.proofs.branch.Branch.enter.Goals as goal
+use Rattle.cb_branch_nodes.specs.Alphas.{HasUse}
+use Rattle.cb_entering.specs.Entries.{AreRenumbered}
+use Rattle.cb_plan.specs.declared.node.Node.{Node}
+
+pub returns-clause-plan : goal.returns-clause-plan
+returns-clause-plan g c =
+    let b = c.args.self.now in
+    let nodes = c.enter_nodes.new.nodes in
+    let nodes_are = with_items_is b.nodes nodes (c.enter_nodes.auto.nodes ∙ c.as_mut_slice.ensures.len) in
+    on_ok c.enter_nodes.result
+    (λ same. renumbered b _ nodes c.requires (subst (λ (it : List (Node g.row.T.Denot)). AreRenumbered it nodes) c.as_mut_slice.ensures.value same) nodes_are refl refl refl)
+    c.enter_nodes.ensures.nodes
+
+pub returns-clause-entered : goal.returns-clause-entered
+returns-clause-entered g c =
+    let nodes = c.enter_nodes.new.nodes in
+    let nodes_are = with_items_is c.args.self.now.nodes nodes (c.enter_nodes.auto.nodes ∙ c.as_mut_slice.ensures.len) in
+    on_ok c.enter_nodes.result
+    (λ entered k u h. are_used c.enter_nodes.new.network c.args.rule c.args.number nodes entered k u (subst (λ (it : List (Node g.row.T.Denot)). HasUse it k u) nodes_are h))
+    c.enter_nodes.ensures.entered

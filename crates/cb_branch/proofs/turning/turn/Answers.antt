@@ -1,0 +1,114 @@
+use Rattle.std.proofs.Common.{◌≡◌, ◌∙◌, ◌≤◌, ◌+◌, ◌↔◌, ℕ, List, Some, ap, map, slice_get, subst, sym}
+use Rattle.std.proofs.lemmas.List.{with_items_is}
+use Rattle.std.specs.Vec.{with_items}
+use Rattle.cb_beta.specs.BetaMemories.{BetaMemoryValue}
+use Rattle.cb_branch.proofs.Ended.{ended_index, ended_long, ended_ready, ended_rest, index_was, last_there, last_turns}
+use Rattle.cb_branch.proofs.Matched.{last_within}
+use Rattle.cb_branch.proofs.Told.{turned_branch}
+use Rattle.cb_branch.proofs.turning.turn.Goals as goal
+use Rattle.cb_branch_nodes.specs.Alphas.{AlphaUse, HasUse, TakesAdded}
+use Rattle.cb_branch_nodes.specs.Turning.{AreNodesAfter, AreNodesBefore}
+use Rattle.cb_flat.specs.Joined.{flat_joins}
+use Rattle.cb_list_changes.specs.Resting.{AreEnded}
+use Rattle.cb_match_index.specs.MatchIndexes.{IsIndex}
+use Rattle.cb_match_index.specs.TellingKeys.{Tells as TellsKeys}
+use Rattle.cb_matches.specs.Order.{IsSorted}
+use Rattle.cb_plan.specs.Nodes.{flat_nodes}
+use Rattle.cb_plan.specs.declared.node.Node.{Node}
+use Rattle.cb_rule_keys.specs.Keys.{key_of}
+use Rattle.cb_token_lists.specs.Partials.{SourceValue, partial_at}
+use Rattle.cb_token_lists.specs.Turns.{IsThere, Turns, WasThere}
+
+pub returns-clause-alphas : goal.returns-clause-alphas
+returns-clause-alphas g c k u =
+    let b = c.args.branch.now in
+    let nodes = c.change_nodes.new.nodes in
+    let nodes_are = with_items_is b.nodes nodes (c.change_nodes.auto.nodes ∙ c.as_mut_slice.ensures.len) in
+    subst (λ (it : List (Node g.row.T.Denot)). HasUse b.nodes.items k u ↔ HasUse it k u) (sym nodes_are)
+    (subst (λ (it : List (Node g.row.T.Denot)). HasUse it k u ↔ HasUse nodes k u) c.as_mut_slice.ensures.value (c.in_ok-change_nodes.ensures.same.uses k u))
+
+pub returns-clause-turned : goal.returns-clause-turned
+returns-clause-turned g c before fs fs' first first' old new w =
+    let alphas = c.args.alphas.now in
+    let rule = c.args.rule in
+    let number = c.args.number in
+    let b = c.args.branch.now in
+    let ss = b.sources.items in
+    let nodes = c.change_nodes.new.nodes in
+    let lists = c.change_nodes.new.lists in
+    let ended = c.end_change.new.lists in
+    let nodes_are = with_items_is b.nodes nodes (c.change_nodes.auto.nodes ∙ c.as_mut_slice.ensures.len) in
+    let lists_are = with_items_is b.lists lists (c.change_nodes.auto.lists ∙ c.as_mut_slice-2.ensures.len) in
+    let ended_are = with_items_is (with_items b.lists lists) ended (c.end_change.auto.lists ∙ c.as_mut_slice-3.ensures.len) in
+    let same : flat_nodes nodes ≡ flat_nodes b.nodes.items = c.in_ok-change_nodes.ensures.same.flat ∙ ap flat_nodes c.as_mut_slice.ensures.value in
+    let before_nodes : AreNodesBefore alphas c.as_slice.result.now before c.as_mut_slice-2.result.now fs fs' first first' old new c.as_mut_slice.result.now =
+    subst (λ (it : List SourceValue). AreNodesBefore alphas it before c.as_mut_slice-2.result.now fs fs' first first' old new c.as_mut_slice.result.now) (sym c.as_slice.ensures.value)
+    (subst (λ (it : List BetaMemoryValue). AreNodesBefore alphas ss before it fs fs' first first' old new c.as_mut_slice.result.now) (sym c.as_mut_slice-2.ensures.value)
+    (subst (λ (it : List (Node g.row.T.Denot)). AreNodesBefore alphas ss before b.lists.items fs fs' first first' old new it) (sym c.as_mut_slice.ensures.value) w.nodes)) in
+    let after : AreNodesAfter alphas ss before lists old new nodes =
+    subst (λ (it : List SourceValue). AreNodesAfter alphas it before lists old new nodes) c.as_slice.ensures.value
+    (c.in_ok-change_nodes.ensures.after before fs fs' first first' old new before_nodes) in
+    let within = last_within b w.planned in
+    let m = last_there alphas ss before b.lists.items fs fs' first first' old new b.nodes.items w.nodes lists nodes same after b.last within in
+    let turned = last_turns alphas ss before b.lists.items fs fs' first first' old new b.nodes.items w.nodes lists nodes same after b.last within in
+    let was = index_was alphas ss before b.lists.items fs fs' first first' old new b.nodes.items w.nodes lists nodes same after b.last within rule number b.matches w.indexed in
+    let changed : slice_get lists b.last ≡ Some m.0 → Turns (partial_at ss lists b.last) m.0 (old b.last) (new b.last) → IsIndex rule number (partial_at ss lists b.last) (WasThere m.0) b.matches
+    → IsIndex rule number (partial_at ss lists b.last) (IsThere m.0) c.change.new.self =
+    subst (λ (ls : List BetaMemoryValue). slice_get ls b.last ≡ Some m.0 → Turns (partial_at ss ls b.last) m.0 (old b.last) (new b.last)
+    → IsIndex rule number (partial_at ss ls b.last) (WasThere m.0) b.matches → IsIndex rule number (partial_at ss ls b.last) (IsThere m.0) c.change.new.self)
+    (c.as_slice-3.ensures.value ∙ lists_are)
+    (subst (λ (it : List SourceValue). slice_get c.as_slice-3.result.now b.last ≡ Some m.0 → Turns (partial_at it c.as_slice-3.result.now b.last) m.0 (old b.last) (new b.last)
+    → IsIndex rule number (partial_at it c.as_slice-3.result.now b.last) (WasThere m.0) b.matches → IsIndex rule number (partial_at it c.as_slice-3.result.now b.last) (IsThere m.0) c.change.new.self)
+    c.as_slice-2.ensures.value (c.in_ok-change.ensures.index m.0 (old b.last) (new b.last))) in
+    let ends : AreEnded lists ended = subst (λ (it : List BetaMemoryValue). AreEnded it ended) (c.as_mut_slice-3.ensures.value ∙ lists_are) c.end_change.ensures in
+    turned_branch alphas rule number new _ nodes ended nodes_are ended_are
+    (ended_long alphas ss before b.lists.items fs fs' first first' old new b.nodes.items w.nodes lists nodes same after b.last within ended ends)
+    (ended_rest alphas ss before b.lists.items fs fs' first first' old new b.nodes.items w.nodes lists nodes same after b.last within ended ends)
+    (ended_ready alphas ss before b.lists.items fs fs' first first' old new b.nodes.items w.nodes lists nodes same after b.last within ended ends)
+    (ended_index alphas ss before b.lists.items fs fs' first first' old new b.nodes.items w.nodes lists nodes same after b.last within ended ends rule number c.change.new.self (changed m.1 turned was))
+
+pub returns-clause-told : goal.returns-clause-told
+returns-clause-told g c before fs fs' first first' old new w =
+    let alphas = c.args.alphas.now in
+    let rule = c.args.rule in
+    let number = c.args.number in
+    let b = c.args.branch.now in
+    let ss = b.sources.items in
+    let nodes = c.change_nodes.new.nodes in
+    let lists = c.change_nodes.new.lists in
+    let lists_are = with_items_is b.lists lists (c.change_nodes.auto.lists ∙ c.as_mut_slice-2.ensures.len) in
+    let same : flat_nodes nodes ≡ flat_nodes b.nodes.items = c.in_ok-change_nodes.ensures.same.flat ∙ ap flat_nodes c.as_mut_slice.ensures.value in
+    let before_nodes : AreNodesBefore alphas c.as_slice.result.now before c.as_mut_slice-2.result.now fs fs' first first' old new c.as_mut_slice.result.now =
+    subst (λ (it : List SourceValue). AreNodesBefore alphas it before c.as_mut_slice-2.result.now fs fs' first first' old new c.as_mut_slice.result.now) (sym c.as_slice.ensures.value)
+    (subst (λ (it : List BetaMemoryValue). AreNodesBefore alphas ss before it fs fs' first first' old new c.as_mut_slice.result.now) (sym c.as_mut_slice-2.ensures.value)
+    (subst (λ (it : List (Node g.row.T.Denot)). AreNodesBefore alphas ss before b.lists.items fs fs' first first' old new it) (sym c.as_mut_slice.ensures.value) w.nodes)) in
+    let after : AreNodesAfter alphas ss before lists old new nodes =
+    subst (λ (it : List SourceValue). AreNodesAfter alphas it before lists old new nodes) c.as_slice.ensures.value
+    (c.in_ok-change_nodes.ensures.after before fs fs' first first' old new before_nodes) in
+    let within = last_within b w.planned in
+    let m = last_there alphas ss before b.lists.items fs fs' first first' old new b.nodes.items w.nodes lists nodes same after b.last within in
+    let turned = last_turns alphas ss before b.lists.items fs fs' first first' old new b.nodes.items w.nodes lists nodes same after b.last within in
+    let tells : slice_get lists b.last ≡ Some m.0 → Turns (partial_at ss lists b.last) m.0 (old b.last) (new b.last) → IsSorted (old b.last) → IsSorted (new b.last)
+    → TellsKeys c.args.delta.now c.change.new.delta (map (key_of rule number) (old b.last)) (map (key_of rule number) (new b.last)) =
+    subst (λ (ls : List BetaMemoryValue). slice_get ls b.last ≡ Some m.0 → Turns (partial_at ss ls b.last) m.0 (old b.last) (new b.last) → IsSorted (old b.last) → IsSorted (new b.last)
+    → TellsKeys c.args.delta.now c.change.new.delta (map (key_of rule number) (old b.last)) (map (key_of rule number) (new b.last)))
+    (c.as_slice-3.ensures.value ∙ lists_are)
+    (subst (λ (it : List SourceValue). slice_get c.as_slice-3.result.now b.last ≡ Some m.0 → Turns (partial_at it c.as_slice-3.result.now b.last) m.0 (old b.last) (new b.last)
+    → IsSorted (old b.last) → IsSorted (new b.last)
+    → TellsKeys c.args.delta.now c.change.new.delta (map (key_of rule number) (old b.last)) (map (key_of rule number) (new b.last)))
+    c.as_slice-2.ensures.value (c.in_ok-change.ensures.told m.0 (old b.last) (new b.last))) in
+    let told = tells m.1 turned w.sorted w.sorted_now in
+    record { gone = told.gone; come = told.come }
+
+pub returns-clause-probes : goal.returns-clause-probes
+returns-clause-probes g c before fs fs' first first' old new added w takes =
+    let alphas = c.args.alphas.now in
+    let b = c.args.branch.now in
+    let ss = b.sources.items in
+    let before_nodes : AreNodesBefore alphas c.as_slice.result.now before c.as_mut_slice-2.result.now fs fs' first first' old new c.as_mut_slice.result.now =
+    subst (λ (it : List SourceValue). AreNodesBefore alphas it before c.as_mut_slice-2.result.now fs fs' first first' old new c.as_mut_slice.result.now) (sym c.as_slice.ensures.value)
+    (subst (λ (it : List BetaMemoryValue). AreNodesBefore alphas ss before it fs fs' first first' old new c.as_mut_slice.result.now) (sym c.as_mut_slice-2.ensures.value)
+    (subst (λ (it : List (Node g.row.T.Denot)). AreNodesBefore alphas ss before b.lists.items fs fs' first first' old new it) (sym c.as_mut_slice.ensures.value) w.nodes)) in
+    let took = subst (λ (it : List (Node g.row.T.Denot)). (k : ℕ) (u : AlphaUse) → HasUse it k u → TakesAdded alphas added u) (sym c.as_mut_slice.ensures.value) takes in
+    subst (λ (it : List (Node g.row.T.Denot)). c.change_nodes.new.meter ≤ c.args.meter.now + flat_joins added fs' old new (flat_nodes it)) c.as_mut_slice.ensures.value
+    (c.in_ok-change_nodes.ensures.probes before fs fs' first first' old new added before_nodes took)

@@ -1,0 +1,53 @@
+//! Laws of branches: each is the contract of a function that does nothing.
+ghost use Rattle.std.specs.Prelude.{◌≡◌, ◌≤◌, ℕ, Option, false};
+ghost use Rattle.cb_branch.specs.Branches.{CanBeFilled, DifferBy, HasAlpha, IsBranchOver, branch_elements};
+ghost use Rattle.cb_branch_nodes.specs.Alphas.{AlphaUse, Facts};
+ghost use Rattle.cb_branch.specs.Patterns.{shape_tests};
+ghost use Rattle.cb_branch.specs.declared.branch.Branch.{Branch};
+ghost use Rattle.cb_facts.specs.FactLists.{IndexedFacts};
+ghost use Rattle.cb_facts.specs.Facts.{FactValue};
+ghost use Rattle.cb_fit.specs.Shapes.{has_shape};
+ghost use Rattle.cb_matches.specs.Matches.{matches_of};
+ghost use Rattle.cb_matches.specs.Order.{IsRising};
+ghost use Rattle.cb_partials.specs.Probes.{branch_probes};
+ghost use Rattle.cb_rules.specs.Elements.{Elements};
+
+use cb_fit::laws::{no_shape_gives_no_ways, the_ways_rise_by_their_cuts};
+
+/// What is kept for a branch can be found anew.
+pub fn what_is_kept_can_be_filled<T>()
+    ensures { (rule number : ℕ) (facts : Facts) (fs : IndexedFacts) (b : Branch T)
+        → IsBranchOver rule number facts fs b → CanBeFilled b }
+{}
+
+/// What is kept for a branch is right as long as the same facts stand under the numbers of its patterns.
+pub fn what_is_kept_stays<T>()
+    ensures { (rule number : ℕ) (facts facts' : Facts) (fs : IndexedFacts) (b : Branch T)
+        → IsBranchOver rule number facts fs b
+        → ((k : ℕ) (u : AlphaUse) → HasAlpha b k u → (n : ℕ) → facts u.alpha n ≡ facts' u.alpha n)
+        → IsBranchOver rule number facts' fs b }
+{}
+
+/// A fact that has the shape of no pattern of a branch changes nothing where it comes or goes.
+pub fn what_no_pattern_takes_changes_nothing<T>()
+    ensures over { (rule number : ℕ) (facts : Facts) (fs fs' : IndexedFacts) (f : ℕ × FactValue) (b : Branch T)
+        → IsRising fs → IsRising fs' → DifferBy f fs fs'
+        → ((k : ℕ) (u : AlphaUse) → HasAlpha b k u → has_shape u.pattern f.1 ≡ false)
+        → IsBranchOver rule number facts fs b → IsBranchOver rule number facts fs' b }
+    ensures matches { (rule number : ℕ) (facts : Facts) (fs fs' : IndexedFacts) (f : ℕ × FactValue) (b : Branch T)
+        → IsRising fs → IsRising fs' → DifferBy f fs fs'
+        → ((k : ℕ) (u : AlphaUse) → HasAlpha b k u → has_shape u.pattern f.1 ≡ false)
+        → IsBranchOver rule number facts fs b
+        → matches_of (branch_elements b) fs ≡ matches_of (branch_elements b) fs' }
+{
+    no_shape_gives_no_ways();
+    the_ways_rise_by_their_cuts();
+}
+
+/// Where a fact is added, the bound has room for a test of each pattern of a branch.
+pub fn each_pattern_may_be_tested()
+    ensures { (added : Option FactValue) (fs fs' : IndexedFacts) (es : Elements) → IsRising fs → IsRising fs'
+        → shape_tests added es ≤ branch_probes added fs fs' es }
+{
+    the_ways_rise_by_their_cuts();
+}

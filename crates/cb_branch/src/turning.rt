@@ -1,0 +1,69 @@
+//! A change of all that is kept for a branch.
+ghost use Rattle.std.specs.Prelude.{◌≡◌, ◌≤◌, ◌+◌, ℕ, List, OnOk, Option, map};
+ghost use Rattle.cb_beta.specs.BetaMemories.{BetaMemoryValue};
+ghost use Rattle.cb_branch.specs.Branches.{AreAdded, HasSameAlphas, CanBeFilled, branch_elements};
+ghost use Rattle.cb_branch.specs.Internal.{IsTurning, IsTurned};
+ghost use Rattle.cb_facts.specs.FactLists.{IndexedFacts};
+ghost use Rattle.cb_facts.specs.Facts.{FactValue};
+ghost use Rattle.cb_flat.specs.Joined.{flat_joins};
+ghost use Rattle.cb_matches.specs.Matches.{Partial};
+ghost use Rattle.cb_nodes.specs.Flat.{Lists};
+ghost use Rattle.cb_plan.specs.Nodes.{flat_nodes};
+ghost use Rattle.cb_rule_keys.specs.Keys.{Tells, key_of};
+
+use crate::branch::Branch;
+use cb_alpha::AlphaMemory;
+use cb_branch_nodes::{change_nodes, end_change};
+use cb_fit::Meter;
+use cb_forms::NoMemory;
+use cb_functions::Constants;
+use cb_matches::Delta;
+use cb_token_lists::TokenLists;
+use std::alloc::Global;
+
+/// Changes the lists behind the first one, which has changed already, and what is kept besides. Growth is refused as `NoMemory`.
+pub(crate) fn turn<T>(
+    branch: &mut Branch<T>,
+    alloc: Global,
+    constants: &Constants,
+    alphas: &[AlphaMemory],
+    rule: u64,
+    number: u64,
+    delta: &mut Delta,
+    meter: &mut Meter<T>,
+) -> Result<(), NoMemory>
+    ensures elements { OnOk result (branch_elements branch.new ≡ branch_elements branch.old) }
+    ensures planned { OnOk result (CanBeFilled branch.old → CanBeFilled branch.new) }
+    ensures alphas { OnOk result (HasSameAlphas branch.old branch.new) }
+    ensures turned { OnOk result ((before : List BetaMemoryValue) (fs fs' : IndexedFacts) (first first' : List Partial) (old new : Lists)
+        → IsTurning alphas.now rule number before fs fs' first first' old new branch.old
+        → IsTurned alphas.now rule number new branch.new) }
+    ensures told { OnOk result ((before : List BetaMemoryValue) (fs fs' : IndexedFacts) (first first' : List Partial) (old new : Lists)
+        → IsTurning alphas.now rule number before fs fs' first first' old new branch.old
+        → Tells delta.old delta.new (map (key_of rule number) (old branch.old.last)) (map (key_of rule number) (new branch.old.last))) }
+    ensures probes { OnOk result ((before : List BetaMemoryValue) (fs fs' : IndexedFacts) (first first' : List Partial) (old new : Lists) (added : Option FactValue)
+        → IsTurning alphas.now rule number before fs fs' first first' old new branch.old
+        → AreAdded alphas.now added branch.old
+        → meter.new ≤ meter.old + flat_joins added fs' old new (flat_nodes branch.old.nodes.items)) }
+{
+    change_nodes(
+        alloc,
+        constants,
+        branch.sources.as_slice(),
+        alphas,
+        branch.nodes.as_mut_slice(),
+        branch.lists.as_mut_slice(),
+        meter,
+    )?;
+    let lists = TokenLists {
+        alloc,
+        constants,
+        sources: branch.sources.as_slice(),
+        lists: branch.lists.as_slice(),
+    };
+    branch
+        .matches
+        .change(&lists, branch.last, rule, number, delta)?;
+    end_change(branch.lists.as_mut_slice());
+    Ok(())
+}

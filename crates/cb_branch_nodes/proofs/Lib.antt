@@ -1,0 +1,14 @@
+pub mod Alike
+pub mod Changed
+pub mod Clearings
+pub mod Done
+pub mod Endings
+pub mod Fills
+pub mod GroupKind
+pub mod JoinKind
+pub mod LoneKind
+pub mod Loop
+pub mod Probes
+pub mod Relied
+pub mod Sets
+pub mod TestKind

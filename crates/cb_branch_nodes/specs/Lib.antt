@@ -1,0 +1,3 @@
+pub mod Alphas
+pub mod Ready
+pub mod Turning

@@ -1,0 +1,94 @@
+//! A change of one node.
+ghost use Rattle.std.specs.Prelude.{◌≡◌, ◌≤◌, ◌+◌, ℕ, List, OnOk, Option, Some, suc};
+ghost use Rattle.cb_beta.specs.BetaMemories.{BetaMemoryValue};
+ghost use Rattle.cb_branch_nodes.specs.Alphas.{AlphaUse, TakesAdded, alpha_use};
+ghost use Rattle.cb_branch_nodes.specs.Turning.{IsNodeAfter, IsNodeBefore, IsNodeDone, IsSameNode};
+ghost use Rattle.cb_facts.specs.FactLists.{IndexedFacts};
+ghost use Rattle.cb_facts.specs.Facts.{FactValue};
+ghost use Rattle.cb_flat.specs.Joined.{flat_joins_of};
+ghost use Rattle.cb_nodes.specs.Flat.{Lists, node_list};
+ghost use Rattle.cb_plan.specs.Nodes.{flat_node};
+
+use crate::places::{put_list, take_list};
+use cb_alpha::AlphaMemory;
+use cb_beta::BetaMemory;
+use cb_fit::Meter;
+use cb_forms::NoMemory;
+use cb_functions::Constants;
+use cb_plan::Node;
+use cb_test_node::change_test;
+use cb_token_lists::{Source, TokenLists};
+use std::alloc::Global;
+
+/// Changes the tokens of the list with a number, behind a node. The lists before it have changed already. Growth is refused as
+/// `NoMemory`, and then the list may be lost.
+pub(crate) fn change_list<T>(
+    alloc: Global,
+    constants: &Constants,
+    sources: &[Source],
+    alphas: &[AlphaMemory],
+    number: usize,
+    node: &mut Node<T>,
+    lists: &mut [BetaMemory],
+    meter: &mut Meter<T>,
+) -> Result<(), NoMemory>
+    ensures same { IsSameNode node.old node.new }
+    ensures done { OnOk result ((k : ℕ) (before : List BetaMemoryValue) (fs fs' : IndexedFacts) (old new : Lists) (own : BetaMemoryValue)
+        → number ≡ suc k → IsNodeBefore alphas.now sources.now before lists.old lists.old fs fs' old new k node.old own
+        → old (suc k) ≡ node_list (flat_node node.old) fs old → new (suc k) ≡ node_list (flat_node node.old) fs' new
+        → IsNodeDone alphas.now sources.now before lists.old lists.new old new k node.new) }
+    ensures probes { OnOk result ((k : ℕ) (before : List BetaMemoryValue) (fs fs' : IndexedFacts) (old new : Lists) (own : BetaMemoryValue) (added : Option FactValue)
+        → number ≡ suc k → IsNodeBefore alphas.now sources.now before lists.old lists.old fs fs' old new k node.old own
+        → ((u : AlphaUse) → alpha_use node.old ≡ Some u → TakesAdded alphas.now added u)
+        → meter.new ≤ meter.old + flat_joins_of added fs' old new (flat_node node.old)) }
+{
+    let Some(own) = take_list(alloc, lists, number) else {
+        return Ok(());
+    };
+    let mut own = own;
+    let read = TokenLists {
+        alloc,
+        constants,
+        sources,
+        lists,
+    };
+    change_node(&read, node, alphas, &mut own, meter)?;
+    put_list(lists, number, own);
+    Ok(())
+}
+
+/// Changes the tokens behind a node, in `own`. The lists before it have changed already. Growth is refused as `NoMemory`, and then some
+/// of the change may be done.
+fn change_node<T>(
+    lists: &TokenLists<'_>,
+    node: &mut Node<T>,
+    alphas: &[AlphaMemory],
+    own: &mut BetaMemory,
+    meter: &mut Meter<T>,
+) -> Result<(), NoMemory>
+    ensures same { IsSameNode node.old node.new }
+    ensures after { OnOk result ((before now : List BetaMemoryValue) (fs fs' : IndexedFacts) (old new : Lists) (k : ℕ)
+        → IsNodeBefore alphas.now lists.now.sources.now before now lists.now.lists.now fs fs' old new k node.old own.old
+        → IsNodeAfter alphas.now lists.now.sources.now lists.now.lists.now fs fs' old new node.old node.new own.old own.new) }
+    ensures probes { OnOk result ((before now : List BetaMemoryValue) (fs fs' : IndexedFacts) (old new : Lists) (k : ℕ) (added : Option FactValue)
+        → IsNodeBefore alphas.now lists.now.sources.now before now lists.now.lists.now fs fs' old new k node.old own.old
+        → ((u : AlphaUse) → alpha_use node.old ≡ Some u → TakesAdded alphas.now added u)
+        → meter.new ≤ meter.old + flat_joins_of added fs' old new (flat_node node.old)) }
+{
+    match node {
+        Node::Join { alpha, node } => {
+            let Some(memory) = alphas.get(*alpha as usize) else {
+                return Ok(());
+            };
+            node.change(lists, memory, own, meter)
+        }
+        Node::Test { from, test } => change_test(lists, *from, test, own),
+        Node::Group { node, .. } => node.change(lists, own),
+        Node::Lone { alpha, node } => {
+            let Some(memory) = alphas.get(*alpha as usize) else {
+                return Ok(());
+            };
+            node.change(lists, memory, own)
+        }
+    }
+}

@@ -1,2 +1,0 @@
-pub mod AlphaMemories
-pub mod Internal

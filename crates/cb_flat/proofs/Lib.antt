@@ -1,0 +1,14 @@
+pub mod Beginnings
+pub mod Begun
+pub mod Flat
+pub mod FlatProbes
+pub mod InOrder
+pub mod Joins
+pub mod Last
+pub mod Leads
+pub mod Lone
+pub mod Named
+pub mod Parts
+pub mod Untaken
+pub mod Whole
+pub mod Widths

@@ -1,7 +1,0 @@
-use Rattle.std.proofs.Common.{◌≡◌, drop}
-use Rattle.cb_joins.proofs.IndexValues.{with_found}
-use Rattle.cb_joins.specs.Internal.Indexes.{field_values}
-use Rattle.cb_joins.proofs.index.values_of_fact.Given as goal
-
-abbrev pub invariant-loop-field : goal.invariant-loop-field
-invariant-loop-field l = with_found l.values.items (field_values (drop l.field-index l.fields) l.fact.content) ≡ field_values l.fields l.fact.content

@@ -1,0 +1,9 @@
+pub mod Begins
+pub mod Ends
+pub mod Local
+pub mod Meeting
+pub mod Memories
+pub mod Places
+pub mod Relying
+pub mod Rooted
+pub mod Steps

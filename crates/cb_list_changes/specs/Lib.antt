@@ -1,0 +1,2 @@
+pub mod Halfway
+pub mod Resting

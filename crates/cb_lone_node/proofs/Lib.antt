@@ -1,0 +1,4 @@
+pub mod Changed
+pub mod Holding
+pub mod Parents
+pub mod Staying

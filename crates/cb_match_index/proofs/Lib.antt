@@ -1,0 +1,7 @@
+mod ComingKeys
+mod Filed
+mod KeyOrder
+pub mod LookedUp
+mod SameKeys
+pub mod ToldKeys
+pub mod Turned

@@ -1,0 +1,3 @@
+pub mod Internal
+pub mod MatchIndexes
+pub mod TellingKeys

@@ -1,0 +1,15 @@
+mod Adding
+mod Bounds
+mod Branches
+mod Ended
+mod Entered
+mod Filled
+mod FilledRules
+mod FoundPlaces
+mod Leaving
+mod Lists
+mod Removing
+mod Results
+mod Rules
+mod Turning
+mod Unconcerned

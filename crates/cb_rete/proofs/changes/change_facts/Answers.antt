@@ -1,0 +1,30 @@
+use Rattle.std.proofs.Common.{◌≡◌, ◌<◌, ◌∙◌, ℕ, List, ap, length, subst, sym}
+use Rattle.cb_alpha_network.specs.Networks.{AlphaNetworkValue, AlphasTurn, HasChanged, IsShapeOf, MemoryValues, memory_at}
+use Rattle.cb_alpha.specs.AlphaMemories.{IsEnded}
+use Rattle.cb_alpha_network.specs.declared.node_place.NodePlace.{NodePlace}
+use Rattle.cb_constraints.specs.PatternValues.{PatternValue}
+use Rattle.cb_rete.proofs.Ended.{all_turned}
+use Rattle.cb_rete.proofs.changes.change_facts.Goals as goal
+use Rattle.cb_rete.specs.Changing.{IsTurn}
+
+pub returns-clause-turned : goal.returns-clause-turned
+returns-clause-turned g c =
+    λ turn same turning ready.
+    let v : AlphaNetworkValue = c.args.alphas.now in
+    let given : MemoryValues = c.memories.result.now in
+    let found : List NodePlace = c.as_slice.result.now in
+    let memories : given ≡ v.memories = c.memories.ensures.memories in
+    let is : IsTurn turn given found = record {
+      turning = turning;
+      memories = memories ∙ ap (λ (it : AlphaNetworkValue). it.memories) (sym same);
+      within = subst (λ (it : AlphaNetworkValue). (n : ℕ) (p : PatternValue) (place : NodePlace) → IsShapeOf it n p place → n < length given) (sym same)
+          (subst (λ (ms : MemoryValues). (n : ℕ) (p : PatternValue) (place : NodePlace) → IsShapeOf v n p place → n < length ms) (sym memories) c.memories.ensures.within);
+      changed = subst (λ (it : AlphaNetworkValue). HasChanged it found) (sym same) (subst (λ (them : List NodePlace). HasChanged v them) (sym c.as_slice.ensures.value) c.in_ok-places_changed.ensures.changed);
+    } in
+    let done = c.in_ok-change_rules.ensures turn is ready in
+    let end = c.end_change.ensures in
+    all_turned c.what_is_kept_stays.ensures turn c.end_change.new.self c.args.rules.now c.change_rules.new.rules c.no_delta-delta.result c.change_rules.new.delta c.args.meter.now c.change_rules.new.meter
+    (end.shapes ∙ ap (λ (it : AlphaNetworkValue). it.shapes) (sym same))
+    (λ n. subst (λ (it : AlphaNetworkValue). IsEnded (memory_at it n) (memory_at c.end_change.new.self n)) (sym same) (end.ended n))
+    (end.alphas turn.before turn.after (subst (λ (it : AlphaNetworkValue). AlphasTurn it turn.before turn.after) same turning.alphas))
+    c.no_delta-delta.ensures.gone c.no_delta-delta.ensures.come done

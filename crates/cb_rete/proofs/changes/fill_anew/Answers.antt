@@ -1,0 +1,66 @@
+use Rattle.std.proofs.Common.{◌≡◌, ◌<◌, ◌∙◌, ◌++◌, ℕ, [], ap, arith, length, subst, sym}
+use Rattle.std.specs.BTreeMap.{values}
+use Rattle.cb_alpha_network.specs.Networks.{AlphaNetworkValue, IsShapeOf, MemoryValues, shape_count}
+use Rattle.cb_alpha_network.specs.declared.node_place.NodePlace.{NodePlace}
+use Rattle.cb_branch.specs.Branches.{CanBeFilled}
+use Rattle.cb_branch_nodes.specs.Alphas.{live_facts}
+use Rattle.cb_branch.specs.Patterns.{branch_patterns}
+use Rattle.cb_constraints.specs.PatternValues.{PatternValue}
+use Rattle.cb_facts.specs.FactLists.{IndexedFacts}
+use Rattle.cb_rete.proofs.Entered.{entered_in_change}
+use Rattle.cb_rete.proofs.Lists.{got_all}
+use Rattle.cb_rete.proofs.changes.fill_anew.Goals as goal
+use Rattle.cb_rete.specs.Filling.{IsFilling}
+use Rattle.cb_rete.specs.Rules.{AreRulesEntered, CanRuleBeFilled, kept_rules}
+use Rattle.cb_rule_keys.proofs.Numbered.{in_all, value_in}
+use Rattle.cb_rule_keys.specs.Keys.{rule_keys}
+use Rattle.cb_rule_keys.specs.Sums.{rules_sum}
+
+pub fill_rules-requires-clause-plans : goal.fill_rules-requires-clause-plans
+fill_rules-requires-clause-plans g c =
+    let fs : IndexedFacts = c.requires.0 in
+    let keeping = c.requires.1 in
+    in_all CanRuleBeFilled (values c.args.rules.now)
+    (λ r i. let e = value_in c.args.rules.now.entries r i in
+    subst CanRuleBeFilled (sym e.2)
+    (got_all CanBeFilled e.0.1.branches.items
+    (λ n b h. c.what_is_kept_can_be_filled.ensures e.0.1.id n (live_facts c.args.alphas.now.memories) fs b (keeping.over e.0 e.1 n b h))))
+
+pub returns-clause-keeping : goal.returns-clause-keeping
+returns-clause-keeping g c =
+    let keeping = c.requires.1 in
+    let v : AlphaNetworkValue = c.args.alphas.now in
+    let v' : AlphaNetworkValue = c.clear.new.self in
+    let clear = c.clear.ensures in
+    let is : IsFilling v' [] c.memories.result.now = record {
+      memories = c.memories.ensures.memories;
+      within = subst (λ (ms : MemoryValues). (n : ℕ) (p : PatternValue) (place : NodePlace) → IsShapeOf v' n p place → n < length ms) (sym c.memories.ensures.memories) c.memories.ensures.within;
+      rising = tt;
+      alphas = clear.alphas;
+    } in
+    let entered : AreRulesEntered v' c.args.rules.now.entries = λ e i n b h. entered_in_change v v' e.1.id n b clear.shapes clear.joins (keeping.entered e i n b h) in
+    let filled = c.in_ok-fill_rules.ensures.filled v' [] is entered in
+    let shapes : shape_count v' ≡ shape_count v = ap (λ ss. shape_count (record { shapes = ss; memories = v.memories })) clear.shapes in
+    record {
+      named = c.in_ok-fill_rules.ensures.named;
+      alphas = clear.alphas;
+      over = filled.over;
+      entered = filled.entered;
+      count = let e = ap (rules_sum branch_patterns) c.in_ok-fill_rules.ensures.stay in let most = keeping.count in omega (arith, e, shapes, most);
+    }
+
+pub returns-clause-keys : goal.returns-clause-keys
+returns-clause-keys g c =
+    let keeping = c.requires.1 in
+    let v : AlphaNetworkValue = c.args.alphas.now in
+    let v' : AlphaNetworkValue = c.clear.new.self in
+    let clear = c.clear.ensures in
+    let is : IsFilling v' [] c.memories.result.now = record {
+      memories = c.memories.ensures.memories;
+      within = subst (λ (ms : MemoryValues). (n : ℕ) (p : PatternValue) (place : NodePlace) → IsShapeOf v' n p place → n < length ms) (sym c.memories.ensures.memories) c.memories.ensures.within;
+      rising = tt;
+      alphas = clear.alphas;
+    } in
+    let entered : AreRulesEntered v' c.args.rules.now.entries = λ e i n b h. entered_in_change v v' e.1.id n b clear.shapes clear.joins (keeping.entered e i n b h) in
+    let filled = c.in_ok-fill_rules.ensures.filled v' [] is entered in
+    filled.come ∙ ap (λ it. it ++ rule_keys (kept_rules (values c.args.rules.now)) []) c.new-come.ensures.items

@@ -1,0 +1,14 @@
+use Rattle.std.proofs.Common.{List, subst, sym, ◌∙◌}
+use Rattle.std.proofs.lemmas.List.{with_items_is}
+use Rattle.cb_branch.specs.declared.branch.Branch.{Branch}
+use Rattle.cb_rete.proofs.Results.{on_one}
+use Rattle.cb_rete.proofs.entering.enter_rule.Goals as goal
+use Rattle.cb_rete.specs.Rules.{AreBranchesEntered}
+
+pub returns-clause-entered : goal.returns-clause-entered
+returns-clause-entered g c =
+    let r = c.args.rule.now in
+    let new : List (Branch g.row.T.Denot) = c.enter_branches.new.branches in
+    let items = with_items_is r.branches new (c.enter_branches.auto.branches ∙ c.as_mut_slice.ensures.len) in
+    on_one c.enter_branches.result c.enter_branches.ensures.entered
+    (λ entered. subst (λ (bs : List (Branch g.row.T.Denot)). AreBranchesEntered c.enter_branches.new.network r.id bs) (sym items) entered)

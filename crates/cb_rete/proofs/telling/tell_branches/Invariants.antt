@@ -1,0 +1,12 @@
+use Rattle.std.proofs.Common.{◌≡◌, ◌++◌, ℕ, drop}
+use Rattle.cb_branch_nodes.specs.Alphas.{Facts}
+use Rattle.cb_facts.specs.FactLists.{IndexedFacts}
+use Rattle.cb_matches.specs.Order.{IsRising}
+use Rattle.cb_rete.proofs.telling.tell_branches.Given as goal
+use Rattle.cb_rete.specs.Rules.{AreBranchesOver, kept_branches}
+use Rattle.cb_rule_keys.specs.Keys.{branch_keys}
+
+abbrev pub invariant-loop-branch : goal.invariant-loop-branch
+invariant-loop-branch g l =
+    (rule : ℕ) (facts : Facts) (fs : IndexedFacts) → IsRising fs → AreBranchesOver rule facts fs l.branches
+    → l.keys.items ++ branch_keys rule l.branch-index (drop l.branch-index (kept_branches l.branches)) fs ≡ l.initial.keys.items ++ branch_keys rule 0 (kept_branches l.branches) fs

@@ -1,0 +1,5 @@
+pub mod Changing
+pub mod Entering
+pub mod Filling
+pub mod Found
+pub mod Rules

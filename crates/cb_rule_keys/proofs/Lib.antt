@@ -1,0 +1,10 @@
+pub mod Answered
+pub mod Branches
+pub mod Dropped
+pub mod Found
+pub mod KeyLists
+pub mod Networks
+pub mod Numbered
+pub mod Passed
+pub mod Ranged
+pub mod Sums

@@ -1,0 +1,4 @@
+pub mod Changing
+pub mod Keys
+pub mod Numbers
+pub mod Sums

@@ -1,0 +1,15 @@
+-- What is taken on the way down from a token. No public clause cites this module.
+use Rattle.std.specs.Prelude.{List, [], ◌∷◌, Option, Some, None}
+use Rattle.cb_beta.specs.Tokens.{with_taken}
+use Rattle.cb_matches.specs.Matches.{Partial}
+use Rattle.cb_token_lists.specs.declared.path.Step.{Step}
+
+-- a partial match, and then what was taken in a step
+abbrev pub with_step : Option Step → Partial → Partial
+with_step None m = m
+with_step (Some s) m = with_taken s.address.now (Some s.taken.now) m
+
+-- a partial match, and then what was taken in these steps, of which the first stands at the end
+abbrev pub with_path : List (Option Step) → Partial → Partial
+with_path [] m = m
+with_path (s ∷ ss) m = with_step s (with_path ss m)
