@@ -1,0 +1,133 @@
+//! A change of a group of one plain pattern.
+ghost use Rattle.std.specs.Prelude.{◌≡◌, ℕ, [], List, OnOk, Option, Some, slice_get, true};
+ghost use Rattle.cb_beta.specs.BetaMemories.{BetaMemoryValue};
+ghost use Rattle.cb_decided.specs.Plain.{is_plain};
+ghost use Rattle.cb_facts.specs.FactLists.{IndexedFacts};
+ghost use Rattle.cb_facts.specs.Facts.{FactValue};
+ghost use Rattle.cb_fit.specs.JoinFields.{join_fields};
+ghost use Rattle.cb_lookup_node.specs.LookupNodes.{AsksTheSame, IsAfterLookup, IsBeforeLookup, IsLookupReady};
+ghost use Rattle.cb_matches.specs.Matches.{Partial};
+ghost use Rattle.cb_scopes.specs.Decided.{known_fields};
+ghost use Rattle.cb_scopes.specs.Scopes.{Scope};
+ghost use Rattle.cb_token_lists.specs.Keeping.{KeepsTokens};
+ghost use Rattle.cb_token_lists.specs.Partials.{partial_at};
+
+use crate::filed::forget_all;
+use crate::passing::{pass_all, pass_come};
+use crate::turned::{gaining, losing, one_of};
+use crate::values::values_of_number;
+use cb_alpha::{AlphaMemory, Buckets};
+use cb_beta::BetaMemory;
+use cb_decided::laws::a_plain_pattern_is_decided_by_values;
+use cb_fit::{JoinField, Pattern};
+use cb_forms::NoMemory;
+use cb_scopes::laws::{
+    a_group_of_a_decided_pattern_holds_by_values, facts_agree_by_the_values_of_known_fields,
+};
+use cb_token_lists::TokenLists;
+use std::alloc::Global;
+
+/// A group of one plain pattern, behind a list: it passes on the partial matches for which "a fact has the values that they give to the
+/// fields" is `positive`.
+#[derive(Drop)]
+pub struct LookupNode<T> {
+    /// Where memory is from.
+    pub(crate) alloc: Global,
+    /// The number of the list before it.
+    pub from: usize,
+    /// Whether it passes on where there is a fact, or where there is none.
+    pub positive: bool,
+    /// The pattern.
+    pub pattern: Pattern<T>,
+    /// The number of the join of the pattern's alpha memory that finds facts by the fields.
+    pub join: usize,
+    /// The fields of a fact that have to be equal to variables that have values before.
+    pub fields: Vec<JoinField>,
+    /// The partial matches before it, by the values that they give to the fields.
+    pub(crate) partials: Buckets,
+}
+
+impl<T> LookupNode<T> {
+    /// A group behind the list `from`, with no partial matches before it yet. The join has to be set when the alpha memory has it. It
+    /// takes no memory.
+    pub fn new(
+        alloc: Global,
+        from: usize,
+        positive: bool,
+        pattern: Pattern<T>,
+        fields: Vec<JoinField>,
+    ) -> LookupNode<T>
+        ensures from { result.from ≡ from }
+        ensures positive { result.positive ≡ positive }
+        ensures pattern { result.pattern ≡ pattern }
+        ensures fields { result.fields ≡ fields }
+        ensures ready { (names : Scope) (at : ℕ → Partial) (facts : ℕ → Option (ℕ × FactValue))
+            → is_plain pattern ≡ true → fields.items ≡ known_fields (join_fields pattern.parts) names
+            → IsLookupReady result names at (λ number. ⊥) facts (record { tokens = []; gone = []; come = [] }) }
+    {
+        LookupNode {
+            alloc,
+            from,
+            positive,
+            pattern,
+            join: 0,
+            fields,
+            partials: Buckets::new(alloc),
+        }
+    }
+
+    /// No partial matches are before it any more, as in a new one. It takes no memory.
+    pub fn clear(&mut self)
+        ensures same { AsksTheSame self.old self.new }
+        ensures ready { (names : Scope) (at : ℕ → Partial) (facts : ℕ → Option (ℕ × FactValue))
+            → is_plain self.old.pattern ≡ true
+            → self.old.fields.items ≡ known_fields (join_fields self.old.pattern.parts) names
+            → IsLookupReady self.new names at (λ number. ⊥) facts (record { tokens = []; gone = []; come = [] }) }
+    {
+        self.partials = Buckets::new(self.alloc);
+    }
+
+    /// Changes the tokens behind the group, in `own`. The list before it has changed already, and the alpha memory of the pattern is as
+    /// it is after the change. Growth is refused as `NoMemory`, and then some of the change may be done.
+    pub fn change(
+        &mut self,
+        lists: &TokenLists<'_>,
+        alpha: &AlphaMemory,
+        own: &mut BetaMemory,
+    ) -> Result<(), NoMemory>
+        ensures same { AsksTheSame self.old self.new }
+        ensures after { OnOk result ((names : Scope) (before : BetaMemoryValue) (fs fs' : IndexedFacts) (old new : List Partial)
+            → slice_get lists.now.lists.now self.old.from ≡ Some before
+            → IsBeforeLookup self.old names (partial_at lists.now.sources.now lists.now.lists.now self.old.from)
+            before alpha.now own.old fs fs' old new
+            → IsAfterLookup self.new names (partial_at lists.now.sources.now lists.now.lists.now self.old.from)
+            before alpha.now own.new fs fs' old new) }
+        ensures keeps { OnOk result (KeepsTokens own.old own.new) }
+    {
+        a_plain_pattern_is_decided_by_values();
+        facts_agree_by_the_values_of_known_fields();
+        a_group_of_a_decided_pattern_holds_by_values();
+        let Some(before) = lists.lists.get(self.from) else {
+            return Ok(());
+        };
+        own.remove_all_children(before.gone())?;
+        forget_all(&mut self.partials, before.gone());
+        let went = values_of_number(lists.alloc, self.fields.as_slice(), alpha, alpha.gone())?;
+        let came = values_of_number(lists.alloc, self.fields.as_slice(), alpha, alpha.come())?;
+        let lost = losing(&self.partials, alpha, self.join, &went);
+        let gained = gaining(&self.partials, alpha, self.join, &went, &came);
+        own.remove_all_children(one_of(self.positive, lost, gained))?;
+        pass_all(one_of(self.positive, gained, lost), own)?;
+        pass_come(
+            lists,
+            self.from,
+            self.fields.as_slice(),
+            self.positive,
+            &mut self.partials,
+            alpha,
+            self.join,
+            before.come(),
+            own,
+        )
+    }
+}
