@@ -1,7 +1,9 @@
 -- What only the code needs. How far a search for ways has got with a row.
 pub mod Choices
+pub mod Integers
 pub mod Lengths
 pub mod Placed
+pub mod Reading
 pub mod Standing
 use Rattle.std.specs.Prelude.{◌==◌, ◌&&◌, ◌||◌, ◌-◌, ℕ, Bool, true, false, List, [], ◌∷◌, ◌++◌, Option, Some, None, map, length, take, drop, nat_le, option_map, option_to_list, replicate, if◌then◌else◌}
 use Rattle.std.specs.List.{list_all}

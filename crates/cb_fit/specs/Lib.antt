@@ -1,10 +1,15 @@
+pub mod Comparisons
 pub mod ConstantFields
+pub mod Decided
+pub mod Decisions
 pub mod FieldPlaces
 pub mod Internal
 pub mod JoinFields
 pub mod Laws
 pub mod Meters
+pub mod Plain
 pub mod Related
+pub mod ShapeKeys
 pub mod Shapes
 pub mod StandsAlone
 pub mod WayValues

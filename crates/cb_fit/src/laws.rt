@@ -1,5 +1,5 @@
 //! Laws of ways: each is the contract of a function that does nothing.
-ghost use Rattle.std.specs.Prelude.{◌≡◌, ◌≢◌, ◌↔◌, ◌∷◌, ℕ, List, [], AllPairs, Contains, Some, length, true};
+ghost use Rattle.std.specs.Prelude.{◌≡◌, ◌≢◌, ◌↔◌, ◌⊎◌, ◌∷◌, ℕ, List, [], AllPairs, Contains, None, Some, length, true};
 ghost use Rattle.std.specs.Cmp.Lexicographic.{slice_cmp};
 ghost use Rattle.std.specs.Ordering.{nat_cmp};
 ghost use Rattle.std.specs.declared.cmp.Ordering.TheVariants.{Less};
@@ -11,11 +11,15 @@ ghost use Rattle.cb_facts.specs.Facts.{FactValue, ordered_fact};
 ghost use Rattle.cb_facts.specs.declared.single.Single.{Single};
 ghost use Rattle.cb_facts.specs.declared.value.Value.{Value};
 ghost use Rattle.cb_constraints.specs.Bound.{newly_bound};
+ghost use Rattle.cb_fit.specs.Comparisons.{choice_fields, compared_fields, is_decided};
 ghost use Rattle.cb_fit.specs.ConstantFields.{constant_fields};
+ghost use Rattle.cb_fit.specs.Decided.{AgreeWith, ValuesDecide, way_by_values};
 ghost use Rattle.cb_fit.specs.FieldPlaces.{field_value};
 ghost use Rattle.cb_fit.specs.JoinFields.{join_fields, value_in};
 ghost use Rattle.cb_fit.specs.Laws.{any_fields, of_length, of_one, one_field};
+ghost use Rattle.cb_fit.specs.Plain.{bound_names, is_plain};
 ghost use Rattle.cb_fit.specs.Related.{Fits};
+ghost use Rattle.cb_fit.specs.ShapeKeys.{shape_of};
 ghost use Rattle.cb_fit.specs.Shapes.{HasShape, has_shape, loose, loose_demand};
 ghost use Rattle.cb_fit.specs.StandsAlone.{stands_alone};
 ghost use Rattle.cb_fit.specs.Ways.{WayValue, taken_way, ways};
@@ -127,3 +131,62 @@ pub fn a_fact_with_the_shape_has_the_constants()
 pub fn a_pattern_that_stands_alone_is_its_shape()
     ensures { (p : PatternValue) → stands_alone p ≡ true → loose p ≡ p }
 {}
+
+/// Two patterns with the same shape are the same without their variables and expressions.
+pub fn patterns_of_one_shape_are_equal_without_variables()
+    ensures { (p q : PatternValue) → shape_of p ≡ shape_of q → loose p ≡ loose q }
+{}
+
+/// A pattern that is decided by values fits a fact just where the fact has its shape, each field with a variable has the variable's
+/// value, if that has one, each field that is compared with a variable is compared so with the variable's value, and each field with
+/// variables as alternatives has the value of one, or one has none. There is one way then: each constraint takes one field, and the
+/// variables that had no value get those of their fields, in the order of the pattern. The pattern without its variables and
+/// expressions takes the same fields.
+pub fn a_pattern_is_decided_by_values()
+    ensures fits { (p : PatternValue) (f : FactValue) (before : Bindings) → is_decided p ≡ true
+        → (ways p f before ≢ []) ↔ ((has_shape p f ≡ true) × ValuesDecide p before f.content) }
+    ensures way { (p : PatternValue) (f : FactValue) (before : Bindings) → is_decided p ≡ true
+        → has_shape p f ≡ true → ValuesDecide p before f.content
+        → ways p f before ≡ way_by_values p before f.content ∷ [] }
+    ensures cuts { (p : PatternValue) (f : FactValue) (before any : Bindings) → is_decided p ≡ true
+        → (w : WayValue) → Contains (ways (loose p) f any) w
+        → w.cuts ≡ (way_by_values p before f.content).cuts }
+{
+    the_ways_are_those_that_fit();
+    the_ways_rise_by_their_cuts();
+    a_fact_that_fits_has_the_shape();
+    the_shape_can_be_tested();
+    constants_hold_where_the_shape_does();
+    a_fact_that_fits_has_the_values_of_variables();
+}
+
+/// A plain pattern is one that is decided by values and compares nothing: it fits a fact just where the fact has its shape and each
+/// field with a variable has the variable's value, if that has one.
+pub fn a_plain_pattern_is_decided_by_values()
+    ensures plain { (p : PatternValue) → is_plain p ≡ true ↔ ((is_decided p ≡ true)
+        × (compared_fields p.parts ≡ []) × (choice_fields p.parts ≡ [])) }
+    ensures fits { (p : PatternValue) (f : FactValue) (before : Bindings) → is_plain p ≡ true
+        → (ways p f before ≢ [])
+        ↔ ((has_shape p f ≡ true) × AgreeWith (join_fields p.parts) before f.content) }
+    ensures way { (p : PatternValue) (f : FactValue) (before : Bindings) → is_plain p ≡ true
+        → has_shape p f ≡ true → AgreeWith (join_fields p.parts) before f.content
+        → ways p f before ≡ way_by_values p before f.content ∷ [] }
+{
+    a_pattern_is_decided_by_values();
+}
+
+/// After a way, of any pattern, a variable has a value just where it had one before or is one of those to which the pattern may give
+/// a value; and one that had a value before has it still.
+pub fn a_way_gives_values_to_the_bound_names()
+    ensures have { (p : PatternValue) (f : FactValue) (before : Bindings) (w : WayValue)
+        → Contains (ways p f before) w → (x : List ℕ)
+        → (value_at x (with_variables w.bound before).variables ≢ None)
+        ↔ ((value_at x before.variables ≢ None) ⊎ Contains (bound_names p) x) }
+    ensures keep { (p : PatternValue) (f : FactValue) (before : Bindings) (w : WayValue)
+        → Contains (ways p f before) w → (x : List ℕ) (v : Value)
+        → value_at x before.variables ≡ Some v
+        → value_at x (with_variables w.bound before).variables ≡ Some v }
+{
+    the_ways_are_those_that_fit();
+    a_way_has_all_that_it_gives();
+}

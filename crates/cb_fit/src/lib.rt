@@ -6,9 +6,15 @@
 //! `docs/ARCHITECTURE.md` says where it belongs.
 #![tactic(auto)]
 
+mod apart; // names that stand once, and names that don't stand among others
+mod checks; // reading the checks of a constraint
 mod choice; // a choice: the places where a segment may end
+mod choice_field; // fields with variables as alternatives
+mod comparison; // comparisons of a field with a variable
 mod constant_fields; // the fields of a fact that have to be equal to constants
 mod cuts; // the lengths of the segments into which a pattern cuts a fact
+mod decision; // what decides whether a pattern fits
+mod demands; // reading what one constraint asks
 mod field_place; // the place of a field in a fact
 mod fitting; // `fit`: from the pattern and the fact to the ways
 mod following; // what follows the beginning of a way: the rest of a row, the rows of the slots after it, the way
@@ -20,19 +26,25 @@ mod may_take; // whether a row may take fields, by their number and by constants
 mod meter; // how often patterns were tested
 mod open_choices; // the choices that are open
 mod pattern; // a pattern; what it asks is private to the crate
+mod pieces; // the pieces of a shape
 mod placed; // what a pattern asks of each field that it takes alone
 mod rest; // how a row begins: the constraints before the first segment, and what is left after them
 mod search; // the search for all ways, which takes up one choice at a time
+mod shape; // the shapes of patterns, as keys
 mod slots; // whether the rows of all slots may take what a fact has
 mod standing_alone; // whether a pattern asks by constants and lengths alone
 mod taking; // whether the constraint that comes next holds; constraints that take fields, from a place on
 mod way; // a way
 
+pub use choice_field::ChoiceField;
+pub use comparison::{ComparedField, Comparison};
 pub use constant_fields::ConstantField;
 pub use cuts::Cuts;
+pub use decision::Decision;
 pub use field_place::FieldPlace;
 pub use fitting::{fit, fits};
 pub use join_fields::JoinField;
 pub use meter::Meter;
 pub use pattern::Pattern;
+pub use shape::Shape;
 pub use way::Way;

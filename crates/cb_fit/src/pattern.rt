@@ -1,16 +1,25 @@
 //! Patterns.
-ghost use Rattle.std.specs.Prelude.{◌≡◌, IfOk};
+ghost use Rattle.std.specs.Prelude.{◌≡◌, IfOk, option_map};
+ghost use Rattle.cb_constraints.specs.Binders.{constraints_in};
 ghost use Rattle.cb_constraints.specs.PartValues.{asked_parts};
+ghost use Rattle.cb_fit.specs.Comparisons.{decision};
 ghost use Rattle.cb_fit.specs.ConstantFields.{constant_fields};
+ghost use Rattle.cb_fit.specs.Decided.{ones};
+ghost use Rattle.cb_fit.specs.Decisions.{decision_of};
 ghost use Rattle.cb_fit.specs.JoinFields.{join_fields};
 ghost use Rattle.cb_fit.specs.Meters.{one_test_more};
+ghost use Rattle.cb_fit.specs.Plain.{bound_names};
+ghost use Rattle.cb_fit.specs.ShapeKeys.{shape_of};
 ghost use Rattle.cb_fit.specs.Shapes.{loose};
 ghost use Rattle.cb_fit.specs.StandsAlone.{stands_alone};
 
 use crate::constant_fields::{ConstantField, constants_of_parts};
+use crate::cuts::Cuts;
+use crate::decision::{Decision, decide_parts, names_in, ones_in};
 use crate::join_fields::{JoinField, fields_of_parts};
 use crate::loose::loose_parts;
 use crate::meter::Meter;
+use crate::shape::{Shape, shape_in};
 use crate::standing_alone::parts_alone;
 use cb_constraints::{Body, PatternParts};
 use cb_facts::Name;
@@ -65,6 +74,13 @@ impl<T> Pattern<T> {
         Pattern::new(alloc, self.relation.clone()?, parts)
     }
 
+    /// Its shape. Growth is refused as `NoMemory`, and so is a count of sharers that is full.
+    pub fn shape(&self, alloc: Global) -> Result<Shape, NoMemory>
+        ensures { IfOk result (λ s. s ≡ shape_of self.now) }
+    {
+        shape_in(alloc, &self.relation, self.body.parts())
+    }
+
     /// Whether it asks by constants and lengths alone: no constraint has a variable or an expression. Then whether it fits a fact doesn't
     /// depend on what variables have, and it gives none a value.
     pub fn stands_alone(&self) -> bool
@@ -88,6 +104,30 @@ impl<T> Pattern<T> {
         ensures { IfOk result (λ all. all.items ≡ constant_fields self.now.parts) }
     {
         constants_of_parts(alloc, self.body.parts())
+    }
+
+    /// What decides whether it fits, beside a fact's shape and the fields that have to be equal to variables; `None` where it isn't decided
+    /// by values. Growth is refused as `NoMemory`, and so is a count of sharers that is full.
+    pub fn decide(&self, alloc: Global) -> Result<Option<Decision>, NoMemory>
+        ensures { IfOk result (λ d. option_map decision_of d ≡ decision self.now.parts) }
+    {
+        decide_parts(alloc, self.body.parts())
+    }
+
+    /// The variables to which it may give values, each as often as it may. Growth is refused as `NoMemory`, and so is a count of sharers
+    /// that is full.
+    pub fn bound_names(&self, alloc: Global) -> Result<Vec<Name>, NoMemory>
+        ensures { IfOk result (λ all. all.items ≡ bound_names self.now) }
+    {
+        names_in(alloc, self.body.parts())
+    }
+
+    /// One field for each constraint: the lengths of the only way in which it can fit, if it is decided by values. Growth is refused as
+    /// `NoMemory`.
+    pub fn ones(&self, alloc: Global) -> Result<Cuts, NoMemory>
+        ensures { IfOk result (λ cuts. cuts ≡ ones (constraints_in self.now.parts)) }
+    {
+        ones_in(alloc, self.body.parts())
     }
 
     /// The relation of the facts that it is for.

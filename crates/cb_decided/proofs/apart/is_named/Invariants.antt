@@ -1,7 +1,0 @@
-use Rattle.std.proofs.Common.{◌≡◌, drop}
-use Rattle.cb_decided.specs.Plain.{is_named}
-use Rattle.cb_decided.proofs.apart.is_named.Given as goal
-
-abbrev pub invariant-loop-other : goal.invariant-loop-other
-invariant-loop-other l =
-    is_named l.name (drop l.other-index l.names) ≡ is_named l.name l.names

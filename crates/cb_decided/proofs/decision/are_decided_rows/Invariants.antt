@@ -1,9 +1,0 @@
-use Rattle.std.proofs.Common.{◌≡◌, drop}
-use Rattle.std.specs.List.{list_all}
-use Rattle.cb_decided.specs.Comparisons.{is_decided_constraint}
-use Rattle.cb_decided.specs.Internal.Reading.{rows_of}
-use Rattle.cb_decided.proofs.decision.are_decided_rows.Given as goal
-
-abbrev pub invariant-loop-slot : goal.invariant-loop-slot
-invariant-loop-slot l =
-    list_all is_decided_constraint (rows_of (drop l.slot-index l.rows)) ≡ list_all is_decided_constraint (rows_of l.rows)

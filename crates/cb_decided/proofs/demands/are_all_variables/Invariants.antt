@@ -1,9 +1,0 @@
-use Rattle.std.proofs.Common.{◌≡◌, drop}
-use Rattle.std.specs.List.{list_all}
-use Rattle.cb_decided.specs.Comparisons.{is_one_variable}
-use Rattle.cb_decided.specs.Internal.Reading.{alternatives_of}
-use Rattle.cb_decided.proofs.demands.are_all_variables.Given as goal
-
-abbrev pub invariant-loop-checks : goal.invariant-loop-checks
-invariant-loop-checks l =
-    list_all is_one_variable (alternatives_of (drop l.checks-index l.alternatives)) ≡ list_all is_one_variable (alternatives_of l.alternatives)

@@ -1,4 +1,0 @@
-pub mod Comparisons
-pub mod Decided
-pub mod Internal
-pub mod Plain

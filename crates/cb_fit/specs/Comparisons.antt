@@ -1,0 +1,211 @@
+-- Patterns that compare fields with variables, beside what plain patterns ask.
+use Rattle.std.specs.Prelude.{◌&&◌, ◌||◌, ℕ, ℤ, Bool, true, false, is_some, not, List, [], ◌∷◌, ◌++◌, Option, Some, None, flat_map, map, option_to_list, if◌then◌else◌}
+use Rattle.std.specs.List.{list_all}
+use Rattle.cb_constraints.specs.Binders.{binders_in, binders_of, constraints_in}
+use Rattle.cb_constraints.specs.Constraints.{Test, constant, variable, predicate, return_value, Check, Demand, nothing, each, either, Constraint}
+use Rattle.cb_constraints.specs.PatternValues.{PatternParts, PatternValue}
+use Rattle.cb_fit.specs.Plain.{are_apart, is_named, is_plain_test}
+use Rattle.cb_fit.specs.declared.comparison.ComparedField.{ComparedField}
+use Rattle.cb_fit.specs.declared.comparison.Comparison.{Comparison}
+use Rattle.cb_fit.specs.declared.comparison.Comparison.TheVariants.{Less, LessOrEqual, Greater, GreaterOrEqual, Equal, NotEqual, Same, Differs}
+use Rattle.cb_exprs.specs.Terms.{Term, Terms, no_terms, term}
+use Rattle.cb_exprs.specs.Terms as expression
+use Rattle.cb_facts.specs.declared.value.Value.{Value}
+use Rattle.cb_facts.specs.declared.value.Value.TheVariants as value
+use Rattle.cb_fit.specs.FieldPlaces.{PlacedDemand, placed_demands}
+use Rattle.cb_fit.specs.StandsAlone.{are_constants}
+use Rattle.cb_fit.specs.declared.field_place.FieldPlace.{FieldPlace}
+use Rattle.cb_functions.specs.Comparison.{Comparator, less, less_or_equal, greater, greater_or_equal, same}
+use Rattle.cb_words.specs.declared.words.Function.{Function}
+use Rattle.cb_words.specs.declared.words.Function.TheVariants as function
+
+-- the value is an integer, and this holds of it
+abbrev pub integer_so : (ℤ → Bool) → Value → Bool
+integer_so test (value.Int n) = test n
+integer_so test v = false
+
+-- both are integers, and they are in this order
+abbrev pub both_integers : Comparator → Value → Value → Bool
+both_integers order v w = integer_so (λ n. integer_so (order n) w) v
+
+-- the first value is compared with the second; what is no integer is in no order
+abbrev pub compares : Comparison → Value → Value → Bool
+compares Less v w = both_integers less v w
+compares LessOrEqual v w = both_integers less_or_equal v w
+compares Greater v w = both_integers greater v w
+compares GreaterOrEqual v w = both_integers greater_or_equal v w
+compares Equal v w = both_integers (λ n m. true) v w && same v w
+compares NotEqual v w = both_integers (λ n m. true) v w && not (same v w)
+compares Same v w = same v w
+compares Differs v w = not (same v w)
+
+-- the same comparison with the second value first
+abbrev pub turned : Comparison → Comparison
+turned Less = Greater
+turned LessOrEqual = GreaterOrEqual
+turned Greater = Less
+turned GreaterOrEqual = LessOrEqual
+turned Equal = Equal
+turned NotEqual = NotEqual
+turned Same = Same
+turned Differs = Differs
+
+-- the comparison that a function of two values makes, if it makes one
+abbrev pub comparison_of : Function → Option Comparison
+comparison_of function.Less = Some Less
+comparison_of function.LessOrEqual = Some LessOrEqual
+comparison_of function.Greater = Some Greater
+comparison_of function.GreaterOrEqual = Some GreaterOrEqual
+comparison_of function.Equal = Some Equal
+comparison_of function.NotEqual = Some NotEqual
+comparison_of function.Eq = Some Same
+comparison_of function.Neq = Some Differs
+comparison_of f = None
+
+-- a comparison with a variable
+abbrev pub WithVariable : Type 0
+WithVariable = Comparison × List ℕ
+
+-- the variable that an expression is
+abbrev pub variable_of : Term → Option (List ℕ)
+variable_of (expression.variable x) = Some x
+variable_of t = None
+
+-- a comparison of two variables, of which one alone is the field's own: it has the field's value
+abbrev pub with_other : List (List ℕ) → Comparison → List ℕ → List ℕ → Option WithVariable
+with_other own c x y =
+    if is_named x own then (if is_named y own then None else Some (c, y)) else (if is_named y own then Some (turned c, x) else None)
+
+-- the same, where both arguments are variables
+abbrev pub with_arguments : List (List ℕ) → Option Comparison → Option (List ℕ) → Option (List ℕ) → Option WithVariable
+with_arguments own (Some c) (Some x) (Some y) = with_other own c x y
+with_arguments own c x y = None
+
+-- where there are two arguments
+abbrev pub compared_call : List (List ℕ) → Function → Terms → Option WithVariable
+compared_call own f no_terms = None
+compared_call own f (term t no_terms) = None
+compared_call own f (term t (term u no_terms)) = with_arguments own (comparison_of f) (variable_of t) (variable_of u)
+compared_call own f (term t (term u (term w more))) = None
+
+-- the comparison that an expression makes
+abbrev pub compared_term : List (List ℕ) → Term → Option WithVariable
+compared_term own (expression.call f ts) = compared_call own f ts
+compared_term own t = None
+
+-- the comparison of the field with a variable that a test makes: `~?v`, or an expression as `(< ?w ?v)`, where ?w is the field's own
+abbrev pub compared_test : List (List ℕ) → Bool → Test → Option WithVariable
+compared_test own negated (constant v) = None
+compared_test own true (variable x) = Some (Differs, x)
+compared_test own false (variable x) = None
+compared_test own true (predicate t) = None
+compared_test own false (predicate t) = compared_term own t
+compared_test own negated (return_value t) = None
+
+-- a test that is plain, or compares
+abbrev pub is_decided_test : List (List ℕ) → Bool → Test → Bool
+is_decided_test own negated t = is_plain_test negated t || is_some (compared_test own negated t)
+
+-- each of the checks joined by `&` is such, after these: the variables before a check are the field's own
+abbrev pub are_decided_checks : List Check → List Check → Bool
+are_decided_checks before [] = true
+are_decided_checks before (c ∷ cs) = is_decided_test (binders_of before) c.negated c.test && are_decided_checks (before ++ c ∷ []) cs
+
+-- the comparisons that they make
+abbrev pub compared_checks : List Check → List Check → List WithVariable
+compared_checks before [] = []
+compared_checks before (c ∷ cs) = option_to_list (compared_test (binders_of before) c.negated c.test) ++ compared_checks (before ++ c ∷ []) cs
+
+-- a variable without `~`
+abbrev pub is_variable : Bool → Test → Bool
+is_variable false (variable x) = true
+is_variable negated t = false
+
+-- an alternative that is a variable alone
+abbrev pub is_one_variable : List Check → Bool
+is_one_variable [] = false
+is_one_variable (c ∷ []) = is_variable c.negated c.test
+is_one_variable (c ∷ d ∷ cs) = false
+
+-- what a constraint asks is plain, or compares, or is alternatives that are variables, as `?a|?b`
+abbrev pub is_decided_demand : Demand → Bool
+is_decided_demand nothing = true
+is_decided_demand (each cs) = are_decided_checks [] cs
+is_decided_demand (either first alternatives) = list_all are_constants alternatives || list_all is_one_variable alternatives
+
+-- the comparisons that it makes
+abbrev pub comparisons : Demand → List WithVariable
+comparisons nothing = []
+comparisons (each cs) = compared_checks [] cs
+comparisons (either first alternatives) = []
+
+-- the variables of alternatives that aren't constants
+abbrev pub choices_of : Bool → List (List Check) → List (List (List ℕ))
+choices_of true alternatives = []
+choices_of false alternatives = flat_map binders_of alternatives ∷ []
+
+-- the variables of which a field is to be equal to one
+abbrev pub choices : Demand → List (List (List ℕ))
+choices nothing = []
+choices (each cs) = []
+choices (either first alternatives) = choices_of (list_all are_constants alternatives) alternatives
+
+-- and it takes one field
+abbrev pub is_decided_constraint : Constraint → Bool
+is_decided_constraint c = not c.segment && is_decided_demand c.demand
+
+-- the field at this place is compared so with these variables
+abbrev pub compared_at : FieldPlace → List WithVariable → List ComparedField
+compared_at at cs = map (λ (c : WithVariable). record { place = at; comparison = c.0; variable = c.1 }) cs
+
+-- a field of a fact, with the variables that it is compared with
+abbrev pub demand_compared_fields : PlacedDemand → List ComparedField
+demand_compared_fields d = compared_at d.place (comparisons d.demand)
+
+-- all fields that a pattern compares
+abbrev pub compared_fields : PatternParts → List ComparedField
+compared_fields p = flat_map demand_compared_fields (placed_demands p)
+
+-- a field of a fact, and the variables of which it is to be equal to one
+pub record ChoiceFieldValue : Type 0 where
+  pub place : FieldPlace
+  pub variables : List (List ℕ)
+
+-- the field at this place is to be equal to one variable of each of these lists
+abbrev pub chosen_at : FieldPlace → List (List (List ℕ)) → List ChoiceFieldValue
+chosen_at at sets = map (λ names. record { place = at; variables = names }) sets
+
+-- a field of a fact, with the variables of its alternatives, if it has such
+abbrev pub demand_choice_fields : PlacedDemand → List ChoiceFieldValue
+demand_choice_fields d = chosen_at d.place (choices d.demand)
+
+-- all fields that are to be equal to one of several variables
+abbrev pub choice_fields : PatternParts → List ChoiceFieldValue
+choice_fields p = flat_map demand_choice_fields (placed_demands p)
+
+-- the variable is none of these
+abbrev pub is_other : List (List ℕ) → List ℕ → Bool
+is_other names x = not (is_named x names)
+
+-- the variables that a pattern compares with don't stand in it elsewhere
+abbrev pub compares_others : PatternParts → Bool
+compares_others p =
+    list_all (λ (c : ComparedField). is_other (binders_in (constraints_in p)) c.variable) (compared_fields p)
+    && list_all (λ (c : ChoiceFieldValue). list_all (is_other (binders_in (constraints_in p))) c.variables) (choice_fields p)
+
+-- what is asked is decided by values: each constraint is, and no variable stands in two places
+abbrev pub are_decided_parts : PatternParts → Bool
+are_decided_parts p = list_all is_decided_constraint (constraints_in p) && (are_apart (binders_in (constraints_in p)) && compares_others p)
+
+-- a pattern that is decided by values
+abbrev pub is_decided : PatternValue → Bool
+is_decided p = are_decided_parts p.parts
+
+-- what decides beside the fact's shape and the fields with variables: the fields that are compared, and those with alternatives
+pub record DecisionValue : Type 0 where
+  pub compared : List ComparedField
+  pub chosen : List ChoiceFieldValue
+
+-- what decides, of a pattern that is decided by values
+abbrev pub decision : PatternParts → Option DecisionValue
+decision p = if are_decided_parts p then Some (record { compared = compared_fields p; chosen = choice_fields p }) else None

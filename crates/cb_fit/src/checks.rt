@@ -1,0 +1,195 @@
+//! Reading the checks of a constraint: whether they are decided by values, and what they compare.
+ghost use Rattle.std.specs.Prelude.{◌≡◌, ◌++◌, [], OnOk, map, option_map, option_to_list};
+ghost use Rattle.cb_constraints.specs.Binders.{binder, binders_of};
+ghost use Rattle.cb_constraints.specs.Constraints.{check_of};
+ghost use Rattle.cb_fit.specs.Comparisons.{are_decided_checks, compared_at, compared_call, compared_checks, compared_term, compared_test, comparison_of, is_decided_test, variable_of, with_other};
+ghost use Rattle.cb_fit.specs.Internal.Reading.{compared_of, own_of};
+ghost use Rattle.cb_fit.specs.Plain.{is_named};
+ghost use Rattle.cb_exprs.specs.Terms.{term_of, terms_of};
+
+use crate::comparison::{ComparedField, Comparison};
+use crate::field_place::FieldPlace;
+use cb_constraints::{Check, Test};
+use cb_exprs::Expr;
+use cb_facts::Name;
+use cb_forms::NoMemory;
+use cb_words::Function;
+
+/// A comparison with a variable.
+#[derive(Clone, Copy)]
+pub(crate) struct Compared<'a> {
+    pub(crate) comparison: Comparison,
+    pub(crate) variable: &'a Name,
+}
+
+/// Whether each of the checks of a constraint is plain, or compares the field with a variable.
+pub(crate) fn are_decided_checks(checks: &[Check]) -> bool
+    ensures { result ≡ are_decided_checks [] (map check_of checks.now) }
+{
+    for i in 0..checks.len() {
+        if !is_decided_check(&checks[..i], &checks[i]) {
+            return false;
+        }
+    }
+    true
+}
+
+/// Whether a check is, after these of the same constraint.
+fn is_decided_check(before: &[Check], check: &Check) -> bool
+    ensures { result ≡ is_decided_test (own_of before.now)
+        (check_of check.now).negated (check_of check.now).test }
+{
+    match &check.test {
+        Test::Constant(_) | Test::Variable(_) => true,
+        Test::Predicate(_) => compared_check(before, check).is_some(),
+        Test::ReturnValue(_) => false,
+    }
+}
+
+/// Adds the comparisons that checks make, for the field at this place.
+pub(crate) fn add_comparisons(
+    place: FieldPlace,
+    checks: &[Check],
+    all: &mut Vec<ComparedField>,
+) -> Result<(), NoMemory>
+    ensures { OnOk result (all.new.items ≡ all.old.items
+        ++ compared_at place (compared_checks [] (map check_of checks.now))) }
+{
+    for i in 0..checks.len() {
+        add_comparison(place, &checks[..i], &checks[i], all)?;
+    }
+    Ok(())
+}
+
+/// Adds the comparison that a check makes, after these of the same constraint.
+fn add_comparison(
+    place: FieldPlace,
+    before: &[Check],
+    check: &Check,
+    all: &mut Vec<ComparedField>,
+) -> Result<(), NoMemory>
+    ensures { OnOk result (all.new.items ≡ all.old.items ++ compared_at place (option_to_list
+        (compared_test (own_of before.now) (check_of check.now).negated (check_of check.now).test))) }
+{
+    if let Some(compared) = compared_check(before, check) {
+        all.push(ComparedField {
+            place,
+            comparison: compared.comparison,
+            variable: compared.variable.clone()?,
+        })?;
+    }
+    Ok(())
+}
+
+/// The comparison that a check makes, after these of the same constraint, whose variables are the field's own.
+fn compared_check<'a>(before: &[Check], check: &'a Check) -> Option<Compared<'a>>
+    ensures { option_map compared_of result ≡ compared_test (own_of before.now)
+        (check_of check.now).negated (check_of check.now).test }
+{
+    match &check.test {
+        Test::Variable(variable) if check.is_negated => Some(Compared {
+            comparison: Comparison::Differs,
+            variable,
+        }),
+        Test::Predicate(expr) if !check.is_negated => compared_expr(before, expr),
+        _ => None,
+    }
+}
+
+/// The comparison that an expression makes.
+fn compared_expr<'a>(before: &[Check], expr: &'a Expr) -> Option<Compared<'a>>
+    ensures { option_map compared_of result ≡ compared_term (own_of before.now) (term_of expr.now) }
+{
+    match expr {
+        Expr::Call(function, args) => compared_call(before, *function, args.as_slice()),
+        _ => None,
+    }
+}
+
+/// The comparison that a call makes.
+fn compared_call<'a>(before: &[Check], function: Function, args: &'a [Expr]) -> Option<Compared<'a>>
+    ensures { option_map compared_of result
+        ≡ compared_call (own_of before.now) function (terms_of args.now) }
+{
+    let (first, others) = args.split_first()?;
+    let (second, more) = others.split_first()?;
+    if !more.is_empty() {
+        return None;
+    }
+    let comparison = comparison_of(function)?;
+    let x = variable_of(first)?;
+    let y = variable_of(second)?;
+    compared_variables(before, comparison, x, y)
+}
+
+/// The comparison of two variables, where one of them alone is the field's own.
+fn compared_variables<'a>(
+    before: &[Check],
+    comparison: Comparison,
+    x: &'a Name,
+    y: &'a Name,
+) -> Option<Compared<'a>>
+    ensures { option_map compared_of result ≡ with_other (own_of before.now) comparison x.now y.now }
+{
+    match (is_own(before, x), is_own(before, y)) {
+        (true, false) => Some(Compared {
+            comparison,
+            variable: y,
+        }),
+        (false, true) => Some(Compared {
+            comparison: comparison.turned(),
+            variable: x,
+        }),
+        _ => None,
+    }
+}
+
+/// Whether one of the checks may give this variable a value.
+fn is_own(checks: &[Check], name: &Name) -> bool
+    ensures { result ≡ is_named name.now (own_of checks.now) }
+{
+    for check in checks {
+        if gives(check, name) {
+            return true;
+        }
+    }
+    false
+}
+
+/// Whether a check may give this variable a value.
+fn gives(check: &Check, name: &Name) -> bool
+    ensures { result ≡ is_named name.now
+        (binder (check_of check.now).negated (check_of check.now).test) }
+{
+    match &check.test {
+        Test::Variable(x) => !check.is_negated && name == x,
+        _ => false,
+    }
+}
+
+/// The variable that an expression is.
+fn variable_of(expr: &Expr) -> Option<&Name>
+    ensures { option_map (λ n. n.now) result ≡ variable_of (term_of expr.now) }
+{
+    match expr {
+        Expr::Variable(name) => Some(name),
+        _ => None,
+    }
+}
+
+/// The comparison that a function of two values makes, if it makes one.
+fn comparison_of(function: Function) -> Option<Comparison>
+    ensures { result ≡ comparison_of function }
+{
+    match function {
+        Function::Less => Some(Comparison::Less),
+        Function::LessOrEqual => Some(Comparison::LessOrEqual),
+        Function::Greater => Some(Comparison::Greater),
+        Function::GreaterOrEqual => Some(Comparison::GreaterOrEqual),
+        Function::Equal => Some(Comparison::Equal),
+        Function::NotEqual => Some(Comparison::NotEqual),
+        Function::Eq => Some(Comparison::Same),
+        Function::Neq => Some(Comparison::Differs),
+        _ => None,
+    }
+}

@@ -1,0 +1,157 @@
+//! What decides whether a pattern fits, and its shape, read from patterns.
+use cb_constraints::{Check, Constraint, Demand, PatternParts, Row, Test};
+use cb_exprs::Expr;
+use cb_facts::{Name, Value};
+use cb_fit::{Comparison, Decision, Pattern, Shape};
+use cb_forms::NoMemory;
+use cb_words::Function;
+use std::alloc::Global;
+
+fn name(alloc: Global, bytes: &[u8]) -> Result<Name, NoMemory> {
+    Ok(Name::new(alloc, bytes)?)
+}
+
+/// The variable of this name, with `~` or without.
+fn variable(alloc: Global, is_negated: bool, bytes: &[u8]) -> Result<Check, NoMemory> {
+    Ok(Check {
+        is_negated,
+        test: Test::Variable(name(alloc, bytes)?),
+    })
+}
+
+/// `:(<= ?v ?w)`
+fn compares(alloc: Global) -> Result<Check, NoMemory> {
+    let mut args = Vec::new(alloc);
+    args.push(Expr::Variable(name(alloc, b"v")?))?;
+    args.push(Expr::Variable(name(alloc, b"w")?))?;
+    Ok(Check {
+        is_negated: false,
+        test: Test::Predicate(Expr::Call(Function::LessOrEqual, args)),
+    })
+}
+
+fn one_field(demand: Demand) -> Constraint {
+    Constraint {
+        takes_segment: false,
+        demand,
+    }
+}
+
+/// `?w&:(<= ?v ?w)`
+fn compared(alloc: Global) -> Result<Constraint, NoMemory> {
+    let mut checks = Vec::new(alloc);
+    checks.push(variable(alloc, false, b"w")?)?;
+    checks.push(compares(alloc)?)?;
+    Ok(one_field(Demand::Each(checks)))
+}
+
+/// `~?a`
+fn other(alloc: Global) -> Result<Constraint, NoMemory> {
+    let mut checks = Vec::new(alloc);
+    checks.push(variable(alloc, true, b"a")?)?;
+    Ok(one_field(Demand::Each(checks)))
+}
+
+fn alone(alloc: Global, bytes: &[u8]) -> Result<Vec<Check>, NoMemory> {
+    let mut checks = Vec::new(alloc);
+    checks.push(variable(alloc, false, bytes)?)?;
+    Ok(checks)
+}
+
+/// `?b|?c`
+fn chosen(alloc: Global) -> Result<Constraint, NoMemory> {
+    let mut alternatives = Vec::new(alloc);
+    alternatives.push(alone(alloc, b"b")?)?;
+    alternatives.push(alone(alloc, b"c")?)?;
+    Ok(one_field(Demand::Either(None, alternatives)))
+}
+
+/// Whose fits are counted.
+struct Counted;
+
+/// `(r ?w&:(<= ?v ?w) ~?a ?b|?c)`, or before the first field a segment.
+fn pattern(alloc: Global, with_segment: bool) -> Result<Pattern<Counted>, NoMemory> {
+    let mut constraints = Vec::new(alloc);
+    if with_segment {
+        constraints.push(Constraint {
+            takes_segment: true,
+            demand: Demand::Nothing,
+        })?;
+    }
+    constraints.push(compared(alloc)?)?;
+    constraints.push(other(alloc)?)?;
+    constraints.push(chosen(alloc)?)?;
+    let parts = PatternParts::Fields(Row::new(constraints));
+    Pattern::new(alloc, name(alloc, b"r")?, parts)
+}
+
+/// Whether the first field is greater than `?v` or equal, the second differs from `?a`, and the third is `?b` or `?c`.
+fn is_read(alloc: Global, decision: &Decision) -> Result<bool, NoMemory> {
+    let [first, second] = decision.compared.as_slice() else {
+        return Ok(false);
+    };
+    let [third] = decision.chosen.as_slice() else {
+        return Ok(false);
+    };
+    let [b, c] = third.variables.as_slice() else {
+        return Ok(false);
+    };
+    let at_first = first.place.field == 0 && first.comparison == Comparison::GreaterOrEqual;
+    let at_second = second.place.field == 1 && second.comparison == Comparison::Differs;
+    let with_v = first.variable == name(alloc, b"v")?;
+    let with_a = second.variable == name(alloc, b"a")?;
+    let with_both = *b == name(alloc, b"b")? && *c == name(alloc, b"c")?;
+    Ok(at_first && at_second && third.place.field == 2 && with_v && with_a && with_both)
+}
+
+#[test]
+fn reads_what_decides(rt: HostRuntime) -> Result<(), NoMemory> {
+    let decision = pattern(rt.alloc(), false)?.decide(rt.alloc())?;
+    let is_right = match &decision {
+        Some(decision) => is_read(rt.alloc(), decision)?,
+        None => false,
+    };
+    assert!(rt; is_right);
+    Ok(())
+}
+
+#[test]
+fn reads_nothing_where_a_segment_stands(rt: HostRuntime) -> Result<(), NoMemory> {
+    let decision = pattern(rt.alloc(), true)?.decide(rt.alloc())?;
+    assert!(rt; decision.is_none());
+    Ok(())
+}
+
+#[test]
+fn compares_values(rt: HostRuntime) -> Result<(), NoMemory> {
+    let word = Value::Symbol(name(rt.alloc(), b"a")?);
+    let holds = Comparison::Less.holds(&Value::Int(1), &Value::Int(2))
+        && !Comparison::Less.holds(&Value::Int(2), &Value::Int(2))
+        && !Comparison::Less.holds(&word, &Value::Int(2))
+        && Comparison::Differs.holds(&word, &Value::Int(2));
+    assert!(rt; holds);
+    Ok(())
+}
+
+/// The shape of `(r ?variable&~number)`.
+fn shape(alloc: Global, variable: &[u8], number: i64) -> Result<Shape, NoMemory> {
+    let mut checks = alone(alloc, variable)?;
+    checks.push(Check {
+        is_negated: true,
+        test: Test::Constant(Value::Int(number)),
+    })?;
+    let mut constraints = Vec::new(alloc);
+    constraints.push(one_field(Demand::Each(checks)))?;
+    let parts = PatternParts::Fields(Row::new(constraints));
+    let pattern: Pattern<Counted> = Pattern::new(alloc, name(alloc, b"r")?, parts)?;
+    pattern.shape(alloc)
+}
+
+#[test]
+fn shapes_have_constants_and_no_variables(rt: HostRuntime) -> Result<(), NoMemory> {
+    let one = shape(rt.alloc(), b"x", 1)?;
+    let same = shape(rt.alloc(), b"y", 1)?;
+    let other = shape(rt.alloc(), b"x", 2)?;
+    assert!(rt; one == same && one < other);
+    Ok(())
+}
