@@ -1,15 +1,16 @@
 -- The values of members, by those of the buckets in which they stand.
-use Rattle.std.proofs.Common.{◌≡◌, ◌≢◌, ◌∙◌, ◌↔◌, ℕ, List, [], Option, Some, None, Result, Ok, Err, OnErr, ap, arith, nat_eq, refl, subst, sym}
+use Rattle.std.proofs.Common.{◌≡◌, ◌≢◌, ◌∙◌, ◌↔◌, ℕ, List, [], Option, Some, None, Result, Ok, Err, OnErr, ap, arith, inl, inr, nat_eq, refl, subst, sym}
+use Rattle.std.proofs.lemmas.Bool.{cases_eq}
 use Rattle.std.proofs.Math.ListN.{get_or-map}
 use Rattle.std.proofs.lemmas.Map.Keys.{IsDistinct-from_apart}
 use Rattle.std.specs.BTreeMap.{BTreeMap}
 use Rattle.std.specs.List.{Contains}
 use Rattle.cb_alpha.proofs.Numbers.{one_number}
 use Rattle.cb_alpha.proofs.ValuesOrder.{values_exact, values_level}
-use Rattle.cb_alpha.specs.Buckets.{AreSameFilings, AreWithValues, Filing, Refiles, values_at}
-use Rattle.cb_alpha.specs.Internal.Numbered.{AreNumbered, HaveValues, KeepsValues, filing, values_cmp, values_in_bucket}
+use Rattle.cb_alpha.specs.Buckets.{AreSameFilings, AreWithValues, Filing, Refiles, values_at, values_cmp}
+use Rattle.cb_alpha.specs.Internal.Numbered.{AreBuckets, AreNumbered, HaveValues, KeepsValues, filing, values_in_bucket}
 use Rattle.cb_facts.specs.declared.value.Value.{Value}
-use Rattle.cb_groups.specs.Groups.{AreMembers, AreSameGroups, Membership, Updates, group_of}
+use Rattle.cb_groups.specs.Groups.{AreMembers, AreSameGroups, HasMember, Membership, Updates, group_of}
 
 by_option : {A P : Type 0} (o : Option A) → (o ≡ None → P) → ((a : A) → o ≡ Some a → P) → P
 by_option None none some = none refl
@@ -25,7 +26,7 @@ same_some {A} {a} {b} o e f = let both : Some a ≡ Some b = sym e ∙ f in cc
 pub filed : (vs : Filing) (ms : Membership) (m : ℕ) → values_at (filing vs ms) m ≡ values_in_bucket vs (group_of ms m)
 filed vs ms m = get_or-map (values_in_bucket vs) ms m None
 
-filed_in : (vs : Filing) (ms : Membership) (m n : ℕ) → group_of ms m ≡ Some n → values_at (filing vs ms) m ≡ values_at vs n
+pub filed_in : (vs : Filing) (ms : Membership) (m n : ℕ) → group_of ms m ≡ Some n → values_at (filing vs ms) m ≡ values_at vs n
 filed_in vs ms m n e = filed vs ms m ∙ ap (values_in_bucket vs) e
 
 pub filed_nowhere : (vs : Filing) (ms : Membership) (m : ℕ) → group_of ms m ≡ None → values_at (filing vs ms) m ≡ None
@@ -48,6 +49,30 @@ same_filing vs vs' ms kept m = by_option (group_of ms m)
 
 pub same_groups : (vs : Filing) (ms ms' : Membership) → AreSameGroups ms ms' → AreSameFilings (filing vs ms) (filing vs ms')
 same_groups vs ms ms' same m = filed vs ms' m ∙ (ap (values_in_bucket vs) (same m) ∙ sym (filed vs ms m))
+
+-- buckets that nobody stood in before, with a member more
+module _ (m m' : BTreeMap (List Value) ℕ) (vs vs' : Filing) (ms ms' : Membership) (was : AreBuckets m vs ms) (member n : ℕ) (free : values_at (filing vs ms) member ≡ None)
+    (others : (k : ℕ) → k ≢ n → values_at vs' k ≡ values_at vs k) where
+  pub stood_nowhere : group_of ms member ≡ None
+  stood_nowhere = by_option (group_of ms member) (λ none. none) (λ k g. absurd (was.have member k g (sym (filed_in vs ms member k g) ∙ free)))
+
+  pub buckets_more : AreNumbered m' vs' → (ws : List Value) → values_at vs' n ≡ Some ws → ((k : ℕ) → values_at vs k ≢ None → values_at vs' k ≡ values_at vs k)
+      → Updates ms ms' member (Some n) → AreBuckets m' vs' ms'
+  buckets_more is ws there kept u = record {
+    numbered = is;
+    have = λ i k g none. elim (cases_eq i member) as (λ _. ⊥) [
+      | inl e ↦
+          let same : k ≡ n = same_some (group_of ms' member) (ap (group_of ms') (sym e) ∙ g) u.changed in
+          some_none (values_at vs' n) there (ap (values_at vs') (sym same) ∙ none)
+      | inr d ↦ let had = was.have i k (sym (u.others i d) ∙ g) in had (sym (kept k had) ∙ none)
+    ];
+    used = λ k some. elim (cases_eq k n) as (λ _. HasMember ms' k) [
+      | inl e ↦ (member, u.changed ∙ ap Some (sym e))
+      | inr d ↦
+          let i = was.used k (λ none. some (others k d ∙ none)) in
+          (i.0, u.others i.0 (λ e. some_none (group_of ms i.0) i.1 (ap (group_of ms) e ∙ stood_nowhere)) ∙ i.1)
+    ];
+  }
 
 -- a member more
 module _ (vs : Filing) (ms ms' : Membership) (member n : ℕ) (ws : List Value) (there : values_at vs n ≡ Some ws) (u : Updates ms ms' member (Some n)) where

@@ -30,7 +30,7 @@ module _ (p : PatternValue) (m : AlphaMemoryValue) (fs : IndexedFacts) (over : I
 
   -- nothing comes and nothing goes
   pub stays : AlphaTurns p m fs fs
-  stays = record { was = were_candidates; is = over.has; one = over.one; apart = apart }
+  stays = record { was = were_candidates; is = over.has; one = over.one; apart = apart; single = inl over.none_gone }
 
   -- a fact without the shape comes
   pub shapeless_comes : (ix : ℕ) (f : FactValue) → fact_at fs ix ≡ None → has_shape p f ≡ false → AlphaTurns p m fs (with_fact fs ix f)
@@ -47,6 +47,7 @@ module _ (p : PatternValue) (m : AlphaMemoryValue) (fs : IndexedFacts) (over : I
         };
         one = over.one;
         apart = apart;
+        single = inl over.none_gone;
       }
 
   -- a fact goes that the memory hasn't
@@ -59,6 +60,7 @@ module _ (p : PatternValue) (m : AlphaMemoryValue) (fs : IndexedFacts) (over : I
     };
     one = over.one;
     apart = apart;
+    single = inl over.none_gone;
   }
 
   -- one without the shape is such
@@ -129,6 +131,7 @@ module _ (p : PatternValue) (m : AlphaMemoryValue) (fs : IndexedFacts) (over : I
               ]
             ];
             apart = λ n e g. some_none m'.gone g none_gone';
+            single = inl none_gone';
           }
 
     -- a fact goes that the memory has
@@ -170,6 +173,7 @@ module _ (p : PatternValue) (m : AlphaMemoryValue) (fs : IndexedFacts) (over : I
         };
         one = λ i j f g h k e. over.one i j f g (sym (same i) ∙ h) (sym (same j) ∙ k) e;
         apart = λ n e g. some_none m'.come e none_come';
+        single = inr none_come';
       }
 
   -- a join more

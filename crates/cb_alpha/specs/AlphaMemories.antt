@@ -2,6 +2,7 @@
 use Rattle.std.specs.Prelude.{◌≡◌, ◌≢◌, ◌↔◌, ◌<◌, ℕ, false, Contains, List, Option, Some, None, if◌then◌else◌, length, nat_eq, option_map, slice_get, slice_index_or}
 use Rattle.std.specs.List.{IsDistinct}
 use Rattle.std.specs.Option.{option_and_then, option_map_or}
+use Rattle.cb_alpha.specs.Buckets.{AreFirst, AreLast}
 use Rattle.cb_alpha.specs.JoinValues.{field_values}
 use Rattle.cb_facts.specs.Facts.{FactContent, FactValue}
 use Rattle.cb_facts.specs.declared.value.Value.{Value}
@@ -92,3 +93,14 @@ pub record GainsJoin (old new : AlphaMemoryValue) (join : ℕ) (fields : List Jo
   pub candidates : new.candidates ≡ old.candidates
   pub gone : new.gone ≡ old.gone
   pub come : new.come ≡ old.come
+
+-- a fact that is there has these values in these fields
+abbrev pub HasFactWith : AlphaMemoryValue → List JoinField → List Value → Type 0
+HasFactWith m fields values = (n : ℕ) × (values_in fields (live m n) ≡ Some values)
+
+-- these are the least, or the greatest, values from the first on, before the second, that a fact has in these fields, or none has such
+abbrev pub AreFirstInFacts : AlphaMemoryValue → List JoinField → List Value → List Value → Option (List Value) → Type 0
+AreFirstInFacts m fields low high first = AreFirst (HasFactWith m fields) low high first
+
+abbrev pub AreLastInFacts : AlphaMemoryValue → List JoinField → List Value → List Value → Option (List Value) → Type 0
+AreLastInFacts m fields low high last = AreLast (HasFactWith m fields) low high last

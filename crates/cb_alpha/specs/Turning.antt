@@ -1,5 +1,5 @@
 -- What a change does to an alpha memory, as its pattern sees it.
-use Rattle.std.specs.Prelude.{◌≡◌, ℕ, Bool, true, false, List, Option, Some, None, if◌then◌else◌, nat_eq, slice_get}
+use Rattle.std.specs.Prelude.{◌≡◌, ◌⊎◌, ℕ, Bool, true, false, List, Option, Some, None, if◌then◌else◌, nat_eq, slice_get}
 use Rattle.cb_alpha.specs.AlphaMemories.{AlphaMemoryValue, AreSameFields, candidate_in, live}
 use Rattle.cb_constraints.specs.PatternValues.{PatternValue}
 use Rattle.cb_facts.specs.FactLists.{IndexedFacts}
@@ -41,12 +41,13 @@ pub record IsAlphaOver (p : PatternValue) (fs : IndexedFacts) (m : AlphaMemoryVa
   pub none_come : m.come ≡ None
 
 -- a change leads from one list of facts to another: the memory had the candidates of the first and has those of the second, each
--- index under one number, and what came is not what went
+-- index under one number. A fact came or one went, not both
 pub record AlphaTurns (p : PatternValue) (m : AlphaMemoryValue) (fs fs' : IndexedFacts) : Type 0 where
   pub was : AreCandidates p fs (were_in m)
   pub is : AreCandidates p fs' (live m)
   pub one : IsOncePerIndex m
   pub apart : (n : ℕ) → m.come ≡ Some n → m.gone ≡ Some n → ⊥
+  pub single : (m.gone ≡ None) ⊎ (m.come ≡ None)
 
 -- the facts are found by the values of these fields, under this number of a join
 abbrev pub HasJoin : AlphaMemoryValue → ℕ → List JoinField → Type 0

@@ -1,6 +1,6 @@
 //! An alpha memory.
 ghost use Rattle.std.specs.Prelude.{◌≡◌, ◌≢◌, ◌↔◌, [], ℕ, IfOk, IfSome, List, None, OnErr, Some, option_copied, slice_get, true};
-ghost use Rattle.cb_alpha.specs.AlphaMemories.{AreFactsWith, AreLiveNumbers, GainsFact, GainsJoin, IsEnded, IsSameMemory, LosesFact, candidate_in, index_of, live};
+ghost use Rattle.cb_alpha.specs.AlphaMemories.{AreFactsWith, AreFirstInFacts, AreLastInFacts, AreLiveNumbers, GainsFact, GainsJoin, IsEnded, IsSameMemory, LosesFact, candidate_in, index_of, live};
 ghost use Rattle.cb_alpha.specs.Turning.{were_in};
 ghost use Rattle.cb_fit.specs.declared.join_fields.JoinField.{JoinField as Field};
 
@@ -123,6 +123,39 @@ impl AlphaMemory {
         match self.joins.get(join) {
             Some(join) => join.facts_with(values),
             None => &[],
+        }
+    }
+
+    /// The least values from the first on, before the second, that a fact has in the fields of a join, if one has such. It takes a
+    /// logarithmic number of comparisons.
+    pub fn first_within(
+        &self,
+        join: usize,
+        low: &JoinValues,
+        high: &JoinValues,
+    ) -> Option<&JoinValues>
+        ensures { (fields : List Field) → slice_get self.now.joins join ≡ Some fields
+            → AreFirstInFacts self.now fields low.now high.now (option_copied result) }
+    {
+        match self.joins.get(join) {
+            Some(index) => index.first_within(low, high),
+            None => None,
+        }
+    }
+
+    /// The greatest of them.
+    pub fn last_within(
+        &self,
+        join: usize,
+        low: &JoinValues,
+        high: &JoinValues,
+    ) -> Option<&JoinValues>
+        ensures { (fields : List Field) → slice_get self.now.joins join ≡ Some fields
+            → AreLastInFacts self.now fields low.now high.now (option_copied result) }
+    {
+        match self.joins.get(join) {
+            Some(index) => index.last_within(low, high),
+            None => None,
         }
     }
 

@@ -1,9 +1,10 @@
 //! Members by the values that they are joined on.
-ghost use Rattle.std.specs.Prelude.{◌≡◌, ℕ, [], List, None, OnErr, OnOk, Some};
-ghost use Rattle.cb_alpha.specs.Buckets.{AreSameFilings, AreWithValues, Refiles, values_at};
+ghost use Rattle.std.specs.Prelude.{◌≡◌, ℕ, [], IfOk, List, None, OnErr, OnOk, Some, option_copied};
+ghost use Rattle.cb_alpha.specs.Buckets.{AreFirstWithin, AreLastWithin, AreSameFilings, AreWithValues, AreWithin, Refiles, values_at};
 
 use crate::join_values::JoinValues;
 use crate::numbering::{drop_empty, find, find_or_add, members_in};
+use crate::value_ranges::{first_between, last_between, members_between};
 use cb_forms::NoMemory;
 use cb_groups::Groups;
 use slab::Slab;
@@ -14,8 +15,8 @@ use std::marker::Model;
 /// Members by the values that they are joined on: those with the same values stand in one bucket. The members are numbers, of facts
 /// or of partial matches.
 ///
-/// A bucket is found in an ordered map of values, in a logarithmic number of comparisons whatever the values are. A bucket in which
-/// nobody stands takes no memory.
+/// A bucket is found in an ordered map of values, in a logarithmic number of comparisons whatever the values are, and so are the least
+/// and the greatest values of a range. A bucket in which nobody stands takes no memory.
 #[derive(Drop)]
 pub struct Buckets {
     alloc: Global,
@@ -58,8 +59,13 @@ impl Buckets {
         ensures err { OnErr result (AreSameFilings self.old self.new) }
     {
         let bucket = find_or_add(self.alloc, &mut self.numbers, &mut self.buckets, values)?;
-        self.members.add(bucket, member)?;
-        Ok(())
+        match self.members.add(bucket, member) {
+            Ok(()) => Ok(()),
+            Err(NoMemory) => {
+                drop_empty(&mut self.numbers, &mut self.buckets, &self.members, bucket);
+                Err(NoMemory)
+            }
+        }
     }
 
     /// Takes a member out, if it is filed.
@@ -78,5 +84,31 @@ impl Buckets {
         ensures { AreWithValues self.now values.now result.now }
     {
         members_in(&self.members, find(&self.numbers, values))
+    }
+
+    /// The members with values from the first on, before the second, in any order. Growth is refused as `NoMemory`.
+    pub fn members_within(
+        &self,
+        alloc: Global,
+        low: &JoinValues,
+        high: &JoinValues,
+    ) -> Result<Vec<u32>, NoMemory>
+        ensures { IfOk result (λ all. AreWithin self.now low.now high.now all.items) }
+    {
+        members_between(alloc, &self.numbers, &self.members, low, high)
+    }
+
+    /// The least values from the first on, before the second, that a member has, if one has such.
+    pub fn first_within(&self, low: &JoinValues, high: &JoinValues) -> Option<&JoinValues>
+        ensures { AreFirstWithin self.now low.now high.now (option_copied result) }
+    {
+        first_between(&self.numbers, low, high)
+    }
+
+    /// The greatest of them.
+    pub fn last_within(&self, low: &JoinValues, high: &JoinValues) -> Option<&JoinValues>
+        ensures { AreLastWithin self.now low.now high.now (option_copied result) }
+    {
+        last_between(&self.numbers, low, high)
     }
 }

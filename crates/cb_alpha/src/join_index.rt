@@ -1,7 +1,7 @@
 //! The facts of an alpha memory by the values of join fields.
-ghost use Rattle.std.specs.Prelude.{◌≡◌, ◌<◌, ℕ, All, IfSome, List, None, OnErr, OnOk, Option, Some, length, map, slice_get, true};
+ghost use Rattle.std.specs.Prelude.{◌≡◌, ◌<◌, ℕ, All, IfSome, List, None, OnErr, OnOk, Option, Some, length, map, option_copied, slice_get, true};
 ghost use Rattle.cb_alpha.specs.AlphaMemories.{AreSameFields, candidate_in};
-ghost use Rattle.cb_alpha.specs.Buckets.{AreSameFilings, AreWithValues, Refiles, values_at};
+ghost use Rattle.cb_alpha.specs.Buckets.{AreFirstWithin, AreLastWithin, AreSameFilings, AreWithValues, Refiles, values_at};
 ghost use Rattle.cb_alpha.specs.Internal.Joined.{AreSmall, IsFiled, IsFiledBut, fields_of};
 ghost use Rattle.cb_alpha.specs.JoinValues.{field_values};
 ghost use Rattle.cb_facts.specs.Facts.{FactValue};
@@ -88,6 +88,20 @@ impl JoinIndex {
         ensures { AreWithValues self.now.facts values.now result.now }
     {
         self.facts.members_with(values)
+    }
+
+    /// The least values from the first on, before the second, that a fact has, if one has such.
+    pub(crate) fn first_within(&self, low: &JoinValues, high: &JoinValues) -> Option<&JoinValues>
+        ensures { AreFirstWithin self.now.facts low.now high.now (option_copied result) }
+    {
+        self.facts.first_within(low, high)
+    }
+
+    /// The greatest of them.
+    pub(crate) fn last_within(&self, low: &JoinValues, high: &JoinValues) -> Option<&JoinValues>
+        ensures { AreLastWithin self.now.facts low.now high.now (option_copied result) }
+    {
+        self.facts.last_within(low, high)
     }
 }
 

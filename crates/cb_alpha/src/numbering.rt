@@ -1,9 +1,9 @@
 //! The numbers of buckets: equal values have one number.
-ghost use Rattle.std.specs.Prelude.{◌≡◌, ◌≢◌, ◌↔◌, ℕ, [], IfOk, List, None, Option, Some};
-ghost use Rattle.cb_alpha.specs.Buckets.{values_at};
+ghost use Rattle.std.specs.Prelude.{◌≡◌, ◌≢◌, ◌↔◌, ℕ, [], IfOk, List, None, OnErr, Option, Some};
+ghost use Rattle.cb_alpha.specs.Buckets.{AreSameFilings, values_at};
 ghost use Rattle.cb_alpha.specs.Internal.Numbered.{AreNumbered, HaveValues, KeepsValues};
 ghost use Rattle.cb_facts.specs.declared.value.Value.{Value as Joined};
-ghost use Rattle.cb_groups.specs.Groups.{AreMembers};
+ghost use Rattle.cb_groups.specs.Groups.{AreMembers, HasMember};
 
 use crate::join_values::JoinValues;
 use cb_forms::NoMemory;
@@ -32,6 +32,9 @@ pub(crate) fn find_or_add(
     ensures ok { IfOk result (λ n. values_at buckets.new.slots n ≡ Some values) }
     ensures kept { (n : ℕ) → values_at buckets.old.slots n ≢ None
         → values_at buckets.new.slots n ≡ values_at buckets.old.slots n }
+    ensures others { IfOk result (λ n. (k : ℕ) → k ≢ n
+        → values_at buckets.new.slots k ≡ values_at buckets.old.slots k) }
+    ensures err { OnErr result (AreSameFilings buckets.old.slots buckets.new.slots) }
 {
     match find(numbers, &values) {
         Some(number) => Ok(number),
@@ -52,6 +55,9 @@ fn add(
     ensures ok { IfOk result (λ n. values_at buckets.new.slots n ≡ Some values) }
     ensures kept { (n : ℕ) → values_at buckets.old.slots n ≢ None
         → values_at buckets.new.slots n ≡ values_at buckets.old.slots n }
+    ensures others { IfOk result (λ n. (k : ℕ) → k ≢ n
+        → values_at buckets.new.slots k ≡ values_at buckets.old.slots k) }
+    ensures err { OnErr result (AreSameFilings buckets.old.slots buckets.new.slots) }
 {
     buckets.reserve(1)?;
     let Ok(number) = u32::try_from(buckets.vacant_key()) else {
@@ -73,6 +79,9 @@ pub(crate) fn drop_empty(
     requires { AreNumbered numbers.old buckets.old.slots }
     ensures is { AreNumbered numbers.new buckets.new.slots }
     ensures members { KeepsValues buckets.old.slots buckets.new.slots members.now }
+    ensures used { values_at buckets.new.slots bucket ≢ None → HasMember members.now bucket }
+    ensures others { (k : ℕ) → k ≢ bucket
+        → values_at buckets.new.slots k ≡ values_at buckets.old.slots k }
 {
     if members.has_any(bucket) {
         return;

@@ -2,17 +2,11 @@
 use Rattle.std.specs.Prelude.{◌≡◌, ◌≢◌, ◌↔◌, ℕ, List, Option, Some, None, map}
 use Rattle.std.specs.BTreeMap as tree
 use Rattle.std.specs.BTreeMap.{BTreeMap}
-use Rattle.std.specs.Cmp.Lexicographic.{slice_cmp}
 use Rattle.std.specs.Option.{option_and_then}
 use Rattle.std.specs.declared.cmp.Ordering.{Ordering}
-use Rattle.cb_alpha.specs.Buckets.{Filing, values_at}
-use Rattle.cb_facts.specs.contracts.value.ValueOrd.TheImpl as value_ord
+use Rattle.cb_alpha.specs.Buckets.{Filing, values_at, values_cmp}
 use Rattle.cb_facts.specs.declared.value.Value.{Value}
-use Rattle.cb_groups.specs.Groups.{Membership, group_of}
-
--- values compare value by value
-abbrev pub values_cmp : List Value → List Value → Ordering
-values_cmp = slice_cmp value_ord.ghosts.cmp
+use Rattle.cb_groups.specs.Groups.{HasMember, Membership, group_of}
 
 -- the map has the number of each key under it
 abbrev pub AreNumbers : {K : Type 0} → (K → K → Ordering) → BTreeMap K ℕ → (ℕ → Option K) → Type 0
@@ -37,7 +31,12 @@ HaveValues buckets members = (member n : ℕ) → group_of members member ≡ So
 abbrev pub KeepsValues : Filing → Filing → Membership → Type 0
 KeepsValues old new members = (member n : ℕ) → group_of members member ≡ Some n → values_at new n ≡ values_at old n
 
--- the numbers of buckets are those of their values, and who stands in one has its values
+-- in each bucket that has values a member stands
+abbrev pub AreUsed : Filing → Membership → Type 0
+AreUsed buckets members = (n : ℕ) → values_at buckets n ≢ None → HasMember members n
+
+-- the numbers of buckets are those of their values, who stands in one has its values, and somebody does
 pub record AreBuckets (numbers : BTreeMap (List Value) ℕ) (buckets : Filing) (members : Membership) : Type 0 where
   pub numbered : AreNumbered numbers buckets
   pub have : HaveValues buckets members
+  pub used : AreUsed buckets members

@@ -2,8 +2,7 @@ use Rattle.std.proofs.Common.{rules, ◌≡◌, ◌≢◌, ℕ, None, Some}
 use Rattle.std.specs.BTreeMap as tree
 use Rattle.cb_alpha.proofs.Numbers.{numbered_more}
 use Rattle.cb_alpha.proofs.ValuesOrder.{values_exact, values_level}
-use Rattle.cb_alpha.specs.Buckets.{values_at}
-use Rattle.cb_alpha.specs.Internal.Numbered.{values_cmp}
+use Rattle.cb_alpha.specs.Buckets.{values_at, values_cmp}
 use Rattle.cb_alpha.proofs.numbering.add.Goals as goal
 
 pub returns-clause-is : goal.returns-clause-is

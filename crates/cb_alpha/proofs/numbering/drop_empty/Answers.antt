@@ -1,8 +1,7 @@
 use Rattle.std.proofs.Common.{◌∙◌, sym}
 use Rattle.cb_alpha.proofs.Numbers.{numbered_less}
 use Rattle.cb_alpha.proofs.ValuesOrder.{values_exact, values_level}
-use Rattle.cb_alpha.specs.Buckets.{values_at}
-use Rattle.cb_alpha.specs.Internal.Numbered.{values_cmp}
+use Rattle.cb_alpha.specs.Buckets.{values_at, values_cmp}
 use Rattle.cb_alpha.proofs.numbering.drop_empty.Goals as goal
 
 pub returns-clause-is : goal.returns-clause-is

@@ -1,6 +1,6 @@
 use Rattle.std.proofs.Common.{rules, ◌≡◌, ◌∙◌, sym}
 use Rattle.std.specs.BTreeMap as tree
-use Rattle.cb_alpha.specs.Internal.Numbered.{values_cmp}
+use Rattle.cb_alpha.specs.Buckets.{values_cmp}
 use Rattle.cb_alpha.proofs.numbering.find.Goals as goal
 
 pub returns : goal.returns

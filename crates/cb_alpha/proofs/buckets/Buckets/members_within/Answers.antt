@@ -1,0 +1,11 @@
+use Rattle.std.proofs.Common.{subst}
+use Rattle.std.proofs.lemmas.Result.{IfOk-weaker}
+use Rattle.cb_alpha.specs.Buckets.{AreWithin, Filing}
+use Rattle.cb_alpha.proofs.buckets.Buckets.members_within.Goals as goal
+
+pub returns : goal.returns
+returns c =
+    let b = c.self.inside in
+    IfOk-weaker c.members_between.result _ _
+    (λ all are. subst (λ (it : Filing). AreWithin it c.args.low.now c.args.high.now all.items) c.self.view_is (are b.buckets.slots c.self.invariant.numbered))
+    c.members_between.ensures
