@@ -20,7 +20,7 @@ one_first a b = omega (arith)
 both_sums : (a b c d e f : ℕ) → a + b ≡ c → d + e ≡ f → (a + d) + (b + e) ≡ c + f
 both_sums a b c d e f h k = omega (arith, h, k)
 
--- a pattern that stands alone is tested for the shape alone
+-- the pattern of a group for which nothing is kept inside it is tested for the shape alone
 shape_only : (p : PatternValue) (f : FactValue) → 1 ≡ added_probes p (Some f) 0
 shape_only p f = go (has_shape p f)
   where

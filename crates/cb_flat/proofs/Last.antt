@@ -100,7 +100,7 @@ module _ (rise : WaysRise) (fs : IndexedFacts) (indices : HaveIndices fs) (ls : 
         ∙ group_made positive inner fs ms (ls last) n h.long h.once complete);
   }
 
-  -- one of a pattern that stands alone is found by the pattern itself
+  -- one of a pattern alone, for which nothing is kept inside it, is found by the pattern itself
   behind_alone : (behind positive : Bool) (inner es : Elements) (p : PatternValue) (from k n : ℕ) (ms : List Partial)
       → GoOn ls behind (element (group positive inner) es) from n ms → inner ≡ element (pattern None p) no_elements → MakeLists fs ls k (alone from p positive)
       → GoOn ls false es k n (after (group positive inner) fs ms)

@@ -1,8 +1,9 @@
--- A group by whether it is of one pattern that stands alone: the nodes inside it, and its own.
-use Rattle.std.proofs.Common.{◌≡◌, ◌∷◌, ℕ, Bool, true, false, List, [], Option, Some, None, cond, is_some, length, map, refl, ap, subst, sym}
+-- A group by whether it is of one pattern that stands alone or is looked up: the nodes inside it, and its own.
+use Rattle.std.proofs.Common.{◌≡◌, ◌||◌, ◌∷◌, ℕ, Bool, true, false, List, [], Option, Some, None, cond, is_some, length, map, refl, ap, subst, sym}
 use Rattle.cb_constraints.specs.PatternValues.{PatternValue}
+use Rattle.cb_fit.specs.Comparisons.{decision}
 use Rattle.cb_fit.specs.StandsAlone.{stands_alone}
-use Rattle.cb_nodes.specs.Flat.{FlatNode, count_inside, group_node, lone_pattern, nodes_inside, node_width}
+use Rattle.cb_nodes.specs.Flat.{FlatNode, count_inside, group_node, is_looked_up, lone_pattern, nodes_inside, node_width}
 use Rattle.cb_matches.proofs.Lists.{by_test}
 use Rattle.cb_rules.specs.Elements.{Element, pattern, test, group, Elements, elements, no_elements, element}
 
@@ -14,7 +15,7 @@ pub lone_elements : (es : Elements) (p : PatternValue) → lone_pattern es ≡ S
 lone_elements no_elements p e = absurd (none_is_some p e)
 lone_elements (element (pattern (Some x) q) es) p e = absurd (none_is_some p e)
 lone_elements (element (pattern None q) no_elements) p e =
-    by_test (stands_alone q)
+    by_test (stands_alone q || is_looked_up (decision q.parts))
     (λ t. let same : Some q ≡ Some p = subst (λ b. cond b (Some q) None ≡ Some p) t e in let is : q ≡ p = cc in ap (λ it. element (pattern None it) no_elements) is)
     (λ t. absurd (none_is_some p (subst (λ b. cond b (Some q) None ≡ Some p) t e)))
 lone_elements (element (pattern None q) (element f es)) p e = absurd (none_is_some p e)

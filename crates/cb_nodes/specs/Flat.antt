@@ -1,12 +1,16 @@
 -- A branch as nodes, each of which makes a list of partial matches from lists before it, which it names by number.
-use Rattle.std.specs.Prelude.{◌≡◌, ◌+◌, ◌*◌, ◌<◌, ℕ, suc, ◌&&◌, Bool, true, false, List, [], ◌∷◌, ◌++◌, Option, Some, None, filter, length, not, slice_index_or, take, if◌then◌else◌}
+use Rattle.std.specs.Prelude.{◌≡◌, ◌+◌, ◌*◌, ◌<◌, ℕ, suc, ◌&&◌, ◌||◌, Bool, true, false, List, [], ◌∷◌, ◌++◌, Option, Some, None, filter, length, not, slice_index_or, take, if◌then◌else◌}
 use Rattle.std.specs.Cmp.Lexicographic.{pointwise}
 use Rattle.std.specs.List.{list_any}
 use Rattle.cb_constraints.specs.PatternValues.{PatternValue}
 use Rattle.cb_exprs.specs.Terms.{Term}
 use Rattle.cb_facts.specs.FactLists.{IndexedFacts}
 use Rattle.cb_facts.specs.Facts.{FactValue}
+use Rattle.cb_fit.specs.Comparisons.{ChoiceFieldValue, DecisionValue, decision}
 use Rattle.cb_fit.specs.StandsAlone.{stands_alone}
+use Rattle.cb_fit.specs.declared.comparison.ComparedField.{ComparedField}
+use Rattle.cb_fit.specs.declared.comparison.Comparison.{Comparison}
+use Rattle.cb_fit.specs.declared.comparison.Comparison.TheVariants.{Less, LessOrEqual, Greater, GreaterOrEqual, Equal, NotEqual, Same, Differs}
 use Rattle.cb_matches.specs.Keys.{PartValue, part_eq}
 use Rattle.cb_matches.specs.Matches.{Partial, group_holds, next, test_holds}
 use Rattle.cb_partials.specs.Probes.{added_probes, is_candidate, partials_come, partials_kept}
@@ -18,7 +22,7 @@ pub data FlatNode : Type 0 where
   testing : ℕ → Term → FlatNode
   -- the list before it, the last one inside it, and how many parts the partial matches before it have
   grouping : ℕ → ℕ → Bool → ℕ → FlatNode
-  -- a group of one pattern that stands alone: the list before it, the pattern, and whether the group is positive
+  -- a group of one pattern, for which nothing is kept inside it: the list before it, the pattern, and whether the group is positive
   alone : ℕ → PatternValue → Bool → FlatNode
 
 -- z goes on from these parts
@@ -114,16 +118,43 @@ tests_first (element (pattern x p) es) = []
 tests_first (element (test t) es) = t ∷ tests_first es
 tests_first (element (group positive inner) es) = []
 
--- the pattern of a group that has no other element, where no address is taken and the pattern stands alone
+-- by such a comparison of a field with a variable facts are looked up: by the least and the greatest value of the field
+abbrev pub is_by_order : Comparison → Bool
+is_by_order Less = true
+is_by_order LessOrEqual = true
+is_by_order Greater = true
+is_by_order GreaterOrEqual = true
+is_by_order Equal = false
+is_by_order NotEqual = false
+is_by_order Same = false
+is_by_order Differs = false
+
+-- nothing is compared, or one field by such a comparison
+abbrev pub are_by_order : List ComparedField → Bool
+are_by_order [] = true
+are_by_order (c ∷ []) = is_by_order c.comparison
+are_by_order (c ∷ d ∷ cs) = false
+
+-- no field has alternatives
+abbrev pub are_none_chosen : List ChoiceFieldValue → Bool
+are_none_chosen [] = true
+are_none_chosen (c ∷ cs) = false
+
+-- whether there is a fact that a pattern fits can be looked up by values, by what decides
+abbrev pub is_looked_up : Option DecisionValue → Bool
+is_looked_up None = false
+is_looked_up (Some d) = are_by_order d.compared && are_none_chosen d.chosen
+
+-- the pattern of a group that has no other element, where no address is taken, and the pattern stands alone or is looked up
 abbrev pub lone_pattern : Elements → Option PatternValue
 lone_pattern no_elements = None
 lone_pattern (element (pattern (Some x) p) es) = None
-lone_pattern (element (pattern None p) no_elements) = if stands_alone p then Some p else None
+lone_pattern (element (pattern None p) no_elements) = if stands_alone p || is_looked_up (decision p.parts) then Some p else None
 lone_pattern (element (pattern None p) (element e es)) = None
 lone_pattern (element (test t) es) = None
 lone_pattern (element (group positive inner) es) = None
 
--- the nodes inside a group, by its elements and those that these make elsewhere: none where it is of a pattern that stands alone
+-- the nodes inside a group, by its elements and those that these make elsewhere: none where it is of one pattern that is looked up
 abbrev pub nodes_inside : Option PatternValue → List FlatNode → List FlatNode
 nodes_inside (Some p) ns = []
 nodes_inside None ns = ns

@@ -4,9 +4,9 @@ use Rattle.std.specs.Cmp.Lexicographic.{bytes_decides}
 use Rattle.std.specs.List.{Contains, flat_map}
 use Rattle.std.specs.Str.{bytes_eq}
 use Rattle.cb_constraints.specs.PatternValues.{PatternValue}
-use Rattle.cb_decided.specs.Comparisons.{is_decided}
-use Rattle.cb_decided.specs.Decided.{AgreeWith, ValuesDecide}
-use Rattle.cb_decided.specs.Plain.{is_named}
+use Rattle.cb_fit.specs.Comparisons.{is_decided}
+use Rattle.cb_fit.specs.Decided.{AgreeWith, ValuesDecide}
+use Rattle.cb_fit.specs.Plain.{is_named}
 use Rattle.cb_exprs.specs.Bindings.{Bindings, value_at}
 use Rattle.cb_facts.specs.FactLists.{IndexedFacts}
 use Rattle.cb_facts.specs.Facts.{FactContent, FactValue}
@@ -19,7 +19,6 @@ use Rattle.cb_matches.proofs.Lists.{flat_in, in_flat, in_map, map_in}
 use Rattle.cb_matches.specs.Chains.{In}
 use Rattle.cb_matches.specs.Matches.{Partial, extended, group_holds, grown, next}
 use Rattle.cb_nodes.specs.Flat.{holds_alone}
-use Rattle.cb_scopes.proofs.Scoped.{HasScope}
 use Rattle.cb_scopes.specs.Decided.{Sees, field_values, known_fields, variable_values}
 use Rattle.cb_scopes.specs.Scopes.{Scope}
 
@@ -48,7 +47,7 @@ none_or (Some v) = inr (v, refl)
 others_agree : (j : JoinField) (js : List JoinField) (env : Bindings) (content : FactContent) → AgreeWith (j ∷ js) env content → AgreeWith js env content
 others_agree j js env content h i (k, lt, is) = h i (suc k, omega arith, is)
 
-module _ (env : Bindings) (content : FactContent) (names : Scope) (scope : HasScope env names) where
+module _ (env : Bindings) (content : FactContent) (names : Scope) (scope : (x : List ℕ) → (value_at x env.variables ≢ None) ↔ In x names) where
   -- where the fields agree, those that are known have the values of their variables
   known_values : (js : List JoinField) → AgreeWith js env content → variable_values (known_fields js names) env ≡ field_values (known_fields js names) content
   known_values [] h = refl

@@ -1,11 +1,11 @@
 -- The partial matches of a list have the values of its scope.
-use Rattle.std.proofs.Common.{◌≡◌, ◌≢◌, ◌↔◌, ◌⊎◌, ◌∙◌, ◌∷◌, ◌++◌, inl, inr, ℕ, zero, suc, Bool, true, false, cond, List, [], Option, Some, None, ap, refl, slice_index_or, subst, sym}
+use Rattle.std.proofs.Common.{◌≡◌, ◌≢◌, ◌≤◌, ◌<◌, ◌↔◌, ◌⊎◌, ◌∙◌, ◌∷◌, ◌++◌, inl, inr, ℕ, zero, suc, Bool, true, false, cond, List, [], Option, Some, None, ap, arith, length, refl, slice_index_or, subst, sym}
 use Rattle.std.specs.Cmp.Lexicographic.{bytes_decides}
 use Rattle.std.specs.List.{Contains, filter, flat_map, list_any}
 use Rattle.std.specs.Prelude.{option_to_list}
 use Rattle.std.specs.Str.{bytes_eq}
 use Rattle.cb_constraints.specs.PatternValues.{PatternValue}
-use Rattle.cb_decided.specs.Plain.{bound_names}
+use Rattle.cb_fit.specs.Plain.{bound_names}
 use Rattle.cb_exprs.proofs.ValueLaws.{value_at-with_value}
 use Rattle.cb_exprs.specs.Bindings.{Bindings, value_at, with_variables}
 use Rattle.cb_facts.specs.FactLists.{IndexedFacts}
@@ -16,17 +16,14 @@ use Rattle.cb_fit.specs.Ways.{WayValue, ways}
 use Rattle.cb_matches.proofs.Lists.{contains_in, in_contains, in_either, in_filter, in_flat, in_left, in_map, in_right}
 use Rattle.cb_matches.specs.Chains.{In}
 use Rattle.cb_matches.specs.Matches.{Partial, extended, grown, next, no_parts, test_holds, with_address}
-use Rattle.cb_nodes.specs.Flat.{FlatNode, Lists, all_hold, alone, begins, grouping, holds_alone, holds_by, joining, lists_from, node_list, testing}
+use Rattle.cb_nodes.specs.Flat.{AreLists, AreWidths, FlatNode, Lists, all_hold, alone, begins, grouping, holds_alone, holds_by, joining, lists_from, node_list, testing}
 use Rattle.cb_nodes.specs.Lists.{branch_lists}
-use Rattle.cb_scopes.specs.Scopes.{Scope, node_scope, scope_of, scopes_from}
-
--- a variable has a value just where it is one of these
-abbrev pub HasScope : Bindings → Scope → Type 0
-HasScope env names = (x : List ℕ) → (value_at x env.variables ≢ None) ↔ In x names
+use Rattle.cb_scopes.proofs.Made.{node_from, scope_at_start, scope_made, well_from}
+use Rattle.cb_scopes.specs.Scopes.{HasValuesOf, Scope, node_scope, scope_of, scopes_from}
 
 -- each of these partial matches has this scope
 abbrev pub HaveScope : List Partial → Scope → Type 0
-HaveScope ms names = (m : Partial) → In m ms → HasScope m.env names
+HaveScope ms names = (m : Partial) → In m ms → HasValuesOf names m
 
 -- what is known of ways
 abbrev pub WaysHave : Type 0
@@ -66,8 +63,8 @@ with_one (Some z) ix env x = (to, from)
     from (inr (inr h)) e = absurd h
 
 -- a partial match that grew
-grown_scope : WaysHave → (a : Option (List ℕ)) (p : PatternValue) (ix : ℕ) (f : FactValue) (m : Partial) (w : WayValue) (names : Scope) → Contains (ways p f (with_address a ix m.env)) w → HasScope m.env names
-    → HasScope (grown a ix m w).env (names ++ (option_to_list a ++ bound_names p))
+grown_scope : WaysHave → (a : Option (List ℕ)) (p : PatternValue) (ix : ℕ) (f : FactValue) (m : Partial) (w : WayValue) (names : Scope) → Contains (ways p f (with_address a ix m.env)) w → HasValuesOf names m
+    → HasValuesOf (names ++ (option_to_list a ++ bound_names p)) (grown a ix m w)
 grown_scope have a p ix f m w names i scope x = (λ some. into ((have p f (with_address a ix m.env) w i x).0 some), λ h. (have p f (with_address a ix m.env) w i x).1 (back (in_either x names (option_to_list a ++ bound_names p) h)))
   where
     of_before : (value_at x m.env.variables ≢ None) ⊎ In x (option_to_list a) → In x (names ++ (option_to_list a ++ bound_names p))
@@ -91,7 +88,7 @@ next_scope have a p fs ms names scope z h =
     let (m, there, more) = in_flat (λ m. flat_map (extended a p m) fs) z ms h in
     let (f, held, last) = in_flat (extended a p m) z fs more in
     let (w, way, is) = in_map (grown a f.0 m) z (ways p f.1 (with_address a f.0 m.env)) last in
-    subst (λ (y : Partial). HasScope y.env (names ++ (option_to_list a ++ bound_names p))) (sym is)
+    subst (HasValuesOf (names ++ (option_to_list a ++ bound_names p))) (sym is)
     (grown_scope have a p f.0 f.1 m w names (in_contains w (ways p f.1 (with_address a f.0 m.env)) way) (scope m there))
 
 -- what passes a test
@@ -99,13 +96,13 @@ passed_scope : (t : Partial → Bool) (ms : List Partial) (names : Scope) → Ha
 passed_scope t ms names scope z h = scope z (in_filter t z ms h).0
 
 -- the list of a node
-node_has : WaysHave → (n : FlatNode) (fs : IndexedFacts) (ls : Lists) (ss : ℕ → Scope) → ((k : ℕ) → HaveScope (ls k) (ss k)) → HaveScope (node_list n fs ls) (node_scope n ss)
-node_has have (joining from x p ts) fs ls ss scopes =
-    passed_scope (all_hold ts) (next x p fs (ls from)) (ss from ++ (option_to_list x ++ bound_names p)) (next_scope have x p fs (ls from) (ss from) (scopes from))
-node_has have (testing from t) fs ls ss scopes = passed_scope (λ m. test_holds t m.env) (ls from) (ss from) (scopes from)
-node_has have (grouping from inner positive width) fs ls ss scopes =
-    passed_scope (λ m. holds_by positive (list_any (begins m.parts) (ls inner))) (ls from) (ss from) (scopes from)
-node_has have (alone from p positive) fs ls ss scopes = passed_scope (holds_alone positive p fs) (ls from) (ss from) (scopes from)
+node_has : WaysHave → (n : FlatNode) (fs : IndexedFacts) (ls : Lists) (ss : ℕ → Scope) → HaveScope (ls (node_from n)) (ss (node_from n)) → HaveScope (node_list n fs ls) (node_scope n ss)
+node_has have (joining from x p ts) fs ls ss scope =
+    passed_scope (all_hold ts) (next x p fs (ls from)) (ss from ++ (option_to_list x ++ bound_names p)) (next_scope have x p fs (ls from) (ss from) scope)
+node_has have (testing from t) fs ls ss scope = passed_scope (λ m. test_holds t m.env) (ls from) (ss from) scope
+node_has have (grouping from inner positive width) fs ls ss scope =
+    passed_scope (λ m. holds_by positive (list_any (begins m.parts) (ls inner))) (ls from) (ss from) scope
+node_has have (alone from p positive) fs ls ss scope = passed_scope (holds_alone positive p fs) (ls from) (ss from) scope
 
 -- lists and scopes side by side
 abbrev AreScoped : List (List Partial) → List Scope → Type 0
@@ -135,7 +132,7 @@ all_scoped have [] fs ls ss h = h
 all_scoped have (n ∷ ns) fs ls ss h =
     let lists : Lists = λ k. slice_index_or ls k [] in
     let scopes : ℕ → Scope = λ k. slice_index_or ss k [] in
-    all_scoped have ns fs (ls ++ node_list n fs lists ∷ []) (ss ++ node_scope n scopes ∷ []) (one_more ls ss (node_list n fs lists) (node_scope n scopes) h (node_has have n fs lists scopes (scoped_at ls ss h)))
+    all_scoped have ns fs (ls ++ node_list n fs lists ∷ []) (ss ++ node_scope n scopes ∷ []) (one_more ls ss (node_list n fs lists) (node_scope n scopes) h (node_has have n fs lists scopes (scoped_at ls ss h (node_from n))))
 
 no_scope : HaveScope (no_parts ∷ []) []
 no_scope m (inl is) x = (λ some. absurd (some (ap (λ (n : Partial). value_at x n.env.variables) is)), λ h. absurd h)
@@ -143,3 +140,34 @@ no_scope m (inr h) x = absurd h
 
 pub branch_scoped : WaysHave → (ns : List FlatNode) (fs : IndexedFacts) (k : ℕ) → HaveScope (branch_lists ns fs k) (scope_of ns k)
 branch_scoped have ns fs k = scoped_at (lists_from ns fs ((no_parts ∷ []) ∷ [])) (scopes_from ns ([] ∷ [])) (all_scoped have ns fs ((no_parts ∷ []) ∷ []) ([] ∷ []) (no_scope, tt)) k
+
+-- and of any lists that nodes with widths make
+any_node : FlatNode
+any_node = grouping 0 0 true 0
+
+at_most : (k most : ℕ) → k ≤ suc most → (k ≤ most) ⊎ (k ≡ suc most)
+at_most zero most l = inl (omega (arith))
+at_most (suc k) zero l = inr (omega (arith, l))
+at_most (suc k) (suc most) l = elim (at_most k most (omega (arith, l))) as (λ _. (suc k ≤ suc most) ⊎ (suc k ≡ suc (suc most))) [ inl i ↦ inl (omega (arith, i)) | inr e ↦ inr (ap suc e) ]
+
+module _ (have : WaysHave) (ns : List FlatNode) (ws : ℕ → ℕ) (fs : IndexedFacts) (first : List Partial) (ls : Lists) (widths : AreWidths ns ws) (are : AreLists ns fs first ls) (unbound : HaveScope first []) where
+  next_scoped : (k : ℕ) → k < length ns → ((j : ℕ) → j ≤ k → HaveScope (ls j) (scope_of ns j)) → HaveScope (ls (suc k)) (scope_of ns (suc k))
+  next_scoped k within before =
+      let n : FlatNode = slice_index_or ns k any_node in
+      let below : node_from n < suc k = well_from k n ws (widths.well k any_node within) in
+      subst (λ (it : List Partial). HaveScope it (scope_of ns (suc k))) (sym (are.each k any_node within))
+      (subst (HaveScope (node_list n fs ls)) (sym (scope_made ns k any_node within below)) (node_has have n fs ls (scope_of ns) (before (node_from n) (omega (arith, below)))))
+
+  scoped_up_to : (most : ℕ) → most ≤ length ns → (k : ℕ) → k ≤ most → HaveScope (ls k) (scope_of ns k)
+  scoped_up_to zero there k l =
+      subst (λ (j : ℕ). HaveScope (ls j) (scope_of ns j)) (let e : 0 ≡ k = omega (arith, l) in e)
+      (subst (λ (it : List Partial). HaveScope it (scope_of ns 0)) (sym are.start) (subst (HaveScope first) (sym (scope_at_start ns)) unbound))
+  scoped_up_to (suc most) there k l =
+      let before = scoped_up_to most (omega (arith, there)) in
+      elim (at_most k most l) as (λ _. HaveScope (ls k) (scope_of ns k)) [
+        | inl i ↦ before k i
+        | inr e ↦ subst (λ (j : ℕ). HaveScope (ls j) (scope_of ns j)) (sym e) (next_scoped most (omega (arith, there)) before)
+      ]
+
+  pub lists_scoped : (k : ℕ) → k ≤ length ns → HaveScope (ls k) (scope_of ns k)
+  lists_scoped k l = scoped_up_to (length ns) (omega (arith)) k l

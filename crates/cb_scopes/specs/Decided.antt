@@ -1,9 +1,9 @@
 -- What is asked of a fact by values, where it is known which variables have values before.
-use Rattle.std.specs.Prelude.{◌≡◌, ℕ, true, List, Option, map}
+use Rattle.std.specs.Prelude.{◌≡◌, ℕ, true, not, List, Option, map}
 use Rattle.std.specs.List.{filter}
 use Rattle.cb_constraints.specs.PatternValues.{PatternValue}
-use Rattle.cb_decided.specs.Decided.{ValuesDecide}
-use Rattle.cb_decided.specs.Plain.{is_named}
+use Rattle.cb_fit.specs.Decided.{ValuesDecide}
+use Rattle.cb_fit.specs.Plain.{is_named}
 use Rattle.cb_exprs.specs.Bindings.{Bindings, value_at}
 use Rattle.cb_facts.specs.FactLists.{IndexedFacts}
 use Rattle.cb_facts.specs.Facts.{FactContent, FactValue}
@@ -18,6 +18,10 @@ use Rattle.cb_scopes.specs.Scopes.{Scope}
 -- of these fields those with a variable of the scope
 abbrev pub known_fields : List JoinField → Scope → List JoinField
 known_fields js names = filter (λ (j : JoinField). is_named j.variable names) js
+
+-- and those with another
+abbrev pub unknown_fields : List JoinField → Scope → List JoinField
+unknown_fields js names = filter (λ (j : JoinField). not (is_named j.variable names)) js
 
 -- the values that their variables have
 abbrev pub variable_values : List JoinField → Bindings → List (Option Value)

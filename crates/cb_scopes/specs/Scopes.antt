@@ -1,6 +1,9 @@
 -- Which variables have values in the partial matches of a list.
-use Rattle.std.specs.Prelude.{ℕ, List, [], ◌∷◌, ◌++◌, option_to_list, slice_index_or}
-use Rattle.cb_decided.specs.Plain.{bound_names}
+use Rattle.std.specs.Prelude.{◌≢◌, ◌↔◌, ℕ, None, List, [], ◌∷◌, ◌++◌, option_to_list, slice_index_or}
+use Rattle.cb_exprs.specs.Bindings.{value_at}
+use Rattle.cb_fit.specs.Plain.{bound_names}
+use Rattle.cb_matches.specs.Chains.{In}
+use Rattle.cb_matches.specs.Matches.{Partial}
 use Rattle.cb_nodes.specs.Flat.{FlatNode, joining, testing, grouping, alone}
 
 -- the names of variables
@@ -22,3 +25,7 @@ scopes_from (n ∷ ns) ss = scopes_from ns (ss ++ node_scope n (λ k. slice_inde
 -- those of the list with this number: before the first node no variable has a value
 abbrev pub scope_of : List FlatNode → ℕ → Scope
 scope_of ns k = slice_index_or (scopes_from ns ([] ∷ [])) k []
+
+-- just these variables have values in a partial match
+abbrev pub HasValuesOf : Scope → Partial → Type 0
+HasValuesOf names m = (x : List ℕ) → (value_at x m.env.variables ≢ None) ↔ In x names

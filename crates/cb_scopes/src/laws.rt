@@ -1,26 +1,37 @@
 //! Laws of scopes: each is the contract of a function that does nothing.
-ghost use Rattle.std.specs.Prelude.{◌≡◌, ◌≢◌, ◌↔◌, ℕ, List, None, false, not, true};
+ghost use Rattle.std.specs.Prelude.{◌≡◌, ◌≢◌, ◌↔◌, ◌≤◌, ℕ, List, [], None, false, length, not, true};
 ghost use Rattle.cb_constraints.specs.PatternValues.{PatternValue};
-ghost use Rattle.cb_decided.specs.Comparisons.{is_decided};
-ghost use Rattle.cb_decided.specs.Decided.{AgreeWith};
+ghost use Rattle.cb_fit.specs.Comparisons.{is_decided};
+ghost use Rattle.cb_fit.specs.Decided.{AgreeWith};
 ghost use Rattle.cb_exprs.specs.Bindings.{Bindings, value_at};
 ghost use Rattle.cb_facts.specs.FactLists.{IndexedFacts};
 ghost use Rattle.cb_facts.specs.Facts.{FactContent};
 ghost use Rattle.cb_fit.specs.declared.join_fields.JoinField.{JoinField};
 ghost use Rattle.cb_matches.specs.Chains.{In};
 ghost use Rattle.cb_matches.specs.Matches.{Partial};
-ghost use Rattle.cb_nodes.specs.Flat.{FlatNode, holds_alone};
+ghost use Rattle.cb_nodes.specs.Flat.{AreLists, AreWidths, FlatNode, Lists, holds_alone};
 ghost use Rattle.cb_nodes.specs.Lists.{branch_lists};
 ghost use Rattle.cb_scopes.specs.Decided.{Sees, field_values, known_fields, variable_values};
-ghost use Rattle.cb_scopes.specs.Scopes.{scope_of};
+ghost use Rattle.cb_scopes.specs.Scopes.{HasValuesOf, scope_of};
 
-use cb_decided::laws::{a_pattern_is_decided_by_values, a_way_gives_values_to_the_bound_names};
+use cb_fit::laws::{a_pattern_is_decided_by_values, a_way_gives_values_to_the_bound_names};
 
 /// In each partial match of a list of a branch just the variables of the list's scope have values, whatever facts there are.
 pub fn a_partial_match_has_the_values_of_its_scope()
     ensures { (ns : List FlatNode) (fs : IndexedFacts) (k : ℕ) (m : Partial)
         → In m (branch_lists ns fs k) → (x : List ℕ)
         → (value_at x m.env.variables ≢ None) ↔ In x (scope_of ns k) }
+{
+    a_way_gives_values_to_the_bound_names();
+}
+
+/// In each partial match of the lists that nodes make just the variables of the list's scope have values, where none has before the
+/// first node.
+pub fn the_lists_of_nodes_have_the_values_of_their_scopes()
+    ensures { (ns : List FlatNode) (ws : ℕ → ℕ) (fs : IndexedFacts) (first : List Partial) (ls : Lists)
+        → AreWidths ns ws → AreLists ns fs first ls
+        → ((m : Partial) → In m first → HasValuesOf [] m)
+        → (k : ℕ) → k ≤ length ns → (m : Partial) → In m (ls k) → HasValuesOf (scope_of ns k) m }
 {
     a_way_gives_values_to_the_bound_names();
 }

@@ -67,8 +67,7 @@ fn pass_one(
     ensures { OnOk result (Comes own.old own.new (IsPassed (term_of test.now)
         (partial_at lists.now.sources.now lists.now.lists.now from) number)) }
 {
-    let env = lists.env(from, number)?;
-    if !lists.holds(test, &env)? {
+    if !lists.holds(test, &lists.reading(from, number))? {
         return Ok(());
     }
     own.add(Token {

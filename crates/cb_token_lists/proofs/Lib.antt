@@ -5,3 +5,4 @@ pub mod Down
 pub mod Keeping
 pub mod Paths
 pub mod Told
+pub mod Values

@@ -69,7 +69,7 @@ impl<'a> TokenLists<'a> {
     }
 
     /// What a list goes on from, and the token with a number in it; nothing before the first element, and where there is none.
-    fn read(&self, list: usize, number: u32) -> Option<(&'a Source, &'a Token)>
+    pub(crate) fn read(&self, list: usize, number: u32) -> Option<(&'a Source, &'a Token)>
         ensures { (n : ℕ) → MatchOption result
             (partial_in self.now.sources.now self.now.lists.now n list number ≡ no_parts)
             (λ r. partial_in self.now.sources.now self.now.lists.now (suc n) list number

@@ -5,7 +5,7 @@ ghost use Rattle.cb_matches.specs.Matches.{test_holds};
 
 use crate::reading::TokenLists;
 use cb_eval::eval;
-use cb_exprs::{Env, Expr};
+use cb_exprs::{Expr, Lookup};
 use cb_facts::Refused;
 use cb_forms::NoMemory;
 use cb_functions::is_true;
@@ -13,10 +13,11 @@ use cb_functions::is_true;
 impl TokenLists<'_> {
     /// Whether a test holds, where variables have these values; one that faults doesn't. Growth is refused as `NoMemory`, and so is
     /// a count of sharers that is full.
-    pub fn holds(&self, test: &Expr, env: &Env) -> Result<bool, NoMemory>
-        ensures { IfOk result (λ holds. holds ≡ test_holds (term_of test.now) env.now) }
+    pub fn holds<L: Lookup>(&self, test: &Expr, known: &L) -> Result<bool, NoMemory>
+        ensures { IfOk result
+            (λ holds. holds ≡ test_holds (term_of test.now) (L.bindings known.now)) }
     {
-        match eval(self.alloc, self.constants, test, env) {
+        match eval(self.alloc, self.constants, test, known) {
             Ok(value) => Ok(is_true(&value)),
             Err(Refused::Fault(_)) => Ok(false),
             Err(Refused::NoMemory) => Err(NoMemory),

@@ -1,0 +1,10 @@
+use Rattle.std.proofs.Common.{◌≡◌, length}
+use Rattle.cb_exprs.specs.Bindings.{no_bindings, value_at, with_variables}
+use Rattle.cb_token_lists.proofs.giving.given_by_way.Given as goal
+
+abbrev pub invariant-loop-last : goal.invariant-loop-last
+invariant-loop-last l =
+    value_at l.name (with_variables l.left no_bindings).variables ≡ value_at l.name (with_variables l.bound no_bindings).variables
+
+abbrev pub decreases-loop-last : goal.decreases-loop-last
+decreases-loop-last l = length l.left

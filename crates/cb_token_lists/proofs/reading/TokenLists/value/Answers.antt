@@ -1,0 +1,63 @@
+use Rattle.std.proofs.Common.{◌≡◌, ◌∙◌, ◌+◌, ◌-◌, Some, None, ap, ap₂, arith, suc, sym}
+use Rattle.std.specs.Option.{option_or}
+use Rattle.cb_beta.specs.Tokens.{TokenValue}
+use Rattle.cb_exprs.specs.Bindings.{value_at}
+use Rattle.cb_matches.specs.Matches.{Partial}
+use Rattle.cb_token_lists.proofs.Values.{value_further}
+use Rattle.cb_token_lists.specs.Partials.{SourceValue, partial_at, partial_in}
+use Rattle.cb_token_lists.proofs.reading.TokenLists.value.Goals as goal
+use Rattle.cb_token_lists.proofs.reading.TokenLists.value.Goals.{else-loop-test, then-loop-test+in-Some+in_ok-value+in_default-2+else-counter-list}
+
+pub loop-init : goal.loop-init
+loop-init c n e =
+    let ss = c.args.self.now.sources.now in
+    let ls = c.args.self.now.lists.now in
+    let same : suc c.args.list ≡ n = omega (arith, e) in
+    ap (λ k. value_at c.args.name.now (partial_in ss ls k c.args.list c.args.number).env.variables) same
+
+pub returns-in_default : goal.returns-in_default
+returns-in_default c =
+    let left : (c.args.list - c.loop.counter + 1) + c.loop.counter ≡ suc c.args.list = omega (arith, c.loop-test.true) in
+    sym
+    (c.loop.invariant (c.args.list - c.loop.counter + 1) left
+    ∙ ap (λ (it : Partial). value_at c.args.name.now it.env.variables) (c.in_default.ensures (c.args.list - c.loop.counter + 1)))
+
+pub returns-in-Some-2 : goal.returns-in-Some-2
+returns-in-Some-2 c =
+    let ss = c.args.self.now.sources.now in
+    let ls = c.args.self.now.lists.now in
+    let name = c.args.name.now in
+    let n = c.args.list - c.loop.counter in
+    let left : suc n + c.loop.counter ≡ suc c.args.list = omega (arith, c.loop-test.true) in
+    sym
+    (value_further ss ls name (value_at name (partial_at ss ls c.args.list c.args.number).env.variables) n c.loop.reached c.loop.met c.in-Some.source.now c.in-Some.token.now (Some c.in-Some-2.value)
+    (c.loop.invariant (suc n) left) (c.in-Some.ensures n)
+    (λ (m : Partial). c.in_ok-value.ensures m ∙ ap (λ o. option_or o (value_at name m.env.variables)) c.in-Some-2.is))
+
+pub loop-preserved : goal.loop-preserved
+loop-preserved c n e =
+    let ss = c.args.self.now.sources.now in
+    let ls = c.args.self.now.lists.now in
+    let name = c.args.name.now in
+    let left : suc n + c.loop.counter ≡ suc c.args.list = omega (arith, e) in
+    value_further ss ls name (value_at name (partial_at ss ls c.args.list c.args.number).env.variables) n c.loop.reached c.loop.met c.in-Some.source.now c.in-Some.token.now None
+    (c.loop.invariant (suc n) left) (c.in-Some.ensures n)
+    (λ (m : Partial). c.in_ok-value.ensures m ∙ ap (λ o. option_or o (value_at name m.env.variables)) c.in_default-2.is)
+    ∙ ap₂ (λ (s : SourceValue) (t : TokenValue). value_at name (partial_in ss ls n s.from t.parent).env.variables) (sym c.source.view_is) (sym c.token.view_is)
+
+pub returns : goal.returns
+returns c =
+    let ss = c.args.self.now.sources.now in
+    let ls = c.args.self.now.lists.now in
+    let name = c.args.name.now in
+    elim c.loop-test.branch [
+      | else-loop-test w ↦
+          let left : 0 + c.loop.counter ≡ suc c.args.list = omega (arith, w.loop-test.false) in
+          sym (c.loop.invariant 0 left)
+      | then-loop-test+in-Some+in_ok-value+in_default-2+else-counter-list w ↦
+          let left : suc 0 + c.loop.counter ≡ suc c.args.list = omega (arith, w) in
+          sym
+          (value_further ss ls name (value_at name (partial_at ss ls c.args.list c.args.number).env.variables) 0 c.loop.reached c.loop.met w.in-Some.source.now w.in-Some.token.now None
+          (c.loop.invariant (suc 0) left) (w.in-Some.ensures 0)
+          (λ (m : Partial). w.in_ok-value.ensures m ∙ ap (λ o. option_or o (value_at name m.env.variables)) w.in_default-2.is))
+    ]

@@ -1,0 +1,45 @@
+//! What a variable has by the partial match that a token stands for.
+ghost use Rattle.std.specs.Prelude.{◌≡◌, IfOk};
+ghost use Rattle.cb_exprs.specs.Bindings.{value_at};
+ghost use Rattle.cb_token_lists.specs.Partials.{partial_at};
+
+use crate::giving::given_by_token;
+use crate::known::Reading;
+use crate::reading::TokenLists;
+use cb_facts::{Name, Value};
+use cb_forms::NoMemory;
+
+impl<'a> TokenLists<'a> {
+    /// The value that a variable has by the partial match with a number in a list, or `None` where it has none. It takes some steps
+    /// for each list that is gone down to, until one gives the variable, and no memory: the value shares its bytes or fields. It is
+    /// refused as `NoMemory` only where a count of sharers is full.
+    pub fn value(&self, list: usize, number: u32, name: &Name) -> Result<Option<Value>, NoMemory>
+        ensures { IfOk result (λ found. found ≡ value_at name.now
+            (partial_at self.now.sources.now self.now.lists.now list number).env.variables) }
+    {
+        let mut reached = list;
+        let mut met = number;
+        for _ in 0..=list {
+            let Some((source, token)) = self.read(reached, met) else {
+                return Ok(None);
+            };
+            if let Some(value) = given_by_token(source, token, name)? {
+                return Ok(Some(value));
+            }
+            reached = source.from as usize;
+            met = token.parent;
+        }
+        Ok(None)
+    }
+
+    /// The partial match with a number in a list, to be asked for its variables one by one.
+    pub fn reading(&self, list: usize, number: u32) -> Reading<'a>
+        ensures { result ≡ record { lists = self.now; list = list; number = number } }
+    {
+        Reading {
+            lists: *self,
+            list,
+            number,
+        }
+    }
+}
