@@ -36,14 +36,14 @@ by_option None none some = none refl
 by_option (Some a) none some = some a refl
 
 -- a first value and others
-record IsFirst (first : Option Value) (others : Option (List Value)) (vs : List Value) : Type 0 where
-  v : Value
-  us : List Value
-  first_is : first ≡ Some v
-  others_are : others ≡ Some us
-  are : vs ≡ v ∷ us
+pub record IsFirst (first : Option Value) (others : Option (List Value)) (vs : List Value) : Type 0 where
+  pub v : Value
+  pub us : List Value
+  pub first_is : first ≡ Some v
+  pub others_are : others ≡ Some us
+  pub are : vs ≡ v ∷ us
 
-both_there : (first : Option Value) (others : Option (List Value)) (vs : List Value) → with_first first others ≡ Some vs → IsFirst first others vs
+pub both_there : (first : Option Value) (others : Option (List Value)) (vs : List Value) → with_first first others ≡ Some vs → IsFirst first others vs
 both_there None others vs e = absurd (apart e)
   where
     apart : None ≡ Some vs → ⊥
@@ -58,7 +58,7 @@ both_there (Some v) (Some us) vs e = record { v = v; us = us; first_is = refl; o
     inside d = cc
 
 -- the address of a fact is no value of another variable
-past_address : (x : Option (List ℕ)) (ix : ℕ) (env : Bindings) (y : List ℕ) → x ≢ Some y → value_at y (with_address x ix env).variables ≡ value_at y env.variables
+pub past_address : (x : Option (List ℕ)) (ix : ℕ) (env : Bindings) (y : List ℕ) → x ≢ Some y → value_at y (with_address x ix env).variables ≡ value_at y env.variables
 past_address None ix env y apart = refl
 past_address (Some z) ix env y apart =
     value_at-with_value env.variables y z (value.Fact ix)

@@ -88,6 +88,19 @@ module _ (x : Option (List ℕ)) (ts : List Term) (m : Partial) (number candidat
       the_one v (inl e) = e
       the_one v (inr h) = absurd h
 
+  -- one way alone
+  pub one_way_comes : (old new : BetaMemoryValue) (ws : List WayValue) (way : WayValue) → ws ≡ way ∷ [] → Comes old new (IsOfWay x ts m number candidate ix way)
+      → Comes old new (IsOfWays x ts m number candidate ix ws)
+  one_way_comes old new ws way e is =
+      come_alike old new (IsOfWay x ts m number candidate ix way) (IsOfWays x ts m number candidate ix ws)
+      (λ t h. (way, subst (In way) (sym e) (inl refl), h))
+      (λ t h. subst (λ it. IsOfWay x ts m number candidate ix it t) (the_one h.0 (subst (In h.0) e h.1)) h.2)
+      is
+    where
+      the_one : (v : WayValue) → In v (way ∷ []) → v ≡ way
+      the_one v (inl e) = e
+      the_one v (inr h) = absurd h
+
 module _ (x : Option (List ℕ)) (p : PatternValue) (ts : List Term) where
   -- what comes of facts says of which
   pub differ_by_fact : (m : Partial) (number : ℕ) (cs : Candidates) (i j : ℕ) (t : TokenValue) → IsOfFact x p ts m number cs i t → IsOfFact x p ts m number cs j t → i ≡ j

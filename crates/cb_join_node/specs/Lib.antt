@@ -1,4 +1,5 @@
 pub mod Bounds
 pub mod Filings
 pub mod Joins
+pub mod Meetings
 pub mod Nodes

@@ -1,21 +1,30 @@
 -- A join node, before and after a change.
-use Rattle.std.specs.Prelude.{◌≡◌, ◌≢◌, ◌≤◌, ℕ, List, [], Option, Some, length, map}
+use Rattle.std.specs.Prelude.{◌≡◌, ◌≢◌, ◌≤◌, ◌⊎◌, ℕ, false, true, List, [], Option, Some, length, map}
 use Rattle.std.specs.Option.{option_and_then, option_map}
 use Rattle.cb_alpha.specs.AlphaMemories.{AlphaMemoryValue, candidate_in, live}
 use Rattle.cb_alpha.specs.Turning.{AlphaTurns, HasJoin, were_in}
 use Rattle.cb_beta.specs.BetaMemories.{BetaMemoryValue}
 use Rattle.cb_beta.specs.Tokens.{TokenValue, partial_after}
+use Rattle.cb_constraints.specs.Binders.{constraints_in}
 use Rattle.cb_exprs.specs.Terms.{Term, term_of}
 use Rattle.cb_facts.specs.FactLists.{IndexedFacts}
 use Rattle.cb_facts.specs.Facts.{FactValue}
+use Rattle.cb_fit.specs.Comparisons.{choice_fields, compared_fields, is_decided}
+use Rattle.cb_fit.specs.Decided.{ones}
+use Rattle.cb_fit.specs.JoinFields.{join_fields}
+use Rattle.cb_fit.specs.Plain.{bound_names, is_named}
+use Rattle.cb_fit.specs.declared.comparison.ComparedField.{ComparedField}
 use Rattle.cb_join_node.specs.Filings.{ArePartialsFiled}
 use Rattle.cb_join_node.specs.Joins.{Joins}
+use Rattle.cb_join_node.specs.declared.by_values.ByValues.{ByValues}
 use Rattle.cb_join_node.specs.declared.joining.Joining.{Joining}
 use Rattle.cb_join_node.specs.declared.node.JoinNode.{JoinNode}
 use Rattle.cb_matches.specs.Chains.{Chain, In}
 use Rattle.cb_matches.specs.Matches.{Partial}
 use Rattle.cb_nodes.specs.Flat.{next_where}
 use Rattle.cb_nodes.specs.Patterns.{AreJoinFields}
+use Rattle.cb_scopes.specs.Decided.{known_fields, unknown_fields}
+use Rattle.cb_scopes.specs.Scopes.{HasValuesOf, Scope}
 use Rattle.cb_token_lists.specs.Growth.{AreTokens}
 use Rattle.cb_token_lists.specs.Turns.{IsThere, Turns, WasThere}
 
@@ -56,6 +65,21 @@ module _ {T : Type 0} where
     pub partials_filed : ArePartialsFiled node.asked.fields.items node.partials node.strays at There
     pub tokens : AreTokens own (AreJoined node.asked at There facts)
 
+  -- the pattern is decided by values, where variables with these names have values before it, and this is how it is joined by them
+  pub record IsByValues (names : Scope) (asked : Joining T) (by : ByValues) : Type 0 where
+    pub decided : is_decided asked.pattern ≡ true
+    pub unchosen : choice_fields asked.pattern.parts ≡ []
+    pub fields : asked.fields.items ≡ known_fields (join_fields asked.pattern.parts) names
+    pub taken : by.taken.items ≡ unknown_fields (join_fields asked.pattern.parts) names
+    pub compared : by.compared.items ≡ compared_fields asked.pattern.parts
+    pub cuts : by.cuts ≡ ones (constraints_in asked.pattern.parts)
+    pub address : (x : List ℕ) → asked.address ≡ Some x → (is_named x (bound_names asked.pattern) ≡ false)
+        × ((c : ComparedField) → In c (compared_fields asked.pattern.parts) → x ≢ c.variable)
+
+  -- where the node joins by values, they are those of the variables that have values in all of these partial matches
+  abbrev pub FitsValues : JoinNode T → List Partial → List Partial → Type 0
+  FitsValues node old new = (by : ByValues) → node.asked.by_values ≡ Some by → (names : Scope) × IsByValues names node.asked by × ((m : Partial) → In m old ⊎ In m new → HasValuesOf names m)
+
   -- before a change of the node: the list before it, where a number stands for a partial match by `at`, has turned from the partial
   -- matches `old` to `new`, and the facts from `fs` to `fs'`, which are found by the node's fields. The node is ready for what was, and in
   -- its own list nothing went or came yet
@@ -65,6 +89,7 @@ module _ {T : Type 0} where
     pub facts : AlphaTurns node.asked.pattern alpha fs fs'
     pub has_join : HasJoin alpha node.join node.asked.fields.items
     pub ready : IsReady node at (WasThere before) (were_in alpha) own
+    pub by_values : FitsValues node old new
     pub none_gone : own.gone ≡ []
     pub none_come : own.come ≡ []
 

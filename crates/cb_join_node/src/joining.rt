@@ -3,22 +3,24 @@ ghost use Rattle.std.specs.Prelude.{◌≡◌, ◌≢◌, ◌≤◌, ◌+◌, �
 ghost use Rattle.cb_exprs.specs.Bindings.{with_variables};
 ghost use Rattle.cb_exprs.specs.Terms.{term_of};
 ghost use Rattle.cb_fit.specs.WayValues.{way_of};
+ghost use Rattle.cb_join_node.specs.Meetings.{MayMeet, MayMeetAll, Meet, MeetsAll, MeetsOne};
 ghost use Rattle.cb_join_node.specs.Joins.{IsOfFact, IsOfFacts, IsOfPartials, IsOfWay, IsOfWays, IsPair};
 ghost use Rattle.cb_join_node.specs.Nodes.{tests_of};
-ghost use Rattle.cb_matches.specs.Chains.{Chain};
-ghost use Rattle.cb_matches.specs.Matches.{Partial, with_address};
+ghost use Rattle.cb_matches.specs.Chains.{Chain, In};
+ghost use Rattle.cb_matches.specs.Matches.{Partial, grown, with_address};
 ghost use Rattle.cb_nodes.specs.Flat.{all_hold};
 ghost use Rattle.cb_token_lists.specs.Growth.{Comes};
 ghost use Rattle.cb_token_lists.specs.Partials.{partial_at};
 
+use crate::by_values::{ByValues, compare_all};
 use cb_alpha::{AlphaMemory, Candidate};
 use cb_beta::{BetaMemory, Taken, Token};
-use cb_exprs::{Env, Expr};
+use cb_exprs::{Env, Expr, Lookup};
 use cb_facts::Name;
-use cb_fit::laws::the_ways_rise_by_their_cuts;
+use cb_fit::laws::{a_pattern_is_decided_by_values, the_ways_rise_by_their_cuts};
 use cb_fit::{JoinField, Meter, Pattern, Way, fit};
 use cb_forms::NoMemory;
-use cb_token_lists::{TokenLists, bind_address, bind_all};
+use cb_token_lists::{Grown, TokenLists, bind_address, bind_all};
 use smallvec::SmallVec;
 
 /// What a join node asks of a fact.
@@ -32,10 +34,82 @@ pub struct Joining<T> {
     pub tests: Vec<Expr>,
     /// The fields of a fact that have to be equal to variables, by which partial matches and facts find each other.
     pub fields: Vec<JoinField>,
+    /// How it is joined without a test of the pattern, where that is decided by values.
+    pub by_values: Option<ByValues>,
 }
 
-/// Joins a partial match with each of these facts.
+/// Joins a partial match of a list with each of these facts. Where the pattern is joined by values, they meet it by those.
 pub(crate) fn join_facts<T>(
+    lists: &TokenLists<'_>,
+    from: usize,
+    asked: &Joining<T>,
+    alpha: &AlphaMemory,
+    number: u32,
+    candidates: &[u32],
+    own: &mut BetaMemory,
+    meter: &mut Meter<T>,
+) -> Result<(), NoMemory>
+    ensures come { OnOk result (Chain (λ (i : ℕ) (j : ℕ). i ≢ j) candidates.now
+        → MayMeetAll asked.now (partial_at lists.now.sources.now lists.now.lists.now from number) alpha.now.candidates candidates.now
+        → Comes own.old own.new (IsOfFacts asked.now.address asked.now.pattern (tests_of asked.now)
+        (partial_at lists.now.sources.now lists.now.lists.now from number) number alpha.now.candidates candidates.now)) }
+    ensures probes { OnOk result (meter.new ≤ meter.old + length candidates.now) }
+{
+    match &asked.by_values {
+        Some(by) => join_facts_by_values(lists, from, asked, by, alpha, number, candidates, own),
+        None => {
+            let env = lists.env(from, number)?;
+            join_facts_by_tests(lists, asked, alpha, number, &env, candidates, own, meter)
+        }
+    }
+}
+
+/// Joins a partial match with each of these facts that it meets by values.
+fn join_facts_by_values<T>(
+    lists: &TokenLists<'_>,
+    from: usize,
+    asked: &Joining<T>,
+    by: &ByValues,
+    alpha: &AlphaMemory,
+    number: u32,
+    candidates: &[u32],
+    own: &mut BetaMemory,
+) -> Result<(), NoMemory>
+    ensures { OnOk result (Chain (λ (i : ℕ) (j : ℕ). i ≢ j) candidates.now
+        → MeetsAll asked.now by.now (partial_at lists.now.sources.now lists.now.lists.now from number) alpha.now.candidates candidates.now
+        → Comes own.old own.new (IsOfFacts asked.now.address asked.now.pattern (tests_of asked.now)
+        (partial_at lists.now.sources.now lists.now.lists.now from number) number alpha.now.candidates candidates.now)) }
+{
+    for candidate in candidates {
+        join_candidate_by_values(lists, from, asked, by, alpha, number, *candidate, own)?;
+    }
+    Ok(())
+}
+
+/// Joins a partial match with the fact of this number, which it meets by values.
+fn join_candidate_by_values<T>(
+    lists: &TokenLists<'_>,
+    from: usize,
+    asked: &Joining<T>,
+    by: &ByValues,
+    alpha: &AlphaMemory,
+    number: u32,
+    candidate: u32,
+    own: &mut BetaMemory,
+) -> Result<(), NoMemory>
+    ensures { OnOk result
+        (MeetsOne asked.now by.now (partial_at lists.now.sources.now lists.now.lists.now from number) alpha.now.candidates candidate
+        → Comes own.old own.new (IsOfFact asked.now.address asked.now.pattern (tests_of asked.now)
+        (partial_at lists.now.sources.now lists.now.lists.now from number) number alpha.now.candidates candidate)) }
+{
+    match alpha.candidate(candidate) {
+        Some(one) => join_by_values(lists, from, asked, by, number, candidate, one, own),
+        None => Ok(()),
+    }
+}
+
+/// Joins a partial match with each of these facts by tests of the pattern.
+fn join_facts_by_tests<T>(
     lists: &TokenLists<'_>,
     asked: &Joining<T>,
     alpha: &AlphaMemory,
@@ -57,7 +131,7 @@ pub(crate) fn join_facts<T>(
     Ok(())
 }
 
-/// Joins a partial match with the fact of this number.
+/// Joins a partial match with the fact of this number by tests of the pattern.
 fn join_candidate<T>(
     lists: &TokenLists<'_>,
     asked: &Joining<T>,
@@ -79,7 +153,7 @@ fn join_candidate<T>(
     }
 }
 
-/// Joins each of these partial matches of a list with a fact.
+/// Joins each of these partial matches of a list with a fact. Where the pattern is joined by values, they meet it by those.
 pub(crate) fn join_partials<T>(
     lists: &TokenLists<'_>,
     from: usize,
@@ -90,19 +164,121 @@ pub(crate) fn join_partials<T>(
     own: &mut BetaMemory,
     meter: &mut Meter<T>,
 ) -> Result<(), NoMemory>
-    ensures come { OnOk result (Chain (λ (i : ℕ) (j : ℕ). i ≢ j) numbers.now → Comes own.old own.new
-        (IsOfPartials asked.now.address asked.now.pattern (tests_of asked.now)
+    ensures come { OnOk result (Chain (λ (i : ℕ) (j : ℕ). i ≢ j) numbers.now
+        → ((n : ℕ) → In n numbers.now → MayMeet asked.now (partial_at lists.now.sources.now lists.now.lists.now from n) one.now)
+        → Comes own.old own.new (IsOfPartials asked.now.address asked.now.pattern (tests_of asked.now)
         (partial_at lists.now.sources.now lists.now.lists.now from) numbers.now candidate one.now)) }
     ensures probes { OnOk result (meter.new ≤ meter.old + length numbers.now) }
 {
     for number in numbers {
-        let env = lists.env(from, *number)?;
-        join_pair(lists, asked, *number, &env, candidate, one, own, meter)?;
+        join_one(lists, from, asked, *number, candidate, one, own, meter)?;
     }
     Ok(())
 }
 
-/// Joins a partial match with a fact: a token comes for each way in which it goes on with it and the tests hold.
+/// Joins a partial match of a list with a fact.
+fn join_one<T>(
+    lists: &TokenLists<'_>,
+    from: usize,
+    asked: &Joining<T>,
+    number: u32,
+    candidate: u32,
+    one: &Candidate,
+    own: &mut BetaMemory,
+    meter: &mut Meter<T>,
+) -> Result<(), NoMemory>
+    ensures come { OnOk result
+        (MayMeet asked.now (partial_at lists.now.sources.now lists.now.lists.now from number) one.now
+        → Comes own.old own.new (IsPair asked.now.address asked.now.pattern (tests_of asked.now)
+        (partial_at lists.now.sources.now lists.now.lists.now from number) number candidate one.now)) }
+    ensures probes { OnOk result (meter.new ≤ meter.old + 1) }
+{
+    match &asked.by_values {
+        Some(by) => join_by_values(lists, from, asked, by, number, candidate, one, own),
+        None => {
+            let env = lists.env(from, number)?;
+            join_pair(lists, asked, number, &env, candidate, one, own, meter)
+        }
+    }
+}
+
+/// Joins a partial match with a fact that it meets by values: a token comes if the fields that are compared compare so, and the tests
+/// hold. The pattern isn't tested.
+fn join_by_values<T>(
+    lists: &TokenLists<'_>,
+    from: usize,
+    asked: &Joining<T>,
+    by: &ByValues,
+    number: u32,
+    candidate: u32,
+    one: &Candidate,
+    own: &mut BetaMemory,
+) -> Result<(), NoMemory>
+    ensures { OnOk result
+        (Meet asked.now by.now (partial_at lists.now.sources.now lists.now.lists.now from number) one.now
+        → Comes own.old own.new (IsPair asked.now.address asked.now.pattern (tests_of asked.now)
+        (partial_at lists.now.sources.now lists.now.lists.now from number) number candidate one.now)) }
+{
+    a_pattern_is_decided_by_values();
+    let known = lists.reading(from, number);
+    if !compare_all(by.compared.as_slice(), &known, &one.fact)? {
+        return Ok(());
+    }
+    let way = by.way(lists.alloc, &one.fact)?;
+    add_way_of(lists, from, asked, number, candidate, one.index, way, own)
+}
+
+/// Adds a token for a way of a partial match of a list, if the tests hold by it.
+fn add_way_of<T>(
+    lists: &TokenLists<'_>,
+    from: usize,
+    asked: &Joining<T>,
+    number: u32,
+    candidate: u32,
+    index: u64,
+    way: Way,
+    own: &mut BetaMemory,
+) -> Result<(), NoMemory>
+    ensures { OnOk result (Comes own.old own.new (IsOfWay asked.now.address (tests_of asked.now)
+        (partial_at lists.now.sources.now lists.now.lists.now from number) number candidate index (way_of way))) }
+{
+    if !hold_after(lists, from, asked, number, index, &way)? {
+        return Ok(());
+    }
+    let taken = Taken {
+        candidate,
+        index,
+        way,
+    };
+    own.add(Token {
+        parent: number,
+        taken: Some(taken),
+    })?;
+    Ok(())
+}
+
+/// Whether all tests hold after a way of a partial match of a list.
+fn hold_after<T>(
+    lists: &TokenLists<'_>,
+    from: usize,
+    asked: &Joining<T>,
+    number: u32,
+    index: u64,
+    way: &Way,
+) -> Result<bool, NoMemory>
+    ensures { IfOk result (λ holds. holds ≡ all_hold (tests_of asked.now) (grown asked.now.address index
+        (partial_at lists.now.sources.now lists.now.lists.now from number) (way_of way.now))) }
+{
+    let after = Grown {
+        before: lists.reading(from, number),
+        address: &asked.address,
+        index,
+        bound: way.bound.as_slice(),
+    };
+    hold_all(lists, asked.tests.as_slice(), &after)
+}
+
+/// Joins a partial match with a fact by a test of the pattern: a token comes for each way in which it goes on with it and the tests hold.
 fn join_pair<T>(
     lists: &TokenLists<'_>,
     asked: &Joining<T>,
@@ -198,12 +374,12 @@ fn passes(lists: &TokenLists<'_>, tests: &[Expr], env: &Env, way: &Way) -> Resul
 }
 
 /// Whether all of these tests hold.
-fn hold_all(lists: &TokenLists<'_>, tests: &[Expr], env: &Env) -> Result<bool, NoMemory>
-    ensures { IfOk result (λ holds. (m : Partial) → m.env ≡ env.now
+fn hold_all<L: Lookup>(lists: &TokenLists<'_>, tests: &[Expr], known: &L) -> Result<bool, NoMemory>
+    ensures { IfOk result (λ holds. (m : Partial) → m.env ≡ L.bindings known.now
         → holds ≡ all_hold (map term_of tests.now) m) }
 {
     for test in tests {
-        if !lists.holds(test, env)? {
+        if !lists.holds(test, known)? {
             return Ok(false);
         }
     }

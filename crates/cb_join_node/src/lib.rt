@@ -5,14 +5,18 @@
 //! partial matches that were there before and have its values, and what came before the pattern with all facts of its values. So
 //! nothing is joined that isn't new.
 //!
+//! A pattern that is decided by values isn't tested where it is known which variables have values before it: partial matches and facts
+//! that meet by the values of the join's fields are joined, after comparisons, in the only way that there is.
+//!
 //! `docs/ARCHITECTURE.md` says where it belongs.
 #![tactic(auto)]
 
+mod by_values; // how a pattern that is decided by values is joined
 mod filed; // partial matches, and facts, by the values that they are joined on
 mod joining; // partial matches joined with facts
 pub mod laws; // laws of what is ready, and of how often a pattern may be tested
 mod node; // a change of a join node
-mod partial_values; // the values of variables in a partial match
 
+pub use by_values::ByValues;
 pub use joining::Joining;
 pub use node::JoinNode;

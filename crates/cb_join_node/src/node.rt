@@ -7,6 +7,7 @@ ghost use Rattle.cb_beta.specs.BetaMemories.{BetaMemoryValue};
 ghost use Rattle.cb_facts.specs.FactLists.{IndexedFacts};
 ghost use Rattle.cb_facts.specs.Facts.{FactValue};
 ghost use Rattle.cb_join_node.specs.Bounds.{join_probes};
+ghost use Rattle.cb_join_node.specs.Meetings.{HaveShape, KnowsValues};
 ghost use Rattle.cb_join_node.specs.Filings.{ArePartialsFiled, IsFiled};
 ghost use Rattle.cb_join_node.specs.Joins.{Joins, JoinsOne};
 ghost use Rattle.cb_join_node.specs.Nodes.{AreAtMost, AsksTheSame, IsAfter, IsBefore, IsReady, IsUnder, Stays, added_fact, tests_of};
@@ -21,7 +22,6 @@ use crate::filed::{facts_beside, file_partial, forget_partials, partials_beside}
 use crate::joining::{Joining, join_facts, join_partials};
 use cb_alpha::{AlphaMemory, Buckets};
 use cb_beta::BetaMemory;
-use cb_exprs::Env;
 use cb_fit::Meter;
 use cb_fit::laws::{
     a_fact_that_fits_has_the_values_of_variables, no_shape_gives_no_ways,
@@ -155,6 +155,8 @@ fn join_fact<T>(
         → ArePartialsFiled asked.now.fields.items partials.now strays.now
         (partial_at lists.now.sources.now lists.now.lists.now from) (Stays before)
         → AreJoinFields asked.now.fields.items asked.now.address asked.now.pattern
+        → ((n : ℕ) → Stays before n → KnowsValues asked.now (partial_at lists.now.sources.now lists.now.lists.now from n))
+        → HaveShape asked.now.pattern alpha.now.candidates
         → Comes own.old own.new (Joins asked.now.address asked.now.pattern (tests_of asked.now)
         (partial_at lists.now.sources.now lists.now.lists.now from) (Stays before) (came_in alpha.now))) }
     ensures probes { OnOk result ((before : BetaMemoryValue) (kept : ℕ)
@@ -206,6 +208,8 @@ fn join_come<T>(
     ensures come { OnOk result (Chain (λ (i : ℕ) (j : ℕ). i ≢ j) come.now
         → HasJoin alpha.now join asked.now.fields.items
         → AreJoinFields asked.now.fields.items asked.now.address asked.now.pattern
+        → ((n : ℕ) → In n come.now → KnowsValues asked.now (partial_at lists.now.sources.now lists.now.lists.now from n))
+        → HaveShape asked.now.pattern alpha.now.candidates
         → Comes own.old own.new (Joins asked.now.address asked.now.pattern (tests_of asked.now)
         (partial_at lists.now.sources.now lists.now.lists.now from) (λ number. In number come.now) (live alpha.now))) }
     ensures probes { OnOk result ((most : ℕ)
@@ -214,16 +218,15 @@ fn join_come<T>(
         → meter.new ≤ meter.old + length come.now * most) }
 {
     for number in come {
-        let env = lists.env(from, *number)?;
         file_partial(
             lists.alloc,
             asked.fields.as_slice(),
             partials,
             strays,
             *number,
-            &env,
+            &lists.reading(from, *number),
         )?;
-        join_partial(lists, join, asked, strays, alpha, *number, &env, own, meter)?;
+        join_partial(lists, from, join, asked, strays, alpha, *number, own, meter)?;
     }
     Ok(())
 }
@@ -231,21 +234,23 @@ fn join_come<T>(
 /// Joins a partial match that stands before the pattern with all facts.
 fn join_partial<T>(
     lists: &TokenLists<'_>,
+    from: usize,
     join: usize,
     asked: &Joining<T>,
     strays: &Groups,
     alpha: &AlphaMemory,
     number: u32,
-    env: &Env,
     own: &mut BetaMemory,
     meter: &mut Meter<T>,
 ) -> Result<(), NoMemory>
-    ensures come { OnOk result ((m : Partial) (filing : Filing) → m.env ≡ env.now
-        → IsFiled asked.now.fields.items filing strays.now number m
+    ensures come { OnOk result ((filing : Filing)
+        → IsFiled asked.now.fields.items filing strays.now number (partial_at lists.now.sources.now lists.now.lists.now from number)
         → HasJoin alpha.now join asked.now.fields.items
         → AreJoinFields asked.now.fields.items asked.now.address asked.now.pattern
+        → KnowsValues asked.now (partial_at lists.now.sources.now lists.now.lists.now from number)
+        → HaveShape asked.now.pattern alpha.now.candidates
         → Comes own.old own.new (JoinsOne asked.now.address asked.now.pattern (tests_of asked.now)
-        m number (live alpha.now))) }
+        (partial_at lists.now.sources.now lists.now.lists.now from number) number (live alpha.now))) }
     ensures probes { OnOk result ((most : ℕ)
         → HasJoin alpha.now join asked.now.fields.items
         → AreAtMost (IsUnder (live alpha.now)) most → meter.new ≤ meter.old + most) }
@@ -253,8 +258,18 @@ fn join_partial<T>(
     a_fact_that_fits_has_the_values_of_variables();
     if strays.group(number).is_some() {
         let all = alpha.numbers(lists.alloc)?;
-        return join_facts(lists, asked, alpha, number, env, all.as_slice(), own, meter);
+        return join_facts(
+            lists,
+            from,
+            asked,
+            alpha,
+            number,
+            all.as_slice(),
+            own,
+            meter,
+        );
     }
-    let beside = facts_beside(lists.alloc, asked.fields.as_slice(), alpha, join, env)?;
-    join_facts(lists, asked, alpha, number, env, beside, own, meter)
+    let known = lists.reading(from, number);
+    let beside = facts_beside(lists.alloc, asked.fields.as_slice(), alpha, join, &known)?;
+    join_facts(lists, from, asked, alpha, number, beside, own, meter)
 }

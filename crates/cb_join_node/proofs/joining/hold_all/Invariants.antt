@@ -5,4 +5,4 @@ use Rattle.cb_nodes.specs.Flat.{all_hold}
 use Rattle.cb_join_node.proofs.joining.hold_all.Given as goal
 
 abbrev pub invariant-loop-test : goal.invariant-loop-test
-invariant-loop-test l = (m : Partial) → m.env ≡ l.env → all_hold (map term_of (drop l.test-index l.tests)) m ≡ all_hold (map term_of l.tests) m
+invariant-loop-test g l = (m : Partial) → m.env ≡ g.L.Lookup.bindings l.known → all_hold (map term_of (drop l.test-index l.tests)) m ≡ all_hold (map term_of l.tests) m

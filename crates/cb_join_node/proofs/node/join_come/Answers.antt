@@ -8,6 +8,7 @@ use Rattle.cb_join_node.specs.Filings.{IsFiled}
 use Rattle.cb_join_node.specs.Joins.{Joins, JoinsOne}
 use Rattle.cb_join_node.specs.Nodes.{Stays, tests_of}
 use Rattle.cb_matches.specs.Chains.{In}
+use Rattle.cb_matches.proofs.Lists.{in_at}
 use Rattle.cb_token_lists.proofs.Arrivals.{none_come, one_more_comes}
 use Rattle.cb_token_lists.specs.Growth.{Comes}
 use Rattle.cb_token_lists.specs.Partials.{partial_at}
@@ -27,7 +28,7 @@ loop-number-init g c =
     let at = partial_at c.args.lists.now.sources.now c.args.lists.now.lists.now c.args.from in (
       λ before filed.
           filed_alike c.args.asked.now.fields.items c.args.partials.now c.args.strays.now at (Stays before) (λ n. Stays before n ⊎ ⊥) (λ n h. inl h) (λ n h. neither h) filed,
-      λ once has fields.
+      λ once has fields knows shape.
           none_come c.args.own.now (Joins c.args.asked.now.address c.args.asked.now.pattern (tests_of c.args.asked.now) at (λ n. In n (take 0 c.args.come.now)) (live c.args.alpha.now)) (λ t h. h.1),
       λ most has least. none_tested c.args.meter.now most,
     )
@@ -48,12 +49,15 @@ loop-number-preserved g c =
     let b' = c.file_partial.new.partials in
     let s = c.loop-number.strays in
     let s' = c.file_partial.new.strays in
-    let here : IsFiled js b' s' n (at n) = subst (λ it. IsFiled it b' s' n (at n)) c.as_slice.ensures.value (c.in_ok-file_partial.ensures.filed (at n) (sym c.in_ok-env.ensures)) in (
+    let seen = c.reading.result in
+    let read : (at n).env ≡ (partial_at seen.lists.sources.now seen.lists.lists.now seen.list seen.number).env =
+    sym (ap (λ it. (partial_at it.lists.sources.now it.lists.lists.now it.list it.number).env) c.reading.ensures) in
+    let here : IsFiled js b' s' n (at n) = subst (λ it. IsFiled it b' s' n (at n)) c.as_slice.ensures.value (c.in_ok-file_partial.ensures.filed (at n) read) in (
       λ before filed. one_filed js b b' s s' at (Stays before) xs i (omega arith) here c.in_ok-file_partial.ensures.others (inv.0 before filed),
-      λ once has fields.
+      λ once has fields knows shape.
           one_more_comes c.args.own.now c.loop-number.own c.join_partial.new.own (λ (k : ℕ). JoinsOne x p ts (at k) k (live alpha)) (differ_by_number x p ts at (live alpha)) xs i (omega arith) once
-          (inv.1 once has fields)
-          (c.in_ok-join_partial.ensures.come (at n) b' (sym c.in_ok-env.ensures) here has fields),
+          (inv.1 once has fields knows shape)
+          (c.in_ok-join_partial.ensures.come b' here has fields (knows n (in_at xs i 0 (omega arith))) shape),
       λ most has least.
           let was = inv.2 most has least in
           let more = c.in_ok-join_partial.ensures.probes most has least in
@@ -61,13 +65,13 @@ loop-number-preserved g c =
     )
 
 pub returns-clause-come : goal.returns-clause-come
-returns-clause-come g c once has fields =
+returns-clause-come g c once has fields knows shape =
     let at = partial_at c.args.lists.now.sources.now c.args.lists.now.lists.now c.args.from in
     let xs = c.args.come.now in
     let i = c.loop-number.number-index in
     let end : i ≡ length xs = omega (arith, c.loop-number-test.false, c.loop-number.auto.number-index-end) in
     subst (λ (it : List ℕ). Comes c.args.own.now c.loop-number.own (Joins c.args.asked.now.address c.args.asked.now.pattern (tests_of c.args.asked.now) at (λ n. In n it) (live c.args.alpha.now)))
-    (ap (λ n. take n xs) end ∙ take-length xs) (c.loop-number.invariant.1 once has fields)
+    (ap (λ n. take n xs) end ∙ take-length xs) (c.loop-number.invariant.1 once has fields knows shape)
 
 pub returns-clause-probes : goal.returns-clause-probes
 returns-clause-probes g c most has least =

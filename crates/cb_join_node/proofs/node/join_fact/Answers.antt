@@ -9,6 +9,7 @@ use Rattle.cb_facts.specs.Facts.{FactValue}
 use Rattle.cb_facts.specs.declared.value.Value.{Value}
 use Rattle.cb_join_node.proofs.Agreement.{with_fact}
 use Rattle.cb_join_node.proofs.Bounds.{both_at_most, has_values_beside, once_beside}
+use Rattle.cb_join_node.proofs.Meeting.{beside_meet, strays_meet}
 use Rattle.cb_join_node.proofs.node.join_fact.Goals as goal
 use Rattle.cb_join_node.specs.Joins.{Joins}
 use Rattle.cb_join_node.specs.Nodes.{Stays, tests_of}
@@ -16,7 +17,7 @@ use Rattle.cb_token_lists.proofs.Arrivals.{none_come}
 use Rattle.cb_token_lists.specs.Partials.{partial_at}
 
 pub returns-in_default-clause-come : goal.returns-in_default-clause-come
-returns-in_default-clause-come g c before partials fields =
+returns-in_default-clause-come g c before partials fields knows shape =
     let alpha = c.args.alpha.now in
     let at = partial_at c.args.lists.now.sources.now c.args.lists.now.lists.now c.args.from in
     let none : alpha.come ≡ None = search rules in
@@ -24,7 +25,7 @@ returns-in_default-clause-come g c before partials fields =
     (λ t h. some_none alpha.come (number_is alpha.come h.2.0 (came_read alpha h.2.0 h.2.1.0 h.2.1.1).1) none)
 
 pub returns-in_default-candidate-clause-come : goal.returns-in_default-candidate-clause-come
-returns-in_default-candidate-clause-come g c before partials fields =
+returns-in_default-candidate-clause-come g c before partials fields knows shape =
     let alpha = c.args.alpha.now in
     let at = partial_at c.args.lists.now.sources.now c.args.lists.now.lists.now c.args.from in
     let n = c.in-Some.number in
@@ -55,10 +56,14 @@ returns-clause-come g c =
     let some = λ (vs : List Value) (e : field_values js f.1.content ≡ Some vs). c.in_ok-beside.ensures.some vs (sym same ∙ e) in
     let none = λ (e : field_values js f.1.content ≡ None). c.in_ok-beside.ensures.none (sym same ∙ e) in
     on_ok c.join_partials-2.result
-    (λ h before partials fields.
-    with_fact c.a_fact_that_fits_has_the_values_of_variables.ensures x p ts js fields alpha n f come is at (Stays before) c.args.partials.now c.args.strays.now partials xs ys some none c.members.ensures
+    (λ h before partials fields knows shape.
+    let asked = c.args.asked.now in
+    let b = c.args.partials.now in
+    let s = c.args.strays.now in
+    with_fact c.a_fact_that_fits_has_the_values_of_variables.ensures x p ts js fields alpha n f come is at (Stays before) b s partials xs ys some none c.members.ensures
     c.args.own.now c.join_partials.new.own c.join_partials-2.new.own
-    (c.in_ok-join_partials.ensures.come (once_beside (field_values js f.1.content) c.args.partials.now xs some none)) (h (apart_of ys c.members.ensures.once)))
+    (c.in_ok-join_partials.ensures.come (once_beside (field_values js f.1.content) b xs some none) (beside_meet asked at (Stays before) knows b s partials f (shape n f is) xs some none))
+    (h (apart_of ys c.members.ensures.once) (strays_meet asked at (Stays before) knows b s partials f (shape n f is) ys c.members.ensures)))
     c.join_partials-2.ensures.come
 
 pub returns-clause-probes : goal.returns-clause-probes

@@ -4,7 +4,7 @@ use Rattle.cb_join_node.specs.Nodes.{tests_of}
 use Rattle.cb_matches.specs.Chains.{Chain}
 use Rattle.cb_matches.specs.Matches.{Partial}
 use Rattle.cb_token_lists.specs.Growth.{Comes}
-use Rattle.cb_join_node.proofs.joining.join_facts.Given as goal
+use Rattle.cb_join_node.proofs.joining.join_facts_by_tests.Given as goal
 
 abbrev pub invariant-loop-candidate : goal.invariant-loop-candidate
 invariant-loop-candidate g l =

@@ -1,7 +1,7 @@
 use Rattle.std.proofs.Common.{◌≡◌, ◌∙◌, List, ℕ, ap, arith, length, subst, take}
 use Rattle.std.proofs.Math.Seq.{take-length}
 use Rattle.cb_join_node.proofs.Tokens.{differ_by_fact}
-use Rattle.cb_join_node.proofs.joining.join_facts.Goals as goal
+use Rattle.cb_join_node.proofs.joining.join_facts_by_tests.Goals as goal
 use Rattle.cb_join_node.specs.Joins.{IsOfFact, IsOfFacts}
 use Rattle.cb_join_node.specs.Nodes.{tests_of}
 use Rattle.cb_token_lists.proofs.Arrivals.{none_come, one_more_comes}
