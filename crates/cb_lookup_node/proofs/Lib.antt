@@ -1,7 +1,13 @@
+pub mod Alone
+pub mod Among
+pub mod Between
 pub mod Changed
+pub mod InOrder
 pub mod Looked
+pub mod Nearest
 pub mod Passed
 pub mod Refiled
 pub mod Seen
 pub mod Staying
+pub mod Turns
 pub mod Whole

@@ -9,7 +9,7 @@ use Rattle.cb_beta.proofs.Members.{apart_of, contains_in, in_contains}
 use Rattle.cb_facts.specs.declared.value.Value.{Value}
 use Rattle.cb_fit.specs.declared.join_fields.JoinField.{JoinField}
 use Rattle.cb_lookup_node.proofs.Seen.{has_fact}
-use Rattle.cb_lookup_node.specs.Internal.{HasGiven, IsApart, IsFiledBy, IsGained, IsLost, values_under}
+use Rattle.cb_lookup_node.specs.Internal.{IsApart, IsFiledBy, IsGained, IsLost, values_under}
 use Rattle.cb_lookup_node.specs.LookupNodes.{HasOne}
 use Rattle.cb_matches.proofs.Growth.{Fact}
 use Rattle.cb_matches.proofs.Lists.{by_test}
@@ -38,7 +38,7 @@ tested_some xs true e some = absurd (some (none_left xs true e refl))
 tested_some xs false e some = refl
 
 -- the number whose fact has values
-under : (js : List JoinField) (alpha : AlphaMemoryValue) (o : Option ℕ) (vs : List Value) → values_under js alpha o ≡ Some vs
+pub under : (js : List JoinField) (alpha : AlphaMemoryValue) (o : Option ℕ) (vs : List Value) → values_under js alpha o ≡ Some vs
     → (n : ℕ) × (o ≡ Some n) × (values_in js (candidate_in alpha.candidates n) ≡ Some vs)
 under js alpha None vs e = absurd (cc)
 under js alpha (Some n) vs e = (n, refl, e)
@@ -51,7 +51,7 @@ module _ (js : List JoinField) (alpha : AlphaMemoryValue) where
   number_under o n vs is e = ap (values_under js alpha) is ∙ e
 
   -- a fact that was there is there, or went
-  was_live : (n : ℕ) (vs : List Value) → values_in js (were_in alpha n) ≡ Some vs → (values_in js (live alpha n) ≡ Some vs) ⊎ (values_under js alpha alpha.gone ≡ Some vs)
+  pub was_live : (n : ℕ) (vs : List Value) → values_in js (were_in alpha n) ≡ Some vs → (values_in js (live alpha n) ≡ Some vs) ⊎ (values_under js alpha alpha.gone ≡ Some vs)
   was_live n vs e =
       let g = has_fact js (were_in alpha n) vs e in
       let r = were_read alpha n g.0 g.1 in
@@ -61,7 +61,7 @@ module _ (js : List JoinField) (alpha : AlphaMemoryValue) where
       (λ t. inl (ap (values_in js) (read_live alpha n t) ∙ has))
 
   -- a fact that is there was there, or came
-  live_was : (n : ℕ) (vs : List Value) → values_in js (live alpha n) ≡ Some vs → (values_in js (were_in alpha n) ≡ Some vs) ⊎ (alpha.come ≡ Some n)
+  pub live_was : (n : ℕ) (vs : List Value) → values_in js (live alpha n) ≡ Some vs → (values_in js (were_in alpha n) ≡ Some vs) ⊎ (alpha.come ≡ Some n)
   live_was n vs e =
       let g = has_fact js (live alpha n) vs e in
       let r = live_read alpha n g.0 g.1 in
@@ -70,14 +70,14 @@ module _ (js : List JoinField) (alpha : AlphaMemoryValue) where
       (λ t. inr (number_is alpha.come n t))
       (λ t. inl (ap (values_in js) (read_were alpha n t) ∙ has))
 
-  come_under : (n : ℕ) (vs : List Value) → alpha.come ≡ Some n → values_in js (live alpha n) ≡ Some vs → values_under js alpha alpha.come ≡ Some vs
+  pub come_under : (n : ℕ) (vs : List Value) → alpha.come ≡ Some n → values_in js (live alpha n) ≡ Some vs → values_under js alpha alpha.come ≡ Some vs
   come_under n vs is e =
       let g = has_fact js (live alpha n) vs e in
       let r = live_read alpha n g.0 g.1 in
       number_under alpha.come n vs is (read_so n vs (Some g.0) r.0 g.2)
 
   module _ (apart : IsApart alpha) where
-    gone_was : (vs : List Value) → values_under js alpha alpha.gone ≡ Some vs → HasOne js (were_in alpha) vs
+    pub gone_was : (vs : List Value) → values_under js alpha alpha.gone ≡ Some vs → HasOne js (were_in alpha) vs
     gone_was vs e =
         let n = under js alpha alpha.gone vs e in
         by_test (is_number alpha.come n.0)
@@ -92,17 +92,17 @@ module _ (js : List JoinField) (alpha : AlphaMemoryValue) where
         (λ t. (n.0, n.1, ap (values_in js) (read_live alpha n.0 t) ∙ n.2))
 
     -- values that the last fact had, and those that the first has
-    pub lost_is : (vs : List Value) → values_under js alpha alpha.gone ≡ Some vs → (HasOne js (live alpha) vs → ⊥) → IsLost js alpha vs
+    pub lost_is : (vs : List Value) → values_under js alpha alpha.gone ≡ Some vs → (HasOne js (live alpha) vs → ⊥) → IsLost None js alpha vs
     lost_is vs e none = (gone_was vs e, none)
 
-    pub is_lost : (vs : List Value) → IsLost js alpha vs → values_under js alpha alpha.gone ≡ Some vs
+    pub is_lost : (vs : List Value) → IsLost None js alpha vs → values_under js alpha alpha.gone ≡ Some vs
     is_lost vs h = elim (was_live h.0.0 vs h.0.1) as (λ _. values_under js alpha alpha.gone ≡ Some vs) [
       | inl k ↦ absurd (h.1 (h.0.0, k))
       | inr e ↦ e
     ]
 
     pub gained_is : (vs : List Value) → values_under js alpha alpha.come ≡ Some vs → (values_under js alpha alpha.gone ≡ Some vs → ⊥)
-        → ((n : ℕ) → values_in js (live alpha n) ≡ Some vs → alpha.come ≡ Some n) → IsGained js alpha vs
+        → ((n : ℕ) → values_in js (live alpha n) ≡ Some vs → alpha.come ≡ Some n) → IsGained None js alpha vs
     gained_is vs e other only =
         let c = come_live vs e in (
           λ w. elim (was_live w.0 vs w.1) as (λ _. ⊥) [
@@ -114,7 +114,7 @@ module _ (js : List JoinField) (alpha : AlphaMemoryValue) where
           (c.0, c.2),
         )
 
-    pub is_gained : (vs : List Value) → IsGained js alpha vs
+    pub is_gained : (vs : List Value) → IsGained None js alpha vs
         → (values_under js alpha alpha.come ≡ Some vs) × (values_under js alpha alpha.gone ≡ Some vs → ⊥) × ((n : ℕ) → values_in js (live alpha n) ≡ Some vs → alpha.come ≡ Some n)
     is_gained vs h = (come_under h.1.0 vs (only h.1.0 h.1.1) h.1.1, λ g. h.0 (gone_was vs g), only)
       where
@@ -122,7 +122,7 @@ module _ (js : List JoinField) (alpha : AlphaMemoryValue) where
         only n e = elim (live_was n vs e) as (λ _. alpha.come ≡ Some n) [ inl w ↦ absurd (h.0 (n, w)) | inr c ↦ c ]
 
 -- the facts that a join finds
-same_values : (ks js : List JoinField) (o : Option Fact) → AreSameFields ks js → values_in ks o ≡ values_in js o
+pub same_values : (ks js : List JoinField) (o : Option Fact) → AreSameFields ks js → values_in ks o ≡ values_in js o
 same_values ks js None same = refl
 same_values ks js (Some f) same = same f.1.content
 
@@ -165,6 +165,15 @@ module _ (alpha : AlphaMemoryValue) (join : ℕ) (js : List JoinField) (has : Ha
         | inl e ↦ (z, inr (inl refl), λ d. once.0 z (inl refl) (e ∙ sym d))
         | inr d ↦ (y, inl refl, d)
       ]
+
+-- a list with two members
+pub two : (xs : List ℕ) (k n : ℕ) → In k xs → In n xs → (n ≡ k → ⊥) → 1 < length xs
+two [] k n h g d = absurd h
+two (x ∷ []) k n h g d = elim h as (λ _. 1 < length (x ∷ [])) [
+  | inl a ↦ elim g as (λ _. 1 < length (x ∷ [])) [ inl b ↦ absurd (d (b ∙ sym a)) | inr b ↦ absurd b ]
+  | inr a ↦ absurd a
+]
+two (x ∷ (y ∷ xs)) k n h g d = omega arith
 
 -- members by a value that is given
 module _ (filing : Filing) (Such : List Value → Type 0) (o : Option (List Value)) (only : (vs : List Value) → Such vs → o ≡ Some vs) where

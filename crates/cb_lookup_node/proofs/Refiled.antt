@@ -1,13 +1,14 @@
 -- Partial matches filed and taken out, one after another.
-use Rattle.std.proofs.Common.{◌≡◌, ◌≢◌, ◌∙◌, ◌+◌, ◌<◌, ◌⊎◌, ℕ, List, [], None, ap, get_or, inl, inr, length, refl, subst, sym, take}
+use Rattle.std.proofs.Common.{◌≡◌, ◌≢◌, ◌∙◌, ◌+◌, ◌<◌, ◌⊎◌, ℕ, List, [], Option, None, ap, get_or, inl, inr, length, refl, subst, sym, take}
 use Rattle.std.proofs.lemmas.Bool.{cases_eq}
 use Rattle.cb_alpha.proofs.ReadFacts.{some_none}
 use Rattle.cb_alpha.specs.Buckets.{Filing, Refiles, values_at}
 use Rattle.cb_alpha.specs.JoinValues.{variable_values}
 use Rattle.cb_beta.proofs.Members.{by_in, in_more, more_in}
+use Rattle.cb_fit.specs.declared.comparison.Comparison.{Comparison}
 use Rattle.cb_fit.specs.declared.join_fields.JoinField.{JoinField}
 use Rattle.cb_lookup_node.specs.Internal.{AreForgotten}
-use Rattle.cb_lookup_node.specs.LookupNodes.{AreFiled}
+use Rattle.cb_lookup_node.specs.LookupNodes.{AreFiled, filed_by}
 use Rattle.cb_matches.specs.Chains.{In}
 use Rattle.cb_matches.specs.Matches.{Partial}
 
@@ -25,13 +26,13 @@ one_forgotten f₀ f f' xs i l r was = record {
 }
 
 -- the same partial matches by another word
-pub filed_alike : (js : List JoinField) (f : Filing) (at : ℕ → Partial) (A B : ℕ → Type 0) → ((n : ℕ) → A n → B n) → ((n : ℕ) → B n → A n) → AreFiled js f at A → AreFiled js f at B
-filed_alike js f at A B to from is = record { there = λ n h. is.there n (from n h); only = λ n vs e. to n (is.only n vs e) }
+pub filed_alike : (comparison : Option Comparison) (js : List JoinField) (f : Filing) (at : ℕ → Partial) (A B : ℕ → Type 0) → ((n : ℕ) → A n → B n) → ((n : ℕ) → B n → A n) → AreFiled comparison js f at A → AreFiled comparison js f at B
+filed_alike comparison js f at A B to from is = record { there = λ n h. is.there n (from n h); only = λ n vs e. to n (is.only n vs e) }
 
 -- what is taken out is not there any more
-pub filed_but : (js : List JoinField) (f f' : Filing) (at : ℕ → Partial) (There : ℕ → Type 0) (gone : List ℕ) → AreForgotten f f' gone → AreFiled js f at There
-    → AreFiled js f' at (λ n. There n × (In n gone → ⊥))
-filed_but js f f' at There gone left is = record {
+pub filed_but : (comparison : Option Comparison) (js : List JoinField) (f f' : Filing) (at : ℕ → Partial) (There : ℕ → Type 0) (gone : List ℕ) → AreForgotten f f' gone → AreFiled comparison js f at There
+    → AreFiled comparison js f' at (λ n. There n × (In n gone → ⊥))
+filed_but comparison js f f' at There gone left is = record {
   there = λ n h. left.others n h.1 ∙ is.there n h.0;
   only = λ n vs e. elim (by_in n gone) as (λ _. There n × (In n gone → ⊥)) [
     | inl h ↦ some_none (values_at f' n) e (left.gone n h)
@@ -40,11 +41,11 @@ filed_but js f f' at There gone left is = record {
 }
 
 -- one more of a list is filed
-pub one_filed : (js : List JoinField) (f f' : Filing) (at : ℕ → Partial) (There : ℕ → Type 0) (xs : List ℕ) (i : ℕ) → i < length xs
-    → Refiles f f' (get_or xs i 0) (variable_values js (at (get_or xs i 0)).env) → AreFiled js f at (λ n. There n ⊎ In n (take i xs)) → AreFiled js f' at (λ n. There n ⊎ In n (take (i + 1) xs))
-one_filed js f f' at There xs i l r is = record {
-  there = λ n h. elim (cases_eq n x) as (λ _. values_at f' n ≡ variable_values js (at n).env) [
-    | inl e ↦ subst (λ k. values_at f' k ≡ variable_values js (at k).env) (sym e) r.changed
+pub one_filed : (comparison : Option Comparison) (js : List JoinField) (f f' : Filing) (at : ℕ → Partial) (There : ℕ → Type 0) (xs : List ℕ) (i : ℕ) → i < length xs
+    → Refiles f f' (get_or xs i 0) (filed_by comparison (variable_values js (at (get_or xs i 0)).env)) → AreFiled comparison js f at (λ n. There n ⊎ In n (take i xs)) → AreFiled comparison js f' at (λ n. There n ⊎ In n (take (i + 1) xs))
+one_filed comparison js f f' at There xs i l r is = record {
+  there = λ n h. elim (cases_eq n x) as (λ _. values_at f' n ≡ filed_by comparison (variable_values js (at n).env)) [
+    | inl e ↦ subst (λ k. values_at f' k ≡ filed_by comparison (variable_values js (at k).env)) (sym e) r.changed
     | inr d ↦ r.others n d ∙ is.there n (before n d h)
   ];
   only = λ n vs e. elim (cases_eq n x) as (λ _. There n ⊎ In n (take (i + 1) xs)) [

@@ -1,2 +1,3 @@
 pub mod Internal
 pub mod LookupNodes
+pub mod Order

@@ -1,25 +1,21 @@
-//! A change of a group of one plain pattern.
-ghost use Rattle.std.specs.Prelude.{◌≡◌, ℕ, [], List, OnOk, Option, Some, slice_get, true};
+//! A change of a group of one pattern that is looked up.
+ghost use Rattle.std.specs.Prelude.{◌≡◌, ℕ, [], List, OnOk, Option, Some, slice_get};
 ghost use Rattle.cb_beta.specs.BetaMemories.{BetaMemoryValue};
-ghost use Rattle.cb_decided.specs.Plain.{is_plain};
 ghost use Rattle.cb_facts.specs.FactLists.{IndexedFacts};
 ghost use Rattle.cb_facts.specs.Facts.{FactValue};
-ghost use Rattle.cb_fit.specs.JoinFields.{join_fields};
-ghost use Rattle.cb_lookup_node.specs.LookupNodes.{AsksTheSame, IsAfterLookup, IsBeforeLookup, IsLookupReady};
+ghost use Rattle.cb_lookup_node.specs.LookupNodes.{AsksTheSame, IsAfterLookup, IsBeforeLookup, IsLookup, IsLookupReady};
 ghost use Rattle.cb_matches.specs.Matches.{Partial};
-ghost use Rattle.cb_scopes.specs.Decided.{known_fields};
 ghost use Rattle.cb_scopes.specs.Scopes.{Scope};
 ghost use Rattle.cb_token_lists.specs.Keeping.{KeepsTokens};
 ghost use Rattle.cb_token_lists.specs.Partials.{partial_at};
 
 use crate::filed::forget_all;
-use crate::passing::{pass_all, pass_come};
-use crate::turned::{gaining, losing, one_of};
+use crate::passing::pass_come;
+use crate::turned::turn;
 use crate::values::values_of_number;
 use cb_alpha::{AlphaMemory, Buckets};
 use cb_beta::BetaMemory;
-use cb_decided::laws::a_plain_pattern_is_decided_by_values;
-use cb_fit::{JoinField, Pattern};
+use cb_fit::{Comparison, JoinField, Pattern};
 use cb_forms::NoMemory;
 use cb_scopes::laws::{
     a_group_of_a_decided_pattern_holds_by_values, facts_agree_by_the_values_of_known_fields,
@@ -27,8 +23,8 @@ use cb_scopes::laws::{
 use cb_token_lists::TokenLists;
 use std::alloc::Global;
 
-/// A group of one plain pattern, behind a list: it passes on the partial matches for which "a fact has the values that they give to the
-/// fields" is `positive`.
+/// A group of one pattern that is looked up, behind a list: it passes on the partial matches for which "a fact is seen by the values that
+/// they give to the fields" is `positive`.
 #[derive(Drop)]
 pub struct LookupNode<T> {
     /// Where memory is from.
@@ -41,8 +37,10 @@ pub struct LookupNode<T> {
     pub pattern: Pattern<T>,
     /// The number of the join of the pattern's alpha memory that finds facts by the fields.
     pub join: usize,
-    /// The fields of a fact that have to be equal to variables that have values before.
+    /// The fields of a fact that have to be equal to variables that have values before, and behind them the one that is compared.
     pub fields: Vec<JoinField>,
+    /// How the last field is compared with the value of its variable, if it is.
+    pub comparison: Option<Comparison>,
     /// The partial matches before it, by the values that they give to the fields.
     pub(crate) partials: Buckets,
 }
@@ -56,14 +54,15 @@ impl<T> LookupNode<T> {
         positive: bool,
         pattern: Pattern<T>,
         fields: Vec<JoinField>,
+        comparison: Option<Comparison>,
     ) -> LookupNode<T>
         ensures from { result.from ≡ from }
         ensures positive { result.positive ≡ positive }
         ensures pattern { result.pattern ≡ pattern }
         ensures fields { result.fields ≡ fields }
+        ensures comparison { result.comparison ≡ comparison }
         ensures ready { (names : Scope) (at : ℕ → Partial) (facts : ℕ → Option (ℕ × FactValue))
-            → is_plain pattern ≡ true → fields.items ≡ known_fields (join_fields pattern.parts) names
-            → IsLookupReady result names at (λ number. ⊥) facts (record { tokens = []; gone = []; come = [] }) }
+            → IsLookup names result → IsLookupReady result names at (λ number. ⊥) facts (record { tokens = []; gone = []; come = [] }) }
     {
         LookupNode {
             alloc,
@@ -72,6 +71,7 @@ impl<T> LookupNode<T> {
             pattern,
             join: 0,
             fields,
+            comparison,
             partials: Buckets::new(alloc),
         }
     }
@@ -80,9 +80,7 @@ impl<T> LookupNode<T> {
     pub fn clear(&mut self)
         ensures same { AsksTheSame self.old self.new }
         ensures ready { (names : Scope) (at : ℕ → Partial) (facts : ℕ → Option (ℕ × FactValue))
-            → is_plain self.old.pattern ≡ true
-            → self.old.fields.items ≡ known_fields (join_fields self.old.pattern.parts) names
-            → IsLookupReady self.new names at (λ number. ⊥) facts (record { tokens = []; gone = []; come = [] }) }
+            → IsLookup names self.old → IsLookupReady self.new names at (λ number. ⊥) facts (record { tokens = []; gone = []; come = [] }) }
     {
         self.partials = Buckets::new(self.alloc);
     }
@@ -104,7 +102,6 @@ impl<T> LookupNode<T> {
             before alpha.now own.new fs fs' old new) }
         ensures keeps { OnOk result (KeepsTokens own.old own.new) }
     {
-        a_plain_pattern_is_decided_by_values();
         facts_agree_by_the_values_of_known_fields();
         a_group_of_a_decided_pattern_holds_by_values();
         let Some(before) = lists.lists.get(self.from) else {
@@ -114,13 +111,21 @@ impl<T> LookupNode<T> {
         forget_all(&mut self.partials, before.gone());
         let went = values_of_number(lists.alloc, self.fields.as_slice(), alpha, alpha.gone())?;
         let came = values_of_number(lists.alloc, self.fields.as_slice(), alpha, alpha.come())?;
-        let lost = losing(&self.partials, alpha, self.join, &went);
-        let gained = gaining(&self.partials, alpha, self.join, &went, &came);
-        own.remove_all_children(one_of(self.positive, lost, gained))?;
-        pass_all(one_of(self.positive, gained, lost), own)?;
+        turn(
+            lists.alloc,
+            self.comparison,
+            self.positive,
+            &self.partials,
+            alpha,
+            self.join,
+            &went,
+            &came,
+            own,
+        )?;
         pass_come(
             lists,
             self.from,
+            self.comparison,
             self.fields.as_slice(),
             self.positive,
             &mut self.partials,

@@ -1,23 +1,22 @@
-//! What a group of one plain pattern passes on.
+//! What a group of one pattern passes on.
 ghost use Rattle.std.specs.Prelude.{◌≡◌, ◌≢◌, ◌⊎◌, ℕ, OnOk, if◌then◌else◌, not, true};
 ghost use Rattle.cb_alpha.specs.AlphaMemories.{live};
 ghost use Rattle.cb_alpha.specs.Buckets.{Refiles};
 ghost use Rattle.cb_alpha.specs.JoinValues.{variable_values};
 ghost use Rattle.cb_alpha.specs.Turning.{HasJoin};
 ghost use Rattle.cb_beta.specs.BetaMemories.{BetaMemoryValue};
-ghost use Rattle.cb_lookup_node.specs.Internal.{AreOf, Stays};
-ghost use Rattle.cb_lookup_node.specs.LookupNodes.{AreFiled, ArePassedOn, Passes, SeesOne, passed_on};
+ghost use Rattle.cb_lookup_node.specs.Internal.{AreOf, Stays, is_ordered};
+ghost use Rattle.cb_lookup_node.specs.LookupNodes.{AreFiled, ArePassedOn, Passes, SeesOne, filed_by, passed_on};
 ghost use Rattle.cb_matches.specs.Chains.{Chain, In};
 ghost use Rattle.cb_token_lists.specs.Growth.{Comes};
 ghost use Rattle.cb_token_lists.specs.Keeping.{KeepsTokens};
 ghost use Rattle.cb_token_lists.specs.Partials.{partial_at};
 
-use crate::filed::file;
+use crate::filed::{file, to_file};
 use crate::turned::sees;
-use crate::values::values_of_partial;
-use cb_alpha::{AlphaMemory, Buckets};
+use cb_alpha::{AlphaMemory, Buckets, values_of_variables};
 use cb_beta::{BetaMemory, Token};
-use cb_fit::JoinField;
+use cb_fit::{Comparison, JoinField};
 use cb_forms::NoMemory;
 use cb_token_lists::TokenLists;
 
@@ -41,6 +40,7 @@ pub(crate) fn pass_all(numbers: &[u32], own: &mut BetaMemory) -> Result<(), NoMe
 pub(crate) fn pass_come(
     lists: &TokenLists<'_>,
     from: usize,
+    comparison: Option<Comparison>,
     fields: &[JoinField],
     positive: bool,
     partials: &mut Buckets,
@@ -50,18 +50,18 @@ pub(crate) fn pass_come(
     own: &mut BetaMemory,
 ) -> Result<(), NoMemory>
     ensures filed { OnOk result ((before : BetaMemoryValue)
-        → AreFiled fields.now partials.old (partial_at lists.now.sources.now lists.now.lists.now from) (Stays before)
-        → AreFiled fields.now partials.new (partial_at lists.now.sources.now lists.now.lists.now from)
+        → AreFiled comparison fields.now partials.old (partial_at lists.now.sources.now lists.now.lists.now from) (Stays before)
+        → AreFiled comparison fields.now partials.new (partial_at lists.now.sources.now lists.now.lists.now from)
         (λ number. Stays before number ⊎ In number come.now)) }
     ensures come { OnOk result (Chain (λ (i : ℕ) (j : ℕ). i ≢ j) come.now
-        → HasJoin alpha.now join fields.now
-        → Comes own.old own.new (ArePassedOn positive fields.now (live alpha.now)
+        → HasJoin alpha.now join fields.now → is_ordered comparison ≡ true
+        → Comes own.old own.new (ArePassedOn positive comparison fields.now (live alpha.now)
         (partial_at lists.now.sources.now lists.now.lists.now from) (λ number. In number come.now))) }
     ensures keeps { OnOk result (KeepsTokens own.old own.new) }
 {
     for number in come {
         pass_one(
-            lists, from, fields, positive, partials, alpha, join, *number, own,
+            lists, from, comparison, fields, positive, partials, alpha, join, *number, own,
         )?;
     }
     Ok(())
@@ -71,6 +71,7 @@ pub(crate) fn pass_come(
 fn pass_one(
     lists: &TokenLists<'_>,
     from: usize,
+    comparison: Option<Comparison>,
     fields: &[JoinField],
     positive: bool,
     partials: &mut Buckets,
@@ -80,17 +81,17 @@ fn pass_one(
     own: &mut BetaMemory,
 ) -> Result<(), NoMemory>
     ensures filed { OnOk result (Refiles partials.old partials.new number
-        (variable_values fields.now (partial_at lists.now.sources.now lists.now.lists.now from number).env)) }
-    ensures come { OnOk result (HasJoin alpha.now join fields.now
-        → Comes own.old own.new (λ t. Passes positive (SeesOne fields.now (live alpha.now)
+        (filed_by comparison (variable_values fields.now (partial_at lists.now.sources.now lists.now.lists.now from number).env))) }
+    ensures come { OnOk result (HasJoin alpha.now join fields.now → is_ordered comparison ≡ true
+        → Comes own.old own.new (λ t. Passes positive (SeesOne comparison fields.now (live alpha.now)
         (partial_at lists.now.sources.now lists.now.lists.now from number)) × (t ≡ passed_on number))) }
     ensures keeps { OnOk result (KeepsTokens own.old own.new) }
 {
-    let env = lists.env(from, number)?;
-    let values = values_of_partial(lists.alloc, fields, &env)?;
-    let passes = passes_by(positive, sees(alpha, join, &values));
-    file(partials, number, values)?;
-    pass_if(passes, number, own)
+    let reading = lists.reading(from, number);
+    let values = values_of_variables(lists.alloc, fields, &reading)?;
+    let one = sees(lists.alloc, comparison, alpha, join, &values)?;
+    file(partials, number, to_file(comparison, values))?;
+    pass_if(passes_by(positive, one), number, own)
 }
 
 /// Whether the group passes a partial match on, by whether there is a fact for it.

@@ -1,4 +1,4 @@
-use Rattle.std.proofs.Common.{rules, ◌≡◌, ◌∙◌, Some, sym}
+use Rattle.std.proofs.Common.{rules, ◌≡◌, ◌∙◌, None, Some, sym}
 use Rattle.cb_beta.proofs.Members.{apart_of}
 use Rattle.cb_lookup_node.proofs.Looked.{is_lost, lost_is, members_such, none_found, none_left, not_such, some_found, some_left}
 use Rattle.cb_lookup_node.proofs.turned.losing.Goals as goal
@@ -11,7 +11,7 @@ returns-then-not-is_empty-clause-are c fields has apart went n =
     let xs = c.facts_with.result.now in
     let these = c.facts_with.ensures has.0 has.1 in
     let is : c.args.went.now ≡ Some vs = search rules in
-    not_such c.args.partials.now (IsLost fields alpha) c.args.went.now (λ us h. went ∙ is_lost fields alpha apart us h) vs is
+    not_such c.args.partials.now (IsLost None fields alpha) c.args.went.now (λ us h. went ∙ is_lost fields alpha apart us h) vs is
     (λ h. h.1 (some_found alpha c.args.join fields has vs xs these (some_left xs c.is_empty.result c.is_empty.ensures c.if-not-is_empty.true))) n
 
 pub returns-clause-are : goal.returns-clause-are
@@ -21,7 +21,7 @@ returns-clause-are c fields has apart went n =
     let xs = c.facts_with.result.now in
     let these = c.facts_with.ensures has.0 has.1 in
     let is : c.args.went.now ≡ Some vs = search rules in
-    members_such c.args.partials.now (IsLost fields alpha) c.args.went.now (λ us h. went ∙ is_lost fields alpha apart us h) vs is
+    members_such c.args.partials.now (IsLost None fields alpha) c.args.went.now (λ us h. went ∙ is_lost fields alpha apart us h) vs is
     (lost_is fields alpha apart vs (sym went ∙ is) (none_found alpha c.args.join fields has vs xs these (none_left xs c.is_empty.result c.is_empty.ensures c.if-not-is_empty.false)))
     c.members_with.result.now c.members_with.ensures n
 

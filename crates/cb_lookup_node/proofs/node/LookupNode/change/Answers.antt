@@ -1,4 +1,4 @@
-use Rattle.std.proofs.Common.{◌≡◌, ◌∙◌, ◌⊎◌, ◌↔◌, ℕ, List, Option, Some, ap₂, subst, sym}
+use Rattle.std.proofs.Common.{◌≡◌, ◌∙◌, ◌⊎◌, ℕ, List, Option, Some, ap₂, subst, sym}
 use Rattle.cb_alpha.proofs.ReadFacts.{same_some}
 use Rattle.cb_alpha.specs.AlphaMemories.{live}
 use Rattle.cb_alpha.specs.Turning.{HasJoin}
@@ -6,7 +6,7 @@ use Rattle.cb_beta.proofs.Losses.{on_ok}
 use Rattle.cb_beta.specs.BetaMemories.{BetaMemoryValue, Loses}
 use Rattle.cb_beta.specs.Tokens.{TokenValue}
 use Rattle.cb_fit.specs.declared.join_fields.JoinField.{JoinField}
-use Rattle.cb_lookup_node.proofs.Whole.{on_ok_both, one_once, whole}
+use Rattle.cb_lookup_node.proofs.Whole.{asks, in_order, on_ok_both, whole}
 use Rattle.cb_lookup_node.proofs.node.LookupNode.change.Goals as goal
 use Rattle.cb_lookup_node.specs.Internal.{AreForgotten, Stays, values_under}
 use Rattle.cb_lookup_node.specs.LookupNodes.{AreFiled, ArePassedOn, IsAfterLookup, IsBeforeLookup}
@@ -29,13 +29,8 @@ returns-clause-after g c =
     let f₂ = c.pass_come.new.partials in
     let own₀ = c.args.own.now in
     let own₁ = c.remove_all_children.new.self in
-    let own₂ = c.remove_all_children-2.new.self in
-    let own₃ = c.pass_all.new.own in
+    let own₃ = c.turn.new.own in
     let own = c.pass_come.new.own in
-    let lost = c.losing-lost.result.now in
-    let gained = c.gaining-gained.result.now in
-    let leave = c.one_of.result.now in
-    let arrive = c.one_of-2.result.now in
     let went_is : c.in_ok-went.went ≡ values_under js alpha alpha.gone =
     c.in_ok-went.ensures ∙ ap₂ (λ (it : List JoinField) (o : Option ℕ). values_under it alpha o) c.as_slice.ensures.value c.gone-3.ensures in
     let came_is : c.in_ok-came.came ≡ values_under js alpha alpha.come =
@@ -46,34 +41,31 @@ returns-clause-after g c =
     let one : m ≡ before = same_some _ (got ls me.from m look.3.0 (look.3.1 m)) is in
     let b : IsBeforeLookup me names at m alpha own₀ fs fs' old new = subst (λ it. IsBeforeLookup me names at it alpha own₀ fs fs' old new) (sym one) given in
     let left : AreForgotten me.partials f₁ m.gone = subst (AreForgotten me.partials f₁) c.gone-2.ensures c.forget_all.ensures in
-    let filed_so : AreFiled js f₁ at (Stays m) → AreFiled js f₂ at (λ n. Stays m n ⊎ In n m.come) =
-    subst (λ (it : List JoinField). AreFiled it f₁ at (Stays m) → AreFiled it f₂ at (λ n. Stays m n ⊎ In n m.come)) fields_are
-    (subst (λ (it : List ℕ). AreFiled c.as_slice-3.result.now f₁ at (Stays m) → AreFiled c.as_slice-3.result.now f₂ at (λ n. Stays m n ⊎ In n it)) c.come-2.ensures (filed m)) in
+    let filed_so : AreFiled me.comparison js f₁ at (Stays m) → AreFiled me.comparison js f₂ at (λ n. Stays m n ⊎ In n m.come) =
+    subst (λ (it : List JoinField). AreFiled me.comparison it f₁ at (Stays m) → AreFiled me.comparison it f₂ at (λ n. Stays m n ⊎ In n m.come)) fields_are
+    (subst (λ (it : List ℕ). AreFiled me.comparison c.as_slice-3.result.now f₁ at (Stays m) → AreFiled me.comparison c.as_slice-3.result.now f₂ at (λ n. Stays m n ⊎ In n it)) c.come-2.ensures
+    (filed m)) in
     let lost₁ : Loses own₀ own₁ (λ t. In t.parent m.gone) = subst (λ (it : List ℕ). Loses own₀ own₁ (λ t. In t.parent it)) c.gone.ensures c.in_ok-remove_all_children.ensures in
-    let losing = c.losing-lost.ensures.are js b.has_join b.facts.apart went_is in
-    let gaining = c.gaining-gained.ensures.are js b.has_join b.facts.apart went_is came_is in
     let once = subst (Chain (λ (i : ℕ) (j : ℕ). i ≡ j → ⊥)) (sym c.come-2.ensures) b.turns.come_once in
-    let second : Comes own₃ own (ArePassedOn me.positive js (live alpha) at (λ n. In n m.come)) =
-    subst (λ (it : List JoinField). Comes own₃ own (ArePassedOn me.positive it (live alpha) at (λ n. In n m.come))) fields_are
-    (subst (λ (it : List ℕ). Comes own₃ own (ArePassedOn me.positive c.as_slice-3.result.now (live alpha) at (λ n. In n it))) c.come-2.ensures
-    (come once (subst (λ (it : List JoinField). HasJoin alpha me.join it) (sym fields_are) b.has_join))) in
+    let agree = c.facts_agree_by_the_values_of_known_fields.ensures in
+    let by_sight = c.a_group_of_a_decided_pattern_holds_by_values.ensures.holds in
+    let opposite = c.a_group_of_a_decided_pattern_holds_by_values.ensures.negated in
+    let order = in_order agree by_sight opposite me names at m alpha own₀ own₁ own₃ own fs fs' old new b f₁ f₂ left in
+    let asked = asks agree by_sight opposite me names at m alpha own₀ own₁ own₃ own fs fs' old new b f₁ f₂ left c.in_ok-went.went c.in_ok-came.came went_is came_is in
+    let second : Comes own₃ own (ArePassedOn me.positive me.comparison js (live alpha) at (λ n. In n m.come)) =
+    subst (λ (it : List JoinField). Comes own₃ own (ArePassedOn me.positive me.comparison it (live alpha) at (λ n. In n m.come))) fields_are
+    (subst (λ (it : List ℕ). Comes own₃ own (ArePassedOn me.positive me.comparison c.as_slice-3.result.now (live alpha) at (λ n. In n it))) c.come-2.ensures
+    (come once (subst (λ (it : List JoinField). HasJoin alpha me.join it) (sym fields_are) b.has_join) order)) in
     subst (λ it. IsAfterLookup (record me { partials = f₂ }) names at it alpha own fs fs' old new) one
-    (whole c.a_plain_pattern_is_decided_by_values.ensures.plain c.facts_agree_by_the_values_of_known_fields.ensures c.a_group_of_a_decided_pattern_holds_by_values.ensures.holds
-    c.a_group_of_a_decided_pattern_holds_by_values.ensures.negated me names at m alpha own₀ own₁ own₂ own₃ own fs fs' old new b f₁ f₂ left filed_so lost gained leave arrive losing gaining
-    c.one_of.ensures c.one_of-2.ensures lost₁ c.in_ok-remove_all_children-2.ensures
-    (c.in_ok-pass_all.ensures.come (one_once me.positive gained lost arrive c.one_of-2.ensures c.gaining-gained.ensures.once c.losing-lost.ensures.once)) second))
+    (whole agree by_sight opposite me names at m alpha own₀ own₁ own₃ own fs fs' old new b f₁ f₂ left filed_so lost₁ (c.in_ok-turn.ensures.turned js asked) second))
     c.pass_come.ensures.filed c.pass_come.ensures.come
 
 pub returns-clause-keeps : goal.returns-clause-keeps
 returns-clause-keeps g c =
     let own₀ = c.args.own.now in
     let own₁ = c.remove_all_children.new.self in
-    let own₂ = c.remove_all_children-2.new.self in
-    let own₃ = c.pass_all.new.own in
+    let own₃ = c.turn.new.own in
     on_ok c.pass_come.result
     (keeps_then own₀ own₃ c.pass_come.new.own
-    (keeps_then own₀ own₂ own₃
-    (keeps_then own₀ own₁ own₂ (lost_keeps own₀ own₁ (λ (t : TokenValue). In t.parent c.gone.result.now) c.in_ok-remove_all_children.ensures)
-    (lost_keeps own₁ own₂ (λ (t : TokenValue). In t.parent c.one_of.result.now) c.in_ok-remove_all_children-2.ensures))
-    c.in_ok-pass_all.ensures.keeps))
+    (keeps_then own₀ own₁ own₃ (lost_keeps own₀ own₁ (λ (t : TokenValue). In t.parent c.gone.result.now) c.in_ok-remove_all_children.ensures) c.in_ok-turn.ensures.keeps))
     c.pass_come.ensures.keeps
