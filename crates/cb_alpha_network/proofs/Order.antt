@@ -6,7 +6,7 @@ use Rattle.std.specs.Cmp.Lexicographic.{slice_cmp}
 use Rattle.std.specs.Option.{option_cmp}
 use Rattle.std.specs.Ordering.{ordering_then}
 use Rattle.cb_alpha.proofs.ValuesOrder.{values_exact}
-use Rattle.cb_alpha.specs.Internal.Numbered.{values_cmp}
+use Rattle.cb_alpha.specs.Buckets.{values_cmp}
 use Rattle.cb_alpha_network.proofs.Pieces.{le_then, least_number, then_equal}
 use Rattle.cb_alpha_network.specs.Places.{place_cmp}
 use Rattle.cb_alpha_network.specs.contracts.node_place.NodePlacePartialEq.TheImpl as place_eq

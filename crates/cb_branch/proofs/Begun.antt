@@ -1,5 +1,5 @@
 -- A branch where a change begins.
-use Rattle.std.proofs.Common.{◌≡◌, ◌∙◌, ◌≤◌, ℕ, suc, List, [], ◌∷◌, None, Some, ap, arith, length, slice_get, subst, sym}
+use Rattle.std.proofs.Common.{◌≡◌, ◌∙◌, ◌≤◌, ℕ, suc, List, [], ◌∷◌, None, Some, ap, arith, inl, inr, length, refl, slice_get, subst, sym}
 use Rattle.std.proofs.lemmas.List.{length-map}
 use Rattle.cb_alpha_network.specs.Networks.{MemoryValues}
 use Rattle.cb_beta.specs.BetaMemories.{BetaMemoryValue}
@@ -7,10 +7,10 @@ use Rattle.cb_branch.proofs.Matched.{last_sorted}
 use Rattle.cb_branch.specs.Branches.{AreTurned, CanBeFilled, IsBefore, branch_elements}
 use Rattle.cb_branch.specs.Internal.{BeginsFilling, IsTurning}
 use Rattle.cb_branch.specs.declared.branch.Branch.{Branch}
-use Rattle.cb_branch_nodes.proofs.Fills.{empty_ready}
-use Rattle.cb_branch_nodes.specs.Alphas.{were_facts}
-use Rattle.cb_branch_nodes.specs.Ready.{AreNodesCleared}
-use Rattle.cb_branch_nodes.specs.Turning.{LeadsWithin}
+use Rattle.cb_branch.proofs.Fills.{empty_ready}
+use Rattle.cb_branch.specs.Alphas.{were_facts}
+use Rattle.cb_branch.specs.Ready.{AreNodesCleared}
+use Rattle.cb_branch.specs.Turning.{LeadsWithin}
 use Rattle.cb_facts.specs.FactLists.{IndexedFacts}
 use Rattle.cb_flat.proofs.Last.{nothing_of_nothing}
 use Rattle.cb_flat.proofs.Leads.{branch_below, inside_leads}
@@ -28,7 +28,8 @@ use Rattle.cb_matches.specs.Matches.{Partial, no_parts}
 use Rattle.cb_matches.specs.Order.{IsRising, IsSorted, WaysRise}
 use Rattle.cb_nodes.specs.Flat.{AreWidths, FlatNode, Lists, branch_nodes, lists_of, widths_of}
 use Rattle.cb_nodes.specs.Lists.{AreWhole, HaveParts, branch_lists}
-use Rattle.cb_plan.specs.Nodes.{flat_node, flat_nodes, no_tokens}
+use Rattle.cb_branch.specs.Nodes.{flat_node, flat_nodes, no_tokens}
+use Rattle.cb_scopes.specs.Scopes.{HasValuesOf}
 use Rattle.cb_token_lists.specs.Partials.{AreBelow, LeadsTo, SourceValue, partial_at}
 use Rattle.cb_token_lists.specs.Turns.{IsThere}
 
@@ -74,6 +75,13 @@ module _ {T : Type 0} (b : Branch T) (planned : CanBeFilled b) where
   none : (fs : IndexedFacts) (k : ℕ) → lists_of ns fs [] k ≡ []
   none fs k = nothing_of_nothing ns fs k
 
+-- no variable has a value in the partial match of no parts
+nothing_bound : (m : Partial) → In m (no_parts ∷ []) → HasValuesOf [] m
+nothing_bound m h = elim h as (λ _. HasValuesOf [] m) [
+  | inl e ↦ subst (HasValuesOf []) (sym e) (λ x. (λ some. absurd (some refl), λ none. absurd none))
+  | inr none ↦ absurd none
+]
+
 -- a change of facts
 pub change_turning : {T : Type 0} (alphas : MemoryValues) (rule number : ℕ) (fs fs' : IndexedFacts) (b : Branch T) → WaysRise → IsBefore alphas rule number fs fs' b
     → IsTurning alphas rule number b.lists.items fs fs' (no_parts ∷ []) (no_parts ∷ []) (branch_lists (flat_nodes b.nodes.items) fs) (branch_lists (flat_nodes b.nodes.items) fs') b
@@ -96,6 +104,8 @@ change_turning alphas rule number fs fs' b rise before =
         wide = record { was = λ j l. wide b planned fs j l; is = λ j l. wide b planned fs' j l };
         leads = leads b planned;
         ready = over.ready;
+        prepared = planned.prepared;
+        unbound = λ m h. elim h as (λ _. HasValuesOf [] m) [ inl i ↦ nothing_bound m i | inr i ↦ nothing_bound m i ];
         turned = before.turned;
       };
       indexed = over.indexed;
@@ -144,6 +154,8 @@ module _ {T : Type 0} (alphas : MemoryValues) (rule number : ℕ) (fs : IndexedF
       wide = record { was = λ j l m h. absurd (subst (In m) (none b planned fs j) h); is = λ j l. wide b planned fs j l };
       leads = leads b planned;
       ready = empty_ready b.sources.items b.nodes.items (widths_of nodes_of) (widths b planned) (leads b planned) empties (were_facts alphas) was empty cleared;
+      prepared = planned.prepared;
+      unbound = λ m h. elim h as (λ _. HasValuesOf [] m) [ inl i ↦ absurd i | inr i ↦ nothing_bound m i ];
       turned = turned;
     };
     indexed = λ m is.

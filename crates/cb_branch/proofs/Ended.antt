@@ -3,10 +3,10 @@ use Rattle.std.proofs.Common.{◌≡◌, ◌∙◌, ◌<◌, ◌≤◌, ℕ, suc
 use Rattle.std.proofs.lemmas.List.{length-map}
 use Rattle.cb_alpha_network.specs.Networks.{MemoryValues}
 use Rattle.cb_beta.specs.BetaMemories.{BetaMemoryValue}
-use Rattle.cb_branch_nodes.proofs.Fills.{ends_ready}
-use Rattle.cb_branch_nodes.specs.Alphas.{live_facts}
-use Rattle.cb_branch_nodes.specs.Ready.{AreNodesReady}
-use Rattle.cb_branch_nodes.specs.Turning.{AreNodesAfter, AreNodesBefore}
+use Rattle.cb_branch.proofs.Fills.{ends_ready}
+use Rattle.cb_branch.specs.Alphas.{live_facts}
+use Rattle.cb_branch.specs.Ready.{AreNodesReady}
+use Rattle.cb_branch.specs.Turning.{AreNodesAfter, AreNodesBefore}
 use Rattle.cb_facts.specs.FactLists.{IndexedFacts}
 use Rattle.cb_list_changes.proofs.Ends.{all_rest, alike_then}
 use Rattle.cb_list_changes.proofs.Places.{at_place, at_same}
@@ -17,8 +17,8 @@ use Rattle.cb_match_index.specs.MatchIndexes.{IsIndex}
 use Rattle.cb_match_index.specs.declared.match_index.MatchIndex.{MatchIndex}
 use Rattle.cb_matches.specs.Matches.{Partial}
 use Rattle.cb_nodes.specs.Flat.{AreWidths, FlatNode, Lists}
-use Rattle.cb_plan.specs.Nodes.{flat_node, flat_nodes}
-use Rattle.cb_plan.specs.declared.node.Node.{Node}
+use Rattle.cb_branch.specs.Nodes.{flat_node, flat_nodes}
+use Rattle.cb_branch.specs.declared.node.Node.{Node}
 use Rattle.cb_token_lists.specs.Partials.{SourceValue, partial_at}
 use Rattle.cb_token_lists.specs.Turns.{IsThere, Turns, WasThere}
 

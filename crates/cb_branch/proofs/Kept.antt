@@ -6,8 +6,8 @@ use Rattle.cb_branch.proofs.Matched.{lists_stay}
 use Rattle.cb_branch.specs.Branches.{DifferBy, HasAlpha, IsBranchOver, branch_elements}
 use Rattle.cb_branch.specs.Patterns.{shape_tests}
 use Rattle.cb_branch.specs.declared.branch.Branch.{Branch}
-use Rattle.cb_branch_nodes.proofs.Fills.{facts_stay}
-use Rattle.cb_branch_nodes.specs.Alphas.{AlphaUse, Facts, HasUse, alpha_use}
+use Rattle.cb_branch.proofs.Fills.{facts_stay}
+use Rattle.cb_branch.specs.Alphas.{AlphaUse, Facts, HasUse, alpha_use}
 use Rattle.cb_facts.specs.FactLists.{IndexedFacts}
 use Rattle.cb_facts.specs.Facts.{FactValue}
 use Rattle.cb_fit.specs.Shapes.{has_shape}
@@ -21,9 +21,9 @@ use Rattle.cb_nodes.specs.Flat.{branch_nodes, widths_of}
 use Rattle.cb_nodes.specs.Lists.{branch_lists}
 use Rattle.cb_nodes.specs.Patterns.{Shapeless}
 use Rattle.cb_partials.specs.Probes.{branch_probes}
-use Rattle.cb_plan.specs.Nodes.{flat_node, flat_nodes}
-use Rattle.cb_plan.specs.declared.node.Node.{Node}
-use Rattle.cb_plan.specs.declared.node.Node.TheVariants as kept
+use Rattle.cb_branch.specs.Nodes.{flat_node, flat_nodes}
+use Rattle.cb_branch.specs.declared.node.Node.{Node}
+use Rattle.cb_branch.specs.declared.node.Node.TheVariants as kept
 use Rattle.cb_rules.specs.Elements.{Elements}
 use Rattle.cb_token_lists.specs.Keeping.{Rests}
 use Rattle.cb_token_lists.specs.Partials.{partial_at}
@@ -47,6 +47,7 @@ module _ {T : Type 0} (f : ℕ × FactValue) where
   one_takes (kept.Test from test) none = refl
   one_takes (kept.Group width node) none = refl
   one_takes (kept.Lone alpha node) none = none (record { pattern = node.pattern; alpha = alpha; join = None }) refl
+  one_takes (kept.Lookup alpha node) none = none (record { pattern = node.pattern; alpha = alpha; join = Some (node.join, node.fields.items) }) refl
 
   pub none_takes : (nodes : List (Node T)) → ((k : ℕ) (u : AlphaUse) → HasUse nodes k u → has_shape u.pattern f.1 ≡ false) → NoneTakes f (flat_nodes nodes)
   none_takes [] none = λ k d l. absurd (omega (arith, l))

@@ -1,7 +1,31 @@
-pub mod Begun
-pub mod Ended
-pub mod Entered
-pub mod Kept
-pub mod Looked
-pub mod Matched
-pub mod Told
+mod Alike
+mod Begun
+mod BoundNames
+mod Changed
+mod Clearings
+mod Done
+mod Ended
+mod Endings
+mod Entered
+mod EnteredNodes
+mod Fills
+mod GroupKind
+mod JoinKind
+mod JoinedByValues
+mod Kept
+mod KindsOf
+mod LoneKind
+mod LookupKind
+mod Looked
+mod Loop
+mod Matched
+mod NodeProbes
+mod NodeScopes
+mod Numbers
+mod Planned
+mod Pushed
+mod Ready
+mod Relied
+mod Sets
+mod TestKind
+mod Told

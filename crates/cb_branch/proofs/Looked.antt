@@ -6,7 +6,7 @@ use Rattle.cb_beta.specs.BetaMemories.{BetaMemoryValue}
 use Rattle.cb_branch.proofs.Matched.{last_is_matches, last_within}
 use Rattle.cb_branch.specs.Branches.{IsBranchOver, branch_elements}
 use Rattle.cb_branch.specs.declared.branch.Branch.{Branch}
-use Rattle.cb_branch_nodes.specs.Alphas.{Facts}
+use Rattle.cb_branch.specs.Alphas.{Facts}
 use Rattle.cb_facts.specs.FactLists.{IndexedFacts}
 use Rattle.cb_list_changes.proofs.Places.{at_place}
 use Rattle.cb_match_index.specs.MatchIndexes.{IsIndex}
@@ -15,7 +15,7 @@ use Rattle.cb_matches.specs.Matches.{Partial, matches_of}
 use Rattle.cb_matches.specs.Networks.{keyed}
 use Rattle.cb_matches.specs.Order.{IsRising, WaysRise}
 use Rattle.cb_nodes.specs.Lists.{branch_lists}
-use Rattle.cb_plan.specs.Nodes.{flat_nodes}
+use Rattle.cb_branch.specs.Nodes.{flat_nodes}
 use Rattle.cb_token_lists.specs.Partials.{partial_at}
 use Rattle.cb_token_lists.specs.Turns.{IsThere, StandFor}
 use Rattle.std.proofs.Common.{List}

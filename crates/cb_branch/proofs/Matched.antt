@@ -15,7 +15,7 @@ use Rattle.cb_nodes.proofs.Facts.{indices_of}
 use Rattle.cb_nodes.specs.Flat.{FlatNode}
 use Rattle.cb_nodes.specs.Lists.{branch_lists}
 use Rattle.cb_nodes.specs.Patterns.{Shapeless}
-use Rattle.cb_plan.specs.Nodes.{flat_node, flat_nodes}
+use Rattle.cb_branch.specs.Nodes.{flat_node, flat_nodes}
 use Rattle.cb_rules.specs.Elements.{Elements}
 
 pub sorted_matches : WaysRise → (es : Elements) (fs : IndexedFacts) → IsRising fs → IsSorted (matches_of es fs)

@@ -7,8 +7,8 @@ use Rattle.cb_branch.specs.Branches.{CanBeFilled, IsBranchOver, branch_elements}
 use Rattle.cb_branch.specs.Internal.{IsTurned}
 use Rattle.cb_branch.specs.Patterns.{shape_tests}
 use Rattle.cb_branch.specs.declared.branch.Branch.{Branch}
-use Rattle.cb_branch_nodes.specs.Alphas.{live_facts}
-use Rattle.cb_branch_nodes.specs.Ready.{AreNodesReady}
+use Rattle.cb_branch.specs.Alphas.{live_facts}
+use Rattle.cb_branch.specs.Ready.{AreNodesReady}
 use Rattle.cb_facts.specs.FactLists.{IndexedFacts}
 use Rattle.cb_facts.specs.Facts.{FactValue}
 use Rattle.cb_flat.proofs.Joins.{joins_within, only_joins_within}
@@ -24,8 +24,8 @@ use Rattle.cb_nodes.proofs.Facts.{indices_of}
 use Rattle.cb_nodes.specs.Flat.{FlatNode, Lists, branch_nodes}
 use Rattle.cb_nodes.specs.Lists.{branch_lists}
 use Rattle.cb_partials.specs.Probes.{branch_probes}
-use Rattle.cb_plan.specs.Nodes.{flat_nodes}
-use Rattle.cb_plan.specs.declared.node.Node.{Node}
+use Rattle.cb_branch.specs.Nodes.{flat_nodes}
+use Rattle.cb_branch.specs.declared.node.Node.{Node}
 use Rattle.cb_rule_keys.specs.Keys.{Tells, key_of, keys_in_branch}
 use Rattle.cb_rules.specs.Elements.{Elements}
 use Rattle.cb_token_lists.specs.Partials.{partial_at}

@@ -4,10 +4,10 @@ use Rattle.cb_alpha_network.specs.Networks.{AlphaNetworkValue, IsShapeOf, Memory
 use Rattle.cb_alpha_network.specs.declared.node_place.NodePlace.{NodePlace}
 use Rattle.cb_beta.specs.BetaMemories.{BetaMemoryValue}
 use Rattle.cb_branch.specs.declared.branch.Branch.{Branch}
-use Rattle.cb_branch_nodes.specs.Alphas.{AlphaUse, Facts, HasTurned, HasUse, HasUsedJoin, TakesAdded, were_facts}
-use Rattle.cb_branch_nodes.specs.Ready.{AreNodesReady}
-use Rattle.cb_branch_nodes.specs.Turning.{ArePrepared}
-use Rattle.cb_entering.specs.Entries.{KeepsShapesElsewhere, node_at}
+use Rattle.cb_branch.specs.Alphas.{AlphaUse, Facts, HasTurned, HasUse, HasUsedJoin, TakesAdded, were_facts}
+use Rattle.cb_branch.specs.Ready.{AreNodesReady}
+use Rattle.cb_branch.specs.Turning.{ArePrepared}
+use Rattle.cb_branch.specs.Entries.{KeepsShapesElsewhere, node_at}
 use Rattle.cb_facts.specs.FactLists.{IndexedFacts, fact_at, with_fact}
 use Rattle.cb_facts.specs.Facts.{FactValue}
 use Rattle.cb_flat.specs.Sources.{sources_of}
@@ -16,7 +16,7 @@ use Rattle.cb_match_index.specs.MatchIndexes.{IsIndex}
 use Rattle.cb_matches.specs.Order.{IsRising}
 use Rattle.cb_nodes.specs.Flat.{branch_last, branch_nodes}
 use Rattle.cb_nodes.specs.Lists.{branch_lists}
-use Rattle.cb_plan.specs.Nodes.{flat_nodes}
+use Rattle.cb_branch.specs.Nodes.{flat_nodes}
 use Rattle.cb_rules.specs.Elements.{Elements, element_of, elements}
 use Rattle.cb_token_lists.specs.Partials.{partial_at}
 use Rattle.cb_token_lists.specs.Turns.{IsThere}

@@ -1,12 +1,16 @@
--- A branch in a change.
+-- A branch in a change. The nodes of elements, while they are made one element after another: Plans. The variables that have values
+-- before an element: Bounds. Patterns that are decided by values: ByValues.
+pub mod Bounds
+pub mod ByValues
+pub mod Plans
 use Rattle.std.specs.Prelude.{◌≡◌, ℕ, suc, List, Some, None, length, slice_get}
 use Rattle.cb_alpha_network.specs.Networks.{MemoryValues}
 use Rattle.cb_beta.specs.BetaMemories.{BetaMemoryValue, Gains}
 use Rattle.cb_branch.specs.Branches.{CanBeFilled}
 use Rattle.cb_branch.specs.declared.branch.Branch.{Branch}
-use Rattle.cb_branch_nodes.specs.Alphas.{live_facts}
-use Rattle.cb_branch_nodes.specs.Ready.{AreNodesReady}
-use Rattle.cb_branch_nodes.specs.Turning.{AreNodesBefore}
+use Rattle.cb_branch.specs.Alphas.{live_facts}
+use Rattle.cb_branch.specs.Ready.{AreNodesReady}
+use Rattle.cb_branch.specs.Turning.{AreNodesBefore}
 use Rattle.cb_facts.specs.FactLists.{IndexedFacts}
 use Rattle.cb_list_changes.specs.Resting.{AreResting, IsPut}
 use Rattle.cb_match_index.specs.MatchIndexes.{IsIndex}

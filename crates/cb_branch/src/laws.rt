@@ -1,7 +1,7 @@
 //! Laws of branches: each is the contract of a function that does nothing.
 ghost use Rattle.std.specs.Prelude.{◌≡◌, ◌≤◌, ℕ, Option, false};
 ghost use Rattle.cb_branch.specs.Branches.{CanBeFilled, DifferBy, HasAlpha, IsBranchOver, branch_elements};
-ghost use Rattle.cb_branch_nodes.specs.Alphas.{AlphaUse, Facts};
+ghost use Rattle.cb_branch.specs.Alphas.{AlphaUse, Facts};
 ghost use Rattle.cb_branch.specs.Patterns.{shape_tests};
 ghost use Rattle.cb_branch.specs.declared.branch.Branch.{Branch};
 ghost use Rattle.cb_facts.specs.FactLists.{IndexedFacts};

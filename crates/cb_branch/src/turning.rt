@@ -8,12 +8,12 @@ ghost use Rattle.cb_facts.specs.Facts.{FactValue};
 ghost use Rattle.cb_flat.specs.Joined.{flat_joins};
 ghost use Rattle.cb_matches.specs.Matches.{Partial};
 ghost use Rattle.cb_nodes.specs.Flat.{Lists};
-ghost use Rattle.cb_plan.specs.Nodes.{flat_nodes};
+ghost use Rattle.cb_branch.specs.Nodes.{flat_nodes};
 ghost use Rattle.cb_rule_keys.specs.Keys.{Tells, key_of};
 
+use crate::all_nodes::{change_nodes, end_change};
 use crate::branch::Branch;
 use cb_alpha::AlphaMemory;
-use cb_branch_nodes::{change_nodes, end_change};
 use cb_fit::Meter;
 use cb_forms::NoMemory;
 use cb_functions::Constants;

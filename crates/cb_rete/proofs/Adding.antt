@@ -4,9 +4,9 @@ use Rattle.std.proofs.lemmas.List.{map-append}
 use Rattle.std.specs.BTreeMap.{BTreeMap, insert_entry, values}
 use Rattle.cb_alpha_network.specs.Networks.{AlphaNetworkValue, AreAlphas, shape_count}
 use Rattle.cb_branch.specs.Branches.{HasAlpha, IsBranchOver}
-use Rattle.cb_branch_nodes.specs.Alphas.{AlphaUse}
-use Rattle.cb_entering.specs.Entries.{KeepsShapes}
-use Rattle.cb_branch_nodes.specs.Alphas.{Facts, live_facts}
+use Rattle.cb_branch.specs.Alphas.{AlphaUse}
+use Rattle.cb_branch.specs.Entries.{KeepsShapes}
+use Rattle.cb_branch.specs.Alphas.{Facts, live_facts}
 use Rattle.cb_branch.specs.Patterns.{branch_patterns}
 use Rattle.cb_branch.specs.declared.branch.Branch.{Branch}
 use Rattle.cb_facts.specs.FactLists.{IndexedFacts}

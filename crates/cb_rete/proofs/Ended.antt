@@ -4,8 +4,8 @@ use Rattle.std.specs.BTreeMap.{BTreeMap, values}
 use Rattle.cb_alpha.specs.AlphaMemories.{AlphaMemoryValue, IsEnded, index_of, live, live_in}
 use Rattle.cb_alpha_network.specs.Networks.{AlphaNetworkValue, AlphasTurn, AreAlphas, HasNoFact, NetworkChangesFrom, memory_at, shape_count}
 use Rattle.cb_branch.specs.Branches.{HasAlpha, IsBranchOver}
-use Rattle.cb_branch_nodes.specs.Alphas.{AlphaUse}
-use Rattle.cb_branch_nodes.specs.Alphas.{Facts, live_facts, were_facts}
+use Rattle.cb_branch.specs.Alphas.{AlphaUse}
+use Rattle.cb_branch.specs.Alphas.{Facts, live_facts, were_facts}
 use Rattle.cb_branch.specs.Patterns.{branch_patterns}
 use Rattle.cb_branch.specs.declared.branch.Branch.{Branch}
 use Rattle.cb_facts.specs.FactLists.{IndexedFacts, fact_at, with_fact, without_fact}

@@ -1,14 +1,14 @@
 -- Patterns of rules that stay in the alpha network.
-use Rattle.std.proofs.Common.{◌≡◌, ◌∙◌, ◌<◌, ℕ, List, Option, Some, None, ap, cond, length, refl, subst, sym}
+use Rattle.std.proofs.Common.{◌≡◌, ◌∙◌, ◌<◌, ℕ, List, Option, Some, None, ap, cond, inl, length, refl, subst, sym}
 use Rattle.std.specs.List.{slice_get}
 use Rattle.cb_alpha.specs.AlphaMemories.{AlphaMemoryValue, candidate_in, live, live_in}
 use Rattle.cb_alpha.specs.Turning.{AlphaTurns, AreCandidates, IsAlphaOver, is_number}
 use Rattle.cb_alpha_network.specs.Networks.{AlphaNetworkValue, AreAlphas, IsShapeOf, MemoryValues, ShapeValue, memory_at, memory_in, shape_at}
 use Rattle.cb_alpha_network.specs.declared.node_place.NodePlace.{NodePlace}
 use Rattle.cb_branch.specs.Branches.{AreTurned, HasAlpha, HasSameAlphas, IsBranchOver, IsEntered, IsUsed}
-use Rattle.cb_branch_nodes.specs.Alphas.{AlphaUse, HasUsedJoin}
-use Rattle.cb_entering.specs.Entries.{KeepsShapes, node_at}
-use Rattle.cb_branch_nodes.specs.Alphas.{Facts, live_facts}
+use Rattle.cb_branch.specs.Alphas.{AlphaUse, HasUsedJoin}
+use Rattle.cb_branch.specs.Entries.{KeepsShapes, node_at}
+use Rattle.cb_branch.specs.Alphas.{Facts, live_facts}
 use Rattle.cb_branch.specs.declared.branch.Branch.{Branch}
 use Rattle.cb_constraints.specs.PatternValues.{PatternValue}
 use Rattle.cb_facts.specs.FactLists.{IndexedFacts}
@@ -85,6 +85,7 @@ rests p m fs over = record {
   is = over.has;
   one = over.one;
   apart = λ n c g. let no : None ≡ Some n = sym over.none_come ∙ c in absurd cc;
+  single = inl over.none_gone;
 }
   where
     were_by : AlphaMemoryValue → Option ℕ → ℕ → Option (ℕ × FactValue)

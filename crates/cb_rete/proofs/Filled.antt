@@ -5,7 +5,7 @@ use Rattle.std.proofs.lemmas.Option.{slice_get_past}
 use Rattle.std.specs.List.{slice_get}
 use Rattle.cb_alpha_network.specs.Networks.{AlphaNetworkValue}
 use Rattle.cb_branch.specs.Branches.{HasSameAlphas, IsBranchOver, IsEntered, branch_elements}
-use Rattle.cb_branch_nodes.specs.Alphas.{live_facts}
+use Rattle.cb_branch.specs.Alphas.{live_facts}
 use Rattle.cb_branch.specs.declared.branch.Branch.{Branch}
 use Rattle.cb_facts.specs.FactLists.{IndexedFacts}
 use Rattle.cb_matches.specs.Keys.{KeyValue}

@@ -6,7 +6,7 @@ use Rattle.std.specs.List.{All}
 use Rattle.std.specs.List.Sorted.{IsStrictlySortedBy}
 use Rattle.std.specs.Map.{keys_of, values_of}
 use Rattle.cb_alpha_network.specs.Networks.{AlphaNetworkValue}
-use Rattle.cb_branch_nodes.specs.Alphas.{live_facts}
+use Rattle.cb_branch.specs.Alphas.{live_facts}
 use Rattle.cb_facts.specs.FactLists.{IndexedFacts}
 use Rattle.cb_matches.proofs.Lists.{in_either}
 use Rattle.cb_matches.specs.Chains.{In}

@@ -8,7 +8,7 @@ use Rattle.std.specs.List.Sorted.{IsStrictlySortedBy}
 use Rattle.std.specs.Ordering.{ordering_then}
 use Rattle.cb_alpha_network.specs.Places.{place_cmp}
 use Rattle.cb_alpha_network.specs.declared.node_place.NodePlace.{NodePlace}
-use Rattle.cb_entering.specs.Entries.{node_at}
+use Rattle.cb_branch.specs.Entries.{node_at}
 use Rattle.cb_matches.proofs.Lists.{place_of}
 use Rattle.cb_matches.specs.Chains.{In}
 use Rattle.cb_rete.specs.Found.{AreAllOfRule, AreOfRule}

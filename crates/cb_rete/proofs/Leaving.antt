@@ -3,7 +3,7 @@ use Rattle.std.proofs.Common.{◌≡◌, ◌∙◌, ◌<◌, ◌≤◌, ◌+◌,
 use Rattle.std.specs.List.{slice_get}
 use Rattle.cb_alpha_network.specs.Networks.{AlphaNetworkValue, ShapeValue, memory_at, shape_at, shape_count}
 use Rattle.cb_branch.specs.Branches.{IsEntered, IsLeft, branch_elements}
-use Rattle.cb_entering.specs.Entries.{node_at}
+use Rattle.cb_branch.specs.Entries.{node_at}
 use Rattle.cb_branch.specs.Patterns.{branch_patterns}
 use Rattle.cb_branch.specs.declared.branch.Branch.{Branch}
 use Rattle.cb_rete.proofs.Entered.{shape_of, used_stays}

@@ -5,8 +5,8 @@ use Rattle.std.specs.List.Sorted.{IsStrictlySortedBy}
 use Rattle.std.specs.Map.{keys_of, lookup, remove_entry, values_of}
 use Rattle.cb_alpha_network.specs.Networks.{AlphaNetworkValue, AreAlphas}
 use Rattle.cb_branch.specs.Branches.{HasAlpha, IsBranchOver}
-use Rattle.cb_branch_nodes.specs.Alphas.{AlphaUse}
-use Rattle.cb_branch_nodes.specs.Alphas.{Facts}
+use Rattle.cb_branch.specs.Alphas.{AlphaUse}
+use Rattle.cb_branch.specs.Alphas.{Facts}
 use Rattle.cb_branch.specs.Patterns.{branch_patterns}
 use Rattle.cb_branch.specs.declared.branch.Branch.{Branch}
 use Rattle.cb_facts.specs.FactLists.{IndexedFacts}

@@ -7,9 +7,9 @@ use Rattle.cb_alpha.specs.Turning.{AlphaTurns, came_in, is_number, were_in}
 use Rattle.cb_alpha_network.specs.Networks.{IsAtRest, MemoryValues, memory_at, memory_in}
 use Rattle.cb_alpha_network.specs.declared.node_place.NodePlace.{NodePlace}
 use Rattle.cb_branch.specs.Branches.{AreAdded, AreTurned, DifferBy, HasAlpha, HasSameAlphas, IsBefore, IsBranchOver, branch_elements}
-use Rattle.cb_branch_nodes.specs.Alphas.{AlphaUse, HasUsedJoin}
-use Rattle.cb_entering.specs.Entries.{node_at}
-use Rattle.cb_branch_nodes.specs.Alphas.{Facts, live_facts, were_facts}
+use Rattle.cb_branch.specs.Alphas.{AlphaUse, HasUsedJoin}
+use Rattle.cb_branch.specs.Entries.{node_at}
+use Rattle.cb_branch.specs.Alphas.{Facts, live_facts, were_facts}
 use Rattle.cb_branch.specs.Patterns.{shape_tests}
 use Rattle.cb_branch.specs.declared.branch.Branch.{Branch}
 use Rattle.cb_constraints.specs.PatternValues.{PatternValue}

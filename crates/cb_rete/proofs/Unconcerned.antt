@@ -4,9 +4,9 @@ use Rattle.std.specs.List.{slice_get}
 use Rattle.cb_alpha_network.specs.Networks.{MemoryValues}
 use Rattle.cb_alpha_network.specs.declared.node_place.NodePlace.{NodePlace}
 use Rattle.cb_branch.specs.Branches.{DifferBy, HasAlpha, IsBranchOver, branch_elements}
-use Rattle.cb_branch_nodes.specs.Alphas.{AlphaUse}
-use Rattle.cb_entering.specs.Entries.{node_at}
-use Rattle.cb_branch_nodes.specs.Alphas.{Facts}
+use Rattle.cb_branch.specs.Alphas.{AlphaUse}
+use Rattle.cb_branch.specs.Entries.{node_at}
+use Rattle.cb_branch.specs.Alphas.{Facts}
 use Rattle.cb_branch.specs.declared.branch.Branch.{Branch}
 use Rattle.cb_facts.specs.FactLists.{IndexedFacts}
 use Rattle.cb_facts.specs.Facts.{FactValue}

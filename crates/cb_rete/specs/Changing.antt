@@ -6,7 +6,7 @@ use Rattle.std.specs.Ordering.{nat_cmp}
 use Rattle.cb_alpha_network.specs.Networks.{AlphaNetworkValue, AlphasTurn, AreAlphas, HasChanged, IsShapeOf, MemoryValues}
 use Rattle.cb_alpha_network.specs.declared.node_place.NodePlace.{NodePlace}
 use Rattle.cb_branch.specs.Branches.{DifferBy, IsBranchOver, IsEntered, branch_elements}
-use Rattle.cb_branch_nodes.specs.Alphas.{live_facts, were_facts}
+use Rattle.cb_branch.specs.Alphas.{live_facts, were_facts}
 use Rattle.cb_branch.specs.Patterns.{shape_tests}
 use Rattle.cb_branch.specs.declared.branch.Branch.{Branch}
 use Rattle.cb_constraints.specs.PatternValues.{PatternValue}

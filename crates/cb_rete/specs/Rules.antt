@@ -3,7 +3,7 @@ use Rattle.std.specs.Prelude.{◌≡◌, ◌≤◌, ℕ, List, Some, All, map, s
 use Rattle.std.specs.BTreeMap.{BTreeMap, values}
 use Rattle.cb_alpha_network.specs.Networks.{AlphaNetworkValue, AreAlphas, shape_count}
 use Rattle.cb_branch.specs.Branches.{CanBeFilled, IsBranchOver, IsEntered, branch_elements}
-use Rattle.cb_branch_nodes.specs.Alphas.{Facts, live_facts}
+use Rattle.cb_branch.specs.Alphas.{Facts, live_facts}
 use Rattle.cb_branch.specs.Patterns.{branch_patterns}
 use Rattle.cb_branch.specs.declared.branch.Branch.{Branch}
 use Rattle.cb_facts.specs.FactLists.{IndexedFacts}

@@ -4,7 +4,7 @@ ghost use Rattle.std.specs.BTreeMap.{values};
 ghost use Rattle.std.specs.List.{All, filter, flat_map};
 ghost use Rattle.cb_alpha_network.specs.Networks.{AreAlphas, shape_count};
 ghost use Rattle.cb_branch.specs.Branches.{CanBeFilled};
-ghost use Rattle.cb_branch_nodes.specs.Alphas.{Facts};
+ghost use Rattle.cb_branch.specs.Alphas.{Facts};
 ghost use Rattle.cb_branch.specs.Patterns.{branch_patterns};
 ghost use Rattle.cb_facts.specs.FactLists.{IndexedFacts, IsAbsent, fact_at, with_fact, without_fact};
 ghost use Rattle.cb_matches.specs.Changes.{IsAbove, IsDelta};

@@ -2,7 +2,7 @@
 ghost use Rattle.std.specs.Prelude.{◌≡◌, ◌+◌, ℕ, All, OnOk};
 ghost use Rattle.cb_alpha_network.specs.Networks.{AreAlphas, shape_count};
 ghost use Rattle.cb_branch.specs.Branches.{CanBeFilled};
-ghost use Rattle.cb_entering.specs.Entries.{KeepsShapes};
+ghost use Rattle.cb_branch.specs.Entries.{KeepsShapes};
 ghost use Rattle.cb_branch.specs.Patterns.{branch_patterns};
 ghost use Rattle.cb_facts.specs.FactLists.{IndexedFacts};
 ghost use Rattle.cb_rete.specs.Entering.{IsRuleLeft};

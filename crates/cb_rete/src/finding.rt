@@ -1,7 +1,7 @@
 //! The match with a key.
 ghost use Rattle.std.specs.Prelude.{◌≡◌, IfOk};
 ghost use Rattle.std.specs.BTreeMap.{values};
-ghost use Rattle.cb_branch_nodes.specs.Alphas.{Facts};
+ghost use Rattle.cb_branch.specs.Alphas.{Facts};
 ghost use Rattle.cb_facts.specs.FactLists.{IndexedFacts};
 ghost use Rattle.cb_matches.specs.Networks.{bindings_of};
 ghost use Rattle.cb_matches.specs.Order.{IsRising};

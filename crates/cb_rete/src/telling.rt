@@ -1,6 +1,6 @@
 //! The keys of a rule's matches.
 ghost use Rattle.std.specs.Prelude.{◌≡◌, ◌++◌, ℕ, OnOk};
-ghost use Rattle.cb_branch_nodes.specs.Alphas.{Facts};
+ghost use Rattle.cb_branch.specs.Alphas.{Facts};
 ghost use Rattle.cb_facts.specs.FactLists.{IndexedFacts};
 ghost use Rattle.cb_matches.specs.Order.{IsRising};
 ghost use Rattle.cb_rete.specs.Rules.{AreBranchesOver, kept_branches};

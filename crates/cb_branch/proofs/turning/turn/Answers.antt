@@ -6,15 +6,15 @@ use Rattle.cb_branch.proofs.Ended.{ended_index, ended_long, ended_ready, ended_r
 use Rattle.cb_branch.proofs.Matched.{last_within}
 use Rattle.cb_branch.proofs.Told.{turned_branch}
 use Rattle.cb_branch.proofs.turning.turn.Goals as goal
-use Rattle.cb_branch_nodes.specs.Alphas.{AlphaUse, HasUse, TakesAdded}
-use Rattle.cb_branch_nodes.specs.Turning.{AreNodesAfter, AreNodesBefore}
+use Rattle.cb_branch.specs.Alphas.{AlphaUse, HasUse, TakesAdded}
+use Rattle.cb_branch.specs.Turning.{AreNodesAfter, AreNodesBefore}
 use Rattle.cb_flat.specs.Joined.{flat_joins}
 use Rattle.cb_list_changes.specs.Resting.{AreEnded}
 use Rattle.cb_match_index.specs.MatchIndexes.{IsIndex}
 use Rattle.cb_match_index.specs.TellingKeys.{Tells as TellsKeys}
 use Rattle.cb_matches.specs.Order.{IsSorted}
-use Rattle.cb_plan.specs.Nodes.{flat_nodes}
-use Rattle.cb_plan.specs.declared.node.Node.{Node}
+use Rattle.cb_branch.specs.Nodes.{flat_nodes}
+use Rattle.cb_branch.specs.declared.node.Node.{Node}
 use Rattle.cb_rule_keys.specs.Keys.{key_of}
 use Rattle.cb_token_lists.specs.Partials.{SourceValue, partial_at}
 use Rattle.cb_token_lists.specs.Turns.{IsThere, Turns, WasThere}

@@ -2,7 +2,7 @@ use Rattle.std.proofs.Common.{◌≡◌, ◌<◌, ◌∙◌, ◌++◌, ◌∷◌
 use Rattle.std.specs.BTreeMap.{values}
 use Rattle.cb_alpha_network.specs.Networks.{AlphaNetworkValue, AreAlphas, IsShapeOf, MemoryValues}
 use Rattle.cb_alpha_network.specs.declared.node_place.NodePlace.{NodePlace}
-use Rattle.cb_branch_nodes.specs.Alphas.{live_facts}
+use Rattle.cb_branch.specs.Alphas.{live_facts}
 use Rattle.cb_constraints.specs.PatternValues.{PatternValue}
 use Rattle.cb_facts.specs.FactLists.{IndexedFacts}
 use Rattle.cb_matches.specs.Networks.{Conditions}

@@ -2,7 +2,7 @@ use Rattle.std.proofs.Common.{◌≡◌, ℕ, ◌+◌, ◌<◌, Some, drop}
 use Rattle.std.specs.List.{All, slice_get}
 use Rattle.cb_alpha_network.specs.Networks.{AreAlphas, shape_count}
 use Rattle.cb_branch.specs.Branches.{CanBeFilled, IsEntered}
-use Rattle.cb_entering.specs.Entries.{KeepsShapes}
+use Rattle.cb_branch.specs.Entries.{KeepsShapes}
 use Rattle.cb_branch.specs.Patterns.{branch_patterns}
 use Rattle.cb_branch.specs.declared.branch.Branch.{Branch}
 use Rattle.cb_rete.proofs.entering.enter_branches.Given as goal

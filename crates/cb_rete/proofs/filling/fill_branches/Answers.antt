@@ -3,7 +3,7 @@ use Rattle.std.proofs.Math.Seq.{map-set_same}
 use Rattle.std.proofs.lemmas.Option.{slice_get-get_or}
 use Rattle.std.specs.List.{slice_get}
 use Rattle.cb_branch.specs.Branches.{AreTurned, CanBeFilled, IsBranchOver, branch_elements}
-use Rattle.cb_branch_nodes.specs.Alphas.{live_facts}
+use Rattle.cb_branch.specs.Alphas.{live_facts}
 use Rattle.cb_branch.specs.declared.branch.Branch.{Branch}
 use Rattle.cb_rete.proofs.Entered.{fill_turned}
 use Rattle.cb_rete.proofs.Filled.{filled_all, filled_more, filled_none}

@@ -1,5 +1,5 @@
 use Rattle.std.proofs.Common.{◌≡◌, ◌++◌, ℕ, drop}
-use Rattle.cb_branch_nodes.specs.Alphas.{Facts}
+use Rattle.cb_branch.specs.Alphas.{Facts}
 use Rattle.cb_facts.specs.FactLists.{IndexedFacts}
 use Rattle.cb_matches.specs.Order.{IsRising}
 use Rattle.cb_rete.proofs.telling.tell_branches.Given as goal

@@ -7,7 +7,7 @@ use Rattle.cb_branch.specs.Branches.{branch_elements}
 use Rattle.cb_matches.specs.Matches.{no_parts}
 use Rattle.cb_nodes.proofs.Grown.{ways_rise}
 use Rattle.cb_nodes.specs.Lists.{branch_lists}
-use Rattle.cb_plan.specs.Nodes.{flat_nodes}
+use Rattle.cb_branch.specs.Nodes.{flat_nodes}
 
 on_three : {A E P Q R S : Type 0} (r : Result A E) → (P → Q → R → S) → OnOk r P → OnOk r Q → OnOk r R → OnOk r S
 on_three (Ok a) f h k l = f h k l

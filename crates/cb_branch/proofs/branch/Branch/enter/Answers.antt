@@ -3,9 +3,9 @@ use Rattle.std.proofs.lemmas.List.{with_items_is}
 use Rattle.cb_beta.proofs.Losses.{on_ok}
 use Rattle.cb_branch.proofs.Entered.{are_used, renumbered}
 use Rattle.cb_branch.proofs.branch.Branch.enter.Goals as goal
-use Rattle.cb_branch_nodes.specs.Alphas.{HasUse}
-use Rattle.cb_entering.specs.Entries.{AreRenumbered}
-use Rattle.cb_plan.specs.declared.node.Node.{Node}
+use Rattle.cb_branch.specs.Alphas.{HasUse}
+use Rattle.cb_branch.specs.Entries.{AreRenumbered}
+use Rattle.cb_branch.specs.declared.node.Node.{Node}
 
 pub returns-clause-plan : goal.returns-clause-plan
 returns-clause-plan g c =

@@ -9,9 +9,9 @@ use Rattle.cb_branch.proofs.branch.Branch.fill.Goals as goal
 use Rattle.cb_branch.specs.Branches.{AreTurned, CanBeFilled}
 use Rattle.cb_branch.specs.Internal.{BeginsFilling}
 use Rattle.cb_branch.specs.declared.branch.Branch.{Branch}
-use Rattle.cb_branch_nodes.specs.Alphas.{HasUse}
-use Rattle.cb_branch_nodes.specs.Ready.{AreNodesCleared}
-use Rattle.cb_branch_nodes.specs.Turning.{ArePrepared, AreSameNodes}
+use Rattle.cb_branch.specs.Alphas.{HasUse}
+use Rattle.cb_branch.specs.Ready.{AreNodesCleared}
+use Rattle.cb_branch.specs.Turning.{ArePrepared, AreSameNodes}
 use Rattle.cb_flat.proofs.Last.{nothing_of_nothing}
 use Rattle.cb_flat.specs.Sources.{sources_of}
 use Rattle.cb_matches.specs.Changes.{come_of}
@@ -19,8 +19,8 @@ use Rattle.cb_matches.specs.Matches.{Partial, no_parts}
 use Rattle.cb_nodes.proofs.Grown.{ways_rise}
 use Rattle.cb_nodes.specs.Flat.{lists_of}
 use Rattle.cb_nodes.specs.Lists.{branch_lists}
-use Rattle.cb_plan.specs.Nodes.{flat_nodes}
-use Rattle.cb_plan.specs.declared.node.Node.{Node}
+use Rattle.cb_branch.specs.Nodes.{flat_nodes}
+use Rattle.cb_branch.specs.declared.node.Node.{Node}
 use Rattle.cb_rule_keys.specs.Keys.{key_of}
 
 pub returns-clause-alphas : goal.returns-clause-alphas

@@ -2,10 +2,10 @@ use Rattle.std.proofs.Common.{◌∙◌, ◌+◌, Err, List, Ok, OnOk, Result, a
 use Rattle.cb_alpha_network.specs.Networks.{shape_count}
 use Rattle.cb_branch.proofs.Entered.{patterns_are, used_are}
 use Rattle.cb_branch.proofs.branch.Branch.leave.Goals as goal
-use Rattle.cb_entering.specs.Entries.{AreNodesEntered}
+use Rattle.cb_branch.specs.Entries.{AreNodesEntered}
 use Rattle.cb_flat.specs.Taking.{pattern_count}
-use Rattle.cb_plan.specs.Nodes.{flat_nodes}
-use Rattle.cb_plan.specs.declared.node.Node.{Node}
+use Rattle.cb_branch.specs.Nodes.{flat_nodes}
+use Rattle.cb_branch.specs.declared.node.Node.{Node}
 
 on_both : {A E P Q R : Type 0} (r : Result A E) → (P → Q → R) → OnOk r P → OnOk r Q → OnOk r R
 on_both (Ok a) f h k = f h k

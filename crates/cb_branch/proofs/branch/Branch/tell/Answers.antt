@@ -5,7 +5,7 @@ use Rattle.cb_branch.proofs.branch.Branch.tell.Goals as goal
 use Rattle.cb_list_changes.proofs.Places.{at_place}
 use Rattle.cb_nodes.proofs.Grown.{ways_rise}
 use Rattle.cb_nodes.specs.Lists.{branch_lists}
-use Rattle.cb_plan.specs.Nodes.{flat_nodes}
+use Rattle.cb_branch.specs.Nodes.{flat_nodes}
 use Rattle.cb_rule_keys.specs.Keys.{key_of}
 use Rattle.cb_token_lists.specs.Partials.{partial_at}
 

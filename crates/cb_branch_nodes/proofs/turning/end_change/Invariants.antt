@@ -1,5 +1,0 @@
-use Rattle.cb_branch_nodes.proofs.Endings.{AreEndedTo}
-use Rattle.cb_branch_nodes.proofs.turning.end_change.Given as goal
-
-abbrev pub invariant-loop-list : goal.invariant-loop-list
-invariant-loop-list l = AreEndedTo l.initial.lists l.lists l.list-index

@@ -1,3 +1,0 @@
-pub mod Alphas
-pub mod Ready
-pub mod Turning

@@ -1,2 +1,0 @@
-mod Entered
-mod Numbers

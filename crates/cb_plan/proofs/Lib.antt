@@ -1,2 +1,0 @@
-mod Planned
-mod Ready
