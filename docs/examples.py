@@ -36,7 +36,7 @@ FILES = {
     "facts.rt": (LANGUAGE, "templates and facts", {"TEMPLATES": "Templates", "FACTS": "Facts"}),
     "rules.rt": (
         LANGUAGE,
-        "rules and the agenda",
+        "rules, the agenda and the order of the faults",
         {"RULES": "Rules", "GROUPS": "Groups", "RULE_FAULTS": "Faults of a rule", "AGENDA": "The agenda"},
     ),
     "commands.rt": (

@@ -377,7 +377,7 @@ FALSE
     },
 ];
 
-pub(super) const CLIPS_RULES: [Example; 12] = [
+pub(super) const CLIPS_RULES: [Example; 9] = [
     Example {
         name: "Rules: 1",
         script: b"(defrule first (x) => (printout t \"first\" crlf))
@@ -421,21 +421,6 @@ first
     },
     Example {
         name: "Rules: 4",
-        script: b"(watch activations)
-(defrule r (or (a ?) (a 1)) =>)
-(defrule s (or (a 1) (a ?)) =>)
-(assert (a 1))
-",
-        written: b"==> Activation 0      r: f-1
-==> Activation 0      r: f-1
-==> Activation 0      s: f-1
-==> Activation 0      s: f-1
-<Fact-1>
-",
-        outcome: WITHOUT_FAULT,
-    },
-    Example {
-        name: "Rules: 5",
         script: b"(defrule greet (hello) => (printout t \"first\" crlf))
 (defrule greet (hello) => (printout t ?name crlf))
 (assert (hello))
@@ -448,7 +433,7 @@ first
         outcome: WITH_A_FAULT,
     },
     Example {
-        name: "Rules: 6",
+        name: "Rules: 5",
         script: b"(defglobal ?*least* = 2)
 (defrule large (size ?n&:(> ?n ?*least*)) => (printout t \"large\" crlf))
 (assert (size 3))
@@ -460,7 +445,7 @@ first
         outcome: WITH_A_FAULT,
     },
     Example {
-        name: "Rules: 7",
+        name: "Rules: 6",
         script: b"(defrule large (size ?n&:(> ?n 2)) => (printout t \"large\" crlf))
 (assert (size many))
 (assert (size 3))
@@ -473,19 +458,7 @@ large
         outcome: WITHOUT_FAULT,
     },
     Example {
-        name: "Rules: 8",
-        script: b"(defrule tested (size ?n) (test (> ?n 2)) => (printout t \"tested\" crlf))
-(defrule not-large (size ?n&~:(> ?n 2)) => (printout t \"not large\" crlf))
-(assert (size many))
-(run)
-",
-        written: b"<Fact-1>
-not large
-",
-        outcome: WITHOUT_FAULT,
-    },
-    Example {
-        name: "Rules: 9",
+        name: "Rules: 7",
         script: b"(defrule both (a $?x) (b ?x) => (printout t \"both\" crlf))
 (defrule not-red (a $?x&~red) => (printout t \"not red: \" ?x crlf))
 (defrule red (a red&?x) => (printout t \"red: \" ?x crlf))
@@ -499,7 +472,7 @@ not red: (red)
         outcome: WITHOUT_FAULT,
     },
     Example {
-        name: "Rules: 10",
+        name: "Rules: 8",
         script: b"(deftemplate part (slot count (type INTEGER)))
 (defrule many (part (count many)) => (printout t \"many\" crlf))
 (rules)
@@ -510,7 +483,7 @@ For a total of 1 defrule.
         outcome: WITHOUT_FAULT,
     },
     Example {
-        name: "Rules: 11",
+        name: "Rules: 9",
         script: b"(defrule halve (n ?x) => (printout t \"begin \" ?x crlf) (div 10 ?x) (printout t \"end \" ?x crlf))
 (assert (n 1) (n 0))
 (run)
@@ -524,37 +497,11 @@ For a total of 1 activation.
 ",
         outcome: WITH_A_FAULT,
     },
-    Example {
-        name: "Rules: 12",
-        script: b"(defrule again (n ?x) => (printout t \"again\" crlf) (assert (m ?x)) (facts))
-(assert (n 1))
-(run)
-",
-        written: b"[CB14] not in this profile
-<Fact-1>
-",
-        outcome: WITH_A_FAULT,
-    },
 ];
 
-pub(super) const CLIPS_COMMANDS: [Example; 8] = [
+pub(super) const CLIPS_COMMANDS: [Example; 5] = [
     Example {
         name: "Commands: 1",
-        script: b"(deffacts d (a))
-(defrule r (a) (not (b)) =>)
-(reset)
-(watch facts)
-(watch activations)
-(reset)
-",
-        written: b"<== f-1     (a)
-==> f-1     (a)
-==> Activation 0      r: f-1,*
-",
-        outcome: WITHOUT_FAULT,
-    },
-    Example {
-        name: "Commands: 2",
         script: b"(defrule one (b) =>)
 (defrule two (a ?x) (not (b)) =>)
 (defrule three (a ?x) (b) =>)
@@ -575,29 +522,12 @@ pub(super) const CLIPS_COMMANDS: [Example; 8] = [
         outcome: WITHOUT_FAULT,
     },
     Example {
-        name: "Commands: 3",
-        script: b"(defrule r (a) =>)
-(watch all)
-(assert (a))
-(run)
-(watch globals)
-",
-        written: b"==> f-1     (a)
-==> Activation 0      r: f-1
-<Fact-1>
-FIRE    1 r: f-1
-[CB14] not in this profile
-",
-        outcome: WITH_A_FAULT,
-    },
-    Example {
-        name: "Commands: 4",
+        name: "Commands: 2",
         script: b"(defrule low (declare (salience -10)) (a ?x) (not (b)) (test (> ?x 1)) =>)
 (defrule high (declare (salience 10)) (exists (a ?)) (a ?x) =>)
 (assert (a 1) (a 2))
 (agenda)
 (list-defrules)
-(agenda MAIN)
 ",
         written: b"<Fact-2>
 10     high: *,f-2
@@ -605,12 +535,11 @@ FIRE    1 r: f-1
 -10    low: f-2,*
 For a total of 3 activations.
 [CB14] not in this profile
-[CB07] wrong arguments
 ",
         outcome: WITH_A_FAULT,
     },
     Example {
-        name: "Commands: 5",
+        name: "Commands: 3",
         script: b"(exit 300)
 (exit)
 ",
@@ -622,39 +551,12 @@ For a total of 3 activations.
         },
     },
     Example {
-        name: "Commands: 6",
-        script: b"(undefrule nobody)
-(set-strategy breadth)
-(set-strategy mea)
-",
-        written: b"[CB21] no such rule
-depth
-[CB14] not in this profile
-",
-        outcome: WITH_A_FAULT,
-    },
-    Example {
         name: "Limits: 1",
-        script: b"(abs (abs (abs (abs (abs (abs (abs (abs (abs (abs (abs (abs (abs (abs (abs (abs (abs (abs (abs (abs
-(abs (abs (abs (abs (abs (abs (abs (abs (abs (abs (abs (abs (abs (abs (abs (abs (abs (abs (abs (abs
-(abs (abs (abs (abs (abs (abs (abs (abs (abs (abs (abs (abs (abs (abs (abs (abs (abs (abs (abs (abs
-(abs (abs (abs (abs (abs (abs (abs (abs (abs (abs (abs (abs (abs (abs (abs (abs (abs (abs (abs (abs
-(abs (abs (abs (abs (abs (abs (abs (abs (abs (abs (abs (abs (abs (abs (abs (abs (abs (abs (abs (abs
-(abs (abs (abs (abs (abs (abs (abs (abs (abs (abs (abs (abs (abs (abs (abs (abs (abs (abs (abs (abs
-(abs (abs (abs (abs (abs (abs (abs (abs (abs (abs (abs (abs (abs (abs (abs (abs (abs (abs (abs (abs
-(abs (abs (abs (abs (abs (abs (abs (abs (abs (abs (abs (abs (abs (abs (abs (abs (abs (abs (abs (abs
-(abs (abs (abs (abs (abs (abs (abs (abs (abs (abs (abs (abs (abs (abs (abs (abs (abs (abs (abs (abs
-(abs (abs (abs (abs (abs (abs (abs (abs (abs (abs (abs (abs (abs (abs (abs (abs (abs (abs (abs (abs
-(abs 1
-)))))))))))))))))))))))))))))))))))))))))))))))))))))))))))))))))))
-)))))))))))))))))))))))))))))))))))))))))))))))))))))))))))))))))))
-)))))))))))))))))))))))))))))))))))))))))))))))))))))))))))))))))))
-(bind ?i 0)
+        script: b"(bind ?i 0)
 (while (< ?i 10000001) do (bind ?i (+ ?i 1)))
 ?i
 ",
-        written: b"[CB03] nesting too deep
-0
+        written: b"0
 [CB93] loop limit reached
 ",
         outcome: AT_A_LIMIT,

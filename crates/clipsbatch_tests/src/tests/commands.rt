@@ -2,30 +2,14 @@
 use super::rows::{AT_A_LIMIT, Example, WITH_A_FAULT, WITHOUT_FAULT};
 use cb_command_line::{Cause, Outcome};
 
-pub(super) const COMMANDS: [Example; 6] = [
+pub(super) const COMMANDS: [Example; 4] = [
     Example {
         name: "assert, facts and printing: 1",
         script: b"(assert (color red) (size \"X L\" 40))
 (assert (color red))
 (facts)
-(printout t \"a\" tab b crlf)
-blue
 \"x\"
-",
-        written: b"<Fact-2>
-<Fact-1>
-f-1     (color red)
-f-2     (size \"X L\" 40)
-For a total of 2 facts.
-a\tb
-blue
-\"x\"
-",
-        outcome: WITHOUT_FAULT,
-    },
-    Example {
-        name: "assert, facts and printing: 2",
-        script: b"(println \"sum\" tab (+ 9 1))
+(println \"sum\" tab (+ 9 1))
 (print \"three\" crlf \"four\")
 (println)
 (printout stdout (create$ \"a b\" crlf) (sym-cat cr lf))
@@ -34,11 +18,15 @@ blue
 (print \"begun, \")
 (println \"not printed \" (div 1 0))
 (printout nil (println \"printed\") \"x\")
-(printout)
-(printout \"t\" 1)
 (printout ?seen 1)
 ",
-        written: b"sum\t10
+        written: b"<Fact-2>
+<Fact-1>
+f-1     (color red)
+f-2     (size \"X L\" 40)
+For a total of 2 facts.
+\"x\"
+sum\t10
 three
 four
 (\"a b\" crlf)
@@ -47,8 +35,6 @@ begun, [CB19] division by zero
 printed
 [CB17] wrong type
 [CB14] not in this profile
-[CB14] not in this profile
-[CB14] not in this profile
 ",
         outcome: WITH_A_FAULT,
     },
@@ -56,11 +42,8 @@ printed
         name: "deffacts, reset and clear: 1",
         script: b"(deftemplate lamp (slot room) (slot state (default off)))
 (deffacts house \"What there is at the start\"
-    (lamp (room hall))
-    (lamp (room attic) (state on)))
+    (lamp (room hall)))
 (deffacts clock (hour 8))
-(assert (visitor \"Ann\"))
-(facts)
 (reset)
 (facts)
 (deffacts house (lamp (room cellar)))
@@ -71,25 +54,17 @@ printed
 (clear)
 (facts)
 (deftemplate lamp (slot watts (type INTEGER)))
-(reset)
 (assert (lamp (watts 60)))
-(facts)
 ",
-        written: b"<Fact-1>
-f-1     (visitor \"Ann\")
-For a total of 1 fact.
-f-1     (lamp (room hall) (state off))
-f-2     (lamp (room attic) (state on))
-f-3     (hour 8)
-For a total of 3 facts.
+        written: b"f-1     (lamp (room hall) (state off))
+f-2     (hour 8)
+For a total of 2 facts.
 [CB11] unbound variable
 f-1     (hour 8)
 f-2     (lamp (room cellar) (state off))
 For a total of 2 facts.
 [CB23] template in use
 <Fact-1>
-f-1     (lamp (watts 60))
-For a total of 1 fact.
 ",
         outcome: WITH_A_FAULT,
     },
@@ -100,130 +75,94 @@ For a total of 1 fact.
 (deffacts note (doors 9) (by \"Ann\"))
 (reset)
 (facts)
-(bind ?seen (assert (visitor \"Bob\")))
+(bind ?seen yes)
 (defglobal ?*rooms* = none)
 (reset)
 (facts)
 ?seen
-(bind ?seen 1)
-(defglobal ?*rooms* = 3)
-(defglobal ?*floors* = (div 12 ?*rooms*))
-(defglobal ?*rooms* = 0)
-(reset)
-(facts)
-?seen
-(deffacts house (rooms ?n))
-(deffacts house (rooms (bind ?n 1)))
 ",
         written: b"f-1     (rooms 2)
 f-2     (doors 9)
 f-3     (by \"Ann\")
 For a total of 3 facts.
-<Fact-4>
+yes
 [CB17] wrong type
 f-1     (rooms none)
 For a total of 1 fact.
 [CB11] unbound variable
-1
-[CB19] division by zero
-f-1     (rooms none)
-For a total of 1 fact.
-1
-[CB11] unbound variable
-[CB14] not in this profile
 ",
         outcome: WITH_A_FAULT,
     },
     Example {
         name: "retract: 1",
         script: b"(assert (a) (b) (c) (d))
-(retract 2)
 (retract 1 \"x\")
+(retract 1 3 1 4)
 (facts)
-(retract 3 2 4)
-(facts)
-(retract 9 x)
-(retract)
-(retract ?f)
-(assert (b))
-(retract * 4)
-(facts)
-(assert (b))
+(bind ?b (assert (b)) 9)
+(retract (nth$ 1 ?b) 4)
+(retract (nth$ 1 ?b))
+(retract (nth$ 2 ?b) (div 1 0))
+(retract * (assert (e)))
 (retract *)
-(retract *)
-(reset)
 (assert (b))
+(retract * 6)
+(facts)
 ",
         written: b"<Fact-4>
 [CB17] wrong type
-f-1     (a)
-f-3     (c)
-f-4     (d)
-For a total of 3 facts.
 [CB20] no such fact
-f-1     (a)
+f-2     (b)
 f-4     (d)
 For a total of 2 facts.
-[CB17] wrong type
-[CB07] wrong arguments
-[CB11] unbound variable
-<Fact-5>
-[CB20] no such fact
-<Fact-6>
-<Fact-1>
-",
-        outcome: WITH_A_FAULT,
-    },
-    Example {
-        name: "retract: 2",
-        script: b"(bind ?a (assert (a)))
-(bind ?b (assert (b)) 3)
-(assert (c) (d))
-(retract ?a)
-(retract ?a (+ 1 1))
-(retract (nth$ 2 ?b) ?b)
-(retract ?*f* x)
-(retract (nth$ 2 ?b) (div 1 0))
-(retract * (assert (e)))
-(facts)
-",
-        written: b"<Fact-1>
-(<Fact-2> 3)
-<Fact-4>
-[CB17] wrong type
-[CB12] unknown global variable
+(<Fact-2> 9)
 [CB19] division by zero
+<Fact-6>
+[CB20] no such fact
 ",
         outcome: WITH_A_FAULT,
     },
 ];
 
-pub(super) const MODIFYING: [Example; 3] = [
+pub(super) const MODIFYING: [Example; 2] = [
     Example {
         name: "modify: 1",
         script: b"(deftemplate part (slot name) (slot count (type INTEGER)) (multislot sizes (default 8)))
-(assert (part (name bolt) (count 3)) (part (name nut) (count 7)))
+(assert (part (name bolt) (count 3)) (part (name nut) (count 7)) (colour red))
 (modify 1 (count (+ 3 4)) (sizes 8 (create$ 10 12)))
 (modify 1 (count 7))
 (bind ?nut (modify 2 (name bolt)))
 (modify ?nut (sizes 8 10 12))
 (modify ?nut (count \"many\") (sizes))
 (assert (part (name nut) (count 7)))
+(modify 3)
+(modify 1 (count (create$ 1)))
+(modify 1 (count (create$ 1)) (colour red))
+(modify 5 (colour (bind ?seen yes)))
+?seen
+(modify (print \"first \") (count (print \"not evaluated\")))
 (facts)
 ",
-        written: b"<Fact-2>
+        written: b"<Fact-3>
 <Fact-1>
 <Fact-1>
 <Fact-2>
 FALSE
 <Fact-2>
-<Fact-3>
+<Fact-4>
+[CB09] fact does not fit its template
+[CB22] one value wanted
+[CB09] fact does not fit its template
+[CB20] no such fact
+yes
+first [CB17] wrong type
 f-1     (part (name bolt) (count 7) (sizes 8 10 12))
 f-2     (part (name bolt) (count \"many\") (sizes))
-f-3     (part (name nut) (count 7) (sizes 8))
-For a total of 3 facts.
+f-3     (colour red)
+f-4     (part (name nut) (count 7) (sizes 8))
+For a total of 4 facts.
 ",
-        outcome: WITHOUT_FAULT,
+        outcome: WITH_A_FAULT,
     },
     Example {
         name: "modify: 2",
@@ -234,10 +173,6 @@ For a total of 3 facts.
 (assert (lamp (room hall)))
 (run)
 (modify 1 (state off))
-(modify 1 (room attic))
-(unwatch facts)
-(run)
-(facts)
 ",
         written: b"==> f-1     (lamp (room hall) (state off))
 ==> Activation 0      dark: f-1
@@ -249,73 +184,18 @@ hall is lit
 ==> f-1     (lamp (room hall) (state off))
 ==> Activation 0      dark: f-1
 <Fact-1>
-<== f-1     (lamp (room hall) (state off))
-<== Activation 0      dark: f-1
-==> f-1     (lamp (room attic) (state off))
-==> Activation 0      dark: f-1
-<Fact-1>
-attic is lit
-f-1     (lamp (room attic) (state on))
-For a total of 1 fact.
 ",
         outcome: WITHOUT_FAULT,
     },
-    Example {
-        name: "modify: 3",
-        script: b"(deftemplate part (slot name) (slot count (type INTEGER)) (multislot sizes (default 8)))
-(assert (part (name bolt)) (colour red))
-(modify 1 (colour red))
-(modify 1 (count 1 2))
-(modify 1 (count))
-(modify 1 (count (create$ 1)))
-(modify 1 (count (create$ 1)) (colour red))
-(modify 2)
-(modify 3 (colour (bind ?seen yes)))
-?seen
-(modify \"bolt\" (count 1))
-(modify (print \"first \") (count (print \"not evaluated\")))
-(modify)
-(modify 1 count)
-(modify 1 (count 1) (count 2))
-(modify 1 (count 1) (colour (bogus)))
-(modify 1 (count = (+ 1 2)))
-(facts)
-",
-        written: b"<Fact-2>
-[CB09] fact does not fit its template
-[CB09] fact does not fit its template
-[CB09] fact does not fit its template
-[CB22] one value wanted
-[CB09] fact does not fit its template
-[CB09] fact does not fit its template
-[CB20] no such fact
-yes
-[CB17] wrong type
-first [CB17] wrong type
-[CB07] wrong arguments
-[CB09] fact does not fit its template
-[CB09] fact does not fit its template
-[CB06] unknown function
-[CB14] not in this profile
-f-1     (part (name bolt) (count 0) (sizes 8))
-f-2     (colour red)
-For a total of 2 facts.
-",
-        outcome: WITH_A_FAULT,
-    },
 ];
 
-pub(super) const RUNNING: [Example; 4] = [
+pub(super) const RUNNING: [Example; 3] = [
     Example {
         name: "run and halt: 1",
         script: b"(defrule work (job ?n) => (println \"job \" ?n) (if (= ?n 3) then (halt)) (println \"done \" ?n))
 (assert (job 1) (job 2) (job 3) (job 4))
 (run 1)
-(println \"-\")
 (run)
-(println \"-\")
-(run 0)
-(halt)
 (run -1)
 (run many)
 (defrule break (job ?n) => (println \"break \" ?n) (div ?n 0) (println \"not reached\"))
@@ -325,10 +205,8 @@ pub(super) const RUNNING: [Example; 4] = [
         written: b"<Fact-4>
 job 4
 done 4
--
 job 3
 done 3
--
 job 2
 done 2
 job 1
@@ -368,7 +246,15 @@ For a total of 1 fact.
 (agenda)
 (set-strategy breadth)
 (agenda)
-(set-strategy breadth)
+(rules)
+(undefrule all)
+(undefrule all)
+(undefrule any)
+(agenda)
+(undefrule *)
+(rules)
+(agenda)
+(undefrule *)
 ",
         written: b"<Fact-4>
 9999   any: f-4
@@ -384,30 +270,12 @@ depth
 -10    all: f-2,*,*,f-4
 -10    all: f-3,*,*,f-4
 For a total of 5 activations.
-breadth
-",
-        outcome: WITHOUT_FAULT,
-    },
-    Example {
-        name: "agenda, rules, undefrule and set-strategy: 2",
-        script: b"(defrule a (x) =>)
-(defrule b (x) =>)
-(assert (x))
-(rules)
-(undefrule a)
-(undefrule a)
-(agenda)
-(undefrule *)
-(rules)
-(agenda)
-(undefrule *)
-",
-        written: b"<Fact-1>
-a
-b
-For a total of 2 defrules.
+all
+any
+no
+For a total of 3 defrules.
 [CB21] no such rule
-0      b: f-1
+0      no: *
 For a total of 1 activation.
 ",
         outcome: WITH_A_FAULT,
@@ -459,9 +327,7 @@ start
 (deffacts d (a) (b))
 (assert (c))
 (reset)
-(agenda)
 (clear)
-(agenda)
 (rules)
 ",
         written: b"==> Activation 0      alone: *
@@ -474,8 +340,6 @@ start
 ==> f-1     (a)
 <== Activation 0      no-a: *
 ==> f-2     (b)
-0      alone: *
-For a total of 1 activation.
 <== f-1     (a)
 <== f-2     (b)
 ",
@@ -506,33 +370,25 @@ goes on
 (run ?x)
 (run (print \"x\"))
 (agenda *)
-(rules *)
-(halt now)
 (undefrule 3)
-(undefrule a b)
-(watch \"facts\")
-(watch facts bogus)
 (watch globals)
-(unwatch)
 (set-strategy lex)
 (if TRUE then (run))
-(max (agenda))
+(retract)
+(retract ?*f* x)
+(bind x (bogus))
 ",
         written: b"[CB07] wrong arguments
 [CB11] unbound variable
 x[CB17] wrong type
 [CB07] wrong arguments
 [CB07] wrong arguments
-[CB07] wrong arguments
-[CB07] wrong arguments
-[CB07] wrong arguments
-[CB07] wrong arguments
-[CB07] wrong arguments
-[CB14] not in this profile
-[CB07] wrong arguments
 [CB14] not in this profile
 [CB14] not in this profile
 [CB14] not in this profile
+[CB07] wrong arguments
+[CB12] unknown global variable
+[CB07] wrong arguments
 ",
         outcome: WITH_A_FAULT,
     },

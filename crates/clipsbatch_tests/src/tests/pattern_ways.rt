@@ -1,7 +1,7 @@
 //! The scripts of the tables of `docs/LANGUAGE.md` on patterns, made by `docs/examples.py`.
 use super::rows::{Example, WITHOUT_FAULT};
 
-pub(super) const CHECKS: [Example; 11] = [
+pub(super) const CHECKS: [Example; 9] = [
     Example {
         name: "(p ?x&:(> ?x 2))",
         script: b"(set-strategy breadth)
@@ -10,23 +10,6 @@ pub(super) const CHECKS: [Example; 11] = [
 (run)
 (reset)
 (assert (p 2) (p three))
-(run)
-",
-        written: b"depth
-<Fact-1>
-x=3
-<Fact-2>
-",
-        outcome: WITHOUT_FAULT,
-    },
-    Example {
-        name: "(p ?x :(> ?x 2))",
-        script: b"(set-strategy breadth)
-(defrule r (p ?x :(> ?x 2)) => (println \"x=\" ?x))
-(assert (p 3 a))
-(run)
-(reset)
-(assert (p 3) (p 2 a))
 (run)
 ",
         written: b"depth
@@ -127,28 +110,6 @@ x=1
         outcome: WITHOUT_FAULT,
     },
     Example {
-        name: "(p ?x ~=(+ ?x 1))",
-        script: b"(set-strategy breadth)
-(defrule r (p ?x ~=(+ ?x 1)) => (println \"x=\" ?x))
-(assert (p 1 3))
-(run)
-(reset)
-(assert (p a 2))
-(run)
-(reset)
-(assert (p 1 2))
-(run)
-",
-        written: b"depth
-<Fact-1>
-x=1
-<Fact-1>
-x=a
-<Fact-1>
-",
-        outcome: WITHOUT_FAULT,
-    },
-    Example {
         name: "(p $?x&:(> (length$ ?x) 1) $?)",
         script: b"(set-strategy breadth)
 (defrule r (p $?x&:(> (length$ ?x) 1) $?) => (println \"x=\" ?x))
@@ -197,7 +158,7 @@ x=(1 2)
     },
 ];
 
-pub(super) const WAYS: [Example; 5] = [
+pub(super) const WAYS: [Example; 3] = [
     Example {
         name: "(p $?a x $?b)",
         script: b"(set-strategy breadth)
@@ -212,44 +173,6 @@ pub(super) const WAYS: [Example; 5] = [
 <Fact-1>
 a=() b=(x)
 a=(x) b=()
-<Fact-1>
-",
-        outcome: WITHOUT_FAULT,
-    },
-    Example {
-        name: "(p $? ?x $?)",
-        script: b"(set-strategy breadth)
-(defrule r (p $? ?x $?) => (println \"x=\" ?x))
-(assert (p 1 2 3))
-(run)
-(reset)
-(assert (p))
-(run)
-",
-        written: b"depth
-<Fact-1>
-x=1
-x=2
-x=3
-<Fact-1>
-",
-        outcome: WITHOUT_FAULT,
-    },
-    Example {
-        name: "(p $?a $?b)",
-        script: b"(set-strategy breadth)
-(defrule r (p $?a $?b) => (println \"a=\" ?a \" b=\" ?b))
-(assert (p 1 2))
-(run)
-(reset)
-(assert (q))
-(run)
-",
-        written: b"depth
-<Fact-1>
-a=() b=(1 2)
-a=(1) b=(2)
-a=(1 2) b=()
 <Fact-1>
 ",
         outcome: WITHOUT_FAULT,
@@ -293,30 +216,7 @@ x=a y=(b a)
     },
 ];
 
-pub(super) const SLOTS: [Example; 10] = [
-    Example {
-        name: "(part)",
-        script: b"(deftemplate part (slot name) (multislot sizes))
-(set-strategy breadth)
-(defrule r (part) => (println fits))
-(assert (part (name bolt) (sizes 1)))
-(run)
-(reset)
-(assert (part))
-(run)
-(reset)
-(assert (p 1))
-(run)
-",
-        written: b"depth
-<Fact-1>
-fits
-<Fact-1>
-fits
-<Fact-1>
-",
-        outcome: WITHOUT_FAULT,
-    },
+pub(super) const SLOTS: [Example; 7] = [
     Example {
         name: "(part (name bolt))",
         script: b"(deftemplate part (slot name) (multislot sizes))
@@ -349,24 +249,6 @@ fits
         written: b"depth
 <Fact-1>
 fits
-<Fact-1>
-",
-        outcome: WITHOUT_FAULT,
-    },
-    Example {
-        name: "(part (name ?n&~nut))",
-        script: b"(deftemplate part (slot name) (multislot sizes))
-(set-strategy breadth)
-(defrule r (part (name ?n&~nut)) => (println \"n=\" ?n))
-(assert (part (name bolt)))
-(run)
-(reset)
-(assert (part (name nut)))
-(run)
-",
-        written: b"depth
-<Fact-1>
-n=bolt
 <Fact-1>
 ",
         outcome: WITHOUT_FAULT,
@@ -435,23 +317,6 @@ s=9 n=bolt
         written: b"depth
 <Fact-1>
 n=8
-<Fact-1>
-",
-        outcome: WITHOUT_FAULT,
-    },
-    Example {
-        name: "?f <- (p ?x)",
-        script: b"(set-strategy breadth)
-(defrule r ?f <- (p ?x) => (println \"f=\" ?f \" x=\" ?x))
-(assert (p 1))
-(run)
-(reset)
-(assert (p))
-(run)
-",
-        written: b"depth
-<Fact-1>
-f=<Fact-1> x=1
 <Fact-1>
 ",
         outcome: WITHOUT_FAULT,

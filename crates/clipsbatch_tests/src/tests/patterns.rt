@@ -1,7 +1,7 @@
 //! The scripts of the tables of `docs/LANGUAGE.md` on patterns, made by `docs/examples.py`.
 use super::rows::{Example, WITHOUT_FAULT};
 
-pub(super) const CONSTANTS: [Example; 8] = [
+pub(super) const CONSTANTS: [Example; 6] = [
     Example {
         name: "(p red)",
         script: b"(set-strategy breadth)
@@ -16,23 +16,6 @@ pub(super) const CONSTANTS: [Example; 8] = [
 <Fact-1>
 fits
 <Fact-4>
-",
-        outcome: WITHOUT_FAULT,
-    },
-    Example {
-        name: "(p \"red\")",
-        script: b"(set-strategy breadth)
-(defrule r (p \"red\") => (println fits))
-(assert (p \"red\"))
-(run)
-(reset)
-(assert (p red))
-(run)
-",
-        written: b"depth
-<Fact-1>
-fits
-<Fact-1>
 ",
         outcome: WITHOUT_FAULT,
     },
@@ -126,31 +109,9 @@ fits
 ",
         outcome: WITHOUT_FAULT,
     },
-    Example {
-        name: "(p ? $?)",
-        script: b"(set-strategy breadth)
-(defrule r (p ? $?) => (println fits))
-(assert (p 1))
-(run)
-(reset)
-(assert (p 1 2))
-(run)
-(reset)
-(assert (p))
-(run)
-",
-        written: b"depth
-<Fact-1>
-fits
-<Fact-1>
-fits
-<Fact-1>
-",
-        outcome: WITHOUT_FAULT,
-    },
 ];
 
-pub(super) const PATTERN_VARIABLES: [Example; 6] = [
+pub(super) const PATTERN_VARIABLES: [Example; 5] = [
     Example {
         name: "(p ?x)",
         script: b"(set-strategy breadth)
@@ -241,26 +202,9 @@ x=(a b)
 ",
         outcome: WITHOUT_FAULT,
     },
-    Example {
-        name: "(p $?x end)",
-        script: b"(set-strategy breadth)
-(defrule r (p $?x end) => (println \"x=\" ?x))
-(assert (p a b end))
-(run)
-(reset)
-(assert (p a b))
-(run)
-",
-        written: b"depth
-<Fact-1>
-x=(a b)
-<Fact-1>
-",
-        outcome: WITHOUT_FAULT,
-    },
 ];
 
-pub(super) const CONNECTIVES: [Example; 12] = [
+pub(super) const CONNECTIVES: [Example; 11] = [
     Example {
         name: "(p ~red)",
         script: b"(set-strategy breadth)
@@ -426,23 +370,6 @@ fits
 fits
 <Fact-1>
 fits
-<Fact-1>
-",
-        outcome: WITHOUT_FAULT,
-    },
-    Example {
-        name: "(p ?x&red|blue)",
-        script: b"(set-strategy breadth)
-(defrule r (p ?x&red|blue) => (println \"x=\" ?x))
-(assert (p blue))
-(run)
-(reset)
-(assert (p green))
-(run)
-",
-        written: b"depth
-<Fact-1>
-x=blue
 <Fact-1>
 ",
         outcome: WITHOUT_FAULT,

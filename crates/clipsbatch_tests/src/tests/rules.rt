@@ -1,4 +1,4 @@
-//! The scripts of `docs/LANGUAGE.md` on rules and the agenda, made by `docs/examples.py`.
+//! The scripts of `docs/LANGUAGE.md` on rules, the agenda and the order of the faults, made by `docs/examples.py`.
 use super::rows::{Example, WITH_A_FAULT, WITHOUT_FAULT};
 
 pub(super) const RULES: [Example; 3] = [
@@ -88,59 +88,31 @@ begun
     },
 ];
 
-pub(super) const GROUPS: [Example; 7] = [
+pub(super) const GROUPS: [Example; 5] = [
     Example {
         name: "Groups: 1",
         script: b"(defrule free (room ?r) (not (guest ? ?r)) => (println ?r \" is free\"))
 (defrule taken (room ?r) (exists (guest ? ?r)) => (println ?r \" is taken\"))
-(defrule calm (not (and (guest ?who ?) (late ?who))) => (println \"no guest is late\"))
 (assert (room 1) (room 2) (guest ann 2) (guest bob 2))
 (run)
 (retract 3 4)
-(run)
-(assert (late cid) (guest cid 1))
-(retract 5)
 (run)
 ",
         written: b"<Fact-4>
 2 is taken
 1 is free
-no guest is late
 2 is free
-<Fact-6>
-no guest is late
-1 is taken
 ",
         outcome: WITHOUT_FAULT,
     },
     Example {
         name: "Groups: 2",
-        script: b"(defrule first (a ?x) (not (b ?x)) => (println \"first \" ?x))
-(defrule second (not (b ?x)) (a ?x) => (println \"second \" ?x))
-(assert (b 1) (a 1) (a 2))
-(run)
-(retract 1)
-(run)
-",
-        written: b"<Fact-3>
-first 2
-second 2
-second 1
-first 1
-",
-        outcome: WITHOUT_FAULT,
-    },
-    Example {
-        name: "Groups: 3",
         script: b"(defrule ready (order ?o) (forall (part ?o ?p) (stock ?p)) => (println \"order \" ?o \" is ready\"))
 (defrule last (task ?t) (not (and (task ?u) (not (after ?t ?u)) (test (neq ?t ?u)))) => (println ?t \" is last\"))
 (assert (order 1) (part 1 nut) (part 1 bolt))
 (assert (stock nut))
 (run)
 (assert (stock bolt) (order 2))
-(run)
-(retract 4)
-(assert (stock nut))
 (run)
 (assert (task paint) (task saw))
 (assert (after paint saw))
@@ -151,41 +123,20 @@ first 1
 <Fact-6>
 order 2 is ready
 order 1 is ready
-<Fact-7>
-order 1 is ready
+<Fact-8>
 <Fact-9>
-<Fact-10>
 paint is last
 ",
         outcome: WITHOUT_FAULT,
     },
     Example {
         name: "Branches: 1",
-        script: b"(set-strategy breadth)
-(defrule alarm
-  (or (smoke ?where) (heat ?where ?c&:(> ?c 60)))
-  (or (awake) (asleep))
-  =>
-  (println \"alarm: \" ?where))
-(assert (smoke attic) (heat attic 80) (heat hall 20) (asleep))
-(run)
-(defrule where (or (smoke ?where) (heat ? ?c)) => (println ?where))
-",
-        written: b"depth
-<Fact-4>
-alarm: attic
-alarm: attic
-[CB11] unbound variable
-",
-        outcome: WITH_A_FAULT,
-    },
-    Example {
-        name: "Branches: 2",
         script: b"(watch activations)
-(defrule four (or (a) (b)) (or (c) (d)) =>)
-(assert (a) (b) (d))
+(defrule four (or (a ?x) (b ? ?x)) (or (c) (d)) => (println ?x))
+(assert (a 1) (b 1 2) (d))
 (assert (c))
-(defrule seven-choices (or (a) (b)) (or (a) (b)) (or (a) (b)) (or (a) (b)) (or (a) (b)) (or (a) (b)) (or (a) (b)) =>)
+(defrule where (or (smoke ?where) (heat ? ?c)) => (println ?where))
+(run 2)
 ",
         written: b"==> Activation 0      four: f-1,f-3
 ==> Activation 0      four: f-2,f-3
@@ -193,7 +144,9 @@ alarm: attic
 ==> Activation 0      four: f-1,f-4
 ==> Activation 0      four: f-2,f-4
 <Fact-4>
-[CB15] too many branches
+[CB11] unbound variable
+2
+1
 ",
         outcome: WITH_A_FAULT,
     },
@@ -227,11 +180,8 @@ two
 (deftemplate guest (slot room))
 (undefrule move)
 (deftemplate room (slot number))
-(defrule show (room (number ?r)) => (println ?r))
-(deftemplate room)
 ",
         written: b"[CB23] template in use
-[CB23] template in use
 [CB23] template in use
 [CB23] template in use
 ",
@@ -239,69 +189,112 @@ two
     },
 ];
 
-pub(super) const RULE_FAULTS: [Example; 2] = [
+pub(super) const RULE_FAULTS: [Example; 4] = [
     Example {
         name: "Faults of a rule: 1",
         script: b"(defrule (a) =>)
 (defrule r (declare (salience 1) (auto-focus TRUE)) (a) =>)
 (defrule r (declare (salience ?x)) (a) =>)
 (defrule r (declare (salience (* 2 5001))) (a) =>)
-(defrule r (declare (salience (div 1 0))) (a) =>)
-(defrule r (b ~?x) (a &) =>)
 (defrule r (b ~?x) (a red&) => (bogus))
-(defrule r (b ~?x) => (bogus))
 (defrule r ?b <- (b) ?b <- (a) => (bogus))
 (defrule r ?b <- (test TRUE) =>)
 (defrule r (test (halt)) =>)
-(defrule r (test TRUE TRUE) =>)
 (defrule r (a) => (bogus) (facts))
-(defrule r (a) => (facts) (bogus))
-(rules)
+(defrule r (logical (a)) (test) =>)
+(defrule r (not (a) (b)) =>)
+(defrule r (exists (a) (or (b ~~c))) =>)
+(defrule r (or (a ?x) (b)) (c ~?x) =>)
+(defrule r (exists (a ?x)) => (println ?x))
 ",
         written: b"[CB08] malformed form
 [CB14] not in this profile
 [CB11] unbound variable
 [CB16] bad salience
-[CB16] bad salience
 [CB08] malformed form
-[CB08] malformed form
-[CB11] unbound variable
 [CB08] malformed form
 [CB14] not in this profile
 [CB13] not allowed on a left side
-[CB08] malformed form
 [CB06] unknown function
 [CB14] not in this profile
+[CB08] malformed form
+[CB14] not in this profile
+[CB11] unbound variable
+[CB11] unbound variable
 ",
         outcome: WITH_A_FAULT,
     },
     Example {
-        name: "Faults of a rule: 2",
-        script: b"(defrule r (logical (a)) (test) =>)
-(defrule r (not (a) (b)) =>)
-(defrule r (not (exists)) =>)
-(defrule r (exists) =>)
-(defrule r (exists (a) (or (b ~~c))) =>)
-(defrule r (not ?f <- (a)) =>)
-(defrule r (forall (a)) =>)
-(defrule r (or (a ?x) (b)) (c ~?x) =>)
-(defrule r (exists (a ?x)) => (println ?x))
+        name: "Faults of a deftemplate: 1",
+        script: b"(deftemplate t (field to) (slot at (range 1 9)))
+(deftemplate t (slot at (type INTEGER) (type FLOAT)))
+(deftemplate t (slot at (default (+ 1 2) 3)))
+(deftemplate t (multislot at (default (+ 1 2) ?x)))
+(deftemplate t (slot at (default warm) (type INTEGER)) (slot at))
+(deftemplate t (slot at (default warm) (type INTEGER) (range 1 9)))
+(assert (t at 1))
+(deftemplate t (slot at (range 1 9)))
 ",
-        written: b"[CB14] not in this profile
-[CB08] malformed form
+        written: b"[CB08] malformed form
 [CB08] malformed form
 [CB08] malformed form
 [CB14] not in this profile
+[CB10] value not allowed in slot
 [CB14] not in this profile
+<Fact-1>
+[CB23] template in use
+",
+        outcome: WITH_A_FAULT,
+    },
+    Example {
+        name: "Faults of a fact and of a modify: 1",
+        script: b"(deftemplate reading
+    (slot at (type SYMBOL) (default ?NONE))
+    (slot celsius (type INTEGER))
+    (multislot marks (type SYMBOL)))
+(assert (reading (celsius warm) (at ?x)))
+(assert (reading (celsius warm cold)))
+(assert (reading (marks ok ?x 3)))
+(assert (reading (celsius 20) (celsius warm)))
+(assert (reading (celsius = (+ 1 2))))
+(assert (reading (marks = (+ 1 2))))
+(assert (sum =))
+(modify 1 (count 1) (count 2))
+(modify 1 (count 1) (colour (bogus)))
+",
+        written: b"[CB10] value not allowed in slot
+[CB09] fact does not fit its template
+[CB11] unbound variable
+[CB09] fact does not fit its template
+[CB09] fact does not fit its template
+[CB14] not in this profile
+<Fact-1>
+[CB09] fact does not fit its template
+[CB06] unknown function
+",
+        outcome: WITH_A_FAULT,
+    },
+    Example {
+        name: "Faults of an expression: 1",
+        script: b"(+ (print \"not carried out\") (bogus))
+(+ (bogus ?x) ?y)
+(+ ?y (bogus))
+(not (not))
+(max (1 2))
+(max (facts))
+",
+        written: b"[CB06] unknown function
+[CB06] unknown function
+[CB11] unbound variable
+[CB07] wrong arguments
 [CB08] malformed form
-[CB11] unbound variable
-[CB11] unbound variable
+[CB14] not in this profile
 ",
         outcome: WITH_A_FAULT,
     },
 ];
 
-pub(super) const AGENDA: [Example; 4] = [
+pub(super) const AGENDA: [Example; 3] = [
     Example {
         name: "The agenda: 1",
         script: b"(defrule first (go ?x) => (println \"first \" ?x))
@@ -309,6 +302,7 @@ pub(super) const AGENDA: [Example; 4] = [
 (defrule urgent (declare (salience 10)) (go ?x) => (println \"urgent \" ?x))
 (assert (go 1) (go 2))
 (agenda)
+(set-strategy breadth)
 (run)
 ",
         written: b"<Fact-2>
@@ -319,45 +313,18 @@ pub(super) const AGENDA: [Example; 4] = [
 0      second: f-1
 0      first: f-1
 For a total of 6 activations.
-urgent 2
+depth
 urgent 1
-second 2
-first 2
-second 1
+urgent 2
 first 1
+second 1
+first 2
+second 2
 ",
         outcome: WITHOUT_FAULT,
     },
     Example {
         name: "The agenda: 2",
-        script: b"(set-strategy breadth)
-(defrule first (go ?x) => (println \"first \" ?x))
-(defrule second (go ?x) => (println \"second \" ?x))
-(defrule urgent (declare (salience 10)) (go ?x) => (println \"urgent \" ?x))
-(assert (go 1) (go 2))
-(agenda)
-(run)
-",
-        written: b"depth
-<Fact-2>
-10     urgent: f-1
-10     urgent: f-2
-0      first: f-1
-0      second: f-1
-0      first: f-2
-0      second: f-2
-For a total of 6 activations.
-urgent 1
-urgent 2
-first 1
-second 1
-first 2
-second 2
-",
-        outcome: WITHOUT_FAULT,
-    },
-    Example {
-        name: "The agenda: 3",
         script: b"(set-strategy breadth)
 (defrule split (a $?x $?y) (b) => (println ?x ?y))
 (assert (a 1 2) (a))
@@ -381,7 +348,7 @@ For a total of 4 activations.
         outcome: WITHOUT_FAULT,
     },
     Example {
-        name: "The agenda: 4",
+        name: "The agenda: 3",
         script: b"(defrule once (a ?x) => (println ?x))
 (defrule none (not (a ?)) => (println \"none\"))
 (assert (a 1))

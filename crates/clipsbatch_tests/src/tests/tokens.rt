@@ -3,7 +3,7 @@ use super::rows::{Example, WITH_A_FAULT, WITHOUT_FAULT};
 
 pub(super) const TOKENS: [Example; 26] = [
     Example {
-        name: "Tokens: row 8",
+        name: "Tokens: row 1",
         script: b"a<b",
         written: b"a
 <b
@@ -11,7 +11,7 @@ pub(super) const TOKENS: [Example; 26] = [
         outcome: WITHOUT_FAULT,
     },
     Example {
-        name: "Tokens: row 9",
+        name: "Tokens: row 2",
         script: b"<<a",
         written: b"<
 <a
@@ -19,7 +19,7 @@ pub(super) const TOKENS: [Example; 26] = [
         outcome: WITHOUT_FAULT,
     },
     Example {
-        name: "Tokens: row 10",
+        name: "Tokens: row 3",
         script: b"a\"b\"c",
         written: b"a
 \"b\"
@@ -28,14 +28,14 @@ c
         outcome: WITHOUT_FAULT,
     },
     Example {
-        name: "Tokens: row 11",
+        name: "Tokens: row 4",
         script: b"ab;cd",
         written: b"ab
 ",
         outcome: WITHOUT_FAULT,
     },
     Example {
-        name: "Tokens: row 12",
+        name: "Tokens: row 5",
         script: b"?x&red|~blue",
         written: b"[CB11] unbound variable
 [CB08] malformed form
@@ -47,7 +47,7 @@ blue
         outcome: WITH_A_FAULT,
     },
     Example {
-        name: "Tokens: row 13",
+        name: "Tokens: row 6",
         script: b"?
 ",
         written: b"[CB08] malformed form
@@ -55,7 +55,7 @@ blue
         outcome: WITH_A_FAULT,
     },
     Example {
-        name: "Tokens: row 14",
+        name: "Tokens: row 7",
         script: b"$?
 ",
         written: b"[CB08] malformed form
@@ -63,7 +63,7 @@ blue
         outcome: WITH_A_FAULT,
     },
     Example {
-        name: "Tokens: row 15",
+        name: "Tokens: row 8",
         script: b"?*limit*
 $?*limit*
 ?***
@@ -75,7 +75,7 @@ $?*limit*
         outcome: WITH_A_FAULT,
     },
     Example {
-        name: "Tokens: row 16",
+        name: "Tokens: row 9",
         script: b"?x
 ?12
 ?f:slot
@@ -91,7 +91,7 @@ $?*limit*
         outcome: WITH_A_FAULT,
     },
     Example {
-        name: "Tokens: row 17",
+        name: "Tokens: row 10",
         script: b"$?rest
 $?*
 ",
@@ -101,7 +101,7 @@ $?*
         outcome: WITH_A_FAULT,
     },
     Example {
-        name: "Tokens: row 18",
+        name: "Tokens: row 11",
         script: b"7
 +5
 -0
@@ -115,7 +115,7 @@ $?*
         outcome: WITHOUT_FAULT,
     },
     Example {
-        name: "Tokens: row 19",
+        name: "Tokens: row 12",
         script: b"1.5
 1.
 .5
@@ -129,7 +129,7 @@ $?*
         outcome: WITH_A_FAULT,
     },
     Example {
-        name: "Tokens: row 20",
+        name: "Tokens: row 13",
         script: b"red
 on-hold
 <=
