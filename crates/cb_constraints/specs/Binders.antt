@@ -1,7 +1,7 @@
 -- Which variables constraints may give a value.
 use Rattle.std.specs.Prelude.{ℕ, Bool, false, List, [], ◌∷◌, Some, None, flat_map}
 use Rattle.cb_constraints.specs.Constraints.{Test, variable, Check, Demand, nothing, each, either, Constraint}
-use Rattle.cb_constraints.specs.PatternValues.{PatternParts, fields, slots, SlotValue}
+use Rattle.cb_constraints.specs.PatternValues.{PatternParts, fields, slots}
 
 -- the variable that a check without `~` may give a value
 abbrev pub binder : Bool → Test → List (List ℕ)

@@ -9,7 +9,7 @@ ghost use Rattle.cb_exprs.specs.Bindings.{value_at};
 use crate::body::Body;
 use crate::place::Place;
 use crate::taken::Taken;
-use cb_exprs::Env;
+use cb_exprs::Lookup;
 use cb_facts::{Name, Value};
 use cb_forms::NoMemory;
 use std::alloc::Global;
@@ -18,15 +18,15 @@ use std::alloc::Global;
 /// them, with the values that its constraints took.
 ///
 /// Growth is refused as `NoMemory`, and so is a count of sharers that is full.
-pub fn newly_bound(
+pub fn newly_bound<L: Lookup>(
     alloc: Global,
     body: &Body,
-    before: &Env,
+    before: &L,
     took: Taken<'_>,
 ) -> Result<Vec<(Name, Value)>, NoMemory>
     requires { length (constraints_in body.now) ≤ length (values took) }
-    ensures { IfOk result (λ bound. bound.items ≡ newly_bound body.now before.now
-        (bindings_after (constraints_in body.now) (values took.entry) before.now)) }
+    ensures { IfOk result (λ bound. bound.items ≡ newly_bound body.now (L.bindings before.now)
+        (bindings_after (constraints_in body.now) (values took.entry) (L.bindings before.now))) }
 {
     let variables = body.variables();
     let mut bound = Vec::new(alloc);
@@ -37,19 +37,19 @@ pub fn newly_bound(
 }
 
 /// Adds a variable with the value that was taken at its place, if it had none before.
-fn give(
+fn give<L: Lookup>(
     bound: &mut Vec<(Name, Value)>,
     name: &Name,
     place: Place,
-    before: &Env,
+    before: &L,
     took: Taken<'_>,
 ) -> Result<(), NoMemory>
     requires { place.constraint < length (values took) }
     ensures { OnOk result (bound.new.items ≡ bound.old.items
-        ++ given_if name.now (value_at name.now before.now.variables)
+        ++ given_if name.now (value_at name.now (L.bindings before.now).variables)
         (slice_get (values took.entry) place.constraint)) }
 {
-    if before.get(name).is_some() {
+    if before.variable(name)?.is_some() {
         return Ok(());
     }
     let value = took.value(place.constraint)?;

@@ -12,7 +12,7 @@ use crate::constraint::{Check, Demand, Test};
 use crate::known::{AtCheck, Known};
 use crate::tested::Tested;
 use cb_eval::eval;
-use cb_exprs::Expr;
+use cb_exprs::{Expr, Lookup};
 use cb_facts::{Name, Refused, Value};
 use cb_forms::NoMemory;
 use cb_functions::{Constants, is_true};
@@ -22,15 +22,17 @@ use std::alloc::Global;
 ///
 /// An expression that faults doesn't hold. Growth is refused as `NoMemory`.
 #[tactic(auto, using(crate::proofs::HoldingLaws::never_holds))]
-pub fn meets(
+pub fn meets<L: Lookup>(
     alloc: Global,
     constants: &Constants,
     demand: &Demand,
     tested: Tested<'_>,
-    known: Known<'_>,
+    known: Known<'_, L>,
 ) -> Result<bool, NoMemory>
-    requires { Follows (before_check known) (demand_of demand.now) (tested_value tested) }
-    ensures { IfOk result (λ holds. MeetsIn holds (before_check known.entry) (demand_of demand.now)
+    requires { Follows (before_check L.bindings known) (demand_of demand.now)
+        (tested_value tested) }
+    ensures { IfOk result (λ holds. MeetsIn holds (before_check L.bindings known.entry)
+        (demand_of demand.now)
         (tested_value tested.entry)) }
 {
     if !may_hold(demand, tested) {
@@ -43,16 +45,18 @@ pub fn meets(
 /// that have a variable or an expression among them.
 ///
 /// Growth is refused as `NoMemory`, and so is a count of sharers that is full.
-pub fn meets_beyond_constants(
+pub fn meets_beyond_constants<L: Lookup>(
     alloc: Global,
     constants: &Constants,
     demand: &Demand,
     tested: Tested<'_>,
-    known: Known<'_>,
+    known: Known<'_, L>,
 ) -> Result<bool, NoMemory>
-    requires follows { Follows (before_check known) (demand_of demand.now) (tested_value tested) }
+    requires follows { Follows (before_check L.bindings known) (demand_of demand.now)
+        (tested_value tested) }
     requires may { may_hold (demand_of demand.now) (tested_value tested) ≡ true }
-    ensures { IfOk result (λ holds. MeetsIn holds (before_check known.entry) (demand_of demand.now)
+    ensures { IfOk result (λ holds. MeetsIn holds (before_check L.bindings known.entry)
+        (demand_of demand.now)
         (tested_value tested.entry)) }
 {
     match demand {
@@ -76,21 +80,21 @@ pub fn meets_beyond_constants(
 
 /// Whether a variable that is set apart agrees, and then one of the alternatives holds, where the constants of one do.
 #[tactic(auto, using(crate::proofs::HoldingLaws::set_apart_meets))]
-fn meets_apart(
+fn meets_apart<L: Lookup>(
     alloc: Global,
     constants: &Constants,
     first: &Name,
     alternatives: &[Vec<Check>],
     tested: Tested<'_>,
-    known: Known<'_>,
+    known: Known<'_, L>,
 ) -> Result<bool, NoMemory>
     requires follows { IfSome (after_variable first.now (tested_value tested)
-        (before_check known 0)) (λ grown. before_check known 1 ≡ grown) }
+        (before_check L.bindings known 0)) (λ grown. before_check L.bindings known 1 ≡ grown) }
     requires may { list_any (constants_hold (tested_value tested))
         (map (λ cs. map check_of cs.items) alternatives.now) ≡ true }
-    ensures { IfOk result (λ holds. Meets holds (before_check known.entry 1)
+    ensures { IfOk result (λ holds. Meets holds (before_check L.bindings known.entry 1)
         (after_demand (either (Some first.now) (map (λ cs. map check_of cs.items) alternatives.now))
-        (tested_value tested.entry) (before_check known.entry 0))) }
+        (tested_value tested.entry) (before_check L.bindings known.entry 0))) }
 {
     Ok(
         agrees(first, tested, known, 0)?
@@ -100,19 +104,20 @@ fn meets_apart(
 
 /// Whether checks joined by `&`, of which those for constants hold, all hold, from left to right.
 #[tactic(auto, using(crate::proofs::HoldingLaws::first_holds, crate::proofs::HoldingLaws::others_hold))]
-fn meets_each(
+fn meets_each<L: Lookup>(
     alloc: Global,
     constants: &Constants,
     checks: &[Check],
     tested: Tested<'_>,
-    known: Known<'_>,
+    known: Known<'_, L>,
 ) -> Result<bool, NoMemory>
-    requires follows { FollowFrom (before_check known) 0 (map check_of checks.now)
+    requires follows { FollowFrom (before_check L.bindings known) 0 (map check_of checks.now)
         (tested_value tested) }
     requires may { constants_hold (tested_value tested) (map check_of checks.now) ≡ true }
-    ensures { IfOk result (λ holds. Meets holds (before_check known.entry (length checks.now))
+    ensures { IfOk result (λ holds. Meets holds (before_check L.bindings known.entry
+        (length checks.now))
         (after_checks (map check_of checks.now) (tested_value tested.entry)
-        (before_check known.entry 0))) }
+        (before_check L.bindings known.entry 0))) }
 {
     let mut at = 0;
     for check in checks {
@@ -126,18 +131,18 @@ fn meets_each(
 
 /// Whether the check with this number holds; one for a constant is known to hold.
 #[tactic(auto, using(crate::proofs::HoldingLaws::held_if_some))]
-fn meets_one(
+fn meets_one<L: Lookup>(
     alloc: Global,
     constants: &Constants,
     check: &Check,
     tested: Tested<'_>,
-    known: Known<'_>,
+    known: Known<'_, L>,
     at: usize,
 ) -> Result<bool, NoMemory>
     requires { constant_holds (tested_value tested) (check_of check.now).negated
         (check_of check.now).test ≡ true }
     ensures { IfOk result (λ holds. holds ≡ is_some (after_check (check_of check.now)
-        (tested_value tested.entry) (before_check known.entry at))) }
+        (tested_value tested.entry) (before_check L.bindings known.entry at))) }
 {
     if let Test::Constant(_) = &check.test {
         return Ok(true);
@@ -146,9 +151,14 @@ fn meets_one(
 }
 
 /// Whether a variable has no value yet, and takes this one, or has this one.
-fn agrees(name: &Name, tested: Tested<'_>, known: Known<'_>, at: usize) -> Result<bool, NoMemory>
+fn agrees<L: Lookup>(
+    name: &Name,
+    tested: Tested<'_>,
+    known: Known<'_, L>,
+    at: usize,
+) -> Result<bool, NoMemory>
     ensures { IfOk result (λ holds. holds ≡ is_some (after_variable name.now
-        (tested_value tested.entry) (before_check known.entry at))) }
+        (tested_value tested.entry) (before_check L.bindings known.entry at))) }
 {
     Ok(match known.variable(name, at)? {
         Some(value) => tested.is(&value),
@@ -157,19 +167,19 @@ fn agrees(name: &Name, tested: Tested<'_>, known: Known<'_>, at: usize) -> Resul
 }
 
 /// Whether one of the alternatives holds, where the constants of one do.
-fn one_holds(
+fn one_holds<L: Lookup>(
     alloc: Global,
     constants: &Constants,
     alternatives: &[Vec<Check>],
     tested: Tested<'_>,
-    known: Known<'_>,
+    known: Known<'_, L>,
     at: usize,
 ) -> Result<bool, NoMemory>
     requires { list_any (constants_hold (tested_value tested))
         (map (λ cs. map check_of cs.items) alternatives.now) ≡ true }
     ensures { IfOk result (λ holds. holds ≡ one_holds
         (map (λ cs. map check_of cs.items) alternatives.now) (tested_value tested.entry)
-        (before_check known.entry at)) }
+        (before_check L.bindings known.entry at)) }
 {
     if are_of_constants(alternatives) {
         return Ok(true);
@@ -217,16 +227,17 @@ fn is_constant(test: &Test) -> bool
 }
 
 /// Whether all checks of an alternative hold.
-fn all_hold(
+fn all_hold<L: Lookup>(
     alloc: Global,
     constants: &Constants,
     checks: &[Check],
     tested: Tested<'_>,
-    known: Known<'_>,
+    known: Known<'_, L>,
     at: usize,
 ) -> Result<bool, NoMemory>
     ensures { IfOk result (λ holds. holds
-        ≡ list_all (check_holds (tested_value tested.entry) (before_check known.entry at))
+        ≡ list_all (check_holds (tested_value tested.entry)
+        (before_check L.bindings known.entry at))
         (map check_of checks.now)) }
 {
     for check in checks {
@@ -238,32 +249,32 @@ fn all_hold(
 }
 
 /// Whether a check holds.
-fn check_holds(
+fn check_holds<L: Lookup>(
     alloc: Global,
     constants: &Constants,
     check: &Check,
     tested: Tested<'_>,
-    known: Known<'_>,
+    known: Known<'_, L>,
     at: usize,
 ) -> Result<bool, NoMemory>
     ensures { IfOk result (λ holds. holds ≡ check_holds (tested_value tested.entry)
-        (before_check known.entry at) (check_of check.now)) }
+        (before_check L.bindings known.entry at) (check_of check.now)) }
 {
     let holds = test_holds(alloc, constants, &check.test, tested, known, at)?;
     Ok(if check.is_negated { !holds } else { holds })
 }
 
 /// Whether a test holds.
-fn test_holds(
+fn test_holds<L: Lookup>(
     alloc: Global,
     constants: &Constants,
     test: &Test,
     tested: Tested<'_>,
-    known: Known<'_>,
+    known: Known<'_, L>,
     at: usize,
 ) -> Result<bool, NoMemory>
     ensures { IfOk result (λ holds. holds ≡ test_holds (asked_test test.now)
-        (tested_value tested.entry) (before_check known.entry at)) }
+        (tested_value tested.entry) (before_check L.bindings known.entry at)) }
 {
     match test {
         Test::Constant(value) => Ok(tested.is(value)),
@@ -280,15 +291,15 @@ fn test_holds(
 }
 
 /// The value of an expression, or `None` where it faults.
-fn value_if_any(
+fn value_if_any<L: Lookup>(
     alloc: Global,
     constants: &Constants,
     expr: &Expr,
-    known: Known<'_>,
+    known: Known<'_, L>,
     at: usize,
 ) -> Result<Option<Value>, NoMemory>
     ensures { IfOk result (λ value. value
-        ≡ value_if_any (value_of (term_of expr.now) (before_check known.entry at))) }
+        ≡ value_if_any (value_of (term_of expr.now) (before_check L.bindings known.entry at))) }
 {
     match eval(alloc, constants, expr, &AtCheck { known, check: at }) {
         Ok(value) => Ok(Some(value)),

@@ -9,16 +9,16 @@ use crate::body::Body;
 use crate::place::Place;
 use crate::taken::Taken;
 use crate::tested::Tested;
-use cb_exprs::{Env, Lookup};
+use cb_exprs::Lookup;
 use cb_facts::{Name, Value};
 use cb_forms::NoMemory;
 
 /// What variables have where the constraint after those that took values is tested for one: what they had before the pattern,
 /// and beside that what the constraints gave them, which is read from the values that these took.
-#[derive(Clone, Copy)]
-pub struct Known<'a> {
+#[derive_where(Clone, Copy)]
+pub struct Known<'a, L> {
     /// What variables had before the pattern.
-    pub before: &'a Env,
+    pub before: &'a L,
     /// The pattern.
     pub body: &'a Body,
     /// What its constraints took so far.
@@ -27,17 +27,17 @@ pub struct Known<'a> {
     pub tested: Tested<'a>,
 }
 
-impl Known<'_> {
+impl<L: Lookup> Known<'_, L> {
     /// The value that a variable has before a check, or `None` where it has none. A check of those that the constraint joins by
     /// `&` may give a variable the value that is tested, and those after it see that; so it is asked for a check, by its number
     /// from 0. The value shares its bytes or fields. It is refused as `NoMemory` where a count of sharers is full, or where
     /// memory for it is.
     pub(crate) fn variable(self, name: &Name, check: usize) -> Result<Option<Value>, NoMemory>
         ensures { IfOk result (λ found. found
-            ≡ value_at name.now (before_check self.entry check).variables) }
+            ≡ value_at name.now (before_check L.bindings self.entry check).variables) }
     {
-        if let Some(value) = self.before.get(name) {
-            return Ok(Some(value.clone()?));
+        if let Some(value) = self.before.variable(name)? {
+            return Ok(Some(value));
         }
         value_at_place(*self.took, self.tested, check, self.body.first(name))
     }
@@ -45,26 +45,23 @@ impl Known<'_> {
     /// The value of a global variable before a check, in the same way.
     pub(crate) fn global(self, name: &Name, check: usize) -> Result<Option<Value>, NoMemory>
         ensures { IfOk result (λ found. found
-            ≡ value_at name.now (before_check self.entry check).globals) }
+            ≡ value_at name.now (before_check L.bindings self.entry check).globals) }
     {
-        match self.before.global(name) {
-            Some(value) => Ok(Some(value.clone()?)),
-            None => Ok(None),
-        }
+        self.before.global_variable(name)
     }
 }
 
 /// What variables have before one check.
-#[derive(Clone, Copy)]
-pub(crate) struct AtCheck<'a> {
-    pub(crate) known: Known<'a>,
+#[derive_where(Clone, Copy)]
+pub(crate) struct AtCheck<'a, L> {
+    pub(crate) known: Known<'a, L>,
     pub(crate) check: usize,
 }
 
-impl Lookup for AtCheck<'_> {
+impl<L: Lookup> Lookup for AtCheck<'_, L> {
     ghost use Rattle.cb_constraints.specs.Internal.Known.{before_check};
 
-    ghost bindings = { λ at. before_check at.known at.check };
+    ghost bindings = { λ at. before_check L.bindings at.known at.check };
 
     fn variable(&self, name: &Name) -> Result<Option<Value>, NoMemory> {
         self.known.variable(name, self.check)

@@ -16,10 +16,10 @@ use Rattle.cb_fit.specs.Internal.{endings, env_after, may_take_slots, taken_by}
 use Rattle.cb_fit.specs.Internal.Choices.{AreFrom, AreOpen, AreUpTo, IsChoice, IsIn, IsOpen, KeepsFirst, choice_endings, choice_ways, constraints_from, followed_by_rows, constraint_number, tries, tries_if, tries_left, ways_if, ways_left, most_tries}
 use Rattle.cb_fit.specs.Ways.{Taken, after_cuts, each_followed_by, slot_at, ways_of_row, ways_of_slot, ways_of_slots}
 use Rattle.cb_fit.specs.declared.choice.Choice as program
-use Rattle.cb_fit.specs.declared.search.Search.{Search}
+use Rattle.cb_fit.specs.Internal.Searches.{SearchValue}
 
 -- the last of some choices is taken up first
-pub last-first : (s : Search) (cuts : List ℕ) (cs : List (Option program.Choice)) (c : Option program.Choice) → ways_left s cuts (cs ++ c ∷ []) ≡ ways_if s cuts c ++ ways_left s cuts cs
+pub last-first : (s : SearchValue) (cuts : List ℕ) (cs : List (Option program.Choice)) (c : Option program.Choice) → ways_left s cuts (cs ++ c ∷ []) ≡ ways_if s cuts c ++ ways_left s cuts cs
 last-first s cuts [] c = sym (append-nil (ways_if s cuts c))
 last-first s cuts (d ∷ ds) c =
     ap (λ ts. ts ++ ways_if s cuts d) (last-first s cuts ds c)
@@ -37,22 +37,22 @@ pub all-before : (cuts : List ℕ) (n : ℕ) → n ≡ length cuts → take n cu
 all-before cuts n e = ap (λ k. take k cuts) e ∙ take-length cuts
 
 -- the choice of the first constraint that is left
-pub of_choice : (s : Search) (cuts : List ℕ) (o : Option program.Choice) (rows : List program_row.SlotRow) (ts : List Taken)
+pub of_choice : (s : SearchValue) (cuts : List ℕ) (o : Option program.Choice) (rows : List program_row.SlotRow) (ts : List Taken)
     → MatchOption o (ts ≡ []) (λ c. choice_endings s cuts c ≡ ts) → IfSome o (λ c. c.rows.now ≡ rows) → IfSome o (λ c. c.number ≡ length cuts)
-    → ways_if s cuts o ≡ followed_by_rows (map asked_slot rows) s.slots.now ts
-of_choice s cuts None rows ts m r n = sym (ap (followed_by_rows (map asked_slot rows) s.slots.now) m)
+    → ways_if s cuts o ≡ followed_by_rows (map asked_slot rows) s.slots ts
+of_choice s cuts None rows ts m r n = sym (ap (followed_by_rows (map asked_slot rows) s.slots) m)
 of_choice s cuts (Some c) rows ts m r n =
     ap (λ before. choice_ways s before c) (all-before cuts c.number n)
-    ∙ (ap (λ rs. followed_by_rows (map asked_slot rs) s.slots.now (choice_endings s cuts c)) r
-    ∙ ap (followed_by_rows (map asked_slot rows) s.slots.now) m)
+    ∙ (ap (λ rs. followed_by_rows (map asked_slot rs) s.slots (choice_endings s cuts c)) r
+    ∙ ap (followed_by_rows (map asked_slot rows) s.slots) m)
 
-pub opened : (s : Search) (cuts : List ℕ) (o : Option program.Choice) (rows : List program_row.SlotRow) → IfSome o IsChoice → IfSome o (IsIn s cuts) → IfSome o (λ c. c.rows.now ≡ rows) → IfSome o (λ c. c.number ≡ length cuts)
-    → may_take_slots (map asked_slot rows) s.slots.now ≡ true → IfSome o (IsOpen s cuts)
+pub opened : (s : SearchValue) (cuts : List ℕ) (o : Option program.Choice) (rows : List program_row.SlotRow) → IfSome o IsChoice → IfSome o (IsIn s cuts) → IfSome o (λ c. c.rows.now ≡ rows) → IfSome o (λ c. c.number ≡ length cuts)
+    → may_take_slots (map asked_slot rows) s.slots ≡ true → IfSome o (IsOpen s cuts)
 opened s cuts None rows choice inside r n may = tt
 opened s cuts (Some c) rows choice inside r n may = record {
   choice = choice;
   inside = subst (λ before. IsIn s before c) (sym (all-before cuts c.number n)) inside;
-  rows = ap (λ rs. may_take_slots (map asked_slot rs) s.slots.now) r ∙ may;
+  rows = ap (λ rs. may_take_slots (map asked_slot rs) s.slots) r ∙ may;
 }
 
 pub not-before : (o : Option program.Choice) (n m : ℕ) → n ≤ m → IfSome o (λ c. c.number ≡ m) → IfSome o (λ c. n ≤ c.number)
@@ -75,12 +75,12 @@ first-row s ss slots v t ts e h =
     ∙ (ap (λ o. map (after_cuts t.cuts) (option_map_or (λ w. ways_of_row s.row (fields_in w) t.env) o [])) e ∙ h))
 
 -- the same of those that are left
-pub begun_row : (left others : List program_row.SlotRow) (row : program_row.SlotRow) (s : Search) (v : Value) (fields : List Single) (cuts : List ℕ) (ts : List Taken)
-    → left ≡ row ∷ others → slot_at row.place s.slots.now ≡ Some v → fields ≡ fields_in v → map (after_cuts cuts) (ways_of_row row.row fields (env_after s cuts)) ≡ ts
-    → followed_by_rows (map asked_slot left) s.slots.now (taken_by s cuts ∷ []) ≡ followed_by_rows (map asked_slot others) s.slots.now ts
+pub begun_row : (left others : List program_row.SlotRow) (row : program_row.SlotRow) (s : SearchValue) (v : Value) (fields : List Single) (cuts : List ℕ) (ts : List Taken)
+    → left ≡ row ∷ others → slot_at row.place s.slots ≡ Some v → fields ≡ fields_in v → map (after_cuts cuts) (ways_of_row row.row fields (env_after s cuts)) ≡ ts
+    → followed_by_rows (map asked_slot left) s.slots (taken_by s cuts ∷ []) ≡ followed_by_rows (map asked_slot others) s.slots ts
 begun_row left others row s v fields cuts ts split value is ways =
-    ap (λ rows. followed_by_rows (map asked_slot rows) s.slots.now (taken_by s cuts ∷ [])) split
-    ∙ first-row (asked_slot row) (map asked_slot others) s.slots.now v (taken_by s cuts) ts value (ap (λ fs. map (after_cuts cuts) (ways_of_row row.row fs (env_after s cuts))) (sym is) ∙ ways)
+    ap (λ rows. followed_by_rows (map asked_slot rows) s.slots (taken_by s cuts ∷ [])) split
+    ∙ first-row (asked_slot row) (map asked_slot others) s.slots v (taken_by s cuts) ts value (ap (λ fs. map (after_cuts cuts) (ways_of_row row.row fs (env_after s cuts))) (sym is) ∙ ways)
 
 -- a row that takes all fields
 pub all-ended : (fields : List Single) (at : ℕ) (cuts : List ℕ) (env : Bindings) → at ≡ length fields → endings [] (record { cuts = cuts; left = drop at fields; env = env }) ≡ record { cuts = cuts; env = env } ∷ []
@@ -105,7 +105,7 @@ next-taken f k0 k1 one others both wn old mid new g m n b =
     ∙ ap (λ xs. k0 ++ xs) (sym (map-append f both old))
 
 -- the last of some choices, taken up
-pub last-ways : (s : Search) (cuts : List ℕ) (all rest : List (Option program.Choice)) (c : Option program.Choice) → all ≡ rest ++ c ∷ [] → ways_if s cuts c ++ ways_left s cuts rest ≡ ways_left s cuts all
+pub last-ways : (s : SearchValue) (cuts : List ℕ) (all rest : List (Option program.Choice)) (c : Option program.Choice) → all ≡ rest ++ c ∷ [] → ways_if s cuts c ++ ways_left s cuts rest ≡ ways_left s cuts all
 last-ways s cuts all rest c e = sym (ap (ways_left s cuts) e ∙ last-first s cuts rest c)
 
 pub last-tries : (all rest new : List (Option program.Choice)) (c : Option program.Choice) → all ≡ rest ++ c ∷ [] → tries_left new < tries_if c + tries_left rest → tries_left new < tries_left all
@@ -128,26 +128,26 @@ pub up-to-more : (n m : ℕ) (cs : List (Option program.Choice)) → n ≤ m →
 up-to-more n m [] h u = tt
 up-to-more n m (d ∷ ds) h u = (omega (arith, h, u.0), up-to-more n m ds h u.1)
 
-pub record Last (s : Search) (cuts : List ℕ) (cs : List (Option program.Choice)) (c : Option program.Choice) : Type 0 where
+pub record Last (s : SearchValue) (cuts : List ℕ) (cs : List (Option program.Choice)) (c : Option program.Choice) : Type 0 where
   pub choice : IsSomeAnd c (IsOpen s cuts)
   pub others : AreOpen s cuts cs
   pub order : AreUpTo (constraint_number c) cs
 
-last-open : (s : Search) (cuts : List ℕ) (cs : List (Option program.Choice)) (c : Option program.Choice) → AreOpen s cuts (cs ++ c ∷ []) → Last s cuts cs c
+last-open : (s : SearchValue) (cuts : List ℕ) (cs : List (Option program.Choice)) (c : Option program.Choice) → AreOpen s cuts (cs ++ c ∷ []) → Last s cuts cs c
 last-open s cuts [] c h = record { choice = h.0; others = tt; order = tt }
 last-open s cuts (d ∷ ds) c h =
     let w = last-open s cuts ds c h.2 in
     let f = last-from (constraint_number d) ds c h.1 in
     record { choice = w.choice; others = (h.0, f.1, w.others); order = (f.0, w.order) }
 
-pub taken-up : (s : Search) (cuts : List ℕ) (all rest : List (Option program.Choice)) (c : Option program.Choice) → all ≡ rest ++ c ∷ [] → AreOpen s cuts all → Last s cuts rest c
+pub taken-up : (s : SearchValue) (cuts : List ℕ) (all rest : List (Option program.Choice)) (c : Option program.Choice) → all ≡ rest ++ c ∷ [] → AreOpen s cuts all → Last s cuts rest c
 taken-up s cuts all rest c e h = last-open s cuts rest c (subst (AreOpen s cuts) e h)
 
-pub open-last : (s : Search) (cuts : List ℕ) (cs : List (Option program.Choice)) (c : Option program.Choice) → IsSomeAnd c (IsOpen s cuts) → AreUpTo (constraint_number c) cs → AreOpen s cuts cs → AreOpen s cuts (cs ++ c ∷ [])
+pub open-last : (s : SearchValue) (cuts : List ℕ) (cs : List (Option program.Choice)) (c : Option program.Choice) → IsSomeAnd c (IsOpen s cuts) → AreUpTo (constraint_number c) cs → AreOpen s cuts cs → AreOpen s cuts (cs ++ c ∷ [])
 open-last s cuts [] c is u h = (is, tt, tt)
 open-last s cuts (d ∷ ds) c is u h = (h.0, from-last (constraint_number d) ds c u.0 h.1, open-last s cuts ds c is u.1 h.2)
 
-pub next-opened : (s : Search) (cuts : List ℕ) (cs : List (Option program.Choice)) (c : Option program.Choice) → is_some c ≡ true → IfSome c (IsOpen s cuts) → IfSome c (λ d. AreUpTo d.number cs) → AreOpen s cuts cs → AreOpen s cuts (cs ++ c ∷ [])
+pub next-opened : (s : SearchValue) (cuts : List ℕ) (cs : List (Option program.Choice)) (c : Option program.Choice) → is_some c ≡ true → IfSome c (IsOpen s cuts) → IfSome c (λ d. AreUpTo d.number cs) → AreOpen s cuts cs → AreOpen s cuts (cs ++ c ∷ [])
 next-opened s cuts cs None is opens order h = let never : false ≡ true = is in cc
 next-opened s cuts cs (Some c) is opens order h = open-last s cuts cs (Some c) opens order h
 
@@ -176,7 +176,7 @@ fewer-kept m n old new h k = first new ∙ (ap (take m) k.0 ∙ sym (first old))
     first : (xs : List ℕ) → take m xs ≡ take m (take n xs)
     first xs = sym (take-take m n xs h)
 
-pub open-kept : (s : Search) (n : ℕ) (old new : List ℕ) (c : Option program.Choice) → constraint_number c ≤ n → KeepsFirst n old new → IsSomeAnd c (IsOpen s old) → IsSomeAnd c (IsOpen s new)
+pub open-kept : (s : SearchValue) (n : ℕ) (old new : List ℕ) (c : Option program.Choice) → constraint_number c ≤ n → KeepsFirst n old new → IsSomeAnd c (IsOpen s old) → IsSomeAnd c (IsOpen s new)
 open-kept s n old new None h k is = is
 open-kept s n old new (Some c) h k is = record {
   choice = is.choice;
@@ -184,15 +184,15 @@ open-kept s n old new (Some c) h k is = record {
   rows = is.rows;
 }
 
-pub ways-kept : (s : Search) (n : ℕ) (old new : List ℕ) (c : Option program.Choice) → constraint_number c ≤ n → KeepsFirst n old new → ways_if s new c ≡ ways_if s old c
+pub ways-kept : (s : SearchValue) (n : ℕ) (old new : List ℕ) (c : Option program.Choice) → constraint_number c ≤ n → KeepsFirst n old new → ways_if s new c ≡ ways_if s old c
 ways-kept s n old new None h k = refl
 ways-kept s n old new (Some c) h k = ap (λ before. choice_ways s before c) (fewer-kept c.number n old new h k)
 
-pub all-open-kept : (s : Search) (n : ℕ) (old new : List ℕ) (cs : List (Option program.Choice)) → AreUpTo n cs → KeepsFirst n old new → AreOpen s old cs → AreOpen s new cs
+pub all-open-kept : (s : SearchValue) (n : ℕ) (old new : List ℕ) (cs : List (Option program.Choice)) → AreUpTo n cs → KeepsFirst n old new → AreOpen s old cs → AreOpen s new cs
 all-open-kept s n old new [] u k h = tt
 all-open-kept s n old new (c ∷ cs) u k h = (open-kept s n old new c u.0 k h.0, h.1, all-open-kept s n old new cs u.1 k h.2)
 
-pub all-ways-kept : (s : Search) (n : ℕ) (old new : List ℕ) (cs : List (Option program.Choice)) → AreUpTo n cs → KeepsFirst n old new → ways_left s new cs ≡ ways_left s old cs
+pub all-ways-kept : (s : SearchValue) (n : ℕ) (old new : List ℕ) (cs : List (Option program.Choice)) → AreUpTo n cs → KeepsFirst n old new → ways_left s new cs ≡ ways_left s old cs
 all-ways-kept s n old new [] u k = refl
 all-ways-kept s n old new (c ∷ cs) u k =
     ap (λ ts. ts ++ ways_if s new c) (all-ways-kept s n old new cs u.1 k) ∙ ap (λ ts. ways_left s old cs ++ ts) (ways-kept s n old new c u.0 k)

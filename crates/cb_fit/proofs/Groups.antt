@@ -15,7 +15,7 @@ use Rattle.cb_fit.proofs.Places.{drop_past, drop_to}
 use Rattle.cb_fit.proofs.Rows.{all-of-ones, cuts-together, nothing-follows, ones-before, ones_then, shorter, step, too-short}
 use Rattle.cb_fit.specs.Internal.{Begun, after_ones, begun_at, begun_if, endings, env_after, takes_length, with_group}
 use Rattle.cb_fit.specs.Ways.{Taken, after_cuts, after_segment, each_followed_by, numbers, ways_of_row, with_length}
-use Rattle.cb_fit.specs.declared.search.Search.{Search}
+use Rattle.cb_fit.specs.Internal.Searches.{SearchValue}
 
 abbrev pub grown_to : Begun → ℕ → ℕ → Bindings → Begun
 grown_to b n k grown = record { cuts = b.cuts ++ (n ∷ replicate k 1); left = drop k (drop n b.left); env = grown }
@@ -54,7 +54,7 @@ none-after c os fields cuts from to env grown h s o =
     ∙ ap (λ x. option_to_list (option_map (grown_to (record { cuts = cuts; left = drop from fields; env = env }) (to - from) (length os)) x)) o)
 
 -- the same by what a test said of those for one field
-pub group-taken : (s : Search) (c : Constraint) (os : List Constraint) (fields : List Single) (cuts mid new : List ℕ) (from to at : ℕ) (holds : Bool)
+pub group-taken : (s : SearchValue) (c : Constraint) (os : List Constraint) (fields : List Single) (cuts mid new : List ℕ) (from to at : ℕ) (holds : Bool)
     → from ≤ to → at ≡ to + length os → mid ≡ cuts ++ (to - from) ∷ [] → (holds ≡ true → new ≡ mid ++ replicate (length os) 1)
     → after_segment c (slice_range fields from to) (env_after s cuts) ≡ Some (env_after s mid) → Meets holds (env_after s new) (after_ones os (drop to fields) (env_after s mid))
     → with_group c os (begun_at s fields cuts from) (to - from) ≡ begun_if holds (begun_at s fields new at)

@@ -3,8 +3,8 @@ use Rattle.std.proofs.Common.{◌≡◌, ◌∙◌, ◌++◌, Bool, List, [], �
 use Rattle.cb_constraints.specs.Constraints.{Test, constant, variable, predicate, return_value, Check, Demand, nothing, each, either, Constraint}
 use Rattle.cb_constraints.specs.PatternValues.{PatternParts, PatternValue, SlotValue}
 use Rattle.cb_constraints.specs.PatternValues as pattern
-use Rattle.cb_fit.specs.ShapeKeys.{alternative_pieces, check_pieces, checks_pieces, constraint_pieces, pieces_of, row_pieces, shape_of, slot_pieces}
-use Rattle.cb_fit.specs.Shapes.{constants_in, loose, loose_constraint, loose_parts, loose_row, loose_slot}
+use Rattle.cb_fit.specs.ShapeKeys.{alternative_pieces, checks_pieces, constraint_pieces, demand_pieces, pieces_of, row_pieces, shape_of, slot_pieces}
+use Rattle.cb_fit.specs.Shapes.{constants_in, loose, loose_constraint, loose_demand, loose_parts, loose_row, loose_slot}
 use Rattle.cb_fit.specs.declared.pieces.Piece.{Piece}
 use Rattle.cb_fit.specs.declared.pieces.Piece.TheVariants as piece
 use Rattle.cb_fit.specs.declared.shape.Shape.{Shape}
@@ -100,3 +100,39 @@ pattern-read p = ap (λ parts. record { relation = p.relation; parts = parts }) 
 
 pub one-shape : (p q : PatternValue) → shape_of p ≡ shape_of q → loose p ≡ loose q
 one-shape p q e = sym (pattern-read p) ∙ ap pattern_from e ∙ pattern-read q
+
+-- a pattern without its variables and expressions has the same pieces
+check-kept : (negated : Bool) (t : Test) (cs : List Check) → checks_pieces (constants_in cs) ≡ checks_pieces cs
+    → checks_pieces (constants_in (record { negated = negated; test = t } ∷ cs)) ≡ checks_pieces (record { negated = negated; test = t } ∷ cs)
+check-kept negated (constant v) cs more = ap (λ ps. piece.Constant negated v ∷ ps) more
+check-kept negated (variable x) cs more = more
+check-kept negated (predicate e) cs more = more
+check-kept negated (return_value e) cs more = more
+
+checks-kept : (cs : List Check) → checks_pieces (constants_in cs) ≡ checks_pieces cs
+checks-kept [] = refl
+checks-kept (c ∷ cs) = check-kept c.negated c.test cs (checks-kept cs)
+
+alternatives-kept : (alternatives : List (List Check)) → flat_map alternative_pieces (map constants_in alternatives) ≡ flat_map alternative_pieces alternatives
+alternatives-kept [] = refl
+alternatives-kept (cs ∷ more) = ap₂ (λ ps qs. (piece.Alternative ∷ ps) ++ qs) (checks-kept cs) (alternatives-kept more)
+
+demand-kept : (segment : Bool) (d : Demand) → demand_pieces segment (loose_demand d) ≡ demand_pieces segment d
+demand-kept segment nothing = refl
+demand-kept segment (each cs) = ap (λ ps. piece.Each segment ∷ ps) (checks-kept cs)
+demand-kept segment (either first alternatives) = ap (λ ps. piece.Either segment ∷ ps) (alternatives-kept alternatives)
+
+row-kept : (row : List Constraint) → row_pieces (loose_row row) ≡ row_pieces row
+row-kept [] = refl
+row-kept (c ∷ row) = ap₂ (λ ps qs. ps ++ qs) (demand-kept c.segment c.demand) (row-kept row)
+
+slots-kept : (rows : List SlotValue) → flat_map slot_pieces (map loose_slot rows) ≡ flat_map slot_pieces rows
+slots-kept [] = refl
+slots-kept (s ∷ rows) = ap₂ (λ ps qs. (piece.Slot s.name s.place ∷ ps) ++ qs) (row-kept s.row) (slots-kept rows)
+
+parts-kept : (p : PatternParts) → pieces_of (loose_parts p) ≡ pieces_of p
+parts-kept (pattern.fields row) = ap (λ ps. piece.Ordered ∷ ps) (row-kept row)
+parts-kept (pattern.slots rows) = slots-kept rows
+
+pub loose-shape : (p : PatternValue) → shape_of (loose p) ≡ shape_of p
+loose-shape p = ap (λ ps. record { relation = p.relation; pieces = ps }) (parts-kept p.parts)

@@ -30,7 +30,7 @@ use Rattle.cb_fit.specs.Internal.Choices.{KeepsFirst}
 use Rattle.cb_fit.specs.Internal.Standing.{AreNext, AreOfSlots, IsAt, ComesNext, TestsNext}
 use Rattle.cb_fit.specs.Ways.{after_segment, first_value, segment_value, slot_at}
 use Rattle.cb_constraints.specs.Rows.{segments_wanted}
-use Rattle.cb_fit.specs.declared.search.Search.{Search}
+use Rattle.cb_fit.specs.Internal.Searches.{SearchValue}
 
 pub drop-next : {X : Type 0} (k : ℕ) (xs ys : List X) (y : X) → drop k xs ≡ y ∷ ys → drop (suc k) xs ≡ ys
 drop-next k xs ys y e = sym (drop-drop 1 k xs ∙ ap (λ n. drop n xs) one-more) ∙ ap (drop 1) e
@@ -61,18 +61,18 @@ none-after k xs e n is = at-most (length xs) (sym (length-drop k xs) ∙ ap leng
     at-most m h = omega (arith, h, is)
 
 -- the constraint that comes next, by the number of the values that were taken
-pub next-here : (s : Search) (cuts : List ℕ) (c : Constraint) (next : ComesNext s cuts c) → drop (length (values_taken s.body.now (content_of s.content.now) cuts)) (constraints_in s.body.now) ≡ c ∷ next.0
-next-here s cuts c next = ap (λ k. drop k (constraints_in s.body.now)) (as_many_values s.body.now (content_of s.content.now) cuts) ∙ next.1
+pub next-here : (s : SearchValue) (cuts : List ℕ) (c : Constraint) (next : ComesNext s cuts c) → drop (length (values_taken s.body s.content cuts)) (constraints_in s.body) ≡ c ∷ next.0
+next-here s cuts c next = ap (λ k. drop k (constraints_in s.body)) (as_many_values s.body s.content cuts) ∙ next.1
 
 -- after one constraint more
-pub next-at : (s : Search) (fields : List Single) (cuts : List ℕ) (at n : ℕ) (c : Constraint) (cs : List Constraint) → IsAt s fields cuts at (c ∷ cs) → IsAt s fields (cuts ++ n ∷ []) (at + n) cs
+pub next-at : (s : SearchValue) (fields : List Single) (cuts : List ℕ) (at n : ℕ) (c : Constraint) (cs : List Constraint) → IsAt s fields cuts at (c ∷ cs) → IsAt s fields (cuts ++ n ∷ []) (at + n) cs
 next-at s fields cuts at n c cs i = record {
   row = i.row;
   start = i.start;
   more = i.more;
   sites = i.sites;
-  next = ap (λ k. drop k (constraints_in s.body.now)) (one-longer cuts n) ∙ drop-next (length cuts) (constraints_in s.body.now) (cs ++ i.more) c i.next;
-  next_sites = ap (λ k. drop k (sites_in s.body.now)) (one-longer cuts n) ∙ drop-next (length cuts) (sites_in s.body.now) (sites_of i.row i.start cs ++ i.sites) (record { row = i.row; start = i.start; takes_segment = c.segment }) i.next_sites;
+  next = ap (λ k. drop k (constraints_in s.body)) (one-longer cuts n) ∙ drop-next (length cuts) (constraints_in s.body) (cs ++ i.more) c i.next;
+  next_sites = ap (λ k. drop k (sites_in s.body)) (one-longer cuts n) ∙ drop-next (length cuts) (sites_in s.body) (sites_of i.row i.start cs ++ i.sites) (record { row = i.row; start = i.start; takes_segment = c.segment }) i.next_sites;
   begun = up-to (length cuts) i.begun (one-longer cuts n);
   taken =
       taken-more cuts n ∙ (ap (λ k. k + n) i.taken
@@ -87,7 +87,7 @@ next-at s fields cuts at n c cs i = record {
     sum-of x y z = omega arith
 
 -- after so many constraints for one field
-pub next-ones : (s : Search) (fields : List Single) (cuts : List ℕ) (at : ℕ) (os cs : List Constraint) → IsAt s fields cuts at (os ++ cs) → IsAt s fields (cuts ++ replicate (length os) 1) (at + length os) cs
+pub next-ones : (s : SearchValue) (fields : List Single) (cuts : List ℕ) (at : ℕ) (os cs : List Constraint) → IsAt s fields cuts at (os ++ cs) → IsAt s fields (cuts ++ replicate (length os) 1) (at + length os) cs
 next-ones s fields cuts at [] cs i = subst (λ xs. IsAt s fields xs (at + 0) cs) (sym (append-nil cuts)) (subst (λ k. IsAt s fields cuts k cs) (no-more at) i)
   where
     no-more : (k : ℕ) → k ≡ k + 0
@@ -103,7 +103,7 @@ abbrev site-of : ℕ → ℕ → Constraint → Site
 site-of r n c = record { row = r; start = n; takes_segment = c.segment }
 
 -- of those that come next, the first ones
-pub front-at : (s : Search) (fields : List Single) (cuts : List ℕ) (at : ℕ) (cs ds : List Constraint) → IsAt s fields cuts at (cs ++ ds) → IsAt s fields cuts at cs
+pub front-at : (s : SearchValue) (fields : List Single) (cuts : List ℕ) (at : ℕ) (cs ds : List Constraint) → IsAt s fields cuts at (cs ++ ds) → IsAt s fields cuts at cs
 front-at s fields cuts at cs ds i = record {
   row = i.row;
   start = i.start;
@@ -116,69 +116,69 @@ front-at s fields cuts at cs ds i = record {
   fields_are = i.fields_are;
 }
 
-pub first-next : (s : Search) (fields : List Single) (cuts : List ℕ) (at : ℕ) (c : Constraint) (cs : List Constraint) → IsAt s fields cuts at (c ∷ cs) → ComesNext s cuts c
+pub first-next : (s : SearchValue) (fields : List Single) (cuts : List ℕ) (at : ℕ) (c : Constraint) (cs : List Constraint) → IsAt s fields cuts at (c ∷ cs) → ComesNext s cuts c
 first-next s fields cuts at c cs i = (cs ++ i.more, i.next)
 
 -- what the constraint that comes next takes
-pub value-at : (s : Search) (fields : List Single) (cuts : List ℕ) (at n : ℕ) (c : Constraint) (cs : List Constraint) → IsAt s fields cuts at (c ∷ cs)
-    → next_value s.body.now (content_of s.content.now) cuts n ≡ value_taken c.segment (take n (drop at fields))
+pub value-at : (s : SearchValue) (fields : List Single) (cuts : List ℕ) (at n : ℕ) (c : Constraint) (cs : List Constraint) → IsAt s fields cuts at (c ∷ cs)
+    → next_value s.body s.content cuts n ≡ value_taken c.segment (take n (drop at fields))
 value-at s fields cuts at n c cs i =
-    next_is s.body.now (content_of s.content.now) cuts n (record { row = i.row; start = i.start; takes_segment = c.segment }) (sites_of i.row i.start cs ++ i.sites) i.next_sites
-    ∙ (ap (λ k. value_taken c.segment (take n (drop k (fields_of_row i.row s.body.now (content_of s.content.now))))) (left-of (fields_taken cuts) (fields_taken (take i.start cuts)) i.taken)
+    next_is s.body s.content cuts n (record { row = i.row; start = i.start; takes_segment = c.segment }) (sites_of i.row i.start cs ++ i.sites) i.next_sites
+    ∙ (ap (λ k. value_taken c.segment (take n (drop k (fields_of_row i.row s.body s.content)))) (left-of (fields_taken cuts) (fields_taken (take i.start cuts)) i.taken)
     ∙ ap (λ fs. value_taken c.segment (take n (drop at fs))) i.fields_are)
   where
     left-of : (all before : ℕ) → all ≡ before + at → all - before ≡ at
     left-of all before e = omega (arith, e)
 
 -- what variables have before its checks, by what a test looks with
-pub known-is : (s : Search) (cuts : List ℕ) (v : Value) (asks took : PatternParts) (content : FactContent) (lengths : List ℕ) (tested : Value) (before : Bindings)
-    → asks ≡ s.body.now → took ≡ s.body.now → content ≡ content_of s.content.now → lengths ≡ cuts → tested ≡ v → before ≡ s.before.now
-    → bindings_before (constraints_in asks) (values_taken took content lengths) tested before ≡ bindings_before (constraints_in s.body.now) (values_taken s.body.now (content_of s.content.now) cuts) v s.before.now
+pub known-is : (s : SearchValue) (cuts : List ℕ) (v : Value) (asks took : PatternParts) (content : FactContent) (lengths : List ℕ) (tested : Value) (before : Bindings)
+    → asks ≡ s.body → took ≡ s.body → content ≡ s.content → lengths ≡ cuts → tested ≡ v → before ≡ s.before
+    → bindings_before (constraints_in asks) (values_taken took content lengths) tested before ≡ bindings_before (constraints_in s.body) (values_taken s.body s.content cuts) v s.before
 known-is s cuts v asks took content lengths tested before a t c l w b =
     ap (λ p. bindings_before (constraints_in p) (values_taken took content lengths) tested before) a
-    ∙ (ap (λ p. bindings_before (constraints_in s.body.now) (values_taken p content lengths) tested before) t
-    ∙ (ap (λ k. bindings_before (constraints_in s.body.now) (values_taken s.body.now k lengths) tested before) c
-    ∙ (ap (λ xs. bindings_before (constraints_in s.body.now) (values_taken s.body.now (content_of s.content.now) xs) tested before) l
-    ∙ (ap (λ u. bindings_before (constraints_in s.body.now) (values_taken s.body.now (content_of s.content.now) cuts) u before) w
-    ∙ ap (bindings_before (constraints_in s.body.now) (values_taken s.body.now (content_of s.content.now) cuts) v) b))))
+    ∙ (ap (λ p. bindings_before (constraints_in s.body) (values_taken p content lengths) tested before) t
+    ∙ (ap (λ k. bindings_before (constraints_in s.body) (values_taken s.body k lengths) tested before) c
+    ∙ (ap (λ xs. bindings_before (constraints_in s.body) (values_taken s.body s.content xs) tested before) l
+    ∙ (ap (λ u. bindings_before (constraints_in s.body) (values_taken s.body s.content cuts) u before) w
+    ∙ ap (bindings_before (constraints_in s.body) (values_taken s.body s.content cuts) v) b))))
 
 -- a test of the constraint that comes next says what variables have after it
-pub met-next : (s : Search) (cuts : List ℕ) (n : ℕ) (c : Constraint) (v : Value) (holds : Bool) → ComesNext s cuts c → next_value s.body.now (content_of s.content.now) cuts n ≡ v
-    → Meets holds (bindings_before (constraints_in s.body.now) (values_taken s.body.now (content_of s.content.now) cuts) v s.before.now (checks_in c.demand))
-    (after_demand c.demand v (bindings_before (constraints_in s.body.now) (values_taken s.body.now (content_of s.content.now) cuts) v s.before.now 0))
+pub met-next : (s : SearchValue) (cuts : List ℕ) (n : ℕ) (c : Constraint) (v : Value) (holds : Bool) → ComesNext s cuts c → next_value s.body s.content cuts n ≡ v
+    → Meets holds (bindings_before (constraints_in s.body) (values_taken s.body s.content cuts) v s.before (checks_in c.demand))
+    (after_demand c.demand v (bindings_before (constraints_in s.body) (values_taken s.body s.content cuts) v s.before 0))
     → Meets holds (env_after s (cuts ++ n ∷ [])) (after_demand c.demand v (env_after s cuts))
 met-next s cuts n c v holds next is met =
     subst (λ env. Meets holds env (after_demand c.demand v (env_after s cuts))) (last ∙ sym after)
-    (subst (λ env. Meets holds (bindings_before (constraints_in s.body.now) (values_taken s.body.now (content_of s.content.now) cuts) v s.before.now (checks_in c.demand)) (after_demand c.demand v env)) first met)
+    (subst (λ env. Meets holds (bindings_before (constraints_in s.body) (values_taken s.body s.content cuts) v s.before (checks_in c.demand)) (after_demand c.demand v env)) first met)
   where
-    here : drop (length (values_taken s.body.now (content_of s.content.now) cuts)) (constraints_in s.body.now) ≡ c ∷ next.0
+    here : drop (length (values_taken s.body s.content cuts)) (constraints_in s.body) ≡ c ∷ next.0
     here = next-here s cuts c next
 
-    first : bindings_before (constraints_in s.body.now) (values_taken s.body.now (content_of s.content.now) cuts) v s.before.now 0 ≡ env_after s cuts
-    first = known_first (constraints_in s.body.now) (values_taken s.body.now (content_of s.content.now) cuts) v s.before.now c next.0 here
+    first : bindings_before (constraints_in s.body) (values_taken s.body s.content cuts) v s.before 0 ≡ env_after s cuts
+    first = known_first (constraints_in s.body) (values_taken s.body s.content cuts) v s.before c next.0 here
 
-    last : bindings_before (constraints_in s.body.now) (values_taken s.body.now (content_of s.content.now) cuts) v s.before.now (checks_in c.demand)
-        ≡ bindings_after (constraints_in s.body.now) (values_taken s.body.now (content_of s.content.now) cuts ++ v ∷ []) s.before.now
-    last = known_last (constraints_in s.body.now) (values_taken s.body.now (content_of s.content.now) cuts) v s.before.now c next.0 here
+    last : bindings_before (constraints_in s.body) (values_taken s.body s.content cuts) v s.before (checks_in c.demand)
+        ≡ bindings_after (constraints_in s.body) (values_taken s.body s.content cuts ++ v ∷ []) s.before
+    last = known_last (constraints_in s.body) (values_taken s.body s.content cuts) v s.before c next.0 here
 
-    after : env_after s (cuts ++ n ∷ []) ≡ bindings_after (constraints_in s.body.now) (values_taken s.body.now (content_of s.content.now) cuts ++ v ∷ []) s.before.now
+    after : env_after s (cuts ++ n ∷ []) ≡ bindings_after (constraints_in s.body) (values_taken s.body s.content cuts ++ v ∷ []) s.before
     after =
-        ap (λ vs. bindings_after (constraints_in s.body.now) vs s.before.now)
-        (one_more_value s.body.now (content_of s.content.now) cuts n
-        ∙ ap (λ w. values_taken s.body.now (content_of s.content.now) cuts ++ w ∷ []) is)
+        ap (λ vs. bindings_after (constraints_in s.body) vs s.before)
+        (one_more_value s.body s.content cuts n
+        ∙ ap (λ w. values_taken s.body s.content cuts ++ w ∷ []) is)
 
 -- the value of the constraint for one field that comes next
-pub one-value : (s : Search) (fields : List Single) (cuts : List ℕ) (at : ℕ) (c : Constraint) (cs : List Constraint) (v : Value) (others : List Single) → IsAt s fields cuts at (c ∷ cs)
-    → segments_wanted (c ∷ cs) ≡ 0 → IsFirst v others (drop at fields) → next_value s.body.now (content_of s.content.now) cuts 1 ≡ v
+pub one-value : (s : SearchValue) (fields : List Single) (cuts : List ℕ) (at : ℕ) (c : Constraint) (cs : List Constraint) (v : Value) (others : List Single) → IsAt s fields cuts at (c ∷ cs)
+    → segments_wanted (c ∷ cs) ≡ 0 → IsFirst v others (drop at fields) → next_value s.body s.content cuts 1 ≡ v
 one-value s fields cuts at c cs v others i ones first =
     value-at s fields cuts at 1 c cs i
     ∙ (ap (λ b. value_taken b (take 1 (drop at fields))) (is-one c.segment (segments_wanted cs) ones)
     ∙ (ap (λ fs. value_taken false (take 1 fs)) first.1 ∙ sym first.2))
 
 -- where it holds, those after it see what it leaves
-pub one-holds : (s : Search) (fields : List Single) (cuts : List ℕ) (at : ℕ) (c : Constraint) (cs : List Constraint) (v : Value) (others : List Single) (holds : Bool) → IsAt s fields cuts at (c ∷ cs)
+pub one-holds : (s : SearchValue) (fields : List Single) (cuts : List ℕ) (at : ℕ) (c : Constraint) (cs : List Constraint) (v : Value) (others : List Single) (holds : Bool) → IsAt s fields cuts at (c ∷ cs)
     → segments_wanted (c ∷ cs) ≡ 0 → IsFirst v others (drop at fields)
-    → ((n : ℕ) → next_value s.body.now (content_of s.content.now) cuts n ≡ v → Meets holds (env_after s (cuts ++ n ∷ [])) (after_demand c.demand v (env_after s cuts)))
+    → ((n : ℕ) → next_value s.body s.content cuts n ≡ v → Meets holds (env_after s (cuts ++ n ∷ [])) (after_demand c.demand v (env_after s cuts)))
     → holds ≡ true → after_ones (c ∷ cs) (drop at fields) (env_after s cuts) ≡ after_ones cs others (env_after s (cuts ++ 1 ∷ []))
 one-holds s fields cuts at c cs v others holds i ones first met is =
     ap (λ fs. after_ones (c ∷ cs) fs (env_after s cuts)) first.1
@@ -186,9 +186,9 @@ one-holds s fields cuts at c cs v others holds i ones first met is =
     ∙ ap (option_and_then (after_ones cs others)) (subst (λ b. Meets b (env_after s (cuts ++ 1 ∷ [])) (after_demand c.demand v (env_after s cuts))) is (met 1 (one-value s fields cuts at c cs v others i ones first))))
 
 -- and where it doesn't, nothing comes of them
-pub one-fails : (s : Search) (fields : List Single) (cuts : List ℕ) (at : ℕ) (c : Constraint) (cs : List Constraint) (v : Value) (others : List Single) (holds : Bool) → IsAt s fields cuts at (c ∷ cs)
+pub one-fails : (s : SearchValue) (fields : List Single) (cuts : List ℕ) (at : ℕ) (c : Constraint) (cs : List Constraint) (v : Value) (others : List Single) (holds : Bool) → IsAt s fields cuts at (c ∷ cs)
     → segments_wanted (c ∷ cs) ≡ 0 → IsFirst v others (drop at fields)
-    → ((n : ℕ) → next_value s.body.now (content_of s.content.now) cuts n ≡ v → Meets holds (env_after s (cuts ++ n ∷ [])) (after_demand c.demand v (env_after s cuts)))
+    → ((n : ℕ) → next_value s.body s.content cuts n ≡ v → Meets holds (env_after s (cuts ++ n ∷ [])) (after_demand c.demand v (env_after s cuts)))
     → holds ≡ false → after_ones (c ∷ cs) (drop at fields) (env_after s cuts) ≡ None
 one-fails s fields cuts at c cs v others holds i ones first met is =
     ap (λ fs. after_ones (c ∷ cs) fs (env_after s cuts)) first.1
@@ -196,15 +196,15 @@ one-fails s fields cuts at c cs v others holds i ones first met is =
     ∙ ap (option_and_then (after_ones cs others)) (subst (λ b. Meets b (env_after s (cuts ++ 1 ∷ [])) (after_demand c.demand v (env_after s cuts))) is (met 1 (one-value s fields cuts at c cs v others i ones first))))
 
 -- the value of the constraint for a segment that comes next
-pub segment-next : (s : Search) (fields : List Single) (cuts : List ℕ) (from to : ℕ) (c : Constraint) (cs : List Constraint) → IsAt s fields cuts from (c ∷ cs) → c.segment ≡ true
-    → next_value s.body.now (content_of s.content.now) cuts (to - from) ≡ value.Multi (take (to - from) (drop from fields))
+pub segment-next : (s : SearchValue) (fields : List Single) (cuts : List ℕ) (from to : ℕ) (c : Constraint) (cs : List Constraint) → IsAt s fields cuts from (c ∷ cs) → c.segment ≡ true
+    → next_value s.body s.content cuts (to - from) ≡ value.Multi (take (to - from) (drop from fields))
 segment-next s fields cuts from to c cs i e = value-at s fields cuts from (to - from) c cs i ∙ ap (λ b. value_taken b (take (to - from) (drop from fields))) e
 
 pub segment-met : (c : Constraint) (fs : List Single) (env grown : Bindings) (holds : Bool) → c.segment ≡ true → Meets holds grown (after_demand c.demand (value.Multi fs) env) → Meets holds grown (after_segment c fs env)
 segment-met c fs env grown holds e met = subst (λ b. Meets holds grown (option_and_then (λ v. after_demand c.demand v env) (segment_value b fs))) (sym e) met
 
 -- a test of the constraint for a segment that comes next
-pub segment-tested : (s : Search) (fields : List Single) (cuts : List ℕ) (from to : ℕ) (c : Constraint) (v : Value) (holds : Bool) → IsAt s fields cuts from (c ∷ []) → c.segment ≡ true
+pub segment-tested : (s : SearchValue) (fields : List Single) (cuts : List ℕ) (from to : ℕ) (c : Constraint) (v : Value) (holds : Bool) → IsAt s fields cuts from (c ∷ []) → c.segment ≡ true
     → v ≡ value.Multi (take (to - from) (drop from fields)) → TestsNext s cuts c.demand v holds
     → Meets holds (env_after s (cuts ++ (to - from) ∷ [])) (after_segment c (take (to - from) (drop from fields)) (env_after s cuts))
 segment-tested s fields cuts from to c v holds place segment is tests =
@@ -260,7 +260,7 @@ pub kept-again : (n : ℕ) (old cuts cut new : List ℕ) → cut ≡ take n cuts
 kept-again n old cuts cut new e k l = keeps-through n (length cut) old cut new (cut-keeps n old cuts cut e k).1 (cut-keeps n old cuts cut e k) l
 
 -- a row of slots that begins now, and those after it
-pub row-begins : (s : Search) (cuts : List ℕ) (row : SlotValue) (others : List SlotValue) (v : Value) (fields : List Single) → AreNext s (length cuts) (row ∷ others) → slot_at row.place s.slots.now ≡ Some v
+pub row-begins : (s : SearchValue) (cuts : List ℕ) (row : SlotValue) (others : List SlotValue) (v : Value) (fields : List Single) → AreNext s (length cuts) (row ∷ others) → slot_at row.place s.slots ≡ Some v
     → fields ≡ fields_in v → IsAt s fields cuts 0 row.row
 row-begins s cuts row others v fields n is e = record {
   row = n.row;
@@ -271,7 +271,7 @@ row-begins s cuts row others v fields n is e = record {
   next_sites = n.next_sites;
   begun = omega arith;
   taken = ap fields_taken (sym (take-length cuts)) ∙ and-none (fields_taken (take (length cuts) cuts));
-  fields_are = n.fields_are.0 ∙ (of-slot (drop row.place s.slots.now) is ∙ sym e);
+  fields_are = n.fields_are.0 ∙ (of-slot (drop row.place s.slots) is ∙ sym e);
 }
   where
     and-none : (k : ℕ) → k ≡ k + 0
@@ -287,11 +287,11 @@ row-begins s cuts row others v fields n is e = record {
         same-value : (w u : Value) → Some w ≡ Some u → w ≡ u
         same-value w u d = cc
 
-pub rows-after : (s : Search) (count : ℕ) (row : SlotValue) (others : List SlotValue) → AreNext s count (row ∷ others) → AreNext s (count + length row.row) others
+pub rows-after : (s : SearchValue) (count : ℕ) (row : SlotValue) (others : List SlotValue) → AreNext s count (row ∷ others) → AreNext s (count + length row.row) others
 rows-after s count row others n = record {
   row = suc n.row;
-  next = past-first (constraints_in s.body.now) row.row (flat_map (λ r. r.row) others) (length row.row) refl n.next;
-  next_sites = past-first (sites_in s.body.now) (sites_of n.row count row.row) (sites_from (suc n.row) (count + length row.row) others) (length row.row) (sym (length-map row.row (site-of n.row count))) n.next_sites;
+  next = past-first (constraints_in s.body) row.row (flat_map (λ r. r.row) others) (length row.row) refl n.next;
+  next_sites = past-first (sites_in s.body) (sites_of n.row count row.row) (sites_from (suc n.row) (count + length row.row) others) (length row.row) (sym (length-map row.row (site-of n.row count))) n.next_sites;
   fields_are = n.fields_are.1;
 }
   where
@@ -303,11 +303,11 @@ rows-after s count row others n = record {
         drop-front (x ∷ xs) ys = drop-front xs ys
 
 -- where a row has ended, the others come next
-pub next-count : (s : Search) (n m : ℕ) (rows : List SlotValue) → n ≡ m → AreNext s n rows → AreNext s m rows
+pub next-count : (s : SearchValue) (n m : ℕ) (rows : List SlotValue) → n ≡ m → AreNext s n rows → AreNext s m rows
 next-count s n m rows e h = subst (λ k. AreNext s k rows) e h
 
 -- after a segment and the constraints for one field that follow it
-pub after-group : (s : Search) (fields : List Single) (before new : List ℕ) (from to at k : ℕ) (c : Constraint) (os rest : List Constraint) → IsAt s fields before from (c ∷ (os ++ rest))
+pub after-group : (s : SearchValue) (fields : List Single) (before new : List ℕ) (from to at k : ℕ) (c : Constraint) (os rest : List Constraint) → IsAt s fields before from (c ∷ (os ++ rest))
     → from ≤ to → length os ≡ k → at ≡ to + k → new ≡ before ++ ((to - from) ∷ replicate k 1) → IsAt s fields new at rest
 after-group s fields before new from to at k c os rest i h l e n =
     subst (λ xs. IsAt s fields xs at rest) (append_assoc before ((to - from) ∷ []) (replicate (length os) 1) ∙ (ap (λ m. before ++ ((to - from) ∷ replicate m 1)) l ∙ sym n))
@@ -318,7 +318,7 @@ after-group s fields before new from to at k c os rest i h l e n =
     there = omega (arith, h, l, e)
 
 -- where a row begins a pattern
-pub row-starts : (s : Search) (row : List Constraint) (fs : List Single) → s.body.now ≡ pattern.fields row → content_of s.content.now ≡ fact.fields fs → IsAt s fs [] 0 row
+pub row-starts : (s : SearchValue) (row : List Constraint) (fs : List Single) → s.body ≡ pattern.fields row → s.content ≡ fact.fields fs → IsAt s fs [] 0 row
 row-starts s row fs e d = record {
   row = 0;
   start = 0;
@@ -328,10 +328,10 @@ row-starts s row fs e d = record {
   next_sites = ap sites_in e ∙ sym (append-nil (sites_of 0 0 row));
   begun = omega arith;
   taken = omega arith;
-  fields_are = ap (λ p. fields_of_row 0 p (content_of s.content.now)) e ∙ ap (fields_of_row 0 (pattern.fields row)) d;
+  fields_are = ap (λ p. fields_of_row 0 p s.content) e ∙ ap (fields_of_row 0 (pattern.fields row)) d;
 }
 
-pub row-ends : (s : Search) (row : List Constraint) (n : ℕ) → s.body.now ≡ pattern.fields row → n ≡ length row → AreNext s n []
+pub row-ends : (s : SearchValue) (row : List Constraint) (n : ℕ) → s.body ≡ pattern.fields row → n ≡ length row → AreNext s n []
 row-ends s row n e l = record {
   row = 0;
   next = ap (λ p. drop n (constraints_in p)) e ∙ drop_all n row (omega (arith, l));
@@ -344,18 +344,18 @@ slots-stand all ss r [] e = tt
 slots-stand all ss r (row ∷ rows) e = (ap (λ rs. first_row_fields rs ss) e, slots-stand all ss (suc r) rows (drop-next r all rows row e))
 
 -- where rows of slots begin one
-pub rows-start : (s : Search) (rows : List SlotValue) → s.body.now ≡ pattern.slots rows → content_of s.content.now ≡ fact.slots s.slots.now → AreNext s 0 rows
+pub rows-start : (s : SearchValue) (rows : List SlotValue) → s.body ≡ pattern.slots rows → s.content ≡ fact.slots s.slots → AreNext s 0 rows
 rows-start s rows e d = record {
   row = 0;
   next = ap constraints_in e;
   next_sites = ap sites_in e;
-  fields_are = subst (λ p. AreOfSlots p (content_of s.content.now) s.slots.now 0 rows) (sym e) (subst (λ k. AreOfSlots (pattern.slots rows) k s.slots.now 0 rows) (sym d) (slots-stand rows s.slots.now 0 rows refl));
+  fields_are = subst (λ p. AreOfSlots p s.content s.slots 0 rows) (sym e) (subst (λ k. AreOfSlots (pattern.slots rows) k s.slots 0 rows) (sym d) (slots-stand rows s.slots 0 rows refl));
 }
 
 -- before the first constraint variables have what they had
-pub env-first : (s : Search) (cuts : List ℕ) → cuts ≡ [] → env_after s cuts ≡ s.before.now
-env-first s cuts e = ap (env_after s) e ∙ none (constraints_in s.body.now)
+pub env-first : (s : SearchValue) (cuts : List ℕ) → cuts ≡ [] → env_after s cuts ≡ s.before
+env-first s cuts e = ap (env_after s) e ∙ none (constraints_in s.body)
   where
-    none : (cs : List Constraint) → bindings_after cs [] s.before.now ≡ s.before.now
+    none : (cs : List Constraint) → bindings_after cs [] s.before ≡ s.before
     none [] = refl
     none (c ∷ cs) = refl

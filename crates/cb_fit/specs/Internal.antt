@@ -4,6 +4,7 @@ pub mod Integers
 pub mod Lengths
 pub mod Placed
 pub mod Reading
+pub mod Searches
 pub mod Standing
 use Rattle.std.specs.Prelude.{◌==◌, ◌&&◌, ◌||◌, ◌-◌, ℕ, Bool, true, false, List, [], ◌∷◌, ◌++◌, Option, Some, None, map, length, take, drop, nat_le, option_map, option_to_list, replicate, if◌then◌else◌}
 use Rattle.std.specs.List.{list_all}
@@ -23,7 +24,7 @@ use Rattle.cb_facts.specs.Values.{fields_in, value_of_field}
 use Rattle.cb_facts.specs.declared.single.Single.{Single}
 use Rattle.cb_facts.specs.declared.value.Value.{Value}
 use Rattle.cb_fit.specs.Ways.{Taken, after_cuts, after_segment, slot_at, ways_of_row}
-use Rattle.cb_fit.specs.declared.search.Search as program
+use Rattle.cb_fit.specs.Internal.Searches.{SearchValue}
 
 -- the beginning of a way in a row: the lengths of the segments so far, in all rows, the fields of the row that are left, and
 -- what variables have
@@ -33,15 +34,15 @@ pub record Begun : Type 0 where
   pub env : Bindings
 
 -- what variables have after segments of these lengths
-abbrev pub env_after : program.Search → List ℕ → Bindings
-env_after s cuts = bindings_after (constraints_in s.body.now) (values_taken s.body.now (content_of s.content.now) cuts) s.before.now
+abbrev pub env_after : SearchValue → List ℕ → Bindings
+env_after s cuts = bindings_after (constraints_in s.body) (values_taken s.body s.content cuts) s.before
 
 -- the one after segments of these lengths, so many fields into a row
-abbrev pub begun_at : program.Search → List Single → List ℕ → ℕ → Begun
+abbrev pub begun_at : SearchValue → List Single → List ℕ → ℕ → Begun
 begun_at s fields cuts at = record { cuts = cuts; left = drop at fields; env = env_after s cuts }
 
 -- the same between two rows
-abbrev pub taken_by : program.Search → List ℕ → Taken
+abbrev pub taken_by : SearchValue → List ℕ → Taken
 taken_by s cuts = record { cuts = cuts; env = env_after s cuts }
 
 -- it, if a test says so

@@ -6,11 +6,13 @@ ghost use Rattle.cb_constraints.specs.PartValues.{asked_slot};
 ghost use Rattle.cb_constraints.specs.Internal.RowFields.{row_fields};
 ghost use Rattle.cb_fit.specs.Internal.{begun_at, begun_if, endings};
 ghost use Rattle.cb_fit.specs.Internal.Choices.{IsChoice, IsIn, IsRest, KeepsFirst, choice_endings, cuts_before, group_from, most_tries, segments_in, tries};
+ghost use Rattle.cb_fit.specs.Internal.Searches.{SearchValue, search_of};
 ghost use Rattle.cb_fit.specs.Internal.Standing.{AreNext, IsAt};
 
 use crate::rest::{Rest, split_ones};
 use crate::search::Search;
 use cb_constraints::{Constraint, Fields, Segments, SlotRow, count_leading};
+use cb_exprs::Lookup;
 use cb_forms::NoMemory;
 
 /// A segment that may end at a place, or at each of those after it up to the last. What was taken before it stands in the
@@ -51,12 +53,12 @@ impl<'a> Choice<'a> {
         requires some { rest.constraints.now ≢ [] }
         requires rest { IsRest rest }
         requires within { rest.at ≤ length (row_fields fields) }
-        ensures ways { (s : Search) (before : List ℕ) → MatchOption result
+        ensures ways { (s : SearchValue) (before : List ℕ) → MatchOption result
             (endings (map constraint_of rest.entry.constraints.now)
             (begun_at s (row_fields fields.entry) before rest.entry.at) ≡ [])
             (λ c. choice_endings s before c ≡ endings (map constraint_of rest.entry.constraints.now)
             (begun_at s (row_fields fields.entry) before rest.entry.at)) }
-        ensures inside { (s : Search) (before : List ℕ) → number ≡ length before
+        ensures inside { (s : SearchValue) (before : List ℕ) → number ≡ length before
             → IsAt s (row_fields fields.entry) before rest.entry.at
             (map constraint_of rest.entry.constraints.now)
             → AreNext s (length before + length rest.entry.constraints.now)
@@ -93,13 +95,14 @@ impl<'a> Choice<'a> {
 
     /// The first place where the segment may end so that it and the constraints for one field that follow it hold; then their
     /// lengths stand after those before the segment.
-    pub(crate) fn take(
+    pub(crate) fn take<L: Lookup>(
         &self,
-        search: Search<'a>,
+        search: Search<'a, L>,
         cuts: &mut Segments,
     ) -> Result<Option<usize>, NoMemory>
         requires choice { IsChoice self.now }
-        requires inside { IsIn search (cuts_before self.now cuts.old) self.now }
+        requires inside { IsIn (search_of L.bindings search)
+            (cuts_before self.now cuts.old) self.now }
         ensures order { IfOk result (λ end. IfSome end (λ to. self.now.to ≤ to)) }
         ensures last { IfOk result (λ end. IfSome end (λ to. to ≤ self.now.last)) }
         ensures cuts { IfOk result (λ end. IfSome end (λ to. cuts.new
@@ -107,13 +110,16 @@ impl<'a> Choice<'a> {
             ++ ((to - self.now.at) ∷ replicate (length self.now.ones.now) 1))) }
         ensures keeps { OnOk result (KeepsFirst self.now.number cuts.old cuts.new) }
         ensures taken { IfOk result (λ end. MatchOption end
-            (group_from search.entry (cuts_before self.now cuts.old) self.now self.now.to
+            (group_from (search_of L.bindings search.entry)
+            (cuts_before self.now cuts.old) self.now self.now.to
             (self.now.last + 1 - self.now.to) ≡ [])
-            (λ to. group_from search.entry (cuts_before self.now cuts.old) self.now self.now.to
+            (λ to. group_from (search_of L.bindings search.entry)
+            (cuts_before self.now cuts.old) self.now self.now.to
             (self.now.last + 1 - self.now.to)
-            ≡ begun_at search.entry (row_fields self.now.fields) cuts.new
+            ≡ begun_at (search_of L.bindings search.entry) (row_fields self.now.fields) cuts.new
             (to + length self.now.ones.now)
-            ∷ group_from search.entry (cuts_before self.now cuts.old) self.now (to + 1)
+            ∷ group_from (search_of L.bindings search.entry)
+            (cuts_before self.now cuts.old) self.now (to + 1)
             (self.now.last - to))) }
     {
         for to in self.to..=self.last {
@@ -127,21 +133,23 @@ impl<'a> Choice<'a> {
 
     /// Whether the segment may end at a place so that it and the constraints for one field that follow it hold; then their
     /// lengths come after these.
-    fn take_up_to(
+    fn take_up_to<L: Lookup>(
         &self,
-        search: Search<'a>,
+        search: Search<'a, L>,
         to: usize,
         cuts: &mut Segments,
     ) -> Result<bool, NoMemory>
         requires choice { IsChoice self.now }
-        requires inside { IsIn search cuts.old self.now }
+        requires inside { IsIn (search_of L.bindings search) cuts.old self.now }
         requires order { self.now.to ≤ to }
         requires last { to ≤ self.now.last }
         ensures cuts { IfOk result (λ holds. holds ≡ true → cuts.new
             ≡ cuts.old ++ ((to - self.now.at) ∷ replicate (length self.now.ones.now) 1)) }
         ensures keeps { OnOk result (KeepsFirst (length cuts.old) cuts.old cuts.new) }
-        ensures taken { IfOk result (λ holds. group_from search.entry cuts.old self.now to 1
-            ≡ begun_if holds (begun_at search.entry (row_fields self.now.fields) cuts.new
+        ensures taken { IfOk result (λ holds. group_from
+            (search_of L.bindings search.entry) cuts.old self.now to 1
+            ≡ begun_if holds (begun_at (search_of L.bindings search.entry)
+            (row_fields self.now.fields) cuts.new
             (to + length self.now.ones.now))) }
     {
         search.take_group(self.fields, self.constraint, self.ones, self.at, to, cuts)

@@ -7,6 +7,7 @@ ghost use Rattle.cb_facts.specs.Facts as fact;
 ghost use Rattle.cb_fit.specs.Internal.Choices.{AreEnough, as_ways};
 ghost use Rattle.cb_fit.specs.Meters.{one_test_more};
 ghost use Rattle.cb_fit.specs.Shapes.{has_way};
+ghost use Rattle.cb_fit.specs.Internal.Searches.{search_of};
 ghost use Rattle.cb_fit.specs.WayValues.{way_of};
 ghost use Rattle.cb_fit.specs.Ways.{way_with, ways, ways_of_parts, ways_of_row, ways_of_slots};
 
@@ -18,7 +19,7 @@ use crate::search::Search;
 use crate::slots::may_take_slots;
 use crate::way::Way;
 use cb_constraints::{Body, Fields, PatternParts, Row, Segments, SlotRow};
-use cb_exprs::Env;
+use cb_exprs::Lookup;
 use cb_facts::{Content, Fact, Multifield};
 use cb_forms::NoMemory;
 use cb_functions::Constants;
@@ -36,30 +37,32 @@ use std::alloc::Global;
 /// template is to be of that one.
 ///
 /// Growth is refused as `NoMemory`, and so is a count of sharers that is full; the meter has gone up then too.
-pub fn fit<T>(
+pub fn fit<T, L: Lookup>(
     alloc: Global,
     constants: &Constants,
     pattern: &Pattern<T>,
     fact: &Fact,
-    env: &Env,
+    env: &L,
     meter: &mut Meter<T>,
 ) -> Result<SmallVec<Way, 1>, NoMemory>
-    ensures ways { IfOk result (λ all. map way_of all.items ≡ ways pattern.now fact.now env.now) }
+    ensures ways { IfOk result (λ all. map way_of all.items
+        ≡ ways pattern.now fact.now (L.bindings env.now)) }
     ensures counted { meter.new ≡ one_test_more meter.old }
 {
     find_ways(alloc, constants, pattern, fact, env, false, meter)
 }
 
 /// Whether a pattern fits a fact in any way. It tests the pattern as `fit` does, but ends at the first way.
-pub fn fits<T>(
+pub fn fits<T, L: Lookup>(
     alloc: Global,
     constants: &Constants,
     pattern: &Pattern<T>,
     fact: &Fact,
-    env: &Env,
+    env: &L,
     meter: &mut Meter<T>,
 ) -> Result<bool, NoMemory>
-    ensures fits { IfOk result (λ fits. fits ≡ has_way (ways pattern.now fact.now env.now)) }
+    ensures fits { IfOk result (λ fits. fits ≡ has_way (ways pattern.now fact.now
+        (L.bindings env.now))) }
     ensures counted { meter.new ≡ one_test_more meter.old }
 {
     let found = find_ways(alloc, constants, pattern, fact, env, true, meter)?;
@@ -68,17 +71,17 @@ pub fn fits<T>(
 
 /// All ways, or where one is enough the first ones: some, if there are any.
 #[tactic(auto, using(crate::proofs::Looked::lengths_never_fit, crate::proofs::Enough::all_are_enough))]
-fn find_ways<T>(
+fn find_ways<T, L: Lookup>(
     alloc: Global,
     constants: &Constants,
     pattern: &Pattern<T>,
     fact: &Fact,
-    env: &Env,
+    env: &L,
     is_one_enough: bool,
     meter: &mut Meter<T>,
 ) -> Result<SmallVec<Way, 1>, NoMemory>
     ensures ways { IfOk result (λ found. AreEnough is_one_enough (map way_of found.items)
-        (ways pattern.now fact.now env.now)) }
+        (ways pattern.now fact.now (L.bindings env.now))) }
     ensures counted { meter.new ≡ one_test_more meter.old }
 {
     let body = pattern.open(meter);
@@ -93,17 +96,17 @@ fn find_ways<T>(
 
 /// The ways to take what a pattern asks of the content of a fact, so many as are enough.
 #[tactic(auto, using(crate::proofs::Enough::all_are_enough))]
-fn search_body(
+fn search_body<L: Lookup>(
     alloc: Global,
     constants: &Constants,
     body: &Body,
     content: &Content,
-    env: &Env,
+    env: &L,
     is_one_enough: bool,
 ) -> Result<SmallVec<Way, 1>, NoMemory>
     ensures { IfOk result (λ found. AreEnough is_one_enough (map way_of found.items)
-        (map (way_with body.now env.now)
-        (ways_of_parts body.now (content_of content.now) env.now))) }
+        (map (way_with body.now (L.bindings env.now))
+        (ways_of_parts body.now (content_of content.now) (L.bindings env.now)))) }
 {
     match (body.parts(), content) {
         (PatternParts::Fields(row), Content::Fields(fields)) => {
@@ -134,8 +137,8 @@ fn search_body(
 
 /// The same of the fields of an ordered fact.
 #[tactic(auto, using(crate::proofs::Looked::never_taken))]
-fn search_fields<'a>(
-    search: Search<'a>,
+fn search_fields<'a, L: Lookup>(
+    search: Search<'a, L>,
     row: &'a Row,
     fields: &'a Multifield,
     is_one_enough: bool,
@@ -143,7 +146,8 @@ fn search_fields<'a>(
     requires row { search.body.now ≡ fields_parts row.now }
     requires content { content_of search.content.now ≡ fact.fields fields.now }
     ensures { IfOk result (λ found. AreEnough is_one_enough (map way_of found.items)
-        (as_ways search.entry (ways_of_row row.now fields.now search.entry.before.now))) }
+        (as_ways (search_of L.bindings search.entry) (ways_of_row row.now fields.now
+        (L.bindings search.entry.before.now)))) }
 {
     let mut all = SmallVec::new(search.alloc);
     if !may_take_row(Fields::All(fields), row) {
@@ -157,16 +161,16 @@ fn search_fields<'a>(
 
 /// The same of the slots of a template's fact.
 #[tactic(auto, using(crate::proofs::Looked::slots_never_taken))]
-fn search_slots<'a>(
-    search: Search<'a>,
+fn search_slots<'a, L: Lookup>(
+    search: Search<'a, L>,
     rows: &'a [SlotRow],
     is_one_enough: bool,
 ) -> Result<SmallVec<Way, 1>, NoMemory>
     requires rows { search.body.now ≡ slots_parts (map asked_slot rows.now) }
     requires content { content_of search.content.now ≡ fact.slots search.slots.now }
     ensures { IfOk result (λ found. AreEnough is_one_enough (map way_of found.items)
-        (as_ways search.entry (ways_of_slots (map asked_slot rows.now)
-        search.entry.slots.now search.entry.before.now))) }
+        (as_ways (search_of L.bindings search.entry) (ways_of_slots (map asked_slot rows.now)
+        search.entry.slots.now (L.bindings search.entry.before.now)))) }
 {
     let mut all = SmallVec::new(search.alloc);
     if !may_take_slots(rows, search.slots) {

@@ -137,6 +137,11 @@ pub fn patterns_of_one_shape_are_equal_without_variables()
     ensures { (p q : PatternValue) → shape_of p ≡ shape_of q → loose p ≡ loose q }
 {}
 
+/// A pattern without its variables and expressions has the shape that it had with them.
+pub fn the_shape_of_a_loose_pattern_is_its_shape()
+    ensures { (p : PatternValue) → shape_of (loose p) ≡ shape_of p }
+{}
+
 /// A pattern that is decided by values fits a fact just where the fact has its shape, each field with a variable has the variable's
 /// value, if that has one, each field that is compared with a variable is compared so with the variable's value, and each field with
 /// variables as alternatives has the value of one, or one has none. There is one way then: each constraint takes one field, and the

@@ -1,9 +1,9 @@
 //! The choices that are open.
 ghost use Rattle.std.specs.Prelude.{◌≡◌, ◌++◌, ◌+◌, ◌≤◌, ℕ, List, IfSome, OnOk};
 ghost use Rattle.cb_fit.specs.Internal.Choices.{AreOpen, AreUpTo, IsChoice, IsOpen, cuts_before, constraint_number, tries_after, tries_if, tries_left, ways_after, ways_if, ways_left};
+ghost use Rattle.cb_fit.specs.Internal.Searches.{SearchValue};
 
 use crate::choice::Choice;
-use crate::search::Search;
 use cb_forms::NoMemory;
 use smallvec::SmallVec;
 
@@ -21,12 +21,12 @@ pub(crate) fn open_others<'a>(
     requires open { IsChoice choice }
     requires order { choice.to ≤ to }
     requires last { to ≤ choice.last }
-    ensures open { OnOk result ((s : Search) (cuts : List ℕ) → IsOpen s cuts choice.entry
+    ensures open { OnOk result ((s : SearchValue) (cuts : List ℕ) → IsOpen s cuts choice.entry
         → AreUpTo choice.entry.number choices.old.items
         → AreOpen s cuts choices.old.items → AreOpen s cuts choices.new.items) }
     ensures order { OnOk result (AreUpTo choice.entry.number choices.old.items
         → AreUpTo choice.entry.number choices.new.items) }
-    ensures ways { OnOk result ((s : Search) (cuts : List ℕ)
+    ensures ways { OnOk result ((s : SearchValue) (cuts : List ℕ)
         → ways_left s cuts choices.new.items
         ≡ ways_after s (cuts_before choice.entry cuts) choice.entry to
         ++ ways_left s cuts choices.old.items) }
@@ -47,10 +47,11 @@ pub(crate) fn open_next<'a>(
     next: Option<Choice<'a>>,
     choices: &mut OpenChoices<'a>,
 ) -> Result<(), NoMemory>
-    ensures open { OnOk result ((s : Search) (cuts : List ℕ) → IfSome next.entry (IsOpen s cuts)
+    ensures open { OnOk result ((s : SearchValue) (cuts : List ℕ)
+        → IfSome next.entry (IsOpen s cuts)
         → IfSome next.entry (λ c. AreUpTo c.number choices.old.items)
         → AreOpen s cuts choices.old.items → AreOpen s cuts choices.new.items) }
-    ensures ways { OnOk result ((s : Search) (cuts : List ℕ)
+    ensures ways { OnOk result ((s : SearchValue) (cuts : List ℕ)
         → ways_left s cuts choices.new.items
         ≡ ways_if s cuts next.entry ++ ways_left s cuts choices.old.items) }
     ensures tries { OnOk result (tries_left choices.new.items

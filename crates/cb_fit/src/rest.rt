@@ -5,11 +5,13 @@ ghost use Rattle.cb_constraints.specs.Rows.{before_segments, segments_wanted};
 ghost use Rattle.cb_constraints.specs.Internal.RowFields.{row_fields};
 ghost use Rattle.cb_fit.specs.Internal.{begun_at, endings, env_after, may_take_row};
 ghost use Rattle.cb_fit.specs.Internal.Choices.{IsRest, KeepsFirst};
+ghost use Rattle.cb_fit.specs.Internal.Searches.{search_of};
 ghost use Rattle.cb_fit.specs.Internal.Standing.{IsAt};
 ghost use Rattle.cb_fit.specs.Ways.{after_cuts, ways_of_row};
 
 use crate::search::Search;
 use cb_constraints::{Constraint, Fields, Row, Segments};
+use cb_exprs::Lookup;
 use cb_forms::NoMemory;
 
 /// The constraints of a row from one for a segment on, or none.
@@ -22,7 +24,7 @@ pub(crate) struct Rest<'a> {
     pub(crate) at: usize,
 }
 
-impl Search<'_> {
+impl<L: Lookup> Search<'_, L> {
     /// Begins a row, which may take the fields: its constraints before the first segment take one field each, if they hold.
     /// Returns the others.
     pub(crate) fn begin_row<'r>(
@@ -32,15 +34,18 @@ impl Search<'_> {
         cuts: &mut Segments,
     ) -> Result<Option<Rest<'r>>, NoMemory>
         requires may { may_take_row row.now (row_fields fields) ≡ true }
-        requires place { IsAt self (row_fields fields) cuts.old 0 row.now }
+        requires place { IsAt (search_of L.bindings self) (row_fields fields) cuts.old 0 row.now }
         ensures ways { IfOk result (λ rest. MatchOption rest
-            (ways_of_row row.now (row_fields fields.entry) (env_after self.entry cuts.old) ≡ [])
+            (ways_of_row row.now (row_fields fields.entry) (env_after
+            (search_of L.bindings self.entry) cuts.old) ≡ [])
             (λ r. map (after_cuts cuts.old)
-            (ways_of_row row.now (row_fields fields.entry) (env_after self.entry cuts.old))
+            (ways_of_row row.now (row_fields fields.entry) (env_after
+            (search_of L.bindings self.entry) cuts.old))
             ≡ endings (map constraint_of r.constraints.now)
-            (begun_at self.entry (row_fields fields.entry) cuts.new r.at))) }
+            (begun_at (search_of L.bindings self.entry) (row_fields fields.entry) cuts.new r.at))) }
         ensures keeps { OnOk result (KeepsFirst (length cuts.old) cuts.old cuts.new) }
-        ensures place { IfOk result (λ rest. IfSome rest (λ r. IsAt self.entry
+        ensures place { IfOk result (λ rest. IfSome rest (λ r. IsAt
+            (search_of L.bindings self.entry)
             (row_fields fields.entry) cuts.new r.at (map constraint_of r.constraints.now))) }
         ensures count { IfOk result (λ rest. IfSome rest (λ r.
             length cuts.new + length r.constraints.now ≡ length cuts.old + length row.now)) }

@@ -2,6 +2,7 @@
 //! one for each segment. It takes up the choice that was opened last, so that shorter segments come first.
 ghost use Rattle.std.specs.Prelude.{◌≡◌, ◌++◌, ◌+◌, ◌<◌, List, true, IfSome, IsSomeAnd, OnOk, map};
 ghost use Rattle.cb_fit.specs.Internal.Choices.{AreEnough, AreOpen, AreUpTo, IsOpen, KeepsFirst, as_ways, kept_with, constraint_number, tries_if, tries_left, ways_if, ways_left};
+ghost use Rattle.cb_fit.specs.Internal.Searches.{search_of};
 ghost use Rattle.cb_fit.specs.WayValues.{way_of};
 
 use crate::choice::Choice;
@@ -9,7 +10,7 @@ use crate::open_choices::{OpenChoices, open_next, open_others};
 use crate::rest::Rest;
 use crate::way::Way;
 use cb_constraints::{Body, Segments};
-use cb_exprs::Env;
+use cb_exprs::Lookup;
 use cb_facts::{Content, Name, Value};
 use cb_forms::NoMemory;
 use cb_functions::Constants;
@@ -17,8 +18,8 @@ use smallvec::SmallVec;
 use std::alloc::Global;
 
 /// What a search looks with.
-#[derive(Clone, Copy)]
-pub(crate) struct Search<'a> {
+#[derive_where(Clone, Copy)]
+pub(crate) struct Search<'a, L> {
     pub(crate) alloc: Global,
     pub(crate) constants: &'a Constants,
     /// What the pattern asks.
@@ -28,10 +29,10 @@ pub(crate) struct Search<'a> {
     /// The slots of the fact, if it is one of a template.
     pub(crate) slots: &'a [(Name, Value)],
     /// What variables have before.
-    pub(crate) before: &'a Env,
+    pub(crate) before: &'a L,
 }
 
-impl<'a> Search<'a> {
+impl<'a, L: Lookup> Search<'a, L> {
     /// Keeps the ways that a choice becomes, if there is one: all, or where one is enough the first ones.
     #[tactic(auto, using(crate::proofs::Enough::all_are_enough))]
     pub(crate) fn run(
@@ -41,9 +42,9 @@ impl<'a> Search<'a> {
         cuts: &mut Segments,
         kept: &mut SmallVec<Way, 1>,
     ) -> Result<(), NoMemory>
-        requires { IfSome first (IsOpen self cuts.old) }
+        requires { IfSome first (IsOpen (search_of L.bindings self) cuts.old) }
         ensures { OnOk result (AreEnough is_one_enough (map way_of kept.new.items)
-            (kept_with self.entry cuts.old kept.old.items first.entry)) }
+            (kept_with (search_of L.bindings self.entry) cuts.old kept.old.items first.entry)) }
     {
         match first {
             Some(choice) => self.run_from(choice, is_one_enough, cuts, kept),
@@ -59,9 +60,10 @@ impl<'a> Search<'a> {
         cuts: &mut Segments,
         kept: &mut SmallVec<Way, 1>,
     ) -> Result<(), NoMemory>
-        requires { IsOpen self cuts.old first }
+        requires { IsOpen (search_of L.bindings self) cuts.old first }
         ensures { OnOk result (AreEnough is_one_enough (map way_of kept.new.items)
-            (kept_with self.entry cuts.old kept.old.items (Some first.entry))) }
+            (kept_with (search_of L.bindings self.entry) cuts.old kept.old.items
+            (Some first.entry))) }
     {
         let mut choices = OpenChoices::new(self.alloc);
         choices.push(Some(first))?;
@@ -82,15 +84,18 @@ impl<'a> Search<'a> {
         cuts: &mut Segments,
         kept: &mut SmallVec<Way, 1>,
     ) -> Result<(), NoMemory>
-        requires choice { IsSomeAnd next (IsOpen self cuts.old) }
-        requires open { AreOpen self cuts.old choices.old.items }
+        requires choice { IsSomeAnd next (IsOpen (search_of L.bindings self) cuts.old) }
+        requires open { AreOpen (search_of L.bindings self) cuts.old choices.old.items }
         requires order { AreUpTo (constraint_number next) choices.old.items }
-        ensures open { OnOk result (AreOpen self.entry cuts.new choices.new.items) }
+        ensures open { OnOk result (AreOpen
+            (search_of L.bindings self.entry) cuts.new choices.new.items) }
         ensures ways { OnOk result (map way_of kept.new.items
-            ++ as_ways self.entry (ways_left self.entry cuts.new choices.new.items)
+            ++ as_ways (search_of L.bindings self.entry) (ways_left
+            (search_of L.bindings self.entry) cuts.new choices.new.items)
             ≡ map way_of kept.old.items
-            ++ as_ways self.entry (ways_if self.entry cuts.old next.entry
-            ++ ways_left self.entry cuts.old choices.old.items)) }
+            ++ as_ways (search_of L.bindings self.entry) (ways_if
+            (search_of L.bindings self.entry) cuts.old next.entry
+            ++ ways_left (search_of L.bindings self.entry) cuts.old choices.old.items)) }
         ensures tries { OnOk result (tries_left choices.new.items
             < tries_if next.entry + tries_left choices.old.items) }
     {

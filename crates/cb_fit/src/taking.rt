@@ -6,6 +6,7 @@ ghost use Rattle.cb_constraints.specs.Rows.{segments_wanted};
 ghost use Rattle.cb_constraints.specs.Internal.RowFields.{row_fields};
 ghost use Rattle.cb_fit.specs.Internal.{after_ones, begun_at, begun_if, env_after, may_take, with_group};
 ghost use Rattle.cb_fit.specs.Internal.Choices.{KeepsFirst};
+ghost use Rattle.cb_fit.specs.Internal.Searches.{search_of};
 ghost use Rattle.cb_fit.specs.Internal.Standing.{IsAt, ComesNext, TestsNext};
 ghost use Rattle.cb_fit.specs.Ways.{after_segment};
 
@@ -14,9 +15,10 @@ use crate::search::Search;
 use cb_constraints::{
     Constraint, Demand, Fields, Known, Segments, Taken, Tested, meets, meets_beyond_constants,
 };
+use cb_exprs::Lookup;
 use cb_forms::NoMemory;
 
-impl<'a> Search<'a> {
+impl<'a, L: Lookup> Search<'a, L> {
     /// Constraints for one field, which may take one each (`may_take`), do so from a place on, if they hold. Their lengths come
     /// after the others.
     pub(crate) fn take_ones(
@@ -30,16 +32,17 @@ impl<'a> Search<'a> {
         requires may { may_take (map constraint_of constraints.now) (drop from (row_fields fields))
             ≡ true }
         requires ones { segments_wanted (map constraint_of constraints.now) ≡ 0 }
-        requires place { IsAt self (row_fields fields) cuts.old from
+        requires place { IsAt (search_of L.bindings self) (row_fields fields) cuts.old from
             (map constraint_of constraints.now) }
         ensures cuts { IfOk result (λ holds. holds ≡ true
             → cuts.new ≡ cuts.old ++ replicate (length constraints.now) 1) }
         ensures within { IfOk result (λ holds. holds ≡ true
             → from + length constraints.now ≤ length (row_fields fields.entry)) }
         ensures keeps { OnOk result (KeepsFirst (length cuts.old) cuts.old cuts.new) }
-        ensures holds { IfOk result (λ holds. Meets holds (env_after self.entry cuts.new)
+        ensures holds { IfOk result (λ holds. Meets holds (env_after
+            (search_of L.bindings self.entry) cuts.new)
             (after_ones (map constraint_of constraints.now) (drop from (row_fields fields.entry))
-            (env_after self.entry cuts.old))) }
+            (env_after (search_of L.bindings self.entry) cuts.old))) }
     {
         let mut at = from;
         for constraint in constraints {
@@ -62,9 +65,11 @@ impl<'a> Search<'a> {
         tested: Tested<'_>,
         cuts: &Segments,
     ) -> Result<bool, NoMemory>
-        requires next { ComesNext self cuts.now (constraint_of constraint.now) }
+        requires next { ComesNext (search_of L.bindings self) cuts.now
+            (constraint_of constraint.now) }
         requires may { may_hold (demand_of constraint.now.demand) (tested_value tested) ≡ true }
-        ensures { IfOk result (TestsNext self.entry cuts.now (demand_of constraint.now.demand)
+        ensures { IfOk result (TestsNext (search_of L.bindings self.entry) cuts.now
+            (demand_of constraint.now.demand)
             (tested_value tested.entry)) }
     {
         let took = self.taken(cuts);
@@ -90,16 +95,16 @@ impl<'a> Search<'a> {
         requires segment { (constraint_of constraint.now).segment ≡ true }
         requires order { from ≤ to }
         requires within { to ≤ length (row_fields fields) }
-        requires place { IsAt self (row_fields fields) cuts.old from
+        requires place { IsAt (search_of L.bindings self) (row_fields fields) cuts.old from
             (constraint_of constraint.now ∷ []) }
         ensures cuts { IfOk result (λ holds. holds ≡ true
             → cuts.new ≡ cuts.old ++ (to - from) ∷ []) }
         ensures none { IfOk result (λ holds. holds ≡ false → cuts.new ≡ cuts.old) }
         ensures holds { IfOk result (λ holds. Meets holds
-            (env_after self.entry (cuts.old ++ (to - from) ∷ []))
+            (env_after (search_of L.bindings self.entry) (cuts.old ++ (to - from) ∷ []))
             (after_segment (constraint_of constraint.now)
             (slice_range (row_fields fields.entry) from to)
-            (env_after self.entry cuts.old))) }
+            (env_after (search_of L.bindings self.entry) cuts.old))) }
     {
         if !self.holds_of_part(fields, constraint, from, to, cuts)? {
             return Ok(false);
@@ -120,13 +125,13 @@ impl<'a> Search<'a> {
         requires segment { (constraint_of constraint.now).segment ≡ true }
         requires order { from ≤ to }
         requires within { to ≤ length (row_fields fields) }
-        requires place { IsAt self (row_fields fields) cuts.now from
+        requires place { IsAt (search_of L.bindings self) (row_fields fields) cuts.now from
             (constraint_of constraint.now ∷ []) }
         ensures { IfOk result (λ holds. Meets holds
-            (env_after self.entry (cuts.now ++ (to - from) ∷ []))
+            (env_after (search_of L.bindings self.entry) (cuts.now ++ (to - from) ∷ []))
             (after_segment (constraint_of constraint.now)
             (slice_range (row_fields fields.entry) from to)
-            (env_after self.entry cuts.now))) }
+            (env_after (search_of L.bindings self.entry) cuts.now))) }
     {
         if let Demand::Nothing = &constraint.demand {
             return Ok(true);
@@ -159,15 +164,17 @@ impl<'a> Search<'a> {
         requires ones { segments_wanted (map constraint_of ones.now) ≡ 0 }
         requires order { from ≤ to }
         requires within { to ≤ length (row_fields fields) }
-        requires place { IsAt self (row_fields fields) cuts.old from
+        requires place { IsAt (search_of L.bindings self) (row_fields fields) cuts.old from
             (constraint_of constraint.now ∷ map constraint_of ones.now) }
         ensures cuts { IfOk result (λ holds. holds ≡ true
             → cuts.new ≡ cuts.old ++ ((to - from) ∷ replicate (length ones.now) 1)) }
         ensures keeps { OnOk result (KeepsFirst (length cuts.old) cuts.old cuts.new) }
         ensures taken { IfOk result (λ holds. with_group (constraint_of constraint.now)
             (map constraint_of ones.now)
-            (begun_at self.entry (row_fields fields.entry) cuts.old from) (to - from)
-            ≡ begun_if holds (begun_at self.entry (row_fields fields.entry) cuts.new
+            (begun_at (search_of L.bindings self.entry) (row_fields fields.entry) cuts.old from)
+            (to - from)
+            ≡ begun_if holds (begun_at (search_of L.bindings self.entry)
+            (row_fields fields.entry) cuts.new
             (to + length ones.now))) }
     {
         if !may_take(fields, ones, to) {
@@ -196,7 +203,7 @@ impl<'a> Search<'a> {
     }
 
     /// What variables have where the constraint that comes next is tested for a value.
-    fn known<'k>(self, took: &'k Taken<'k>, tested: Tested<'k>) -> Known<'k>
+    fn known<'k>(self, took: &'k Taken<'k>, tested: Tested<'k>) -> Known<'k, L>
     where
         'a: 'k,
         ensures before { result.before.now ≡ self.entry.before.now }

@@ -44,6 +44,6 @@ abbrev pub taken_if : List Value → Value → ℕ → Option Place → Option V
 taken_if vs v i None = None
 taken_if vs v i (Some p) = taken_at vs v i p.constraint p.check
 
--- what variables have before a check of the constraint that comes next
-abbrev pub before_check : Known → ℕ → Bindings
-before_check k i = bindings_before (constraints_in k.body.now) (values k.took.now) (tested_value k.tested) k.before.now i
+-- what variables have before a check of the constraint that comes next, where a look-up has these bindings
+abbrev pub before_check : {L : Type 0} → (L → Bindings) → Known L → ℕ → Bindings
+before_check bindings k i = bindings_before (constraints_in k.body.now) (values k.took.now) (tested_value k.tested) (bindings k.before.now) i

@@ -7,13 +7,13 @@ use Rattle.cb_constraints.specs.Rows.{before_segments, fields_wanted, segments_w
 use Rattle.cb_constraints.specs.Internal.RowFields.{row_fields}
 use Rattle.cb_facts.specs.declared.value.Value.{Value}
 use Rattle.cb_fit.specs.Internal.{Begun, begun_at, endings, may_take_slots, with_group}
+use Rattle.cb_fit.specs.Internal.Searches.{SearchValue}
 use Rattle.cb_fit.specs.Internal.Standing.{AreNext, IsAt}
 use Rattle.cb_fit.specs.Shapes.{has_way}
 use Rattle.cb_fit.specs.WayValues.{way_of}
 use Rattle.cb_fit.specs.Ways.{Taken, WayValue, each_followed_by, numbers, way_with, ways_of_slots}
 use Rattle.cb_fit.specs.declared.choice.Choice as program
 use Rattle.cb_fit.specs.declared.rest.Rest as program_rest
-use Rattle.cb_fit.specs.declared.search.Search as program_search
 use Rattle.cb_fit.specs.declared.way.Way as program_way
 
 -- what is left of a row begins with a constraint for a segment, and wants so many fields
@@ -21,8 +21,8 @@ abbrev pub IsRest : program_rest.Rest → Type 0
 IsRest r = (before_segments (map constraint_of r.constraints.now) ≡ 0) × (r.wanted ≡ fields_wanted (map constraint_of r.constraints.now))
 
 -- the ways that took these
-abbrev pub as_ways : program_search.Search → List Taken → List WayValue
-as_ways s ts = map (way_with s.body.now s.before.now) ts
+abbrev pub as_ways : SearchValue → List Taken → List WayValue
+as_ways s ts = map (way_with s.body s.before) ts
 
 -- what the rows of slots make of these
 abbrev pub followed_by_rows : List SlotValue → List (List ℕ × Value) → List Taken → List Taken
@@ -37,25 +37,25 @@ abbrev pub constraints_from : program.Choice → List Constraint
 constraints_from c = constraint_of c.constraint.now ∷ (map constraint_of c.ones.now ++ map constraint_of c.rest.now)
 
 -- the beginnings with a segment that ends at a place, or at one of so many after it, where those lengths came before
-abbrev pub group_from : program_search.Search → List ℕ → program.Choice → ℕ → ℕ → List Begun
+abbrev pub group_from : SearchValue → List ℕ → program.Choice → ℕ → ℕ → List Begun
 group_from s before c to count =
     flat_map (with_group (constraint_of c.constraint.now) (map constraint_of c.ones.now) (begun_at s (row_fields c.fields) before c.at)) (numbers (to - c.at) count)
 
 -- all that they become in the row
-abbrev pub choice_endings : program_search.Search → List ℕ → program.Choice → List Taken
+abbrev pub choice_endings : SearchValue → List ℕ → program.Choice → List Taken
 choice_endings s before c = flat_map (endings (map constraint_of c.rest.now)) (group_from s before c c.to (c.last + 1 - c.to))
 
 -- and with the rows of slots that follow
-abbrev pub choice_ways : program_search.Search → List ℕ → program.Choice → List Taken
-choice_ways s before c = followed_by_rows (map asked_slot c.rows.now) s.slots.now (choice_endings s before c)
+abbrev pub choice_ways : SearchValue → List ℕ → program.Choice → List Taken
+choice_ways s before c = followed_by_rows (map asked_slot c.rows.now) s.slots (choice_endings s before c)
 
 -- the same, if there is a choice, where a search keeps these lengths
-abbrev pub ways_if : program_search.Search → List ℕ → Option program.Choice → List Taken
+abbrev pub ways_if : SearchValue → List ℕ → Option program.Choice → List Taken
 ways_if s cuts None = []
 ways_if s cuts (Some c) = choice_ways s (cuts_before c cuts) c
 
 -- the ways that are kept, and those that a choice becomes, if there is one
-abbrev pub kept_with : program_search.Search → List ℕ → List program_way.Way → Option program.Choice → List WayValue
+abbrev pub kept_with : SearchValue → List ℕ → List program_way.Way → Option program.Choice → List WayValue
 kept_with s cuts kept next = map way_of kept ++ as_ways s (ways_if s cuts next)
 
 -- the ways that are found are all, or where one is enough some if there are any
@@ -64,11 +64,11 @@ AreEnough false found all = found ≡ all
 AreEnough true found all = has_way found ≡ has_way all
 
 -- all that becomes of a choice where its segment ends after a place
-abbrev pub ways_after : program_search.Search → List ℕ → program.Choice → ℕ → List Taken
-ways_after s before c to = followed_by_rows (map asked_slot c.rows.now) s.slots.now (flat_map (endings (map constraint_of c.rest.now)) (group_from s before c (to + 1) (c.last - to)))
+abbrev pub ways_after : SearchValue → List ℕ → program.Choice → ℕ → List Taken
+ways_after s before c to = followed_by_rows (map asked_slot c.rows.now) s.slots (flat_map (endings (map constraint_of c.rest.now)) (group_from s before c (to + 1) (c.last - to)))
 
 -- all that choices become, of which the last is taken up first
-abbrev pub ways_left : program_search.Search → List ℕ → List (Option program.Choice) → List Taken
+abbrev pub ways_left : SearchValue → List ℕ → List (Option program.Choice) → List Taken
 ways_left s cuts [] = []
 ways_left s cuts (c ∷ cs) = ways_left s cuts cs ++ ways_if s cuts c
 
@@ -87,16 +87,16 @@ pub record IsChoice (c : program.Choice) : Type 0 where
   pub ended : c.rest.now ≡ [] → c.last + length c.ones.now ≡ length (row_fields c.fields)
 
 -- its constraint is the one that comes after those lengths, and its rows come after the row
-pub record IsIn (s : program_search.Search) (before : List ℕ) (c : program.Choice) : Type 0 where
+pub record IsIn (s : SearchValue) (before : List ℕ) (c : program.Choice) : Type 0 where
   pub number : c.number ≡ length before
   pub place : IsAt s (row_fields c.fields) before c.at (constraints_from c)
   pub next : AreNext s (length before + length (constraints_from c)) (map asked_slot c.rows.now)
 
 -- and the rows that follow it may take the fields of their slots
-pub record IsOpen (s : program_search.Search) (cuts : List ℕ) (c : program.Choice) : Type 0 where
+pub record IsOpen (s : SearchValue) (cuts : List ℕ) (c : program.Choice) : Type 0 where
   pub choice : IsChoice c
   pub inside : IsIn s (cuts_before c cuts) c
-  pub rows : may_take_slots (map asked_slot c.rows.now) s.slots.now ≡ true
+  pub rows : may_take_slots (map asked_slot c.rows.now) s.slots ≡ true
 
 -- the number of the constraint of a choice, if there is one
 abbrev pub constraint_number : Option program.Choice → ℕ
@@ -114,7 +114,7 @@ AreUpTo n [] = Unit {0}
 AreUpTo n (c ∷ cs) = (constraint_number c ≤ n) × AreUpTo n cs
 
 -- each of them is so, and those that were opened later stand no earlier in the pattern
-abbrev pub AreOpen : program_search.Search → List ℕ → List (Option program.Choice) → Type 0
+abbrev pub AreOpen : SearchValue → List ℕ → List (Option program.Choice) → Type 0
 AreOpen s cuts [] = Unit {0}
 AreOpen s cuts (c ∷ cs) = IsSomeAnd c (IsOpen s cuts) × AreFrom (constraint_number c) cs × AreOpen s cuts cs
 

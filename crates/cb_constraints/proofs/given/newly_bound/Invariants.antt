@@ -6,6 +6,6 @@ use Rattle.cb_constraints.specs.Internal.Values.{values}
 use Rattle.cb_constraints.proofs.given.newly_bound.Given as goal
 
 abbrev pub invariant-loop-name : goal.invariant-loop-name
-invariant-loop-name l =
-    l.bound.items ++ flat_map (given l.before (bindings_after (constraints_in l.body) (values l.took) l.before)) (map (λ e. e.0) (drop l.name-index l.variables))
-    ≡ newly_bound l.body l.before (bindings_after (constraints_in l.body) (values l.took) l.before)
+invariant-loop-name g l =
+    l.bound.items ++ flat_map (given (g.L.Lookup.bindings l.before) (bindings_after (constraints_in l.body) (values l.took) (g.L.Lookup.bindings l.before))) (map (λ e. e.0) (drop l.name-index l.variables))
+    ≡ newly_bound l.body (g.L.Lookup.bindings l.before) (bindings_after (constraints_in l.body) (values l.took) (g.L.Lookup.bindings l.before))

@@ -6,6 +6,6 @@ use Rattle.cb_constraints.specs.Internal.Known.{before_check}
 use Rattle.cb_constraints.proofs.holding.all_hold.Given as goal
 
 abbrev pub invariant-loop-check : goal.invariant-loop-check
-invariant-loop-check l =
-    list_all (check_holds (tested_value l.tested) (before_check l.known l.at)) (map check_of (drop l.check-index l.checks))
-    ≡ list_all (check_holds (tested_value l.tested) (before_check l.known l.at)) (map check_of l.checks)
+invariant-loop-check g l =
+    list_all (check_holds (tested_value l.tested) (before_check g.L.Lookup.bindings l.known l.at)) (map check_of (drop l.check-index l.checks))
+    ≡ list_all (check_holds (tested_value l.tested) (before_check g.L.Lookup.bindings l.known l.at)) (map check_of l.checks)

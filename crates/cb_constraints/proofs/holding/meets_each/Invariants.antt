@@ -5,9 +5,9 @@ use Rattle.cb_constraints.specs.Internal.Known.{before_check}
 use Rattle.cb_constraints.proofs.holding.meets_each.Given as goal
 
 abbrev pub invariant-loop-check : goal.invariant-loop-check
-invariant-loop-check l =
+invariant-loop-check g l =
     (l.at ≡ l.check-index)
     × (constants_hold (tested_value l.tested) (map check_of (drop l.check-index l.checks)) ≡ true)
-    × FollowFrom (before_check l.known) l.check-index (map check_of (drop l.check-index l.checks)) (tested_value l.tested)
-    × (after_checks (map check_of (drop l.check-index l.checks)) (tested_value l.tested) (before_check l.known l.check-index)
-    ≡ after_checks (map check_of l.checks) (tested_value l.tested) (before_check l.known 0))
+    × FollowFrom (before_check g.L.Lookup.bindings l.known) l.check-index (map check_of (drop l.check-index l.checks)) (tested_value l.tested)
+    × (after_checks (map check_of (drop l.check-index l.checks)) (tested_value l.tested) (before_check g.L.Lookup.bindings l.known l.check-index)
+    ≡ after_checks (map check_of l.checks) (tested_value l.tested) (before_check g.L.Lookup.bindings l.known 0))

@@ -13,7 +13,7 @@ pub returns-clause-ways : goal.returns-clause-ways
 returns-clause-ways c = λ s cuts.
     ap (ways_left s cuts) c.in_ok-push.ensures.ok
     ∙ (last-first s cuts c.args.choices.now.items (Some (record { fields = c.args.choice.fields; number = c.args.choice.number; at = c.args.choice.at; constraint = c.args.choice.constraint; ones = c.args.choice.ones; rest = c.args.choice.rest; wanted = c.args.choice.wanted; rows = c.args.choice.rows; to = c.args.to + 1; last = c.args.choice.last }))
-    ∙ ap (λ n. followed_by_rows (map asked_slot c.args.choice.rows.now) s.slots.now (flat_map (endings (map constraint_of c.args.choice.rest.now)) (group_from s (cuts_before c.args.choice cuts) c.args.choice (c.args.to + 1) n)) ++ ways_left s cuts c.args.choices.now.items)
+    ∙ ap (λ n. followed_by_rows (map asked_slot c.args.choice.rows.now) s.slots (flat_map (endings (map constraint_of c.args.choice.rest.now)) (group_from s (cuts_before c.args.choice cuts) c.args.choice (c.args.to + 1) n)) ++ ways_left s cuts c.args.choices.now.items)
     (one-less c.args.choice.last c.args.to))
   where
     one-less : (last to : ℕ) → last + 1 - (to + 1) ≡ last - to

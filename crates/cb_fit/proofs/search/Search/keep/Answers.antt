@@ -7,7 +7,7 @@ use Rattle.cb_fit.proofs.Standing.{none-after}
 use Rattle.cb_fit.proofs.search.Search.keep.Goals as goal
 
 pub newly_bound-requires : goal.newly_bound-requires
-newly_bound-requires c =
+newly_bound-requires g c =
     none-after (length c.args.cuts.now) (constraints_in c.args.self.body.now) c.requires.next
     (length (values_taken c.taken-took.result.body.now (content_of c.taken-took.result.content.now) c.taken-took.result.cuts.now))
     (as_many_values c.taken-took.result.body.now (content_of c.taken-took.result.content.now) c.taken-took.result.cuts.now ∙ ap length c.taken-took.ensures.cuts)
