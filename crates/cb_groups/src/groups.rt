@@ -8,6 +8,7 @@ use crate::lists::{
     reach_place, take_out,
 };
 use cb_forms::NoMemory;
+use smallvec::SmallVec;
 use std::alloc::Global;
 use std::marker::Model;
 
@@ -19,8 +20,8 @@ use std::marker::Model;
 #[derive(Drop)]
 pub struct Groups {
     alloc: Global,
-    /// The members of each group, in any order.
-    lists: Vec<Vec<u32>>,
+    /// The members of each group, in any order; up to four take no block.
+    lists: Vec<SmallVec<u32, 4>>,
     /// The place of each member.
     places: Vec<Option<Place>>,
 }

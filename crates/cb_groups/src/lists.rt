@@ -3,6 +3,7 @@ ghost use Rattle.std.specs.Prelude.{◌≡◌, ◌≢◌, ◌<◌, ℕ, [], Cont
 ghost use Rattle.cb_groups.specs.Internal.{AreWithout, IsOut, IsPushed, member_at, members_at, standing};
 
 use cb_forms::NoMemory;
+use smallvec::SmallVec;
 use std::alloc::Global;
 
 /// Where a member stands.
@@ -14,7 +15,7 @@ pub(crate) struct Place {
 }
 
 /// The members of a group.
-pub(crate) fn members_of<'a>(lists: &'a Vec<Vec<u32>>, group: u32) -> &'a [u32]
+pub(crate) fn members_of<'a>(lists: &'a Vec<SmallVec<u32, 4>>, group: u32) -> &'a [u32]
     ensures { result.now ≡ members_at lists.now.items group }
 {
     match lists.get(group as usize) {
@@ -36,14 +37,14 @@ pub(crate) fn place_of(places: &Vec<Option<Place>>, member: u32) -> Option<Place
 /// Adds empty lists up to that of a group. Growth is refused as `NoMemory`.
 pub(crate) fn reach_list(
     alloc: Global,
-    lists: &mut Vec<Vec<u32>>,
+    lists: &mut Vec<SmallVec<u32, 4>>,
     group: u32,
 ) -> Result<(), NoMemory>
     ensures long { OnOk result (group < length lists.new.items) }
     ensures same { (h : ℕ) → members_at lists.new.items h ≡ members_at lists.old.items h }
 {
     for _turn in lists.len()..group as usize + 1 {
-        lists.push(Vec::new(alloc))?;
+        lists.push(SmallVec::new(alloc))?;
     }
     Ok(())
 }
@@ -60,7 +61,11 @@ pub(crate) fn reach_place(places: &mut Vec<Option<Place>>, member: u32) -> Resul
 }
 
 /// Puts a member behind those of a group, and returns its position. Growth is refused as `NoMemory`.
-pub(crate) fn push_to(lists: &mut Vec<Vec<u32>>, group: u32, member: u32) -> Result<u32, NoMemory>
+pub(crate) fn push_to(
+    lists: &mut Vec<SmallVec<u32, 4>>,
+    group: u32,
+    member: u32,
+) -> Result<u32, NoMemory>
     requires { group < length lists.old.items }
     ensures pushed { IfOk result (λ position. IsPushed lists.old.items lists.new.items group member position) }
     ensures same { OnErr result ((h : ℕ) → members_at lists.new.items h ≡ members_at lists.old.items h) }
@@ -75,7 +80,7 @@ pub(crate) fn push_to(lists: &mut Vec<Vec<u32>>, group: u32, member: u32) -> Res
 
 /// Takes out the member that stands at a place. Returns the one that stands there now: the last one of its group, if it was
 /// another. A list that got much shorter gives memory back.
-pub(crate) fn take_out(lists: &mut Vec<Vec<u32>>, place: Place) -> Option<u32>
+pub(crate) fn take_out(lists: &mut Vec<SmallVec<u32, 4>>, place: Place) -> Option<u32>
     requires { place.position < length (members_at lists.old.items place.group) }
     ensures out { IsOut (members_at lists.old.items place.group) (members_at lists.new.items place.group) place.position }
     ensures moved { result ≡ member_at lists.new.items place.group place.position }
@@ -83,8 +88,8 @@ pub(crate) fn take_out(lists: &mut Vec<Vec<u32>>, place: Place) -> Option<u32>
 {
     let list = &mut lists[place.group as usize];
     list.swap_remove(place.position as usize);
-    if list.is_empty() || list.len() < list.capacity() / 4 {
-        list.shrink_to(list.len() * 2);
+    if list.len() < list.capacity() / 4 {
+        let _never_fails = list.grow(list.len() * 2);
     }
     match list.get(place.position as usize) {
         Some(member) => Some(*member),
@@ -122,11 +127,11 @@ pub(crate) fn clear_places(places: &mut Vec<Option<Place>>, members: &[u32])
 }
 
 /// A group has no members any more. Its list gives its memory back.
-pub(crate) fn clear_list(alloc: Global, lists: &mut Vec<Vec<u32>>, group: u32)
+pub(crate) fn clear_list(alloc: Global, lists: &mut Vec<SmallVec<u32, 4>>, group: u32)
     ensures cleared { members_at lists.new.items group ≡ [] }
     ensures others { (h : ℕ) → h ≢ group → members_at lists.new.items h ≡ members_at lists.old.items h }
 {
     if let Some(list) = lists.get_mut(group as usize) {
-        *list = Vec::new(alloc);
+        *list = SmallVec::new(alloc);
     }
 }
