@@ -19,7 +19,7 @@ use cb_rules::Ce;
 /// counts the tests of patterns with the meter that it is handed. `T` is the mark of these meters: a matcher has no `T`, so it
 /// can make none of its own.
 ///
-/// Growth is refused as `NoMemory`. From then on each such call is refused, and nothing is promised of the others but `failed`.
+/// Growth is refused as `NoMemory`. From then on each such call is refused, and so is `bindings`; nothing is promised of `facts`.
 pub trait Matcher<T> {
     ghost use Rattle.std.specs.Prelude.{Bool};
     ghost use Rattle.cb_matches.specs.Networks.{Network};
@@ -79,11 +79,10 @@ pub trait Matcher<T> {
         ensures failed { is_failed self.new ≡ is_err result }
         ensures once { is_failed self.old ≡ true → IsErr result };
 
-    /// What variables have by the match with this key, or nothing where there is no such match. No call that changes the rules
-    /// or the facts was refused.
+    /// What variables have by the match with this key, or nothing where there is no such match.
     fn bindings(&self, key: &Key) -> Result<Env, NoMemory>
-        requires { is_failed self.now ≡ false }
-        ensures { IfOk result (λ env. env ≡ bindings_of (network self.now) key.now) };
+        ensures env { IfOk result (λ env. env ≡ bindings_of (network self.now) key.now) }
+        ensures once { is_failed self.now ≡ true → IsErr result };
 
     /// The facts.
     fn facts(&self) -> &FactList

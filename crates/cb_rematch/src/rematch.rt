@@ -177,6 +177,9 @@ impl<T> Matcher<T> for Rematch<T> {
 
     #[tactic(auto, unfolding(cb_matches::specs::Networks::bindings_of))]
     fn bindings(&self, key: &Key) -> Result<Env, NoMemory> {
+        if self.failed {
+            return Err(NoMemory);
+        }
         find_env(self.alloc, self.matches.as_slice(), key)
     }
 

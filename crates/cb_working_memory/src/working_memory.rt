@@ -116,9 +116,6 @@ impl<M: Matcher<Mark>> WorkingMemory<M> {
     pub fn bindings(&self, key: &Key) -> Result<Env, NoMemory>
         ensures { IfOk result (λ env. env ≡ bindings_of self.now.network key.now) }
     {
-        if self.matcher.failed() {
-            return Err(NoMemory);
-        }
         self.matcher.bindings(key)
     }
 
