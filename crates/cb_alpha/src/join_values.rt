@@ -30,7 +30,7 @@ pub struct JoinValues {
 impl Model for JoinValues {
     ghost use Rattle.std.specs.Prelude.{List};
     ghost use Rattle.cb_facts.specs.declared.value.Value.{Value as Joined};
-    ghost use Rattle.cb_alpha.specs.Internal.KeptValues.{values_in};
+    ghost use Rattle.cb_alpha.specs.Internal.{values_in};
 
     ghost Value = { List Joined };
 

@@ -16,7 +16,7 @@ use Rattle.std.specs.Str.{bytes_eq}
 use Rattle.cb_facts.proofs.Inverses.{added, removed, taken_back}
 use Rattle.cb_facts.proofs.MemberLaws.{is_at-Decides}
 use Rattle.cb_facts.specs.FactLists.{ChangesOnly}
-use Rattle.cb_rules.specs.Internal.Numbered.{AreNumberedBy, name_under}
+use Rattle.cb_rules.specs.Internal.{AreNumberedBy, name_under}
 
 -- the numbers by names
 abbrev pub Numbers : Type 0

@@ -15,7 +15,7 @@ use Rattle.std.specs.Ordering.{is_eq, nat_cmp}
 use Rattle.std.specs.Str.{bytes_eq}
 use Rattle.cb_facts.proofs.MemberLaws.{contains_here, contains_there, is_at-Decides}
 use Rattle.cb_rules.proofs.NumberedLaws.{IsAfterEach, at_end, numbered}
-use Rattle.cb_rules.specs.Internal.Numbered.{AreUnderOwn, IsTable, NumberedRules, name_under}
+use Rattle.cb_rules.specs.Internal.{AreUnderOwn, IsTable, NumberedRules, name_under}
 use Rattle.cb_rules.specs.RuleInfos.{RuleInfo}
 use Rattle.cb_rules.specs.RuleTables.{rule_named, rule_numbered}
 

@@ -30,7 +30,7 @@ impl Model for RuleTable {
     ghost use Rattle.std.specs.Map.{values_of};
     ghost use Rattle.std.specs.Ordering.{nat_cmp};
     ghost use Rattle.cb_rules.specs.Internal.Codes.{rule_code};
-    ghost use Rattle.cb_rules.specs.Internal.Numbered.{IsTable};
+    ghost use Rattle.cb_rules.specs.Internal.{IsTable};
     ghost use Rattle.cb_rules.specs.RuleInfos.{RuleInfo};
 
     ghost Value = { List RuleInfo };

@@ -14,7 +14,7 @@ use Rattle.cb_facts.specs.Facts.{FactValue, template_fact}
 use Rattle.cb_facts.specs.declared.value.Value.{Value}
 use Rattle.cb_templates.specs.Building.{Given, PartValues, field_values, slot_values, filled, fits, given_for, value_or_default, slots_built, built_by, built}
 use Rattle.cb_facts.specs.Results.{and_then, ok_then, with_first}
-use Rattle.cb_templates.specs.Internal.SlotReads.{attributes_after, finished, slot_defined, no_attributes, slot_by, slot_with, slots_after}
+use Rattle.cb_templates.specs.Internal.{attributes_after, finished, slot_defined, no_attributes, slot_by, slot_with, slots_after}
 use Rattle.cb_templates.specs.Slots.{SlotShape, Types, allows_all, names, slot_named}
 use Rattle.cb_templates.specs.Laws.{content_names}
 use Rattle.cb_templates.specs.Templates.{Templates, slots_of}

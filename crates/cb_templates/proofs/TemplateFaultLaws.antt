@@ -17,7 +17,7 @@ use Rattle.cb_templates.proofs.TemplateReads.{IsRead, default_read, guarded, rea
 use Rattle.cb_facts.specs.FaultLists.{ReadsAs, unless, first_of, unless_faulty}
 use Rattle.cb_words.specs.Reserved.{is_reserved}
 use Rattle.cb_templates.specs.Templates.{without_comment}
-use Rattle.cb_templates.specs.Internal.SlotReads.{attribute_by, attributes_after, default_of, finished, no_attributes, slot_by, slot_defined, slot_with, types_of, with_default, with_types, slots_after}
+use Rattle.cb_templates.specs.Internal.{attribute_by, attributes_after, default_of, finished, no_attributes, slot_by, slot_defined, slot_with, types_of, with_default, with_types, slots_after}
 use Rattle.cb_templates.specs.Slots.{Types, SlotShape, allows_all, names, slot_named}
 use Rattle.cb_templates.specs.TemplateFaults.{and_name, and_slot, attribute_faults, attributes_faults, default_attribute_faults, is_among, kept_faults, kind_faults, named_slot_faults, named_template_faults, slot_form_faults, slots_form_faults, template_faults, type_attribute_faults}
 use Rattle.cb_templates.specs.TemplateShapes.{after_head, attribute, default_in, default_said, kind_of, slot_headed, slot_of_kind, slot_said, slots_said, types_in, types_said, value_for}

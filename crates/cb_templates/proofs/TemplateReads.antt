@@ -13,7 +13,7 @@ use Rattle.cb_facts.specs.declared.refused.Refused.TheVariants as refused
 use Rattle.cb_facts.specs.declared.value.Value.{Value}
 use Rattle.cb_facts.specs.declared.value.Value.TheVariants as value
 use Rattle.cb_facts.specs.FaultLists.{ReadsAs, unless, first_of, unless_faulty}
-use Rattle.cb_templates.specs.Internal.SlotReads.{default_constant, default_constants, default_of, multi_default, one_default, some_types, type_by, types_after, types_of}
+use Rattle.cb_templates.specs.Internal.{default_constant, default_constants, default_of, multi_default, one_default, some_types, type_by, types_after, types_of}
 use Rattle.cb_templates.specs.SlotForms.{is_variable, no_constant, type_named}
 use Rattle.cb_templates.specs.Slots.{with_type}
 use Rattle.cb_templates.specs.TemplateFaults.{constant_faults, constants_faults, default_attribute_faults, is_no_form, is_one_form, type_attribute_faults, type_name_faults, types_faults}

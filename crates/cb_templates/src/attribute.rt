@@ -4,7 +4,7 @@ ghost use Rattle.std.specs.List.{list_any};
 ghost use Rattle.cb_forms.specs.Members.{call_of, head_and_rest, members, symbol_of};
 ghost use Rattle.cb_forms.specs.Trees.{tree_of};
 ghost use Rattle.cb_facts.specs.Results.{Returns, Settles};
-ghost use Rattle.cb_templates.specs.Internal.SlotReads.{attribute_by, attributes_after, default_constant, default_constants, default_of, multi_default, default_added, no_attributes, one_default, some_types, types_added, type_by, types_after, types_of};
+ghost use Rattle.cb_templates.specs.Internal.{attribute_by, attributes_after, default_constant, default_constants, default_of, multi_default, default_added, no_attributes, one_default, some_types, types_added, type_by, types_after, types_of};
 ghost use Rattle.cb_templates.specs.SlotForms.{is_variable, is_variable_form, is_variable_token, no_call, no_constant};
 ghost use Rattle.cb_templates.specs.Slots.{with_type};
 ghost use Rattle.cb_templates.specs.contracts.slot_type.SlotTypePartialEq.TheImpl as type_eq;

@@ -5,7 +5,7 @@ ghost use Rattle.cb_facts.specs.Results.{Returns};
 ghost use Rattle.cb_facts.specs.FaultLists.{ReadsAs};
 ghost use Rattle.cb_templates.specs.TemplateFaults.{template_faults};
 ghost use Rattle.cb_templates.specs.TemplateShapes.{template_shape};
-ghost use Rattle.cb_templates.specs.Internal.SlotReads.{slots_after};
+ghost use Rattle.cb_templates.specs.Internal.{slots_after};
 ghost use Rattle.cb_templates.specs.Templates.{slots_of, with_template};
 
 use crate::comment::without_comment;

@@ -3,7 +3,7 @@ ghost use Rattle.std.specs.Prelude.{◌≡◌, [], Ok, Err, IfOk, IfErr};
 ghost use Rattle.cb_forms.specs.Members.{call_of, head_and_rest, members};
 ghost use Rattle.cb_forms.specs.Trees.{tree_of};
 ghost use Rattle.cb_facts.specs.Results.{Returns};
-ghost use Rattle.cb_templates.specs.Internal.SlotReads.{finished, slot_defined, slot_by, slot_with};
+ghost use Rattle.cb_templates.specs.Internal.{finished, slot_defined, slot_by, slot_with};
 ghost use Rattle.cb_templates.specs.SlotForms.{derived, derived_one};
 
 use crate::attribute::{Attributes, SlotDefault, read_attributes};

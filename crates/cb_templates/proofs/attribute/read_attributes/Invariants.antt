@@ -1,6 +1,6 @@
 use Rattle.std.proofs.Common.{◌≡◌, drop}
 use Rattle.cb_forms.specs.Members.{members}
-use Rattle.cb_templates.specs.Internal.SlotReads.{attributes_after, no_attributes}
+use Rattle.cb_templates.specs.Internal.{attributes_after, no_attributes}
 use Rattle.cb_templates.proofs.attribute.read_attributes.Given as goal
 
 abbrev pub invariant-loop-form : goal.invariant-loop-form

@@ -1,6 +1,6 @@
 use Rattle.std.proofs.Common.{◌≡◌, drop}
 use Rattle.cb_forms.specs.Members.{members}
-use Rattle.cb_templates.specs.Internal.SlotReads.{default_constants}
+use Rattle.cb_templates.specs.Internal.{default_constants}
 use Rattle.cb_facts.specs.Internal.{after_those}
 use Rattle.cb_templates.proofs.attribute.read_constants.Given as goal
 

@@ -1,7 +1,7 @@
 use Rattle.std.proofs.Common.{◌≡◌, drop}
 use Rattle.std.proofs.Common.{[]}
 use Rattle.cb_forms.specs.Members.{members}
-use Rattle.cb_templates.specs.Internal.SlotReads.{types_after}
+use Rattle.cb_templates.specs.Internal.{types_after}
 use Rattle.cb_templates.proofs.attribute.read_type_names.Given as goal
 
 abbrev pub invariant-loop-form : goal.invariant-loop-form

@@ -3,7 +3,7 @@ use Rattle.cb_facts.specs.Results.{Returns}
 use Rattle.cb_forms.specs.Members.{members}
 use Rattle.cb_templates.proofs.TemplateFaultLaws.{slots_refused}
 use Rattle.cb_facts.specs.FaultLists.{ReadsAs}
-use Rattle.cb_templates.specs.Internal.SlotReads.{slots_after}
+use Rattle.cb_templates.specs.Internal.{slots_after}
 use Rattle.cb_templates.specs.TemplateFaults.{template_faults}
 use Rattle.cb_templates.specs.TemplateShapes.{template_shape}
 use Rattle.cb_templates.proofs.relations.read_template.Goals as goal

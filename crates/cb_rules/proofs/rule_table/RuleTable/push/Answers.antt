@@ -2,7 +2,7 @@ use Rattle.std.proofs.Common.{◌≡◌, ◌∙◌, ◌++◌, ◌∷◌, [], Lis
 use Rattle.std.specs.Map.{values_of}
 use Rattle.cb_rules.proofs.NumberedLaws.{number_by, numbered-pushed, numbered-undone, values-push}
 use Rattle.cb_rules.proofs.TableLaws.{goes_after, is_absent, own-pushed}
-use Rattle.cb_rules.specs.Internal.Numbered.{AreUnderOwn, IsTable}
+use Rattle.cb_rules.specs.Internal.{AreUnderOwn, IsTable}
 use Rattle.cb_rules.specs.RuleInfos.{RuleInfo}
 use Rattle.cb_rules.proofs.rule_table.RuleTable.push.Goals as goal
 

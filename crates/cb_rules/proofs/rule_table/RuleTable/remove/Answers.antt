@@ -5,7 +5,7 @@ use Rattle.std.specs.Map.{values_of}
 use Rattle.std.specs.Ordering.{nat_cmp}
 use Rattle.cb_rules.proofs.NumberedLaws.{numbered-taken}
 use Rattle.cb_rules.proofs.TableLaws.{own-taken, taken}
-use Rattle.cb_rules.specs.Internal.Numbered.{AreUnderOwn, name_under}
+use Rattle.cb_rules.specs.Internal.{AreUnderOwn, name_under}
 use Rattle.cb_rules.specs.RuleInfos.{RuleInfo}
 use Rattle.cb_rules.proofs.rule_table.RuleTable.remove.Goals as goal
 

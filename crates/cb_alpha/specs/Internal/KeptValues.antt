@@ -1,9 +1,0 @@
--- Where the values stand that facts and partial matches are joined on.
-use Rattle.std.specs.Prelude.{List}
-use Rattle.cb_facts.specs.declared.value.Value.{Value}
-use Rattle.cb_alpha.specs.declared.join_values.Kept.{Kept}
-use Rattle.cb_alpha.specs.declared.join_values.Kept.TheVariants.{One, Many}
-
-abbrev pub values_in : Kept → List Value
-values_in (One value) = value
-values_in (Many values) = values.items
