@@ -4,7 +4,7 @@ use Rattle.std.proofs.lemmas.Int.{ints}
 use Rattle.std.proofs.lemmas.List.{length-append}
 use Rattle.cb_alpha.proofs.ReadFacts.{same_some}
 use Rattle.cb_alpha.specs.AlphaMemories.{AlphaMemoryValue, HasFactWith, live, values_in}
-use Rattle.cb_alpha.specs.Buckets.{Filing, values_at}
+use Rattle.cb_alpha.specs.Buckets.{Filing}
 use Rattle.cb_alpha.specs.Turning.{HasJoin}
 use Rattle.cb_facts.specs.declared.value.Value.{Value}
 use Rattle.cb_facts.specs.declared.value.Value.TheVariants.{Int}
@@ -20,7 +20,7 @@ use Rattle.cb_lookup_node.specs.LookupNodes.{AreInOrder, HasOne, HasSeen, ends_i
 use Rattle.cb_lookup_node.specs.Order.{AreOneMore, HasBeyond, IsNearest, IsSeenAlone, OtherHas, SeesFirst, beyond, is_lower, takes_equal}
 use Rattle.cb_matches.proofs.Growth.{Fact}
 use Rattle.cb_matches.specs.Chains.{In}
-use Rattle.cb_nodes.specs.Flat.{is_by_order}
+use Rattle.cb_lookup_node.specs.LookupNodes.{is_by_order}
 
 -- facts that a join finds have the values of the fields, as many as there are
 module _ (alpha : AlphaMemoryValue) (join : ℕ) (js : List JoinField) (has : HasJoin alpha join js) where

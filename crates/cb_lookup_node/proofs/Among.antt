@@ -1,5 +1,5 @@
 -- Lists of values against places among the integers.
-use Rattle.std.proofs.Common.{◌≡◌, ◌≢◌, ◌∙◌, ◌↔◌, ◌++◌, ◌∷◌, ◌<ℤ◌, ℕ, ℤ, suc, pos, Bool, true, false, List, [], ap, arith, length, not, refl, subst, sym, int_le, int_lt}
+use Rattle.std.proofs.Common.{◌≡◌, ◌≢◌, ◌∙◌, ◌++◌, ◌∷◌, ◌<ℤ◌, ℤ, suc, pos, Bool, true, false, List, [], ap, arith, length, not, refl, subst, sym, int_le, int_lt}
 use Rattle.std.proofs.lemmas.Int.{ints}
 use Rattle.std.proofs.lemmas.Cmp.{int_ranked}
 use Rattle.std.specs.Cmp.{tied_itself}
@@ -11,7 +11,7 @@ use Rattle.cb_alpha.specs.Buckets.{IsWithin, values_cmp}
 use Rattle.cb_facts.specs.contracts.value.ValueOrd.TheImpl as value_ord
 use Rattle.cb_facts.specs.contracts.value.ValueOrd.TheImpl.Laws as value_laws
 use Rattle.cb_facts.specs.declared.value.Value.{Value}
-use Rattle.cb_facts.specs.declared.value.Value.TheVariants.{Symbol, Str, Int, Fact, Multi}
+use Rattle.cb_facts.specs.declared.value.Value.TheVariants.{Int, Fact}
 use Rattle.cb_lookup_node.proofs.InOrder.{last_integer}
 use Rattle.cb_lookup_node.specs.LookupNodes.{ends_in_integer}
 use Rattle.cb_lookup_node.specs.Order.{Place, first, before, behind, last, is_from, place_among}

@@ -1,5 +1,5 @@
 -- Who sees a fact, and none of others, by the places where those who see one are parted from those who don't.
-use Rattle.std.proofs.Common.{◌≡◌, ◌≢◌, ◌∙◌, ◌↔◌, ◌++◌, ◌∷◌, ℕ, ℤ, suc, Bool, true, false, List, [], Option, Some, None, ap, arith, cond, length, not, refl, subst, sym, int_le, int_lt}
+use Rattle.std.proofs.Common.{◌≡◌, ◌∙◌, ◌↔◌, ◌++◌, ◌∷◌, ℕ, ℤ, suc, Bool, true, false, List, [], Option, Some, None, ap, arith, cond, length, not, refl, subst, sym, int_le, int_lt}
 use Rattle.std.proofs.lemmas.Int.{ints}
 use Rattle.std.proofs.lemmas.List.{length-append}
 use Rattle.cb_alpha.specs.Buckets.{AreWithin, Filing, IsWithin, values_at}
@@ -10,13 +10,13 @@ use Rattle.cb_fit.specs.Comparisons.{compares}
 use Rattle.cb_fit.specs.declared.comparison.Comparison.{Comparison}
 use Rattle.cb_fit.specs.declared.comparison.Comparison.TheVariants.{Less, LessOrEqual, Greater, GreaterOrEqual, Equal, NotEqual, Same, Differs}
 use Rattle.cb_fit.specs.declared.join_fields.JoinField.{JoinField}
-use Rattle.cb_lookup_node.proofs.Among.{from_within, within_from, within_is}
+use Rattle.cb_lookup_node.proofs.Among.{within_from, within_is}
 use Rattle.cb_lookup_node.proofs.InOrder.{ends_same, ends_with}
 use Rattle.cb_lookup_node.specs.Internal.{IsFiledBy, MayBeFiled}
-use Rattle.cb_lookup_node.specs.LookupNodes.{AreInOrder, ends_in_integer}
+use Rattle.cb_lookup_node.specs.LookupNodes.{AreInOrder}
 use Rattle.cb_lookup_node.specs.Order.{AreOneMore, IsFarEnd, Place, SeesFirst, is_from, is_lower, is_parted_behind, open_end, parting, place_among}
 use Rattle.cb_matches.specs.Chains.{In}
-use Rattle.cb_nodes.specs.Flat.{is_by_order}
+use Rattle.cb_lookup_node.specs.LookupNodes.{is_by_order}
 
 -- whether who has v stands on the side of a place on which the fact is seen
 abbrev pub on_side : Bool → Bool → Bool

@@ -1,5 +1,5 @@
 -- What a change does behind a group of one pattern that is looked up.
-use Rattle.std.proofs.Common.{◌≡◌, ◌∙◌, ◌⊎◌, ◌↔◌, ℕ, Bool, true, false, List, [], Option, Some, None, ap, filter, inl, inr, refl, subst, sym}
+use Rattle.std.proofs.Common.{◌≡◌, ◌∙◌, ◌⊎◌, ◌↔◌, ℕ, Bool, true, false, List, [], Some, None, ap, filter, inl, inr, refl, subst, sym}
 use Rattle.std.specs.Option.{option_map_or}
 use Rattle.cb_beta.proofs.Live.{live_token, there_is}
 use Rattle.cb_beta.proofs.Losses.{then}

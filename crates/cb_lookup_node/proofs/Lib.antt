@@ -2,12 +2,17 @@ pub mod Alone
 pub mod Among
 pub mod Between
 pub mod Changed
+pub mod Completed
 pub mod InOrder
 pub mod Looked
 pub mod Nearest
+pub mod Ordered
 pub mod Passed
+pub mod Placed
 pub mod Refiled
 pub mod Seen
+pub mod Stayed
 pub mod Staying
 pub mod Turns
 pub mod Whole
+pub mod Witnessed

@@ -1,20 +1,20 @@
 -- The facts whose last value is the nearest integer below that of others, or above.
-use Rattle.std.proofs.Common.{◌≡◌, ◌≢◌, ◌∙◌, ◌↔◌, ◌++◌, ◌∷◌, ◌<ℤ◌, ℕ, ℤ, suc, Bool, true, false, List, [], Option, Some, None, ap, arith, length, refl, subst, sym, int_le, int_lt}
+use Rattle.std.proofs.Common.{◌≡◌, ◌≢◌, ◌∙◌, ◌↔◌, ◌++◌, ◌∷◌, ◌<ℤ◌, ℤ, suc, true, false, List, [], Option, Some, None, ap, arith, length, refl, subst, sym, int_le, int_lt}
 use Rattle.std.proofs.lemmas.Int.{ints}
 use Rattle.std.specs.Ordering.{int_cmp, ordering_then}
 use Rattle.std.specs.declared.cmp.Ordering.{Ordering}
 use Rattle.std.specs.declared.cmp.Ordering.TheVariants.{Less, Equal, Greater}
 use Rattle.std.proofs.lemmas.Cmp.{int_ranked}
 use Rattle.std.specs.Ordering.{MatchOrdering}
-use Rattle.cb_alpha.specs.AlphaMemories.{AlphaMemoryValue, live, values_in}
+use Rattle.cb_alpha.specs.AlphaMemories.{AlphaMemoryValue, live}
 use Rattle.cb_alpha.specs.Buckets.{IsWithin, values_cmp}
 use Rattle.cb_facts.specs.declared.value.Value.{Value}
 use Rattle.cb_facts.specs.declared.value.Value.TheVariants.{Symbol, Str, Int, Fact, Multi}
 use Rattle.cb_fit.specs.declared.join_fields.JoinField.{JoinField}
-use Rattle.cb_lookup_node.proofs.Among.{strip, tail, value_cmp, within_from, within_is, within_prefix}
+use Rattle.cb_lookup_node.proofs.Among.{strip, tail, within_from, within_is, within_prefix}
 use Rattle.cb_lookup_node.proofs.InOrder.{integer_ends}
 use Rattle.cb_lookup_node.specs.LookupNodes.{HasOne, ends_in_integer}
-use Rattle.cb_lookup_node.specs.Order.{IsNearest, Place, first, before, behind, last, beyond, is_from, place_among}
+use Rattle.cb_lookup_node.specs.Order.{IsNearest, Place, first, before, behind, last, is_from, place_among}
 
 not_le : (a b : ℤ) → int_le a b ≡ false → int_lt b a ≡ true
 not_le a b h = grind (arith, ints, h)

@@ -1,5 +1,5 @@
 -- Whether a partial match is passed on, by a test.
-use Rattle.std.proofs.Common.{◌≡◌, ◌∙◌, ◌↔◌, ℕ, Bool, true, false, List, Option, Some, cond, not, refl, sym}
+use Rattle.std.proofs.Common.{◌≡◌, ◌∙◌, ℕ, Bool, true, false, List, Option, cond, not, refl, sym}
 use Rattle.std.specs.Bool.{Decides}
 use Rattle.cb_alpha.specs.JoinValues.{variable_values}
 use Rattle.cb_beta.specs.BetaMemories.{BetaMemoryValue}
@@ -8,7 +8,7 @@ use Rattle.cb_facts.specs.declared.value.Value.{Value}
 use Rattle.cb_fit.specs.declared.comparison.Comparison.{Comparison}
 use Rattle.cb_fit.specs.declared.join_fields.JoinField.{JoinField}
 use Rattle.cb_lookup_node.specs.Internal.{IsSeenBy}
-use Rattle.cb_lookup_node.specs.LookupNodes.{ArePassedOn, Passes, SeesOne, passed_on}
+use Rattle.cb_lookup_node.specs.LookupNodes.{ArePassedOn, Passes, SeesOne, in_order, passed_on}
 use Rattle.cb_matches.proofs.Growth.{Fact}
 use Rattle.cb_matches.specs.Matches.{Partial}
 use Rattle.cb_token_lists.proofs.Arrivals.{come_alike}
@@ -42,8 +42,8 @@ module _ (positive : Bool) (comparison : Option Comparison) (js : List JoinField
   abbrev pub OneByOne : TokenValue → Type 0
   OneByOne t = (k : ℕ) × There k × (Passes positive (SeesOne comparison js facts (at k)) × (t ≡ passed_on k))
 
-  pub one_by_one : Comes old new (ArePassedOn positive comparison js facts at There) → Comes old new OneByOne
-  one_by_one comes = come_alike old new (ArePassedOn positive comparison js facts at There) OneByOne (λ t h. (h.0, h.1, (h.2, h.3))) (λ t h. (h.0, h.1, h.2.0, h.2.1)) comes
+  pub one_by_one : Comes old new (ArePassedOn positive (in_order comparison) js facts at There) → Comes old new OneByOne
+  one_by_one comes = come_alike old new (ArePassedOn positive (in_order comparison) js facts at There) OneByOne (λ t h. (h.0, h.1, (h.2, h.3))) (λ t h. (h.0, h.1, h.2.0, h.2.1)) comes
 
-  pub together : Comes old new OneByOne → Comes old new (ArePassedOn positive comparison js facts at There)
-  together comes = come_alike old new OneByOne (ArePassedOn positive comparison js facts at There) (λ t h. (h.0, h.1, h.2.0, h.2.1)) (λ t h. (h.0, h.1, (h.2, h.3))) comes
+  pub together : Comes old new OneByOne → Comes old new (ArePassedOn positive (in_order comparison) js facts at There)
+  together comes = come_alike old new OneByOne (ArePassedOn positive (in_order comparison) js facts at There) (λ t h. (h.0, h.1, h.2.0, h.2.1)) (λ t h. (h.0, h.1, (h.2, h.3))) comes

@@ -20,13 +20,16 @@ use Rattle.cb_facts.specs.Facts.{FactContent}
 use Rattle.cb_facts.specs.declared.value.Value.{Value}
 use Rattle.cb_fit.specs.JoinFields.{join_fields, value_in}
 use Rattle.cb_fit.specs.declared.join_fields.JoinField.{JoinField}
-use Rattle.cb_lookup_node.specs.Internal.{is_ordered}
-use Rattle.cb_lookup_node.specs.LookupNodes.{Passes, SeesOne, compared_join}
+use Rattle.cb_lookup_node.specs.Internal.{is_ordered, is_well_ordered}
+use Rattle.cb_lookup_node.specs.LookupNodes.{AsksBy, Looking, Passes, SeesBy, SeesOne, SeesSome, by_witness, compared_join, compares_with, in_order}
 use Rattle.cb_matches.proofs.Growth.{Fact}
 use Rattle.cb_matches.proofs.Lists.{by_test}
 use Rattle.cb_matches.specs.Chains.{In}
 use Rattle.cb_matches.specs.Matches.{Partial}
-use Rattle.cb_nodes.specs.Flat.{are_by_order, holds_alone}
+use Rattle.cb_lookup_node.specs.LookupNodes.{are_by_order}
+use Rattle.cb_nodes.specs.Flat.{holds_alone}
+use Rattle.cb_scopes.proofs.Comparing.{all_so, so_all}
+use Rattle.cb_scopes.specs.Compared.{all_compare}
 use Rattle.cb_scopes.specs.Decided.{Sees, field_values, known_fields, variable_values}
 use Rattle.cb_scopes.specs.Scopes.{HasValuesOf, Scope}
 
@@ -99,6 +102,17 @@ module _ (names : Scope) (m : Partial) (scope : HasValuesOf names m) where
           let v = some_value (value_at j.variable m.env.variables) ((scope j.variable).1 (named_in j.variable names e)) in
           (v.0 ∷ vs, ap₂ joined.with_first v.1 is)
       by false e more = more
+
+-- members of a list, by place
+contained : {A : Type 0} (a : A) (xs : List A) → In a xs → Contains xs a
+contained a [] h = absurd h
+contained a (x ∷ xs) (inl e) = (0, omega arith, sym e)
+contained a (x ∷ xs) (inr h) = let (k, lt, is) = contained a xs h in (suc k, omega (arith, lt), is)
+
+member : {A : Type 0} (a : A) (xs : List A) → Contains xs a → In a xs
+member a [] (k, lt, is) = absurd (omega (arith, lt))
+member a (x ∷ xs) (zero, lt, is) = inl (sym is)
+member a (x ∷ xs) (suc k, lt, is) = inr (member a xs (k, omega (arith, lt), is))
 
 -- what is known by laws
 abbrev pub AgreeByValues : Type 0
@@ -214,9 +228,7 @@ one_alone (Some b) a e = let same : b ≡ a = inside e in ap Some same
     inside d = cc
 
 module _ (agree : AgreeByValues) (by_sight : HoldsBySight) (opposite : HoldsOpposite) (p : PatternValue) (decided : is_decided p ≡ true) (unchosen : choice_fields p.parts ≡ []) (names : Scope)
-    (comparison : Option Comparison) (js : List JoinField) (are : js ≡ known_fields (join_fields p.parts) names ++ map compared_join (compared_fields p.parts))
-    (by : option_to_list comparison ≡ map (λ (c : ComparedField). c.comparison) (compared_fields p.parts)) (order : are_by_order (compared_fields p.parts) ≡ true) (m : Partial)
-    (scope : HasValuesOf names m) where
+    (m : Partial) (scope : HasValuesOf names m) where
   abbrev known : List JoinField
   known = known_fields (join_fields p.parts) names
 
@@ -235,101 +247,142 @@ module _ (agree : AgreeByValues) (by_sight : HoldsBySight) (opposite : HoldsOppo
   agrees : (content : FactContent) (vs : List Value) → joined.variable_values known m.env ≡ Some vs → joined.field_values known content ≡ Some vs → AgreeWith (join_fields p.parts) m.env content
   agrees content vs e d = (agree m.env names scope (join_fields p.parts) content).1 (variables_listed known m.env vs e ∙ sym (fields_listed known content vs d))
 
-  module _ (fs : IndexedFacts) (facts : ℕ → Option Fact) (cands : AreCandidates p fs facts) where
-    -- where nothing is compared
-    module _ (none : compared_fields p.parts ≡ []) where
-      plain_are : js ≡ known
-      plain_are = are ∙ (ap (λ (cs : List ComparedField). known ++ map compared_join cs) none ∙ no_more known)
+  module _ (fs : IndexedFacts) (facts : ℕ → Option Fact) (cands : AreCandidates p fs facts) (js : List JoinField) where
+    -- by the order of one field that is compared, or none
+    module _ (comparison : Option Comparison) (are : js ≡ known ++ map compared_join (compared_fields p.parts))
+        (by : option_to_list comparison ≡ map (λ (c : ComparedField). c.comparison) (compared_fields p.parts)) (order : are_by_order (compared_fields p.parts) ≡ true) where
+      -- where nothing is compared
+      module _ (none : compared_fields p.parts ≡ []) where
+        plain_are : js ≡ known
+        plain_are = are ∙ (ap (λ (cs : List ComparedField). known ++ map compared_join cs) none ∙ no_more known)
 
-      plain_to : Sees p fs m → SeesOne None js facts m
-      plain_to (f, there, shape, decide) =
-          let n = cands.all f there shape in (
-            values_known.0,
-            ap (λ it. joined.variable_values it m.env) plain_are ∙ values_known.1,
-            (n.0, ap₂ values_in plain_are n.1 ∙ fields_known f.1.content decide.0),
-          )
+        plain_to : Sees p fs m → SeesOne None js facts m
+        plain_to (f, there, shape, decide) =
+            let n = cands.all f there shape in (
+              values_known.0,
+              ap (λ it. joined.variable_values it m.env) plain_are ∙ values_known.1,
+              (n.0, ap₂ values_in plain_are n.1 ∙ fields_known f.1.content decide.0),
+            )
 
-      to_plain : SeesOne None js facts m → Sees p fs m
-      to_plain (vs, is, (n, e)) =
-          let f = has_fact js (facts n) vs e in
-          let c = cands.are n f.0 f.1 in
-          let values = ap (λ it. joined.variable_values it m.env) (sym plain_are) ∙ is in
-          let has = ap (λ it. joined.field_values it f.0.1.content) (sym plain_are) ∙ f.2 in
-          (f.0, c.0, c.1, decides f.0.1.content (agrees f.0.1.content vs values has) (subst (λ cs. HoldOf cs m.env f.0.1.content) (sym none) (λ c k. absurd (none_contained c k))))
+        to_plain : SeesOne None js facts m → Sees p fs m
+        to_plain (vs, is, (n, e)) =
+            let f = has_fact js (facts n) vs e in
+            let c = cands.are n f.0 f.1 in
+            let values = ap (λ it. joined.variable_values it m.env) (sym plain_are) ∙ is in
+            let has = ap (λ it. joined.field_values it f.0.1.content) (sym plain_are) ∙ f.2 in
+            (f.0, c.0, c.1, decides f.0.1.content (agrees f.0.1.content vs values has) (subst (λ cs. HoldOf cs m.env f.0.1.content) (sym none) (λ c k. absurd (none_contained c k))))
 
-    -- where one field is
-    module _ (c : ComparedField) (one : compared_fields p.parts ≡ c ∷ []) where
-      ordered_are : js ≡ known ++ compared_join c ∷ []
-      ordered_are = are ∙ ap (λ (cs : List ComparedField). known ++ map compared_join cs) one
+      -- where one field is
+      module _ (c : ComparedField) (one : compared_fields p.parts ≡ c ∷ []) where
+        ordered_are : js ≡ known ++ compared_join c ∷ []
+        ordered_are = are ∙ ap (λ (cs : List ComparedField). known ++ map compared_join cs) one
 
-      ordered_to : Sees p fs m → SeesOne (Some c.comparison) js facts m
-      ordered_to (f, there, shape, decide) =
-          let n = cands.all f there shape in
-          let (w, v, has, other, compare) = decide.1 c (subst (λ cs. Contains cs c) (sym one) (0, omega arith, refl)) in
-          let vs = values_known.0 in (
-            vs ++ v ∷ [],
-            ap (λ it. joined.variable_values it m.env) ordered_are ∙ variables_and m.env known (compared_join c) vs v values_known.1 other,
-            (
-              vs ++ w ∷ [],
-              (vs, w, v, refl, refl, compare),
-              (n.0, ap₂ values_in ordered_are n.1 ∙ fields_and f.1.content known (compared_join c) vs w (fields_known f.1.content decide.0) has),
+        ordered_to : Sees p fs m → SeesOne (Some c.comparison) js facts m
+        ordered_to (f, there, shape, decide) =
+            let n = cands.all f there shape in
+            let (w, v, has, other, compare) = decide.1 c (subst (λ cs. Contains cs c) (sym one) (0, omega arith, refl)) in
+            let vs = values_known.0 in (
+              vs ++ v ∷ [],
+              ap (λ it. joined.variable_values it m.env) ordered_are ∙ variables_and m.env known (compared_join c) vs v values_known.1 other,
+              (
+                vs ++ w ∷ [],
+                (vs, w, v, refl, refl, compare),
+                (n.0, ap₂ values_in ordered_are n.1 ∙ fields_and f.1.content known (compared_join c) vs w (fields_known f.1.content decide.0) has),
+              ),
+            )
+
+        to_ordered : SeesOne (Some c.comparison) js facts m → Sees p fs m
+        to_ordered (vs, is, (ws, (ks, w, v, ws_are, vs_are, compare), (n, e))) =
+            let f = has_fact js (facts n) ws e in
+            let at = cands.are n f.0 f.1 in
+            let content = f.0.1.content in
+            let values = variables_split m.env known (compared_join c) ks v (ap (λ it. joined.variable_values it m.env) (sym ordered_are) ∙ (is ∙ ap Some vs_are)) in
+            let has = fields_split content known (compared_join c) ks w (ap (λ it. joined.field_values it content) (sym ordered_are) ∙ (f.2 ∙ ap Some ws_are)) in
+            let holds : HoldOf (c ∷ []) m.env content =
+            λ d k. subst (λ it. HoldsOf it m.env content) (sym (one_contained c d k)) (w, v, has.1, values.1, compare) in
+            (f.0, at.0, at.1, decides content (agrees content ks values.0 has.0) (subst (λ cs. HoldOf cs m.env content) (sym one) holds))
+
+      sees_in_order : Sees p fs m ↔ SeesOne comparison js facts m
+      sees_in_order = by_fields (compared_fields p.parts) refl order
+        where
+          by_fields : (cs : List ComparedField) → compared_fields p.parts ≡ cs → are_by_order cs ≡ true → Sees p fs m ↔ SeesOne comparison js facts m
+          by_fields [] none o =
+              let is = no_one comparison (by ∙ ap (map (λ (c : ComparedField). c.comparison)) none) in (
+                λ h. subst (λ it. SeesOne it js facts m) (sym is) (plain_to none h),
+                λ h. to_plain none (subst (λ it. SeesOne it js facts m) is h),
+              )
+          by_fields (c ∷ []) one o =
+              let is = one_alone comparison c.comparison (by ∙ ap (map (λ (c : ComparedField). c.comparison)) one) in (
+                λ h. subst (λ it. SeesOne it js facts m) (sym is) (ordered_to c one h),
+                λ h. to_ordered c one (subst (λ it. SeesOne it js facts m) is h),
+              )
+          by_fields (c ∷ (d ∷ cs)) more o = absurd (cc)
+
+    -- by a witness, whatever is compared
+    module _ (cs : List ComparedField) (are : js ≡ known) (compare : cs ≡ compared_fields p.parts) where
+      sees_witness : Sees p fs m ↔ SeesSome cs js facts m
+      sees_witness = (
+        λ h.
+            let (f, there, shape, decide) = h in
+            let n = cands.all f there shape in
+            let hold : all_compare cs m.env f.1.content ≡ true =
+            so_all cs m.env f.1.content (λ c k. decide.1 c (subst (λ it. Contains it c) compare (contained c cs k))) in (
+              n.0,
+              (
+                values_known.0,
+                ap (λ it. joined.variable_values it m.env) are ∙ values_known.1,
+                ap₂ values_in are n.1 ∙ fields_known f.1.content decide.0,
+                ap (λ it. compares_with cs it m) n.1 ∙ hold,
+              ),
             ),
-          )
+        λ h.
+            let (k, (vs, is, e, hold)) = h in
+            let f = has_fact js (facts k) vs e in
+            let at = cands.are k f.0 f.1 in
+            let content = f.0.1.content in
+            let values = ap (λ it. joined.variable_values it m.env) (sym are) ∙ is in
+            let has = ap (λ it. joined.field_values it content) (sym are) ∙ f.2 in
+            let so : all_compare cs m.env content ≡ true = ap (λ it. compares_with cs it m) (sym f.1) ∙ hold in
+            let holds : HoldOf cs m.env content = λ c i. all_so cs m.env content so c (member c cs i) in
+            (f.0, at.0, at.1, decides content (agrees content vs values has) (subst (λ it. HoldOf it m.env content) compare holds)),
+      )
 
-      to_ordered : SeesOne (Some c.comparison) js facts m → Sees p fs m
-      to_ordered (vs, is, (ws, (ks, w, v, ws_are, vs_are, compare), (n, e))) =
-          let f = has_fact js (facts n) ws e in
-          let at = cands.are n f.0 f.1 in
-          let content = f.0.1.content in
-          let values = variables_split m.env known (compared_join c) ks v (ap (λ it. joined.variable_values it m.env) (sym ordered_are) ∙ (is ∙ ap Some vs_are)) in
-          let has = fields_split content known (compared_join c) ks w (ap (λ it. joined.field_values it content) (sym ordered_are) ∙ (f.2 ∙ ap Some ws_are)) in
-          let holds : HoldOf (c ∷ []) m.env content =
-          λ d k. subst (λ it. HoldsOf it m.env content) (sym (one_contained c d k)) (w, v, has.1, values.1, compare) in
-          (f.0, at.0, at.1, decides content (agrees content ks values.0 has.0) (subst (λ cs. HoldOf cs m.env content) (sym one) holds))
+    sees_so : (looking : Looking) → AsksBy looking js known (compared_fields p.parts) → Sees p fs m ↔ SeesBy looking js facts m
+    sees_so (in_order comparison) asks = sees_in_order comparison asks.0 asks.1 asks.2
+    sees_so (by_witness cs) asks = sees_witness cs asks.0 asks.1
 
-    holds_where : (holds_alone true p fs m ≡ true) ↔ SeesOne comparison js facts m
-    holds_where = by_fields (compared_fields p.parts) refl order
-      where
-        so : (holds_alone true p fs m ≡ true) ↔ Sees p fs m
-        so = by_sight p fs m decided
+    module _ (looking : Looking) (asks : AsksBy looking js known (compared_fields p.parts)) where
+      holds_where : (holds_alone true p fs m ≡ true) ↔ SeesBy looking js facts m
+      holds_where = let so = by_sight p fs m decided in let is = sees_so looking asks in (λ h. is.0 (so.0 h), λ h. so.1 (is.1 h))
 
-        by_fields : (cs : List ComparedField) → compared_fields p.parts ≡ cs → are_by_order cs ≡ true → (holds_alone true p fs m ≡ true) ↔ SeesOne comparison js facts m
-        by_fields [] none o =
-            let is = no_one comparison (by ∙ ap (map (λ (c : ComparedField). c.comparison)) none) in (
-              λ h. subst (λ it. SeesOne it js facts m) (sym is) (plain_to none (so.0 h)),
-              λ h. so.1 (to_plain none (subst (λ it. SeesOne it js facts m) is h)),
-            )
-        by_fields (c ∷ []) one o =
-            let is = one_alone comparison c.comparison (by ∙ ap (map (λ (c : ComparedField). c.comparison)) one) in (
-              λ h. subst (λ it. SeesOne it js facts m) (sym is) (ordered_to c one (so.0 h)),
-              λ h. so.1 (to_ordered c one (subst (λ it. SeesOne it js facts m) is h)),
-            )
-        by_fields (c ∷ (d ∷ cs)) more o = absurd (cc)
+      -- whether there is such a fact can be decided
+      pub sees_or : SeesBy looking js facts m ⊎ (SeesBy looking js facts m → ⊥)
+      sees_or = by_test (holds_alone true p fs m)
+          (λ t. inl (holds_where.0 t))
+          (λ f. inr (λ h. both (sym f ∙ holds_where.1 h)))
+        where
+          both : false ≡ true → ⊥
+          both d = cc
 
-    -- whether there is such a fact can be decided
-    pub sees_or : SeesOne comparison js facts m ⊎ (SeesOne comparison js facts m → ⊥)
-    sees_or = by_test (holds_alone true p fs m)
-        (λ t. inl (holds_where.0 t))
-        (λ f. inr (λ h. both (sym f ∙ holds_where.1 h)))
-      where
-        both : false ≡ true → ⊥
-        both d = cc
+      -- and the group holds by it
+      pub holds_so : (positive : Bool) → (holds_alone positive p fs m ≡ true) ↔ Passes positive (SeesBy looking js facts m)
+      holds_so true = holds_where
+      holds_so false = (λ h s. to_not (holds_alone true p fs m) (sym (opposite p fs m) ∙ h) (holds_where.1 s), λ none. opposite p fs m ∙ not_to (holds_alone true p fs m) (λ t. none (holds_where.0 t)))
+        where
+          to_not : (b : Bool) → not b ≡ true → b ≡ true → ⊥
+          to_not true e d = cc
+          to_not false e d = cc
 
-    -- and the group holds by it
-    pub holds_so : (positive : Bool) → (holds_alone positive p fs m ≡ true) ↔ Passes positive (SeesOne comparison js facts m)
-    holds_so true = holds_where
-    holds_so false = (λ h s. to_not (holds_alone true p fs m) (sym (opposite p fs m) ∙ h) (holds_where.1 s), λ none. opposite p fs m ∙ not_to (holds_alone true p fs m) (λ t. none (holds_where.0 t)))
-      where
-        to_not : (b : Bool) → not b ≡ true → b ≡ true → ⊥
-        to_not true e d = cc
-        to_not false e d = cc
-
-        not_to : (b : Bool) → (b ≡ true → ⊥) → not b ≡ true
-        not_to true h = absurd (h refl)
-        not_to false h = refl
+          not_to : (b : Bool) → (b ≡ true → ⊥) → not b ≡ true
+          not_to true h = absurd (h refl)
+          not_to false h = refl
 
 -- one comparison of integers at most is in order
-pub is_in_order : (comparison : Option Comparison) (cs : List ComparedField) → option_to_list comparison ≡ map (λ (c : ComparedField). c.comparison) cs → are_by_order cs ≡ true → is_ordered comparison ≡ true
-is_in_order comparison [] e o = ap is_ordered (no_one comparison e)
-is_in_order comparison (c ∷ []) e o = ap is_ordered (one_alone comparison c.comparison e) ∙ o
-is_in_order comparison (c ∷ (d ∷ cs)) e o = absurd (cc)
+ordered_one : (comparison : Option Comparison) (cs : List ComparedField) → option_to_list comparison ≡ map (λ (c : ComparedField). c.comparison) cs → are_by_order cs ≡ true → is_ordered comparison ≡ true
+ordered_one comparison [] e o = ap is_ordered (no_one comparison e)
+ordered_one comparison (c ∷ []) e o = ap is_ordered (one_alone comparison c.comparison e) ∙ o
+ordered_one comparison (c ∷ (d ∷ cs)) e o = absurd (cc)
+
+pub well_ordered : (looking : Looking) (js known : List JoinField) (cs : List ComparedField) → AsksBy looking js known cs → is_well_ordered looking ≡ true
+well_ordered (in_order comparison) js ks cs asks = ordered_one comparison cs asks.1 asks.2
+well_ordered (by_witness ds) js ks cs asks = refl

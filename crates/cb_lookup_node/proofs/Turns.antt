@@ -1,5 +1,5 @@
 -- Who loses or gains the fact that it sees, where integers are compared, is who sees the fact that went or came alone.
-use Rattle.std.proofs.Common.{◌≡◌, ◌∙◌, ◌⊎◌, ℕ, Bool, true, false, List, Option, Some, None, Result, Ok, Err, IfOk, ap, inl, inr, length, refl, subst, sym}
+use Rattle.std.proofs.Common.{◌≡◌, ◌∙◌, ◌⊎◌, ℕ, List, Option, Some, None, Result, Ok, Err, IfOk, ap, inl, inr, length, subst, sym}
 use Rattle.cb_alpha.proofs.ReadFacts.{is_its_number, not_both, same_some, were_read}
 use Rattle.cb_alpha.specs.AlphaMemories.{AlphaMemoryValue, live, values_in}
 use Rattle.cb_alpha.specs.Turning.{is_number, were_in}

@@ -13,15 +13,38 @@ use Rattle.cb_facts.specs.declared.value.Value.{Value}
 use Rattle.cb_fit.specs.JoinFields.{join_fields}
 use Rattle.cb_fit.specs.declared.comparison.ComparedField.{ComparedField}
 use Rattle.cb_fit.specs.declared.comparison.Comparison.{Comparison}
+use Rattle.cb_fit.specs.declared.comparison.Comparison.TheVariants.{Less, LessOrEqual, Greater, GreaterOrEqual, Equal, NotEqual, Same, Differs}
 use Rattle.cb_fit.specs.declared.join_fields.JoinField.{JoinField}
+use Rattle.cb_groups.specs.Groups.{group_of}
 use Rattle.cb_lookup_node.specs.declared.node.LookupNode.{LookupNode}
+use Rattle.cb_lookup_node.specs.declared.sight.Sight.{Sight}
+use Rattle.cb_lookup_node.specs.declared.sight.Sight.TheVariants as sight
+use Rattle.cb_lookup_node.specs.declared.witnesses.Witnesses.{Witnesses}
 use Rattle.cb_matches.specs.Chains.{In}
 use Rattle.cb_matches.specs.Matches.{Partial}
-use Rattle.cb_nodes.specs.Flat.{are_by_order, holds_alone}
+use Rattle.cb_nodes.specs.Flat.{holds_alone}
+use Rattle.cb_scopes.specs.Compared.{all_compare}
 use Rattle.cb_scopes.specs.Decided.{known_fields}
 use Rattle.cb_scopes.specs.Scopes.{HasValuesOf, Scope}
 use Rattle.cb_token_lists.specs.Growth.{AreTokens}
 use Rattle.cb_token_lists.specs.Turns.{IsThere, Turns, WasThere}
+
+-- by such a comparison facts are looked up in the order of integers: by the least and the greatest value of the field
+abbrev pub is_by_order : Comparison → Bool
+is_by_order Less = true
+is_by_order LessOrEqual = true
+is_by_order Greater = true
+is_by_order GreaterOrEqual = true
+is_by_order Equal = false
+is_by_order NotEqual = false
+is_by_order Same = false
+is_by_order Differs = false
+
+-- nothing is compared, or one field by such a comparison
+abbrev pub are_by_order : List ComparedField → Bool
+are_by_order [] = true
+are_by_order (c ∷ []) = is_by_order c.comparison
+are_by_order (c ∷ d ∷ cs) = false
 
 -- among these facts there is one with these values in these fields
 abbrev pub HasOne : List JoinField → (ℕ → Option (ℕ × FactValue)) → List Value → Type 0
@@ -40,6 +63,34 @@ HasSeen (Some c) fields facts values = (others : List Value) × AreInOrder c oth
 abbrev pub SeesOne : Option Comparison → List JoinField → (ℕ → Option (ℕ × FactValue)) → Partial → Type 0
 SeesOne comparison fields facts m = (values : List Value) × (variable_values fields m.env ≡ Some values) × HasSeen comparison fields facts values
 
+-- the fields of the fact that are compared compare so with what a partial match gives to their variables
+abbrev pub compares_with : List ComparedField → Option (ℕ × FactValue) → Partial → Bool
+compares_with cs None m = false
+compares_with cs (Some f) m = all_compare cs m.env f.1.content
+
+-- a partial match sees the fact of a number: the fact has the values that the partial match gives to the fields, and compares so
+abbrev pub SeesFact : List ComparedField → List JoinField → (ℕ → Option (ℕ × FactValue)) → Partial → ℕ → Type 0
+SeesFact cs fields facts m k = (values : List Value) × (variable_values fields m.env ≡ Some values) × (values_in fields (facts k) ≡ Some values) × (compares_with cs (facts k) m ≡ true)
+
+-- it sees one
+abbrev pub SeesSome : List ComparedField → List JoinField → (ℕ → Option (ℕ × FactValue)) → Partial → Type 0
+SeesSome cs fields facts m = (k : ℕ) × SeesFact cs fields facts m k
+
+-- how it is known whether there is a fact: by the order of the integers of the last field, if that is compared, or by a witness, where
+-- any fields are compared
+pub data Looking : Type 0 where
+  in_order : Option Comparison → Looking
+  by_witness : List ComparedField → Looking
+
+abbrev pub looking_of : Sight → Looking
+looking_of (sight.InOrder o) = in_order o.comparison
+looking_of (sight.ByWitness w) = by_witness w.compared.items
+
+-- there is a fact that a partial match sees
+abbrev pub SeesBy : Looking → List JoinField → (ℕ → Option (ℕ × FactValue)) → Partial → Type 0
+SeesBy (in_order comparison) fields facts m = SeesOne comparison fields facts m
+SeesBy (by_witness cs) fields facts m = SeesSome cs fields facts m
+
 -- a field that is compared, as one that is looked up
 abbrev pub compared_join : ComparedField → JoinField
 compared_join c = record { variable = c.variable; slot = c.place.slot; field = c.place.field }
@@ -54,8 +105,8 @@ abbrev pub passed_on : ℕ → TokenValue
 passed_on number = record { parent = number; taken = None }
 
 -- the tokens behind it: those of what is there before it and is passed on over these facts
-abbrev pub ArePassedOn : Bool → Option Comparison → List JoinField → (ℕ → Option (ℕ × FactValue)) → (ℕ → Partial) → (ℕ → Type 0) → TokenValue → Type 0
-ArePassedOn positive comparison fields facts at There t = (number : ℕ) × There number × Passes positive (SeesOne comparison fields facts (at number)) × (t ≡ passed_on number)
+abbrev pub ArePassedOn : Bool → Looking → List JoinField → (ℕ → Option (ℕ × FactValue)) → (ℕ → Partial) → (ℕ → Type 0) → TokenValue → Type 0
+ArePassedOn positive looking fields facts at There t = (number : ℕ) × There number × Passes positive (SeesBy looking fields facts (at number)) × (t ≡ passed_on number)
 
 -- the last of these values is an integer
 abbrev pub ends_in_integer : List Value → Bool
@@ -74,6 +125,29 @@ pub record AreFiled (comparison : Option Comparison) (fields : List JoinField) (
   pub there : (number : ℕ) → There number → values_at filing number ≡ filed_by comparison (variable_values fields (at number).env)
   pub only : (number : ℕ) (values : List Value) → values_at filing number ≡ Some values → There number
 
+-- how a partial match is kept: with a fact that it sees as its witness, or, where it sees none, by the values that it gives to the fields
+abbrev pub HasPlace : List ComparedField → List JoinField → (ℕ → Option (ℕ × FactValue)) → Partial → Option ℕ → Option (List Value) → Type 0
+HasPlace cs fields facts m (Some witness) filed = SeesFact cs fields facts m witness × (filed ≡ None)
+HasPlace cs fields facts m None filed = (filed ≡ variable_values fields m.env) × ((k : ℕ) → SeesFact cs fields facts m k → ⊥)
+
+-- just these partial matches are kept so
+pub record HaveWitnesses (cs : List ComparedField) (fields : List JoinField) (kept : Witnesses) (at : ℕ → Partial) (There : ℕ → Type 0) (facts : ℕ → Option (ℕ × FactValue)) : Type 0 where
+  pub there : (number : ℕ) → There number → HasPlace cs fields facts (at number) (group_of kept.given number) (values_at kept.unseen number)
+  pub given_there : (number witness : ℕ) → group_of kept.given number ≡ Some witness → There number
+  pub unseen_there : (number : ℕ) (values : List Value) → values_at kept.unseen number ≡ Some values → There number
+
+-- just these partial matches are kept, as is done in either way
+abbrev pub AreKept : Sight → List JoinField → (ℕ → Partial) → (ℕ → Type 0) → (ℕ → Option (ℕ × FactValue)) → Type 0
+AreKept (sight.InOrder o) fields at There facts = AreFiled o.comparison fields o.partials at There
+AreKept (sight.ByWitness w) fields at There facts = HaveWitnesses w.compared.items fields w.kept at There facts
+
+-- the facts are found by the known fields, and behind them the one that is compared by order, if one is; or by the known fields, where
+-- any are compared
+abbrev pub AsksBy : Looking → List JoinField → List JoinField → List ComparedField → Type 0
+AsksBy (in_order comparison) fields known compared =
+    (fields ≡ known ++ map compared_join compared) × (option_to_list comparison ≡ map (λ (c : ComparedField). c.comparison) compared) × (are_by_order compared ≡ true)
+AsksBy (by_witness cs) fields known compared = (fields ≡ known) × (cs ≡ compared)
+
 module _ {T : Type 0} where
   -- the node asks the same, of the same list and by the same join
   pub record AsksTheSame (node node' : LookupNode T) : Type 0 where
@@ -82,22 +156,20 @@ module _ {T : Type 0} where
     pub pattern : node'.pattern ≡ node.pattern
     pub join : node'.join ≡ node.join
     pub fields : node'.fields ≡ node.fields
-    pub comparison : node'.comparison ≡ node.comparison
+    pub looking : looking_of node'.sight ≡ looking_of node.sight
 
   -- the pattern is looked up by values, where variables with these names have values before it: by the fields with such a variable, and
-  -- behind them by the one that is compared, if one is
+  -- by what it compares
   pub record IsLookup (names : Scope) (node : LookupNode T) : Type 0 where
     pub decided : is_decided node.pattern ≡ true
     pub unchosen : choice_fields node.pattern.parts ≡ []
-    pub fields : node.fields.items ≡ known_fields (join_fields node.pattern.parts) names ++ map compared_join (compared_fields node.pattern.parts)
-    pub comparison : option_to_list node.comparison ≡ map (λ (c : ComparedField). c.comparison) (compared_fields node.pattern.parts)
-    pub by_order : are_by_order (compared_fields node.pattern.parts) ≡ true
+    pub asks : AsksBy (looking_of node.sight) node.fields.items (known_fields (join_fields node.pattern.parts) names) (compared_fields node.pattern.parts)
 
-  -- the pattern is looked up so, what is before the node is filed, and the tokens behind it are those that it passes on over these facts
+  -- the pattern is looked up so, what is before the node is kept, and the tokens behind it are those that it passes on over these facts
   pub record IsLookupReady (node : LookupNode T) (names : Scope) (at : ℕ → Partial) (There : ℕ → Type 0) (facts : ℕ → Option (ℕ × FactValue)) (own : BetaMemoryValue) : Type 0 where
     pub lookup : IsLookup names node
-    pub filed : AreFiled node.comparison node.fields.items node.partials at There
-    pub tokens : AreTokens own (ArePassedOn node.positive node.comparison node.fields.items facts at There)
+    pub kept : AreKept node.sight node.fields.items at There facts
+    pub tokens : AreTokens own (ArePassedOn node.positive (looking_of node.sight) node.fields.items facts at There)
 
   -- before a change: the list before the group, where a number stands for a partial match by `at`, has turned from the partial matches
   -- `old` to `new`, in which just the variables with these names have values, and the facts from `fs` to `fs'`, which are found by the

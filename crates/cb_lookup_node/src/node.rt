@@ -1,21 +1,21 @@
 //! A change of a group of one pattern that is looked up.
-ghost use Rattle.std.specs.Prelude.{◌≡◌, ℕ, [], List, OnOk, Option, Some, slice_get};
+ghost use Rattle.std.specs.Prelude.{◌≡◌, ℕ, [], IfOk, List, OnOk, Option, Some, slice_get, true};
 ghost use Rattle.cb_beta.specs.BetaMemories.{BetaMemoryValue};
 ghost use Rattle.cb_facts.specs.FactLists.{IndexedFacts};
 ghost use Rattle.cb_facts.specs.Facts.{FactValue};
+ghost use Rattle.cb_fit.specs.Comparisons.{choice_fields, compared_fields, is_decided};
+ghost use Rattle.cb_fit.specs.JoinFields.{join_fields};
 ghost use Rattle.cb_lookup_node.specs.LookupNodes.{AsksTheSame, IsAfterLookup, IsBeforeLookup, IsLookup, IsLookupReady};
 ghost use Rattle.cb_matches.specs.Matches.{Partial};
+ghost use Rattle.cb_scopes.specs.Decided.{known_fields};
 ghost use Rattle.cb_scopes.specs.Scopes.{Scope};
 ghost use Rattle.cb_token_lists.specs.Keeping.{KeepsTokens};
 ghost use Rattle.cb_token_lists.specs.Partials.{partial_at};
 
-use crate::filed::forget_all;
-use crate::passing::pass_come;
-use crate::turned::turn;
-use crate::values::values_of_number;
-use cb_alpha::{AlphaMemory, Buckets};
+use crate::sight::Sight;
+use cb_alpha::AlphaMemory;
 use cb_beta::BetaMemory;
-use cb_fit::{Comparison, JoinField, Pattern};
+use cb_fit::{ComparedField, JoinField, Pattern};
 use cb_forms::NoMemory;
 use cb_scopes::laws::{
     a_group_of_a_decided_pattern_holds_by_values, facts_agree_by_the_values_of_known_fields,
@@ -37,43 +37,47 @@ pub struct LookupNode<T> {
     pub pattern: Pattern<T>,
     /// The number of the join of the pattern's alpha memory that finds facts by the fields.
     pub join: usize,
-    /// The fields of a fact that have to be equal to variables that have values before, and behind them the one that is compared.
+    /// The fields of a fact by which facts are found: those that have to be equal to variables that have values before, and behind them
+    /// the one that is compared by order, if one is.
     pub fields: Vec<JoinField>,
-    /// How the last field is compared with the value of its variable, if it is.
-    pub comparison: Option<Comparison>,
-    /// The partial matches before it, by the values that they give to the fields.
-    pub(crate) partials: Buckets,
+    /// How it is known for which of the partial matches before it there is a fact.
+    pub(crate) sight: Sight,
 }
 
 impl<T> LookupNode<T> {
-    /// A group behind the list `from`, with no partial matches before it yet. The join has to be set when the alpha memory has it. It
-    /// takes no memory.
+    /// A group behind the list `from`, with no partial matches before it yet, whose pattern has these fields that have to be equal to
+    /// variables with values before, and compares those. The join has to be set when the alpha memory has it. Growth is refused as
+    /// `NoMemory`.
     pub fn new(
         alloc: Global,
         from: usize,
         positive: bool,
         pattern: Pattern<T>,
-        fields: Vec<JoinField>,
-        comparison: Option<Comparison>,
-    ) -> LookupNode<T>
-        ensures from { result.from ≡ from }
-        ensures positive { result.positive ≡ positive }
-        ensures pattern { result.pattern ≡ pattern }
-        ensures fields { result.fields ≡ fields }
-        ensures comparison { result.comparison ≡ comparison }
-        ensures ready { (names : Scope) (at : ℕ → Partial) (facts : ℕ → Option (ℕ × FactValue))
-            → IsLookup names result → IsLookupReady result names at (λ number. ⊥) facts (record { tokens = []; gone = []; come = [] }) }
+        known: Vec<JoinField>,
+        compared: Vec<ComparedField>,
+    ) -> Result<LookupNode<T>, NoMemory>
+        ensures from { IfOk result (λ node. node.from ≡ from) }
+        ensures positive { IfOk result (λ node. node.positive ≡ positive) }
+        ensures pattern { IfOk result (λ node. node.pattern ≡ pattern) }
+        ensures lookup { IfOk result (λ node. (names : Scope) → is_decided pattern ≡ true
+            → choice_fields pattern.parts ≡ []
+            → known.items ≡ known_fields (join_fields pattern.parts) names
+            → compared.items ≡ compared_fields pattern.parts → IsLookup names node) }
+        ensures ready { IfOk result (λ node. (names : Scope) (at : ℕ → Partial) (facts : ℕ → Option (ℕ × FactValue))
+            → IsLookup names node
+            → IsLookupReady node names at (λ number. ⊥) facts (record { tokens = []; gone = []; come = [] })) }
     {
-        LookupNode {
+        let mut fields = known;
+        let sight = Sight::new(alloc, compared, &mut fields)?;
+        Ok(LookupNode {
             alloc,
             from,
             positive,
             pattern,
             join: 0,
             fields,
-            comparison,
-            partials: Buckets::new(alloc),
-        }
+            sight,
+        })
     }
 
     /// No partial matches are before it any more, as in a new one. It takes no memory.
@@ -82,11 +86,12 @@ impl<T> LookupNode<T> {
         ensures ready { (names : Scope) (at : ℕ → Partial) (facts : ℕ → Option (ℕ × FactValue))
             → IsLookup names self.old → IsLookupReady self.new names at (λ number. ⊥) facts (record { tokens = []; gone = []; come = [] }) }
     {
-        self.partials = Buckets::new(self.alloc);
+        self.sight.clear(self.alloc);
     }
 
     /// Changes the tokens behind the group, in `own`. The list before it has changed already, and the alpha memory of the pattern is as
-    /// it is after the change. Growth is refused as `NoMemory`, and then some of the change may be done.
+    /// it is after the change. Growth is refused as `NoMemory`, and so is a count of sharers that is full; then some of the change may be
+    /// done.
     pub fn change(
         &mut self,
         lists: &TokenLists<'_>,
@@ -108,30 +113,14 @@ impl<T> LookupNode<T> {
             return Ok(());
         };
         own.remove_all_children(before.gone())?;
-        forget_all(&mut self.partials, before.gone());
-        let went = values_of_number(lists.alloc, self.fields.as_slice(), alpha, alpha.gone())?;
-        let came = values_of_number(lists.alloc, self.fields.as_slice(), alpha, alpha.come())?;
-        turn(
-            lists.alloc,
-            self.comparison,
-            self.positive,
-            &self.partials,
-            alpha,
-            self.join,
-            &went,
-            &came,
-            own,
-        )?;
-        pass_come(
+        self.sight.change(
             lists,
             self.from,
-            self.comparison,
             self.fields.as_slice(),
             self.positive,
-            &mut self.partials,
             alpha,
             self.join,
-            before.come(),
+            before,
             own,
         )
     }

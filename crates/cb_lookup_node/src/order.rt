@@ -11,7 +11,7 @@ ghost use Rattle.cb_lookup_node.specs.Internal.{IsFiledBy, MayBeFiled};
 ghost use Rattle.cb_lookup_node.specs.LookupNodes.{HasSeen, ends_in_integer};
 ghost use Rattle.cb_lookup_node.specs.Order.{HasBeyond, IsNearest, IsSeenAlone, OtherHas, takes_equal};
 ghost use Rattle.cb_matches.specs.Chains.{Chain, In};
-ghost use Rattle.cb_nodes.specs.Flat.{is_by_order};
+ghost use Rattle.cb_lookup_node.specs.LookupNodes.{is_by_order};
 
 use crate::parting::{is_lower, seeing_first, takes_equal};
 use crate::places::{before_all, behind, behind_all, ends_in_integer};

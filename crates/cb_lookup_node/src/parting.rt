@@ -7,7 +7,7 @@ ghost use Rattle.cb_fit.specs.declared.join_fields.JoinField.{JoinField as Field
 ghost use Rattle.cb_lookup_node.specs.Internal.{IsFiledBy, MayBeFiled};
 ghost use Rattle.cb_lookup_node.specs.Order.{AreOneMore, IsFarEnd, SeesFirst, is_lower, is_parted_behind, open_end, parting, place_among, takes_equal};
 ghost use Rattle.cb_matches.specs.Chains.{Chain, In};
-ghost use Rattle.cb_nodes.specs.Flat.{is_by_order};
+ghost use Rattle.cb_lookup_node.specs.LookupNodes.{is_by_order};
 
 use crate::places::{before_all, behind, behind_all};
 use cb_alpha::{Buckets, JoinValues};

@@ -6,7 +6,7 @@ ghost use Rattle.cb_alpha.specs.JoinValues.{variable_values};
 ghost use Rattle.cb_alpha.specs.Turning.{HasJoin};
 ghost use Rattle.cb_beta.specs.BetaMemories.{BetaMemoryValue};
 ghost use Rattle.cb_lookup_node.specs.Internal.{AreOf, Stays, is_ordered};
-ghost use Rattle.cb_lookup_node.specs.LookupNodes.{AreFiled, ArePassedOn, Passes, SeesOne, filed_by, passed_on};
+ghost use Rattle.cb_lookup_node.specs.LookupNodes.{AreFiled, ArePassedOn, Passes, SeesOne, filed_by, in_order, passed_on};
 ghost use Rattle.cb_matches.specs.Chains.{Chain, In};
 ghost use Rattle.cb_token_lists.specs.Growth.{Comes};
 ghost use Rattle.cb_token_lists.specs.Keeping.{KeepsTokens};
@@ -55,7 +55,7 @@ pub(crate) fn pass_come(
         (λ number. Stays before number ⊎ In number come.now)) }
     ensures come { OnOk result (Chain (λ (i : ℕ) (j : ℕ). i ≢ j) come.now
         → HasJoin alpha.now join fields.now → is_ordered comparison ≡ true
-        → Comes own.old own.new (ArePassedOn positive comparison fields.now (live alpha.now)
+        → Comes own.old own.new (ArePassedOn positive (in_order comparison) fields.now (live alpha.now)
         (partial_at lists.now.sources.now lists.now.lists.now from) (λ number. In number come.now))) }
     ensures keeps { OnOk result (KeepsTokens own.old own.new) }
 {
@@ -95,7 +95,7 @@ fn pass_one(
 }
 
 /// Whether the group passes a partial match on, by whether there is a fact for it.
-fn passes_by(positive: bool, one: bool) -> bool
+pub(crate) fn passes_by(positive: bool, one: bool) -> bool
     ensures { result ≡ (if positive then one else not one) }
 {
     if positive { one } else { !one }

@@ -174,7 +174,7 @@ fn gaining_in_order(
 
 /// Takes away or passes on those for which the last fact went, and those for which the first came, by whether the group is positive.
 /// Growth is refused as `NoMemory`, and then some of it may be done.
-fn pass_turned(
+pub(crate) fn pass_turned(
     positive: bool,
     lost: &[u32],
     gained: &[u32],

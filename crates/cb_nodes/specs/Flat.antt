@@ -8,9 +8,6 @@ use Rattle.cb_facts.specs.FactLists.{IndexedFacts}
 use Rattle.cb_facts.specs.Facts.{FactValue}
 use Rattle.cb_fit.specs.Comparisons.{ChoiceFieldValue, DecisionValue, decision}
 use Rattle.cb_fit.specs.StandsAlone.{stands_alone}
-use Rattle.cb_fit.specs.declared.comparison.ComparedField.{ComparedField}
-use Rattle.cb_fit.specs.declared.comparison.Comparison.{Comparison}
-use Rattle.cb_fit.specs.declared.comparison.Comparison.TheVariants.{Less, LessOrEqual, Greater, GreaterOrEqual, Equal, NotEqual, Same, Differs}
 use Rattle.cb_matches.specs.Keys.{PartValue, part_eq}
 use Rattle.cb_matches.specs.Matches.{Partial, group_holds, next, test_holds}
 use Rattle.cb_partials.specs.Probes.{added_probes, is_candidate, partials_come, partials_kept}
@@ -118,23 +115,6 @@ tests_first (element (pattern x p) es) = []
 tests_first (element (test t) es) = t ∷ tests_first es
 tests_first (element (group positive inner) es) = []
 
--- by such a comparison of a field with a variable facts are looked up: by the least and the greatest value of the field
-abbrev pub is_by_order : Comparison → Bool
-is_by_order Less = true
-is_by_order LessOrEqual = true
-is_by_order Greater = true
-is_by_order GreaterOrEqual = true
-is_by_order Equal = false
-is_by_order NotEqual = false
-is_by_order Same = false
-is_by_order Differs = false
-
--- nothing is compared, or one field by such a comparison
-abbrev pub are_by_order : List ComparedField → Bool
-are_by_order [] = true
-are_by_order (c ∷ []) = is_by_order c.comparison
-are_by_order (c ∷ d ∷ cs) = false
-
 -- no field has alternatives
 abbrev pub are_none_chosen : List ChoiceFieldValue → Bool
 are_none_chosen [] = true
@@ -143,7 +123,7 @@ are_none_chosen (c ∷ cs) = false
 -- whether there is a fact that a pattern fits can be looked up by values, by what decides
 abbrev pub is_looked_up : Option DecisionValue → Bool
 is_looked_up None = false
-is_looked_up (Some d) = are_by_order d.compared && are_none_chosen d.chosen
+is_looked_up (Some d) = are_none_chosen d.chosen
 
 -- the pattern of a group that has no other element, where no address is taken, and the pattern stands alone or is looked up
 abbrev pub lone_pattern : Elements → Option PatternValue

@@ -23,7 +23,7 @@ use Rattle.cb_scopes.specs.Decided.{Sees, field_values, known_fields, variable_v
 use Rattle.cb_scopes.specs.Scopes.{Scope}
 
 -- names by test and by list
-named_in : (x : List ℕ) (names : Scope) → is_named x names ≡ true → In x names
+pub named_in : (x : List ℕ) (names : Scope) → is_named x names ≡ true → In x names
 named_in x [] e = absurd (cc)
 named_in x (y ∷ names) e = by (named_in x names) (bytes_eq x y) (bytes_decides x y).0 e
   where
@@ -31,7 +31,7 @@ named_in x (y ∷ names) e = by (named_in x names) (bytes_eq x y) (bytes_decides
     by more true same d = inl (same refl)
     by more false same d = inr (more d)
 
-in_named : (x : List ℕ) (names : Scope) → In x names → is_named x names ≡ true
+pub in_named : (x : List ℕ) (names : Scope) → In x names → is_named x names ≡ true
 in_named x [] h = absurd h
 in_named x (y ∷ names) (inl same) = ap (λ t. t || is_named x names) ((bytes_decides x y).1 same)
 in_named x (y ∷ names) (inr h) = later (bytes_eq x y) (in_named x names h)

@@ -1,3 +1,4 @@
+pub mod Comparing
 pub mod Decided
 pub mod Made
 pub mod Scoped

@@ -1,4 +1,4 @@
-use Rattle.std.proofs.Common.{◌≡◌, ◌∙◌, ◌++◌, ◌∷◌, List, [], ap, option_copied, pos, subst}
+use Rattle.std.proofs.Common.{List, option_copied, subst}
 use Rattle.cb_alpha.specs.AlphaMemories.{HasFactWith, live}
 use Rattle.cb_alpha.specs.Buckets.{AreFirst}
 use Rattle.cb_facts.specs.declared.value.Value.{Value}

@@ -1,4 +1,4 @@
-use Rattle.std.proofs.Common.{◌≡◌, ◌∙◌, None, Some, ap, rules, sym}
+use Rattle.std.proofs.Common.{◌≡◌, ◌∙◌, Some, ap, rules, sym}
 use Rattle.cb_alpha.proofs.ReadFacts.{same_some}
 use Rattle.cb_lookup_node.proofs.Looked.{another_found, has_found, none_found, some_found, some_tested, tested_some, two}
 use Rattle.cb_lookup_node.proofs.order.has_another.Goals as goal

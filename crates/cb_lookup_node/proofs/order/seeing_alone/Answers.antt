@@ -1,4 +1,4 @@
-use Rattle.std.proofs.Common.{◌≡◌, ◌∙◌, ◌↔◌, ℕ, Bool, List, None, false, true, not, option_copied, subst, sym}
+use Rattle.std.proofs.Common.{◌∙◌, ◌↔◌, ℕ, Bool, List, not, option_copied, subst, sym}
 use Rattle.cb_alpha.proofs.ReadFacts.{not_both}
 use Rattle.cb_lookup_node.proofs.Alone.{alone_first, another_alone, better_alone, filed_by_so, first_alone, none_filed_by, not_ordered, one_more}
 use Rattle.cb_lookup_node.proofs.InOrder.{parted}

@@ -1,4 +1,4 @@
-use Rattle.std.proofs.Common.{◌≡◌, ◌∙◌, ℕ, None, Some, false, true, sym}
+use Rattle.std.proofs.Common.{◌≡◌, ◌∙◌, None, Some, sym}
 use Rattle.cb_alpha.proofs.ReadFacts.{not_both}
 use Rattle.cb_lookup_node.proofs.order.sees_equal.Goals as goal
 

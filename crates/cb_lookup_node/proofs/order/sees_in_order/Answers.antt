@@ -1,4 +1,4 @@
-use Rattle.std.proofs.Common.{◌≡◌, ◌∙◌, Bool, false, true, refl, subst, sym}
+use Rattle.std.proofs.Common.{◌∙◌, Bool, refl, subst, sym}
 use Rattle.cb_alpha.proofs.ReadFacts.{not_both}
 use Rattle.cb_lookup_node.proofs.Alone.{best_sees, equal_sees, seen_best}
 use Rattle.cb_lookup_node.proofs.InOrder.{in_order_ends, parted}

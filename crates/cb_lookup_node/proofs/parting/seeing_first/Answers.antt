@@ -1,4 +1,4 @@
-use Rattle.std.proofs.Common.{◌≡◌, ◌∙◌, ◌++◌, ◌∷◌, List, [], ap, option_copied, subst, sym}
+use Rattle.std.proofs.Common.{◌≡◌, ◌∙◌, List, ap, option_copied, subst, sym}
 use Rattle.cb_alpha.specs.Buckets.{AreWithin}
 use Rattle.cb_beta.proofs.Members.{apart_of}
 use Rattle.cb_facts.specs.declared.value.Value.{Value}

@@ -6,7 +6,7 @@ use Rattle.cb_lookup_node.proofs.Passed.{one_by_one, together}
 use Rattle.cb_lookup_node.proofs.Refiled.{one_filed}
 use Rattle.cb_lookup_node.proofs.passing.pass_come.Goals as goal
 use Rattle.cb_lookup_node.specs.Internal.{Stays}
-use Rattle.cb_lookup_node.specs.LookupNodes.{ArePassedOn, Passes, SeesOne, passed_on}
+use Rattle.cb_lookup_node.specs.LookupNodes.{ArePassedOn, Passes, SeesOne, in_order, passed_on}
 use Rattle.cb_matches.specs.Chains.{In}
 use Rattle.cb_token_lists.proofs.Arrivals.{one_more_comes}
 use Rattle.cb_token_lists.proofs.Keeping.{keeps_then}
@@ -38,5 +38,5 @@ returns-clause-come c once has order =
     let xs = c.args.come.now in
     let i = c.loop-number.number-index in
     let end : i ≡ length xs = omega (arith, c.loop-number-test.false, c.loop-number.auto.number-index-end) in
-    subst (λ (it : List ℕ). Comes c.args.own.now c.loop-number.own (ArePassedOn c.args.positive c.args.comparison c.args.fields.now (live c.args.alpha.now) at (λ n. In n it)))
+    subst (λ (it : List ℕ). Comes c.args.own.now c.loop-number.own (ArePassedOn c.args.positive (in_order c.args.comparison) c.args.fields.now (live c.args.alpha.now) at (λ n. In n it)))
     (ap (λ n. take n xs) end ∙ take-length xs) (c.loop-number.invariant.1 once has order)

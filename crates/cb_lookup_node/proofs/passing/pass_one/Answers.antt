@@ -1,4 +1,4 @@
-use Rattle.std.proofs.Common.{rules, ◌≡◌, ◌∙◌, true, ap, sym}
+use Rattle.std.proofs.Common.{rules, ◌≡◌, ◌∙◌, true, sym}
 use Rattle.cb_alpha.specs.AlphaMemories.{live}
 use Rattle.cb_alpha.specs.JoinValues.{variable_values}
 use Rattle.cb_beta.proofs.Losses.{on_ok}

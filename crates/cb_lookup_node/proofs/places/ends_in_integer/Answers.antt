@@ -1,4 +1,4 @@
-use Rattle.std.proofs.Common.{◌≡◌, ◌∙◌, None, Some, ap, sym}
+use Rattle.std.proofs.Common.{◌∙◌, None, Some, ap, sym}
 use Rattle.cb_lookup_node.proofs.InOrder.{last_ends}
 use Rattle.cb_lookup_node.proofs.places.ends_in_integer.Goals as goal
 use Rattle.cb_lookup_node.specs.LookupNodes.{ends_in_integer}

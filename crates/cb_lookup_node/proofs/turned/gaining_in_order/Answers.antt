@@ -1,4 +1,4 @@
-use Rattle.std.proofs.Common.{◌≡◌, ◌∙◌, ◌↔◌, ◌⊎◌, ℕ, List, Option, None, Some, ap, inl, inr, rules, subst, sym}
+use Rattle.std.proofs.Common.{◌≡◌, ◌∙◌, ◌↔◌, ℕ, List, Option, None, Some, rules, subst, sym}
 use Rattle.cb_lookup_node.proofs.Alone.{filed_by_so, none_filed_by}
 use Rattle.cb_lookup_node.proofs.Turns.{alone_gained, come_has, gained_alone, if_ok, no_gone, none_gained, under_many}
 use Rattle.cb_lookup_node.proofs.turned.gaining_in_order.Goals as goal

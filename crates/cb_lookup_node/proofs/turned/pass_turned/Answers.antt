@@ -1,11 +1,11 @@
-use Rattle.std.proofs.Common.{◌≡◌, ◌≢◌, ℕ, List, cond, subst}
+use Rattle.std.proofs.Common.{ℕ, List, subst}
 use Rattle.cb_beta.proofs.Losses.{on_ok}
 use Rattle.cb_beta.specs.BetaMemories.{Loses}
 use Rattle.cb_beta.specs.Tokens.{TokenValue}
 use Rattle.cb_lookup_node.proofs.Whole.{one_once}
 use Rattle.cb_lookup_node.proofs.turned.pass_turned.Goals as goal
 use Rattle.cb_lookup_node.specs.Internal.{AreOf}
-use Rattle.cb_matches.specs.Chains.{Chain, In}
+use Rattle.cb_matches.specs.Chains.{In}
 use Rattle.cb_token_lists.proofs.Keeping.{keeps_then, lost_keeps}
 use Rattle.cb_token_lists.specs.Growth.{Comes}
 

@@ -1,4 +1,4 @@
-use Rattle.std.proofs.Common.{◌≡◌, ◌∙◌, None, Some, rules, subst, sym, true}
+use Rattle.std.proofs.Common.{◌≡◌, None, Some, rules, subst, sym, true}
 use Rattle.cb_alpha.specs.AlphaMemories.{live}
 use Rattle.cb_lookup_node.proofs.Looked.{none_found, some_found, some_tested, tested_some}
 use Rattle.cb_lookup_node.proofs.Seen.{one_value}

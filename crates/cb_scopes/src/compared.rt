@@ -1,0 +1,40 @@
+//! Fields of a fact that are compared with variables.
+ghost use Rattle.std.specs.Prelude.{◌≡◌, IfOk};
+ghost use Rattle.cb_scopes.specs.Compared.{all_compare, compares_so};
+
+use cb_exprs::Lookup;
+use cb_facts::Fact;
+use cb_fit::ComparedField;
+use cb_forms::NoMemory;
+
+/// Whether each of these fields of a fact is compared so with its variable, where both have values. It is refused as `NoMemory` where a
+/// look-up is, or where a count of sharers is full.
+pub fn compare_all<L: Lookup>(
+    fields: &[ComparedField],
+    known: &L,
+    fact: &Fact,
+) -> Result<bool, NoMemory>
+    ensures { IfOk result
+        (λ so. so ≡ all_compare fields.now (L.bindings known.now) fact.now.content) }
+{
+    for field in fields {
+        if !compare_one(field, known, fact)? {
+            return Ok(false);
+        }
+    }
+    Ok(true)
+}
+
+/// The same of one field.
+fn compare_one<L: Lookup>(field: &ComparedField, known: &L, fact: &Fact) -> Result<bool, NoMemory>
+    ensures { IfOk result
+        (λ so. so ≡ compares_so (L.bindings known.now) fact.now.content field.now) }
+{
+    let Some(value) = field.place.value_in(fact)? else {
+        return Ok(false);
+    };
+    let Some(other) = known.variable(&field.variable)? else {
+        return Ok(false);
+    };
+    Ok(field.comparison.holds(&value, &other))
+}
