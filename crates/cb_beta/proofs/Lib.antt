@@ -1,4 +1,5 @@
 mod FoundBy
 pub mod Live
+mod LiveNumbers
 pub mod Losses
 pub mod Members

@@ -18,6 +18,12 @@ live_in ts gone i = if list_any (nat_eq i) gone then None else token_at ts i
 abbrev pub live : BetaMemoryValue → ℕ → Option TokenValue
 live m i = live_in m.tokens m.gone i
 
+-- these are the numbers of the tokens that are there, in any order, none twice
+pub record AreLiveNumbers (m : BetaMemoryValue) (numbers : List ℕ) : Type 0 where
+  pub are : (i : ℕ) → In i numbers → (t : TokenValue) × (live m i ≡ Some t)
+  pub all : (i : ℕ) (t : TokenValue) → live m i ≡ Some t → In i numbers
+  pub once : Chain (λ (i : ℕ) (j : ℕ). i ≢ j) numbers
+
 -- the two have the same tokens
 pub record IsSame (old new : BetaMemoryValue) : Type 0 where
   pub tokens : (i : ℕ) → token_at new.tokens i ≡ token_at old.tokens i

@@ -1,9 +1,9 @@
--- How tokens are found by their parents and their facts.
-use Rattle.std.specs.Prelude.{◌≡◌, ◌≢◌, ℕ, List, Some, None}
+-- How tokens are found by their parents and their facts, and their numbers. No public clause cites this module.
+use Rattle.std.specs.Prelude.{◌≡◌, ◌≢◌, ◌<◌, ℕ, List, Some, None}
 use Rattle.std.specs.Option.{option_and_then, option_map}
 use Rattle.cb_groups.specs.Groups.{Membership, group_of}
-use Rattle.cb_matches.specs.Chains.{In}
-use Rattle.cb_beta.specs.BetaMemories.{live_in}
+use Rattle.cb_matches.specs.Chains.{Chain, In}
+use Rattle.cb_beta.specs.BetaMemories.{BetaMemoryValue, live, live_in}
 use Rattle.cb_beta.specs.Tokens.{TokenValue, Tokens, candidate_of, token_at}
 
 -- the parent of a token
@@ -35,3 +35,10 @@ KeepsOthers old new number = (i : ℕ) → i ≢ number → group_of new i ≡ g
 pub record AreLeft (old new : Membership) (numbers : List ℕ) : Type 0 where
   pub left : (i : ℕ) → In i numbers → group_of new i ≡ None
   pub others : (i : ℕ) → (In i numbers → ⊥) → group_of new i ≡ group_of old i
+
+-- these are the numbers below n of the tokens that are there, none twice
+pub record AreLiveBelow (m : BetaMemoryValue) (n : ℕ) (numbers : List ℕ) : Type 0 where
+  pub are : (i : ℕ) → In i numbers → (t : TokenValue) × (live m i ≡ Some t)
+  pub below : (i : ℕ) → In i numbers → i < n
+  pub all : (i : ℕ) (t : TokenValue) → i < n → live m i ≡ Some t → In i numbers
+  pub once : Chain (λ (i : ℕ) (j : ℕ). i ≢ j) numbers

@@ -1,8 +1,8 @@
 //! A beta memory: the tokens of a list of partial matches, and what a change does to them.
-ghost use Rattle.std.specs.Prelude.{◌≡◌, ◌⊎◌, [], IfOk, OnErr, OnOk, Some};
+ghost use Rattle.std.specs.Prelude.{◌≡◌, ◌⊎◌, [], IfOk, OnErr, OnOk, Some, is_some};
 ghost use Rattle.std.specs.Option.{option_copied};
 ghost use Rattle.cb_matches.specs.Chains.{In};
-ghost use Rattle.cb_beta.specs.BetaMemories.{Gains, HasFact, IsEnded, IsSame, Loses};
+ghost use Rattle.cb_beta.specs.BetaMemories.{AreLiveNumbers, Gains, HasFact, IsEnded, IsSame, Loses, live};
 ghost use Rattle.cb_beta.specs.Tokens.{candidate_of, token_at};
 
 use crate::filing::{file, forget, free, insert, leave};
@@ -62,6 +62,32 @@ impl BetaMemory {
         ensures { option_copied result ≡ token_at self.now.tokens number }
     {
         self.tokens.get(number as usize)
+    }
+
+    /// Whether there is a token with a number that didn't go in this change. It takes a step for each that went.
+    pub fn is_there(&self, number: u32) -> bool
+        ensures { result ≡ is_some (live self.now number) }
+    {
+        if self.gone.contains(&number) {
+            return false;
+        }
+        self.token(number).is_some()
+    }
+
+    /// The numbers of those that are there, from the lowest to the highest. Growth is refused as `NoMemory`.
+    pub fn numbers(&self, alloc: Global) -> Result<Vec<u32>, NoMemory>
+        ensures { IfOk result (λ all. AreLiveNumbers self.now all.items) }
+    {
+        let Ok(end) = u32::try_from(self.tokens.capacity()) else {
+            return Err(NoMemory);
+        };
+        let mut all = Vec::with_capacity(alloc, self.tokens.len())?;
+        for number in 0..end {
+            if self.is_there(number) {
+                all.push(number)?;
+            }
+        }
+        Ok(all)
     }
 
     /// The numbers of those that went in this change.

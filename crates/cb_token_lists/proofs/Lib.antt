@@ -4,5 +4,6 @@ pub mod Arrivals
 pub mod Down
 pub mod Keeping
 pub mod Paths
+pub mod SameParts
 pub mod Told
 pub mod Values

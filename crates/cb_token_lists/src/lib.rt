@@ -4,6 +4,7 @@
 #![tactic(auto)]
 
 mod binding; // what variables have after a way
+mod comparing; // whether a partial match has these parts
 mod giving; // which value a way gives a variable
 mod known; // what variables have where a test is, read when it asks for them
 pub mod laws; // laws of lists of tokens

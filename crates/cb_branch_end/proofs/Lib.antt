@@ -1,0 +1,6 @@
+mod AtEnd
+mod ComingKeys
+mod KeyOrder
+mod LookedUp
+mod SameKeys
+mod ToldKeys

@@ -1,3 +1,0 @@
-pub mod Internal
-pub mod MatchIndexes
-pub mod TellingKeys
