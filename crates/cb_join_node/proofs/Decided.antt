@@ -1,8 +1,5 @@
 -- Patterns that are decided by values: what a way gives, and where there is one.
-use Rattle.std.proofs.Common.{◌≡◌, ◌≢◌, ◌∙◌, ◌↔◌, ◌+◌, ◌++◌, ◌||◌, ℕ, Bool, true, false, not, List, [], ◌∷◌, Option, Some, None, ap, ap₂, cond, inl, inr, refl, subst, sym}
-use Rattle.std.proofs.lemmas.Bool.{and_from, and_parts}
-use Rattle.std.specs.Cmp.Lexicographic.{bytes_decides}
-use Rattle.std.specs.Str.{bytes_eq}
+use Rattle.std.proofs.Common.{◌≡◌, ◌≢◌, ◌∙◌, ◌↔◌, ◌+◌, ◌++◌, ℕ, Bool, true, false, not, List, [], ◌∷◌, Option, Some, None, ap, ap₂, cond, inl, inr, refl, subst, sym}
 use Rattle.cb_alpha.specs.JoinValues.{field_values, variable_values, with_first}
 use Rattle.cb_constraints.specs.Binders.{binders, constraints_in}
 use Rattle.cb_constraints.specs.Bound.{given_if}
@@ -12,45 +9,29 @@ use Rattle.cb_constraints.specs.PatternValues as pattern
 use Rattle.cb_exprs.specs.Bindings.{Bindings, value_at}
 use Rattle.cb_facts.specs.Facts.{FactContent, FactValue}
 use Rattle.cb_facts.specs.declared.value.Value.{Value}
-use Rattle.cb_fit.specs.Comparisons.{choice_fields, compared_fields, compares, is_decided}
-use Rattle.cb_fit.specs.Decided.{AgreeWith, AreOneOf, HoldOf, HoldsOf, ValuesDecide, taken_by, taken_by_all, way_by_values}
-use Rattle.cb_fit.specs.FieldPlaces.{PlacedDemand, field_value, placed_at, placed_demands, row_demands, slot_demands}
+use Rattle.cb_fit.specs.Comparisons.{choice_fields, compared_fields, is_decided}
+use Rattle.cb_fit.specs.Decided.{AgreeWith, AreOneOf, HoldOf, ValuesDecide, taken_by, taken_by_all, way_by_values}
+use Rattle.cb_fit.specs.FieldPlaces.{PlacedDemand, placed_at, placed_demands, row_demands, slot_demands}
 use Rattle.cb_fit.specs.JoinFields.{demand_join_fields, join_fields, value_in}
 use Rattle.cb_fit.specs.Plain.{bound_names, is_named}
 use Rattle.cb_fit.specs.Shapes.{has_shape}
 use Rattle.cb_fit.specs.Ways.{WayValue, ways}
 use Rattle.cb_fit.specs.declared.comparison.ComparedField.{ComparedField}
-use Rattle.cb_fit.specs.declared.comparison.Comparison.{Comparison}
 use Rattle.cb_fit.specs.declared.field_place.FieldPlace.{FieldPlace}
 use Rattle.cb_fit.specs.declared.join_fields.JoinField.{JoinField}
 use Rattle.cb_join_node.proofs.Agreement.{both_there, past_address}
-use Rattle.cb_join_node.specs.Meetings.{Meet, all_compare, both_compare, compares_so, values_taken}
+use Rattle.cb_join_node.specs.Meetings.{Meet, values_taken}
 use Rattle.cb_join_node.specs.declared.by_values.ByValues.{ByValues}
 use Rattle.cb_join_node.specs.declared.joining.Joining.{Joining}
 use Rattle.cb_matches.proofs.Lists.{filter_in, flat_in, in_flat, in_map}
 use Rattle.cb_matches.proofs.Lists as lists
 use Rattle.cb_matches.specs.Chains.{In}
 use Rattle.cb_matches.specs.Matches.{Partial, with_address}
+use Rattle.cb_scopes.proofs.Comparing.{all_so, so_all}
+use Rattle.cb_scopes.specs.Compared.{all_compare}
+use Rattle.cb_scopes.proofs.Decided.{in_named, named_in}
 use Rattle.cb_scopes.specs.Decided.{known_fields, unknown_fields}
 use Rattle.cb_scopes.specs.Scopes.{HasValuesOf, Scope}
-
--- names by test and by list
-named_in : (x : List ℕ) (names : Scope) → is_named x names ≡ true → In x names
-named_in x [] e = absurd (cc)
-named_in x (y ∷ names) e = by (named_in x names) (bytes_eq x y) (bytes_decides x y).0 e
-  where
-    by : (is_named x names ≡ true → In x names) → (t : Bool) → (t ≡ true → x ≡ y) → t || is_named x names ≡ true → In x (y ∷ names)
-    by more true same d = inl (same refl)
-    by more false same d = inr (more d)
-
-in_named : (x : List ℕ) (names : Scope) → In x names → is_named x names ≡ true
-in_named x [] h = absurd h
-in_named x (y ∷ names) (inl same) = ap (λ t. t || is_named x names) ((bytes_decides x y).1 same)
-in_named x (y ∷ names) (inr h) = later (bytes_eq x y) (in_named x names h)
-  where
-    later : (t : Bool) → is_named x names ≡ true → t || is_named x names ≡ true
-    later true e = refl
-    later false e = e
 
 some_value : (o : Option Value) → o ≢ None → (v : Value) × (o ≡ Some v)
 some_value None h = absurd (h refl)
@@ -145,27 +126,6 @@ taken_same (j ∷ js) before content names so = by (is_named j.variable names) r
     by false e more =
         let none = no_value (value_at j.variable before.variables) (λ some. not_both (is_named j.variable names) (in_named j.variable names ((so j (inl refl)).0 some)) e) in
         ap₂ (λ (xs ys : List (List ℕ × Value)). xs ++ ys) (ap (λ o. given_if j.variable o (value_in j content)) none) more
-
--- comparisons by test
-both_so : (c : Comparison) (o q : Option Value) → both_compare c o q ≡ true → (v w : Value) × (o ≡ Some v) × (q ≡ Some w) × (compares c v w ≡ true)
-both_so c (Some v) (Some w) e = (v, w, refl, refl, e)
-both_so c (Some v) None e = absurd (let no : false ≡ true = e in cc)
-both_so c None q e = absurd (let no : false ≡ true = e in cc)
-
-so_both : (c : ComparedField) (before : Bindings) (content : FactContent) → HoldsOf c before content → compares_so before content c ≡ true
-so_both c before content h = ap₂ (both_compare c.comparison) h.2 h.3 ∙ h.4
-
-all_so : (cs : List ComparedField) (before : Bindings) (content : FactContent) → all_compare cs before content ≡ true → (c : ComparedField) → In c cs → HoldsOf c before content
-all_so [] before content e c h = absurd h
-all_so (d ∷ cs) before content e c (inl is) =
-    let both = and_parts (compares_so before content d) (all_compare cs before content) e in
-    subst (λ it. HoldsOf it before content) (sym is) (both_so d.comparison (field_value d.place.slot d.place.field content) (value_at d.variable before.variables) both.0)
-all_so (d ∷ cs) before content e c (inr h) = all_so cs before content (and_parts (compares_so before content d) (all_compare cs before content) e).1 c h
-
-so_all : (cs : List ComparedField) (before : Bindings) (content : FactContent) → ((c : ComparedField) → In c cs → HoldsOf c before content) → all_compare cs before content ≡ true
-so_all [] before content h = refl
-so_all (c ∷ cs) before content h =
-    and_from (compares_so before content c) (all_compare cs before content) (so_both c before content (h c (inl refl))) (so_all cs before content (λ d i. h d (inr i)))
 
 -- the law of patterns that are decided by values
 pub record DecidedByValues : Type 0 where

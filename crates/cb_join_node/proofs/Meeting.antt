@@ -69,7 +69,7 @@ module _ {T : Type 0} (asked : Joining T) where
   -- the facts with the values of a partial match meet it
   pub facts_meet : (m : Partial) (alpha : AlphaMemoryValue) (vs : List Value) (xs : List ℕ) → KnowsValues asked m → HaveShape asked.pattern alpha.candidates → variable_values js m.env ≡ Some vs
       → AreFactsWith alpha js vs xs → MayMeetAll asked m alpha.candidates xs
-  facts_meet m alpha vs xs knows shape asks these by e n h f is =
+  facts_meet m alpha vs xs knows shape asks these n h f is by e =
       let at : values_in js (live alpha n) ≡ Some vs = (these.are n).0 (in_contains xs n h) in
       let g = has_fact js (live alpha n) vs at in
       let same : g.0 ≡ f = same_some (candidate_in alpha.candidates n) (live_read alpha n g.0 g.1).0 is in

@@ -1,18 +1,13 @@
 -- What a pattern that is decided by values asks beside the values of the join's fields, and what it gives.
-use Rattle.std.specs.Prelude.{◌≡◌, ℕ, Bool, true, false, List, Option, Some, None}
-use Rattle.std.specs.List.{list_all}
+use Rattle.std.specs.Prelude.{◌≡◌, ℕ, true, List, Some}
 use Rattle.cb_alpha.specs.AlphaMemories.{Candidates, candidate_in}
 use Rattle.cb_alpha.specs.JoinValues.{field_values, variable_values}
 use Rattle.cb_constraints.specs.PatternValues.{PatternValue}
-use Rattle.cb_exprs.specs.Bindings.{Bindings, no_bindings, value_at}
+use Rattle.cb_exprs.specs.Bindings.{no_bindings}
 use Rattle.cb_facts.specs.Facts.{FactContent, FactValue}
 use Rattle.cb_facts.specs.declared.value.Value.{Value}
-use Rattle.cb_fit.specs.Comparisons.{compares}
 use Rattle.cb_fit.specs.Decided.{taken_by_all}
-use Rattle.cb_fit.specs.FieldPlaces.{field_value}
 use Rattle.cb_fit.specs.Shapes.{has_shape}
-use Rattle.cb_fit.specs.declared.comparison.ComparedField.{ComparedField}
-use Rattle.cb_fit.specs.declared.comparison.Comparison.{Comparison}
 use Rattle.cb_fit.specs.declared.join_fields.JoinField.{JoinField}
 use Rattle.cb_join_node.specs.Nodes.{IsByValues}
 use Rattle.cb_join_node.specs.declared.by_values.ByValues.{ByValues}
@@ -20,20 +15,6 @@ use Rattle.cb_join_node.specs.declared.joining.Joining.{Joining}
 use Rattle.cb_matches.specs.Chains.{In}
 use Rattle.cb_matches.specs.Matches.{Partial}
 use Rattle.cb_scopes.specs.Scopes.{HasValuesOf, Scope}
-
--- both are there, and the first is compared so with the second
-abbrev pub both_compare : Comparison → Option Value → Option Value → Bool
-both_compare c (Some v) (Some w) = compares c v w
-both_compare c (Some v) None = false
-both_compare c None w = false
-
--- the field is compared so with the variable
-abbrev pub compares_so : Bindings → FactContent → ComparedField → Bool
-compares_so env content c = both_compare c.comparison (field_value c.place.slot c.place.field content) (value_at c.variable env.variables)
-
--- each of these fields is
-abbrev pub all_compare : List ComparedField → Bindings → FactContent → Bool
-all_compare cs env content = list_all (compares_so env content) cs
 
 -- what the variables of these fields get, where none of them has a value
 abbrev pub values_taken : List JoinField → FactContent → List (List ℕ × Value)
@@ -63,12 +44,9 @@ module _ {T : Type 0} where
   MayMeet asked m f = (by : ByValues) → asked.by_values ≡ Some by → Meet asked by m f
 
   -- the same of the fact of this number, if there is one
-  abbrev pub MeetsOne : Joining T → ByValues → Partial → Candidates → ℕ → Type 0
-  MeetsOne asked by m cs candidate = (f : ℕ × FactValue) → candidate_in cs candidate ≡ Some f → Meet asked by m f
+  abbrev pub MayMeetOne : Joining T → Partial → Candidates → ℕ → Type 0
+  MayMeetOne asked m cs candidate = (f : ℕ × FactValue) → candidate_in cs candidate ≡ Some f → MayMeet asked m f
 
   -- and of each of these facts
-  abbrev pub MeetsAll : Joining T → ByValues → Partial → Candidates → List ℕ → Type 0
-  MeetsAll asked by m cs candidates = (candidate : ℕ) → In candidate candidates → MeetsOne asked by m cs candidate
-
   abbrev pub MayMeetAll : Joining T → Partial → Candidates → List ℕ → Type 0
-  MayMeetAll asked m cs candidates = (by : ByValues) → asked.by_values ≡ Some by → MeetsAll asked by m cs candidates
+  MayMeetAll asked m cs candidates = (candidate : ℕ) → In candidate candidates → MayMeetOne asked m cs candidate

@@ -2,9 +2,8 @@
 ghost use Rattle.std.specs.Prelude.{◌≡◌, ◌++◌, IfOk, OnOk};
 ghost use Rattle.cb_exprs.specs.Bindings.{no_bindings};
 ghost use Rattle.cb_fit.specs.Decided.{taken_by};
-ghost use Rattle.cb_join_node.specs.Meetings.{all_compare, compares_so, values_taken};
+ghost use Rattle.cb_join_node.specs.Meetings.{values_taken};
 
-use cb_exprs::Lookup;
 use cb_facts::{Fact, Name, Value};
 use cb_fit::{ComparedField, Cuts, JoinField, Way};
 use cb_forms::NoMemory;
@@ -61,36 +60,4 @@ fn add_value(field: &JoinField, fact: &Fact, all: &mut Vec<(Name, Value)>) -> Re
     let variable = field.variable.clone()?;
     all.push((variable, value))?;
     Ok(())
-}
-
-/// Whether each of these fields of a fact is compared so with its variable, where both have values. It is refused as `NoMemory` where a
-/// look-up is, or where a count of sharers is full.
-pub(crate) fn compare_all<L: Lookup>(
-    fields: &[ComparedField],
-    known: &L,
-    fact: &Fact,
-) -> Result<bool, NoMemory>
-    ensures { IfOk result
-        (λ so. so ≡ all_compare fields.now (L.bindings known.now) fact.now.content) }
-{
-    for field in fields {
-        if !compare_one(field, known, fact)? {
-            return Ok(false);
-        }
-    }
-    Ok(true)
-}
-
-/// The same of one field.
-fn compare_one<L: Lookup>(field: &ComparedField, known: &L, fact: &Fact) -> Result<bool, NoMemory>
-    ensures { IfOk result
-        (λ so. so ≡ compares_so (L.bindings known.now) fact.now.content field.now) }
-{
-    let Some(value) = field.place.value_in(fact)? else {
-        return Ok(false);
-    };
-    let Some(other) = known.variable(&field.variable)? else {
-        return Ok(false);
-    };
-    Ok(field.comparison.holds(&value, &other))
 }

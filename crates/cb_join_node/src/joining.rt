@@ -1,26 +1,26 @@
 //! Partial matches joined with facts.
 ghost use Rattle.std.specs.Prelude.{◌≡◌, ◌≢◌, ◌≤◌, ◌+◌, ℕ, IfOk, OnOk, length, map};
-ghost use Rattle.cb_exprs.specs.Bindings.{with_variables};
 ghost use Rattle.cb_exprs.specs.Terms.{term_of};
 ghost use Rattle.cb_fit.specs.WayValues.{way_of};
-ghost use Rattle.cb_join_node.specs.Meetings.{MayMeet, MayMeetAll, Meet, MeetsAll, MeetsOne};
+ghost use Rattle.cb_join_node.specs.Meetings.{MayMeet, MayMeetAll, MayMeetOne, Meet};
 ghost use Rattle.cb_join_node.specs.Joins.{IsOfFact, IsOfFacts, IsOfPartials, IsOfWay, IsOfWays, IsPair};
 ghost use Rattle.cb_join_node.specs.Nodes.{tests_of};
 ghost use Rattle.cb_matches.specs.Chains.{Chain, In};
-ghost use Rattle.cb_matches.specs.Matches.{Partial, grown, with_address};
+ghost use Rattle.cb_matches.specs.Matches.{Partial, grown};
 ghost use Rattle.cb_nodes.specs.Flat.{all_hold};
 ghost use Rattle.cb_token_lists.specs.Growth.{Comes};
 ghost use Rattle.cb_token_lists.specs.Partials.{partial_at};
 
-use crate::by_values::{ByValues, compare_all};
+use crate::by_values::ByValues;
 use cb_alpha::{AlphaMemory, Candidate};
 use cb_beta::{BetaMemory, Taken, Token};
-use cb_exprs::{Env, Expr, Lookup};
+use cb_exprs::{Expr, Lookup};
 use cb_facts::Name;
 use cb_fit::laws::{a_pattern_is_decided_by_values, the_ways_rise_by_their_cuts};
 use cb_fit::{JoinField, Meter, Pattern, Way, fit};
 use cb_forms::NoMemory;
-use cb_token_lists::{Grown, TokenLists, bind_address, bind_all};
+use cb_scopes::compare_all;
+use cb_token_lists::{Grown, TokenLists};
 use smallvec::SmallVec;
 
 /// What a join node asks of a fact.
@@ -55,100 +55,31 @@ pub(crate) fn join_facts<T>(
         (partial_at lists.now.sources.now lists.now.lists.now from number) number alpha.now.candidates candidates.now)) }
     ensures probes { OnOk result (meter.new ≤ meter.old + length candidates.now) }
 {
-    match &asked.by_values {
-        Some(by) => join_facts_by_values(lists, from, asked, by, alpha, number, candidates, own),
-        None => {
-            let env = lists.env(from, number)?;
-            join_facts_by_tests(lists, asked, alpha, number, &env, candidates, own, meter)
-        }
-    }
-}
-
-/// Joins a partial match with each of these facts that it meets by values.
-fn join_facts_by_values<T>(
-    lists: &TokenLists<'_>,
-    from: usize,
-    asked: &Joining<T>,
-    by: &ByValues,
-    alpha: &AlphaMemory,
-    number: u32,
-    candidates: &[u32],
-    own: &mut BetaMemory,
-) -> Result<(), NoMemory>
-    ensures { OnOk result (Chain (λ (i : ℕ) (j : ℕ). i ≢ j) candidates.now
-        → MeetsAll asked.now by.now (partial_at lists.now.sources.now lists.now.lists.now from number) alpha.now.candidates candidates.now
-        → Comes own.old own.new (IsOfFacts asked.now.address asked.now.pattern (tests_of asked.now)
-        (partial_at lists.now.sources.now lists.now.lists.now from number) number alpha.now.candidates candidates.now)) }
-{
     for candidate in candidates {
-        join_candidate_by_values(lists, from, asked, by, alpha, number, *candidate, own)?;
+        join_candidate(lists, from, asked, alpha, number, *candidate, own, meter)?;
     }
     Ok(())
 }
 
-/// Joins a partial match with the fact of this number, which it meets by values.
-fn join_candidate_by_values<T>(
-    lists: &TokenLists<'_>,
-    from: usize,
-    asked: &Joining<T>,
-    by: &ByValues,
-    alpha: &AlphaMemory,
-    number: u32,
-    candidate: u32,
-    own: &mut BetaMemory,
-) -> Result<(), NoMemory>
-    ensures { OnOk result
-        (MeetsOne asked.now by.now (partial_at lists.now.sources.now lists.now.lists.now from number) alpha.now.candidates candidate
-        → Comes own.old own.new (IsOfFact asked.now.address asked.now.pattern (tests_of asked.now)
-        (partial_at lists.now.sources.now lists.now.lists.now from number) number alpha.now.candidates candidate)) }
-{
-    match alpha.candidate(candidate) {
-        Some(one) => join_by_values(lists, from, asked, by, number, candidate, one, own),
-        None => Ok(()),
-    }
-}
-
-/// Joins a partial match with each of these facts by tests of the pattern.
-fn join_facts_by_tests<T>(
-    lists: &TokenLists<'_>,
-    asked: &Joining<T>,
-    alpha: &AlphaMemory,
-    number: u32,
-    env: &Env,
-    candidates: &[u32],
-    own: &mut BetaMemory,
-    meter: &mut Meter<T>,
-) -> Result<(), NoMemory>
-    ensures come { OnOk result ((m : Partial) → m.env ≡ env.now
-        → Chain (λ (i : ℕ) (j : ℕ). i ≢ j) candidates.now → Comes own.old own.new
-        (IsOfFacts asked.now.address asked.now.pattern (tests_of asked.now) m number
-        alpha.now.candidates candidates.now)) }
-    ensures probes { OnOk result (meter.new ≤ meter.old + length candidates.now) }
-{
-    for candidate in candidates {
-        join_candidate(lists, asked, alpha, number, env, *candidate, own, meter)?;
-    }
-    Ok(())
-}
-
-/// Joins a partial match with the fact of this number by tests of the pattern.
+/// Joins a partial match of a list with the fact of this number, if there is one.
 fn join_candidate<T>(
     lists: &TokenLists<'_>,
+    from: usize,
     asked: &Joining<T>,
     alpha: &AlphaMemory,
     number: u32,
-    env: &Env,
     candidate: u32,
     own: &mut BetaMemory,
     meter: &mut Meter<T>,
 ) -> Result<(), NoMemory>
-    ensures come { OnOk result ((m : Partial) → m.env ≡ env.now → Comes own.old own.new
-        (IsOfFact asked.now.address asked.now.pattern (tests_of asked.now) m number
-        alpha.now.candidates candidate)) }
-    ensures probes { meter.new ≤ meter.old + 1 }
+    ensures come { OnOk result
+        (MayMeetOne asked.now (partial_at lists.now.sources.now lists.now.lists.now from number) alpha.now.candidates candidate
+        → Comes own.old own.new (IsOfFact asked.now.address asked.now.pattern (tests_of asked.now)
+        (partial_at lists.now.sources.now lists.now.lists.now from number) number alpha.now.candidates candidate)) }
+    ensures probes { OnOk result (meter.new ≤ meter.old + 1) }
 {
     match alpha.candidate(candidate) {
-        Some(one) => join_pair(lists, asked, number, env, candidate, one, own, meter),
+        Some(one) => join_one(lists, from, asked, number, candidate, one, own, meter),
         None => Ok(()),
     }
 }
@@ -195,10 +126,7 @@ fn join_one<T>(
 {
     match &asked.by_values {
         Some(by) => join_by_values(lists, from, asked, by, number, candidate, one, own),
-        None => {
-            let env = lists.env(from, number)?;
-            join_pair(lists, asked, number, &env, candidate, one, own, meter)
-        }
+        None => join_by_test(lists, from, asked, number, candidate, one, own, meter),
     }
 }
 
@@ -225,11 +153,66 @@ fn join_by_values<T>(
         return Ok(());
     }
     let way = by.way(lists.alloc, &one.fact)?;
-    add_way_of(lists, from, asked, number, candidate, one.index, way, own)
+    add_way(lists, from, asked, number, candidate, one.index, way, own)
+}
+
+/// Joins a partial match with a fact by a test of the pattern: a token comes for each way in which it goes on with it and the tests hold.
+fn join_by_test<T>(
+    lists: &TokenLists<'_>,
+    from: usize,
+    asked: &Joining<T>,
+    number: u32,
+    candidate: u32,
+    one: &Candidate,
+    own: &mut BetaMemory,
+    meter: &mut Meter<T>,
+) -> Result<(), NoMemory>
+    ensures come { OnOk result (Comes own.old own.new
+        (IsPair asked.now.address asked.now.pattern (tests_of asked.now)
+        (partial_at lists.now.sources.now lists.now.lists.now from number) number candidate one.now)) }
+    ensures probes { meter.new ≤ meter.old + 1 }
+{
+    the_ways_rise_by_their_cuts();
+    let before = Grown {
+        before: lists.reading(from, number),
+        address: &asked.address,
+        index: one.index,
+        bound: &[],
+    };
+    let ways = fit(
+        lists.alloc,
+        lists.constants,
+        &asked.pattern,
+        &one.fact,
+        &before,
+        meter,
+    )?;
+    add_ways(lists, from, asked, number, candidate, one.index, ways, own)
+}
+
+/// Adds a token for each of these ways of a partial match of a list by which the tests hold.
+fn add_ways<T>(
+    lists: &TokenLists<'_>,
+    from: usize,
+    asked: &Joining<T>,
+    number: u32,
+    candidate: u32,
+    index: u64,
+    ways: SmallVec<Way, 1>,
+    own: &mut BetaMemory,
+) -> Result<(), NoMemory>
+    ensures { OnOk result (Chain (λ v w. v ≢ w) (map way_of ways.items)
+        → Comes own.old own.new (IsOfWays asked.now.address (tests_of asked.now)
+        (partial_at lists.now.sources.now lists.now.lists.now from number) number candidate index (map way_of ways.items))) }
+{
+    for way in ways {
+        add_way(lists, from, asked, number, candidate, index, way, own)?;
+    }
+    Ok(())
 }
 
 /// Adds a token for a way of a partial match of a list, if the tests hold by it.
-fn add_way_of<T>(
+fn add_way<T>(
     lists: &TokenLists<'_>,
     from: usize,
     asked: &Joining<T>,
@@ -276,101 +259,6 @@ fn hold_after<T>(
         bound: way.bound.as_slice(),
     };
     hold_all(lists, asked.tests.as_slice(), &after)
-}
-
-/// Joins a partial match with a fact by a test of the pattern: a token comes for each way in which it goes on with it and the tests hold.
-fn join_pair<T>(
-    lists: &TokenLists<'_>,
-    asked: &Joining<T>,
-    number: u32,
-    env: &Env,
-    candidate: u32,
-    one: &Candidate,
-    own: &mut BetaMemory,
-    meter: &mut Meter<T>,
-) -> Result<(), NoMemory>
-    ensures come { OnOk result ((m : Partial) → m.env ≡ env.now → Comes own.old own.new
-        (IsPair asked.now.address asked.now.pattern (tests_of asked.now) m number candidate one.now)) }
-    ensures probes { meter.new ≤ meter.old + 1 }
-{
-    the_ways_rise_by_their_cuts();
-    let mut before = env.clone()?;
-    bind_address(&mut before, &asked.address, one.index)?;
-    let ways = fit(
-        lists.alloc,
-        lists.constants,
-        &asked.pattern,
-        &one.fact,
-        &before,
-        meter,
-    )?;
-    add_ways(
-        lists, asked, number, &before, candidate, one.index, ways, own,
-    )
-}
-
-/// Adds a token for each of these ways by which the tests hold.
-fn add_ways<T>(
-    lists: &TokenLists<'_>,
-    asked: &Joining<T>,
-    number: u32,
-    env: &Env,
-    candidate: u32,
-    index: u64,
-    ways: SmallVec<Way, 1>,
-    own: &mut BetaMemory,
-) -> Result<(), NoMemory>
-    ensures { OnOk result ((m : Partial) → env.now ≡ with_address asked.now.address index m.env
-        → Chain (λ v w. v ≢ w) (map way_of ways.items) → Comes own.old own.new
-        (IsOfWays asked.now.address (tests_of asked.now) m number candidate index (map way_of ways.items))) }
-{
-    for way in ways {
-        add_way(lists, asked, number, env, candidate, index, way, own)?;
-    }
-    Ok(())
-}
-
-/// Adds a token for a way, if the tests hold by it.
-fn add_way<T>(
-    lists: &TokenLists<'_>,
-    asked: &Joining<T>,
-    number: u32,
-    env: &Env,
-    candidate: u32,
-    index: u64,
-    way: Way,
-    own: &mut BetaMemory,
-) -> Result<(), NoMemory>
-    ensures { OnOk result ((m : Partial) → env.now ≡ with_address asked.now.address index m.env
-        → Comes own.old own.new
-        (IsOfWay asked.now.address (tests_of asked.now) m number candidate index (way_of way))) }
-{
-    if !passes(lists, asked.tests.as_slice(), env, &way)? {
-        return Ok(());
-    }
-    let taken = Taken {
-        candidate,
-        index,
-        way,
-    };
-    own.add(Token {
-        parent: number,
-        taken: Some(taken),
-    })?;
-    Ok(())
-}
-
-/// Whether all of these tests hold after a way.
-fn passes(lists: &TokenLists<'_>, tests: &[Expr], env: &Env, way: &Way) -> Result<bool, NoMemory>
-    ensures { IfOk result (λ holds. (m : Partial) → m.env ≡ with_variables (way_of way.now).bound env.now
-        → holds ≡ all_hold (map term_of tests.now) m) }
-{
-    if tests.is_empty() {
-        return Ok(true);
-    }
-    let mut grown = env.clone()?;
-    bind_all(&mut grown, way.bound.as_slice())?;
-    hold_all(lists, tests, &grown)
 }
 
 /// Whether all of these tests hold.

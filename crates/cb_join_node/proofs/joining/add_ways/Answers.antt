@@ -6,17 +6,20 @@ use Rattle.cb_join_node.proofs.Tokens.{next_apart, no_ways, ways_more}
 use Rattle.cb_join_node.proofs.joining.add_ways.Goals as goal
 use Rattle.cb_join_node.specs.Nodes.{tests_of}
 use Rattle.cb_matches.specs.Chains.{Chain}
+use Rattle.cb_token_lists.specs.Partials.{partial_at}
 
 pub loop-way-init : goal.loop-way-init
 loop-way-init g c =
     let x = c.args.asked.now.address in
     let ts = tests_of c.args.asked.now in
-    ([], refl, λ m e once. no_ways x ts m c.args.number c.args.candidate c.args.index c.args.own.now)
+    let m = partial_at c.args.lists.now.sources.now c.args.lists.now.lists.now c.args.from c.args.number in
+    ([], refl, λ once. no_ways x ts m c.args.number c.args.candidate c.args.index c.args.own.now)
 
 pub loop-way-preserved : goal.loop-way-preserved
 loop-way-preserved g c =
     let x = c.args.asked.now.address in
     let ts = tests_of c.args.asked.now in
+    let m = partial_at c.args.lists.now.sources.now c.args.lists.now.lists.now c.args.from c.args.number in
     let inv = c.loop-way.invariant in
     let done = inv.0 in
     let w = way_of c.in-Some.way in
@@ -27,7 +30,7 @@ loop-way-preserved g c =
     let whole : done ++ w ∷ rest ≡ all = ap (λ it. done ++ it) (sym step) ∙ inv.1 in (
       done ++ w ∷ [],
       append_assoc done (w ∷ []) rest ∙ whole,
-      λ m e once.
+      λ once.
           ways_more x ts m c.args.number c.args.candidate c.args.index c.args.own.now c.loop-way.own c.add_way.new.own done w
-          (next_apart done w rest (subst (Chain (λ (u : WayValue) (v : WayValue). u ≢ v)) (sym whole) once)) (inv.2 m e once) (c.in_ok-add_way.ensures m e),
+          (next_apart done w rest (subst (Chain (λ (u : WayValue) (v : WayValue). u ≢ v)) (sym whole) once)) (inv.2 once) c.in_ok-add_way.ensures,
     )

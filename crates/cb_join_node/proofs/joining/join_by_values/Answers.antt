@@ -6,11 +6,12 @@ use Rattle.cb_fit.specs.Ways.{ways}
 use Rattle.cb_join_node.proofs.Decided.{DecidedByValues, no_way, the_way}
 use Rattle.cb_join_node.proofs.Tokens.{one_way_comes}
 use Rattle.cb_join_node.proofs.joining.join_by_values.Goals as goal
-use Rattle.cb_join_node.specs.Meetings.{all_compare, values_taken}
+use Rattle.cb_join_node.specs.Meetings.{values_taken}
 use Rattle.cb_join_node.specs.Joins.{IsOfWay, IsPair}
 use Rattle.cb_join_node.specs.Nodes.{tests_of}
 use Rattle.cb_matches.specs.Chains.{In}
 use Rattle.cb_matches.specs.Matches.{with_address}
+use Rattle.cb_scopes.specs.Compared.{all_compare}
 use Rattle.cb_token_lists.proofs.Arrivals.{none_come}
 use Rattle.cb_token_lists.specs.Growth.{Comes}
 use Rattle.cb_token_lists.specs.Partials.{partial_at}
@@ -44,7 +45,7 @@ returns g c =
     let m = partial_at c.args.lists.now.sources.now c.args.lists.now.lists.now c.args.from n in
     let f = c.args.one.now in
     let own = c.args.own.now in
-    let own' = c.add_way_of.new.own in
+    let own' = c.add_way.new.own in
     let law : DecidedByValues = record { fits = c.a_pattern_is_decided_by_values.ensures.fits; way = c.a_pattern_is_decided_by_values.ensures.way } in
     let seen = c.reading-known.result in
     let same : all_compare c.as_slice.result.now (partial_at seen.lists.sources.now seen.lists.lists.now seen.list seen.number).env c.one.inside.fact.content ≡ all_compare by.compared.items m.env f.1.content =
@@ -54,8 +55,8 @@ returns g c =
     let holds : all_compare by.compared.items m.env f.1.content ≡ true = sym same ∙ (sym c.in_ok-compare_all.ensures ∙ c.if-not-branch.false) in
     let way = way_of c.in_ok-way.way in
     let bound = c.in_ok-way.ensures.bound ∙ ap (λ (it : ℕ × FactValue). values_taken by.taken.items it.1.content) c.one.view_is in
-    on_ok c.add_way_of.result
+    on_ok c.add_way.result
     (λ come meet.
     let is : Comes own own' (IsOfWay x ts m n k f.0 way) = subst (λ (it : ℕ × FactValue). Comes own own' (IsOfWay x ts m n k it.0 way)) c.one.view_is come in
     one_way_comes x ts m n k f.0 own own' (ways p f.1 (with_address x f.0 m.env)) way (the_way law c.args.asked.now by m f meet way holds c.in_ok-way.ensures.cuts bound) is)
-    c.add_way_of.ensures
+    c.add_way.ensures

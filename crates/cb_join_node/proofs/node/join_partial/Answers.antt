@@ -34,7 +34,7 @@ returns-then-is_some g c =
       come = on_ok c.join_facts.result
           (λ h filing filed has fields knows shape.
           by_numbers x p ts m n alpha xs these c.args.own.now c.join_facts.new.own
-          (h these.once (λ by e. no_stray c.args.asked.now m knows by e group.0 (sym filed.stray ∙ (sym c.group.ensures ∙ group.1)))))
+          (h these.once (λ k i f is by e. no_stray c.args.asked.now m knows by e group.0 (sym filed.stray ∙ (sym c.group.ensures ∙ group.1)))))
           c.join_facts.ensures.come;
       probes = on_ok c.join_facts.result
           (λ l k has most. let all = most xs these.once these.are in omega (arith, l, all))
