@@ -1,18 +1,19 @@
 -- What an assert and a retract do to an alpha network.
-use Rattle.std.proofs.Common.{◌≡◌, ◌≢◌, ◌∙◌, ℕ, true, false, IfOk, List, OnOk, Option, Some, None, Result, Ok, Err, ap, inl, inr, refl, subst, sym}
+use Rattle.std.proofs.Common.{◌≡◌, ◌≢◌, ◌∙◌, ℕ, true, false, IfOk, List, OnOk, Some, None, Result, Ok, Err, ap, inl, inr, refl, subst, sym}
+use Rattle.std.specs.BTreeMap.{BTreeMap}
 use Rattle.cb_alpha.specs.AlphaMemories.{AlphaMemoryValue, GainsFact, LosesFact, index_of, live}
 use Rattle.cb_alpha.specs.Turning.{AlphaTurns, IsAlphaOver}
 use Rattle.cb_alpha_network.proofs.OneByOne.{in_or_not}
 use Rattle.cb_alpha_network.proofs.Rest.{asserted_from, from_rest, retracted_from}
 use Rattle.cb_alpha_network.specs.Asked.{IsEntered}
 use Rattle.cb_alpha_network.specs.Internal.{ChangesThose, IsAsserted, IsNetwork, IsRetracted, fits}
-use Rattle.cb_alpha_network.specs.Networks.{AlphaNetworkValue, AlphasTurn, AreAlphas, AreAtRest, ChangesFrom, HasNoFact, IsShapeOf, MemoryValues, NetworkChangesFrom, ShapeValue, memory_at, memory_in, shape_at}
+use Rattle.cb_alpha_network.specs.Networks.{AlphaNetworkValue, AlphasTurn, AreAlphas, AreAtRest, ChangesFrom, HasNoFact, IsShapeAt, MemoryValues, NetworkChangesFrom, memory_at, memory_in, shape_at}
 use Rattle.cb_alpha_network.specs.declared.asked.Asked.{Asked}
-use Rattle.cb_alpha_network.specs.declared.node_place.NodePlace.{NodePlace}
 use Rattle.cb_constraints.specs.PatternValues.{PatternValue}
 use Rattle.cb_facts.specs.FactLists.{IndexedFacts, fact_at, with_fact, without_fact}
 use Rattle.cb_facts.specs.Facts.{FactValue}
 use Rattle.cb_fit.specs.Shapes.{has_shape, loose}
+use Rattle.cb_fit.specs.declared.shape.Shape.{Shape}
 use Rattle.cb_matches.proofs.Lists.{by_test}
 use Rattle.cb_matches.specs.Chains.{In}
 use Rattle.cb_matches.specs.Order.{IsRising}
@@ -21,6 +22,10 @@ use Rattle.cb_matches.specs.Order.{IsRising}
 pub if_on : {A E P : Type 0} {Q : A → Type 0} (r : Result A E) → ((a : A) → Q a → P) → IfOk r Q → OnOk r P
 if_on (Ok a) f q = f a q
 if_on (Err e) f q = tt
+
+pub on_any : {A E P : Type 0} (r : Result A E) → P → OnOk r P
+on_any (Ok a) p = p
+on_any (Err e) p = tt
 
 -- the laws of an alpha memory that are used here
 abbrev pub Comes : Type 0
@@ -45,38 +50,31 @@ GoesWithout = (p : PatternValue) (m : AlphaMemoryValue) (ix : ℕ) (f : FactValu
 
 -- the numbers of all shapes that a fact has are found
 abbrev pub AreFound : AlphaNetworkValue → FactValue → List ℕ → Type 0
-AreFound v f found = (n : ℕ) (p : PatternValue) (place : NodePlace) → IsShapeOf v n p place → has_shape p f ≡ true → In n found
+AreFound v f found = (n : ℕ) (p : PatternValue) → IsShapeAt v n p → has_shape p f ≡ true → In n found
 
--- a shape is that of the pattern as it was entered
-pub shape_is : (v : AlphaNetworkValue) (n : ℕ) (s : ShapeValue) (p : PatternValue) → shape_at v n ≡ Some s → loose p ≡ s.pattern → IsShapeOf v n p s.place
-shape_is v n s p at e = at ∙ ap (λ q. shape_of q s.place) (sym e)
-  where
-    shape_of : PatternValue → NodePlace → Option ShapeValue
-    shape_of q place = Some (record { pattern = q; place = place })
+module _ (asked : Asked) (numbers : BTreeMap Shape ℕ) (v : AlphaNetworkValue) (count : ℕ) (is : IsNetwork asked numbers v.shapes v.users count) where
+  -- what is entered under its number is found
+  pub are_found : (f : FactValue) (found : List ℕ) → ((p : PatternValue) (n : ℕ) → IsEntered asked p n → has_shape p f ≡ true → In n found) → AreFound v f found
+  are_found f found all n p at t =
+      let entered = is.entered n (loose p) at in
+      all entered.0 n entered.2 (ap (λ q. fits q f) entered.1 ∙ t)
 
--- what is entered under its number is found
-pub are_found : (asked : Asked) (v : AlphaNetworkValue) (count : ℕ) (is : IsNetwork asked v.shapes count) (f : FactValue) (found : List ℕ)
-    → ((p : PatternValue) (n : ℕ) → IsEntered asked p n → has_shape p f ≡ true → In n found) → AreFound v f found
-are_found asked v count is f found all n p place at t =
-    let entered = is.entered n (record { pattern = loose p; place = place }) at in
-    all entered.0 n entered.2 (ap (λ q. fits q f) entered.1 ∙ t)
-
--- the memory of each shape has no fact with an index that none has
-pub none_with : (asked : Asked) (v : AlphaNetworkValue) (count : ℕ) (is : IsNetwork asked v.shapes count) (ix : ℕ) → HasNoFact v ix
-    → (n : ℕ) (s : ShapeValue) → shape_at v n ≡ Some s → (i : ℕ) → index_of (live (memory_at v n) i) ≢ Some ix
-none_with asked v count is ix free n s at =
-    let entered = is.entered n s at in
-    free n entered.0 s.place (shape_is v n s entered.0 at entered.1)
+  -- the memory of each shape has no fact with an index that none has
+  pub none_with : (ix : ℕ) → HasNoFact v ix → (n : ℕ) (q : PatternValue) → shape_at v n ≡ Some q → (i : ℕ) → index_of (live (memory_at v n) i) ≢ Some ix
+  none_with ix free n q at =
+      let entered = is.entered n q at in
+      free n entered.0 (at ∙ ap Some (sym entered.1))
 
 module _ (v : AlphaNetworkValue) (ms' : MemoryValues) (ix : ℕ) (f : FactValue) (found : List ℕ) where
   abbrev changed : AlphaNetworkValue
-  changed = record { shapes = v.shapes; memories = ms' }
+  changed = record { shapes = v.shapes; users = v.users; memories = ms' }
 
   -- a fact comes
   module _ (done : ChangesThose (λ n. IsAsserted (shape_at v n) ix f) found v.memories ms') where
     pub asserted_changes : AreAtRest v.memories → NetworkChangesFrom v changed
     asserted_changes rest = record {
       shapes = refl;
+      users = refl;
       memories = λ n. elim (in_or_not n found) as (λ _. ChangesFrom (memory_at v n) (memory_in ms' n)) [
         | inl i ↦ asserted_from (shape_at v n) ix f (memory_at v n) (memory_in ms' n) (rest n) (done.changed n i)
         | inr out ↦ subst (ChangesFrom (memory_at v n)) (sym (done.others n out)) (from_rest (memory_at v n) (rest n))
@@ -84,8 +82,8 @@ module _ (v : AlphaNetworkValue) (ms' : MemoryValues) (ix : ℕ) (f : FactValue)
     }
 
     pub asserted_turns : Comes → ComesWithout → AreFound v f found → (fs : IndexedFacts) → AreAlphas v fs → fact_at fs ix ≡ None → AlphasTurn changed fs (with_fact fs ix f)
-    asserted_turns comes without all fs was free n p place at = by_test (has_shape p f)
-        (λ t. let gains = (is_asserted (all n p place at t)).0 t in comes p (memory_at v n) (memory_in ms' n) gains.0 ix f fs over gains.1 free t)
+    asserted_turns comes without all fs was free n p at = by_test (has_shape p f)
+        (λ t. let gains = (is_asserted (all n p at t)).0 t in comes p (memory_at v n) (memory_in ms' n) gains.0 ix f fs over gains.1 free t)
         (λ t. let same : memory_in ms' n ≡ memory_at v n = elim (in_or_not n found) as (λ _. memory_in ms' n ≡ memory_at v n) [
           | inl i ↦ (is_asserted i).1 t
           | inr out ↦ done.others n out
@@ -93,9 +91,9 @@ module _ (v : AlphaNetworkValue) (ms' : MemoryValues) (ix : ℕ) (f : FactValue)
         subst (λ m. AlphaTurns p m fs (with_fact fs ix f)) (sym same) (without p (memory_at v n) ix f fs over free t))
       where
         over : IsAlphaOver p fs (memory_at v n)
-        over = was.over n p place at
+        over = was.over n p at
 
-        is_asserted : In n found → IsAsserted (Some (record { pattern = loose p; place = place })) ix f (memory_at v n) (memory_in ms' n)
+        is_asserted : In n found → IsAsserted (Some (loose p)) ix f (memory_at v n) (memory_in ms' n)
         is_asserted i = subst (λ o. IsAsserted o ix f (memory_at v n) (memory_in ms' n)) at (done.changed n i)
 
   -- a fact goes
@@ -103,6 +101,7 @@ module _ (v : AlphaNetworkValue) (ms' : MemoryValues) (ix : ℕ) (f : FactValue)
     pub retracted_changes : AreAtRest v.memories → NetworkChangesFrom v changed
     retracted_changes rest = record {
       shapes = refl;
+      users = refl;
       memories = λ n. elim (in_or_not n found) as (λ _. ChangesFrom (memory_at v n) (memory_in ms' n)) [
         | inl i ↦ retracted_from ix (memory_at v n) (memory_in ms' n) (rest n) (done.changed n i)
         | inr out ↦ subst (ChangesFrom (memory_at v n)) (sym (done.others n out)) (from_rest (memory_at v n) (rest n))
@@ -111,15 +110,15 @@ module _ (v : AlphaNetworkValue) (ms' : MemoryValues) (ix : ℕ) (f : FactValue)
 
     pub retracted_turns : Goes → GoesAbsent → GoesWithout → AreFound v f found → (fs : IndexedFacts) → AreAlphas v fs → IsRising fs → fact_at fs ix ≡ Some f
         → AlphasTurn changed fs (without_fact fs ix)
-    retracted_turns goes absent without all fs was rising there n p place at = elim (in_or_not n found) as (λ _. AlphaTurns p (memory_in ms' n) fs (without_fact fs ix)) [
+    retracted_turns goes absent without all fs was rising there n p at = elim (in_or_not n found) as (λ _. AlphaTurns p (memory_in ms' n) fs (without_fact fs ix)) [
       | inl i ↦ by_retracted (done.changed n i)
       | inr out ↦ by_test (has_shape p f)
-          (λ t. absurd (out (all n p place at t)))
+          (λ t. absurd (out (all n p at t)))
           (λ t. stays (done.others n out) (without p (memory_at v n) ix f fs over rising there t))
     ]
       where
         over : IsAlphaOver p fs (memory_at v n)
-        over = was.over n p place at
+        over = was.over n p at
 
         stays : memory_in ms' n ≡ memory_at v n → AlphaTurns p (memory_at v n) fs (without_fact fs ix) → AlphaTurns p (memory_in ms' n) fs (without_fact fs ix)
         stays same turns = subst (λ m. AlphaTurns p m fs (without_fact fs ix)) (sym same) turns

@@ -1,11 +1,12 @@
--- How many of some numbers have a shape.
-use Rattle.std.proofs.Common.{◌≡◌, ◌+◌, ◌<◌, ◌≤◌, ℕ, Bool, List, Option, None, ap, arith, cond, count_by, get_or, inl, inr, is_some, length, nat_cmp, subst, take, take-take}
+-- How many of some numbers have a shape, and that no more have one than there are numbers.
+use Rattle.std.proofs.Common.{◌≡◌, ◌+◌, ◌<◌, ◌≤◌, ℕ, zero, suc, Bool, List, [], ◌∷◌, Option, Some, None, ap, arith, cond, count_by, get_or, inl, inr, is_some, length, nat_cmp, refl, subst, take, take-take}
 use Rattle.std.proofs.lemmas.Bool.{cases_lt}
 use Rattle.std.proofs.lemmas.List.{get_or_past}
-use Rattle.std.proofs.lemmas.List.Sums.{count_by_more_yes, sum_by-take-le}
+use Rattle.std.proofs.lemmas.List.Sums.{count_by_more_yes, sum_by-cons, sum_by-take-le}
 use Rattle.std.proofs.lemmas.Map.Keys.{below_from_sorted}
 use Rattle.std.specs.List.Sorted.{IsStrictlySortedBy}
 use Rattle.cb_matches.proofs.Lists.{by_test}
+use Rattle.cb_matches.specs.Chains.{In}
 
 abbrev pub one_if : Bool → ℕ
 one_if b = cond b 1 0
@@ -57,3 +58,46 @@ module _ {A : Type 0} (slots : List (Option A)) where
 
   pub all_counted : (ns : List ℕ) (k start now : ℕ) → AreCounted ns k start now → now ≤ start + count_by is_some slots
   all_counted ns k start now is = let most = is.most in let within = count_within is.end in omega (arith, most, within)
+
+-- ---- as many numbers at least as there are places with something
+
+-- the numbers but 0, each by one less
+abbrev shifted : List ℕ → List ℕ
+shifted [] = []
+shifted (zero ∷ ns) = shifted ns
+shifted (suc n ∷ ns) = n ∷ shifted ns
+
+shifted_short : (ns : List ℕ) → length (shifted ns) ≤ length ns
+shifted_short [] = omega arith
+shifted_short (zero ∷ ns) = let more = shifted_short ns in omega (arith, more)
+shifted_short (suc n ∷ ns) = let more = shifted_short ns in omega (arith, more)
+
+shifted_less : (ns : List ℕ) → In 0 ns → length (shifted ns) + 1 ≤ length ns
+shifted_less [] i = absurd i
+shifted_less (zero ∷ ns) i = let more = shifted_short ns in omega (arith, more)
+shifted_less (suc n ∷ ns) (inl e) = absurd (omega (arith, e))
+shifted_less (suc n ∷ ns) (inr i) = let more = shifted_less ns i in omega (arith, more)
+
+shifted_in : (n : ℕ) (ns : List ℕ) → In (suc n) ns → In n (shifted ns)
+shifted_in n [] i = absurd i
+shifted_in n (zero ∷ ns) (inl e) = absurd (omega (arith, e))
+shifted_in n (zero ∷ ns) (inr i) = shifted_in n ns i
+shifted_in n (suc m ∷ ns) (inl e) = inl (omega (arith, e))
+shifted_in n (suc m ∷ ns) (inr i) = inr (shifted_in n ns i)
+
+abbrev one_there : {A : Type 0} → Option A → ℕ
+one_there o = cond (is_some o) 1 0
+
+pub counted_in : {A : Type 0} (slots : List (Option A)) (ns : List ℕ) → ((n : ℕ) (a : A) → get_or slots n None ≡ Some a → In n ns) → count_by is_some slots ≤ length ns
+counted_in {A} [] ns there = omega arith
+counted_in {A} (None ∷ slots) ns there =
+    let more = counted_in slots (shifted ns) (λ n a at. shifted_in n ns (there (suc n) a at)) in
+    let short = shifted_short ns in
+    let none : Option A = None in
+    let same : count_by is_some (none ∷ slots) ≡ 0 + count_by is_some slots = sum_by-cons one_there none slots in
+    omega (arith, more, short, same)
+counted_in {A} (Some a ∷ slots) ns there =
+    let more = counted_in slots (shifted ns) (λ n b at. shifted_in n ns (there (suc n) b at)) in
+    let less = shifted_less ns (there 0 a refl) in
+    let one : count_by is_some (Some a ∷ slots) ≡ 1 + count_by is_some slots = sum_by-cons one_there (Some a) slots in
+    omega (arith, more, less, one)

@@ -3,9 +3,12 @@ mod Changes
 mod Counted
 mod Filled
 mod Found
+mod LooseShapes
+mod Numbered
 mod OneByOne
 mod Order
 mod Pieces
 mod Rest
 mod Searched
 mod Shapes
+mod Users

@@ -1,24 +1,38 @@
 -- What only the code needs.
 use Rattle.std.specs.Prelude.{◌≡◌, ◌≢◌, ◌⊎◌, ◌<◌, ℕ, Bool, true, false, List, Option, Some, None}
+use Rattle.std.specs.BTreeMap.{BTreeMap, get}
+use Rattle.std.specs.declared.cmp.Ordering.{Ordering}
 use Rattle.cb_alpha.specs.AlphaMemories.{AlphaMemoryValue, GainsFact, LosesFact, index_of, live}
 use Rattle.cb_alpha_network.specs.Asked.{IsEntered}
-use Rattle.cb_alpha_network.specs.Networks.{IsAtRest, MemoryValues, ShapeValue, ShapeValues, memory_in, shape_in}
+use Rattle.cb_alpha_network.specs.Networks.{IsAtRest, MemoryValues, ShapeValues, memory_in, shape_in}
 use Rattle.cb_alpha_network.specs.declared.asked.Asked.{Asked}
+use Rattle.cb_alpha_network.specs.declared.node_place.NodePlace.{NodePlace}
+use Rattle.cb_alpha_network.specs.declared.user.User.{User}
 use Rattle.cb_constraints.specs.PatternValues.{PatternValue}
 use Rattle.cb_exprs.specs.Bindings.{no_bindings}
 use Rattle.cb_facts.specs.Facts.{FactValue}
+use Rattle.cb_fit.specs.ShapeKeys.{shape_of}
 use Rattle.cb_fit.specs.Shapes.{has_way, loose}
 use Rattle.cb_fit.specs.Ways.{ways}
+use Rattle.cb_fit.specs.contracts.shape.ShapeOrd.TheImpl as shape_ord
+use Rattle.cb_fit.specs.declared.shape.Shape.{Shape}
 use Rattle.cb_matches.specs.Chains.{In}
 
 -- the number of each memory to which a fact came or from which one went is among these
 abbrev pub AreNoted : MemoryValues → List ℕ → Type 0
 AreNoted ms noted = (n : ℕ) → IsAtRest (memory_in ms n) ⊎ In n noted
 
--- each shape has a memory, and what it asks for is entered under its number
-pub record IsNetwork (asked : Asked) (shapes : ShapeValues) (count : ℕ) : Type 0 where
-  pub entered : (n : ℕ) (s : ShapeValue) → shape_in shapes n ≡ Some s → (p : PatternValue) × (loose p ≡ s.pattern) × IsEntered asked p n
-  pub within : (n : ℕ) (s : ShapeValue) → shape_in shapes n ≡ Some s → n < count
+-- shapes compare as keys
+abbrev pub shape_cmp : Shape → Shape → Ordering
+shape_cmp = shape_ord.ghosts.cmp
+
+-- each shape has a memory, what it asks for is entered under its number, its number is found by it, and by no other, and a node uses it
+pub record IsNetwork (asked : Asked) (numbers : BTreeMap Shape ℕ) (shapes : ShapeValues) (users : List User) (count : ℕ) : Type 0 where
+  pub entered : (n : ℕ) (q : PatternValue) → shape_in shapes n ≡ Some q → (p : PatternValue) × (loose p ≡ q) × IsEntered asked p n
+  pub within : (n : ℕ) (q : PatternValue) → shape_in shapes n ≡ Some q → n < count
+  pub numbered : (n : ℕ) (q : PatternValue) → shape_in shapes n ≡ Some q → get shape_cmp numbers (shape_of q) ≡ Some n
+  pub found : (k : Shape) (n : ℕ) → get shape_cmp numbers k ≡ Some n → (p : PatternValue) × (shape_of p ≡ k) × (shape_in shapes n ≡ Some (loose p))
+  pub used : (n : ℕ) (q : PatternValue) → shape_in shapes n ≡ Some q → (place : NodePlace) × In (record { alpha = n; place = place }) users
 
 -- all but one memory stay
 abbrev pub KeepsOtherMemories : ℕ → MemoryValues → MemoryValues → Type 0
@@ -29,9 +43,9 @@ abbrev pub fits : PatternValue → FactValue → Bool
 fits p f = has_way (ways p f no_bindings)
 
 -- a fact comes to a memory if it has the shape that stands there, if one does
-abbrev pub IsAsserted : Option ShapeValue → ℕ → FactValue → AlphaMemoryValue → AlphaMemoryValue → Type 0
+abbrev pub IsAsserted : Option PatternValue → ℕ → FactValue → AlphaMemoryValue → AlphaMemoryValue → Type 0
 IsAsserted None ix f old new = new ≡ old
-IsAsserted (Some s) ix f old new = (fits s.pattern f ≡ true → (i : ℕ) × GainsFact old new i (ix, f)) × (fits s.pattern f ≡ false → new ≡ old)
+IsAsserted (Some p) ix f old new = (fits p f ≡ true → (i : ℕ) × GainsFact old new i (ix, f)) × (fits p f ≡ false → new ≡ old)
 
 -- the fact with an index goes from a memory, if it is there
 abbrev pub IsRetracted : ℕ → AlphaMemoryValue → AlphaMemoryValue → Type 0

@@ -4,26 +4,30 @@ ghost use Rattle.std.specs.List.Sorted.{IsStrictlySortedBy};
 ghost use Rattle.std.specs.Ordering.{nat_cmp};
 ghost use Rattle.cb_alpha.specs.AlphaMemories.{index_of, live};
 ghost use Rattle.cb_alpha_network.specs.Internal.{ChangesThose, IsAsserted, IsRetracted, KeepsOtherMemories};
-ghost use Rattle.cb_alpha_network.specs.Networks.{AreAtRest, ShapeValue, memory_in, shape_in};
+ghost use Rattle.cb_alpha_network.specs.Networks.{AreAtRest, memory_in, shape_in};
 ghost use Rattle.cb_alpha_network.specs.declared.node_place.NodePlace.{NodePlace as Place};
+ghost use Rattle.cb_constraints.specs.PatternValues.{PatternValue};
 ghost use Rattle.cb_matches.specs.Chains.{In};
 
+use crate::filling::fits_alone;
 use crate::memories::Memories;
 use crate::node_place::NodePlace;
-use crate::shape::{Shape, fits_alone};
+use crate::user::{User, first_user};
 use cb_alpha::Candidate;
 use cb_facts::Fact;
-use cb_fit::Meter;
+use cb_fit::{Meter, Pattern};
 use cb_forms::NoMemory;
 use cb_functions::Constants;
 use slab::Slab;
 use std::alloc::Global;
+use std::collections::BTreeSet;
+use std::ops::Bound;
 
 /// Adds a fact to the memories with these numbers of which it has the shape. Growth is refused as `NoMemory`.
 pub(crate) fn assert_found<T>(
     alloc: Global,
     constants: &Constants,
-    shapes: &Slab<Shape<T>>,
+    shapes: &Slab<Pattern<T>>,
     memories: &mut Memories,
     found: &[u32],
     index: u64,
@@ -31,9 +35,9 @@ pub(crate) fn assert_found<T>(
     meter: &mut Meter<T>,
 ) -> Result<(), NoMemory>
     requires sorted { IsStrictlySortedBy nat_cmp found.now }
-    requires within { (n : ℕ) (s : ShapeValue) → shape_in shapes.now.slots n ≡ Some s → n < length memories.old }
+    requires within { (n : ℕ) (s : PatternValue) → shape_in shapes.now.slots n ≡ Some s → n < length memories.old }
     requires rest { AreAtRest memories.old }
-    requires absent { (n : ℕ) (s : ShapeValue) → shape_in shapes.now.slots n ≡ Some s
+    requires absent { (n : ℕ) (s : PatternValue) → shape_in shapes.now.slots n ≡ Some s
         → (i : ℕ) → index_of (live (memory_in memories.old n) i) ≢ Some index }
     ensures changed { OnOk result (ChangesThose (λ n. IsAsserted (shape_in shapes.now.slots n) index fact.now)
         found.now memories.old memories.new) }
@@ -52,16 +56,16 @@ pub(crate) fn assert_found<T>(
 fn assert_at<T>(
     alloc: Global,
     constants: &Constants,
-    shapes: &Slab<Shape<T>>,
+    shapes: &Slab<Pattern<T>>,
     memories: &mut Memories,
     number: u32,
     index: u64,
     fact: &Fact,
     meter: &mut Meter<T>,
 ) -> Result<(), NoMemory>
-    requires within { (s : ShapeValue) → shape_in shapes.now.slots number ≡ Some s → number < length memories.old }
+    requires within { (s : PatternValue) → shape_in shapes.now.slots number ≡ Some s → number < length memories.old }
     requires none_come { (memory_in memories.old number).come ≡ None }
-    requires absent { (s : ShapeValue) → shape_in shapes.now.slots number ≡ Some s
+    requires absent { (s : PatternValue) → shape_in shapes.now.slots number ≡ Some s
         → (i : ℕ) → index_of (live (memory_in memories.old number) i) ≢ Some index }
     ensures at { OnOk result (IsAsserted (shape_in shapes.now.slots number) index fact.now
         (memory_in memories.old number) (memory_in memories.new number)) }
@@ -72,7 +76,7 @@ fn assert_at<T>(
     let Some(shape) = shapes.get(number as usize) else {
         return Ok(());
     };
-    if !fits_alone(alloc, constants, &shape.pattern, fact, meter)? {
+    if !fits_alone(alloc, constants, shape, fact, meter)? {
         return Ok(());
     }
     let fact = fact.clone()?;
@@ -97,32 +101,37 @@ pub(crate) fn retract_found(
     Ok(())
 }
 
-/// Adds the places of the shapes with these numbers. Growth is refused as `NoMemory`.
-pub(crate) fn add_places<T>(
-    shapes: &Slab<Shape<T>>,
+/// Adds the places of the nodes that use the shapes with these numbers. Growth is refused as `NoMemory`.
+pub(crate) fn add_places(
+    users: &BTreeSet<User>,
     numbers: &[u32],
     places: &mut Vec<NodePlace>,
 ) -> Result<(), NoMemory>
-    ensures { OnOk result ((n : ℕ) (s : ShapeValue) → In n numbers.now → shape_in shapes.now.slots n ≡ Some s
-        → In s.place places.new.items) }
+    ensures { OnOk result ((n : ℕ) (place : Place) → In n numbers.now → In (record { alpha = n; place = place }) users.now.keys
+        → In place places.new.items) }
 {
     for number in numbers {
-        add_place(shapes, *number, places)?;
+        add_places_of(users, *number, places)?;
     }
     Ok(())
 }
 
-/// Adds the place of the shape with a number, if there is one.
-fn add_place<T>(
-    shapes: &Slab<Shape<T>>,
+/// Adds the places of the nodes that use the shape with a number.
+fn add_places_of(
+    users: &BTreeSet<User>,
     number: u32,
     places: &mut Vec<NodePlace>,
 ) -> Result<(), NoMemory>
-    ensures added { OnOk result ((s : ShapeValue) → shape_in shapes.now.slots number ≡ Some s → In s.place places.new.items) }
+    ensures added { OnOk result ((place : Place) → In (record { alpha = number; place = place }) users.now.keys
+        → In place places.new.items) }
     ensures stay { OnOk result ((place : Place) → In place places.old.items → In place places.new.items) }
 {
-    if let Some(shape) = shapes.get(number as usize) {
-        places.push(shape.place)?;
+    let first = first_user(number);
+    for user in users.range((Bound::Included(&first), Bound::Unbounded)) {
+        if user.alpha != number {
+            return Ok(());
+        }
+        places.push(user.place)?;
     }
     Ok(())
 }

@@ -4,16 +4,20 @@
 //! of places by which patterns for its relation ask, a test for each pattern that is found, and what changes; patterns that ask for
 //! other values cost nothing.
 //!
+//! Patterns that ask the same by constants and lengths have one shape, and share its memory, whichever rules they are of: a fact is tested
+//! and kept once for all of them.
+//!
 //! `docs/ARCHITECTURE.md` says where it belongs.
 #![tactic(auto)]
 
 mod asked; // the table of what patterns ask for
 mod changing; // the changes of the memories that are found for a fact
 mod field_places; // places of fields in a fact
+mod filling; // the facts that have a shape
 mod memories; // alpha memories by number
 mod network; // the alpha network
 mod node_place; // the place of a pattern among the rules
-mod shape; // the shapes of patterns
+mod user; // a node that uses a shape
 mod wanted; // what a pattern asks for
 
 pub use network::AlphaNetwork;

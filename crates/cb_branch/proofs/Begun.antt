@@ -21,8 +21,6 @@ use Rattle.cb_list_changes.proofs.Begins.{change_begins, empty_rest, filling_beg
 use Rattle.cb_list_changes.proofs.Places.{at_place}
 use Rattle.cb_list_changes.specs.Halfway.{AreHalfway}
 use Rattle.cb_list_changes.specs.Resting.{AreResting}
-use Rattle.cb_match_index.proofs.Turned.{stays_index}
-use Rattle.cb_match_index.specs.MatchIndexes.{IsIndex}
 use Rattle.cb_matches.specs.Chains.{In}
 use Rattle.cb_matches.specs.Matches.{Partial, no_parts}
 use Rattle.cb_matches.specs.Order.{IsRising, IsSorted, WaysRise}
@@ -30,8 +28,7 @@ use Rattle.cb_nodes.specs.Flat.{AreWidths, FlatNode, Lists, branch_nodes, lists_
 use Rattle.cb_nodes.specs.Lists.{AreWhole, HaveParts, branch_lists}
 use Rattle.cb_branch.specs.Nodes.{flat_node, flat_nodes, no_tokens}
 use Rattle.cb_scopes.specs.Scopes.{HasValuesOf}
-use Rattle.cb_token_lists.specs.Partials.{AreBelow, LeadsTo, SourceValue, partial_at}
-use Rattle.cb_token_lists.specs.Turns.{IsThere}
+use Rattle.cb_token_lists.specs.Partials.{AreBelow, LeadsTo, SourceValue}
 
 module _ {T : Type 0} (b : Branch T) (planned : CanBeFilled b) where
   abbrev ns : List FlatNode
@@ -83,9 +80,9 @@ nothing_bound m h = elim h as (λ _. HasValuesOf [] m) [
 ]
 
 -- a change of facts
-pub change_turning : {T : Type 0} (alphas : MemoryValues) (rule number : ℕ) (fs fs' : IndexedFacts) (b : Branch T) → WaysRise → IsBefore alphas rule number fs fs' b
-    → IsTurning alphas rule number b.lists.items fs fs' (no_parts ∷ []) (no_parts ∷ []) (branch_lists (flat_nodes b.nodes.items) fs) (branch_lists (flat_nodes b.nodes.items) fs') b
-change_turning alphas rule number fs fs' b rise before =
+pub change_turning : {T : Type 0} (alphas : MemoryValues) (fs fs' : IndexedFacts) (b : Branch T) → WaysRise → IsBefore alphas fs fs' b
+    → IsTurning alphas b.lists.items fs fs' (no_parts ∷ []) (no_parts ∷ []) (branch_lists (flat_nodes b.nodes.items) fs) (branch_lists (flat_nodes b.nodes.items) fs') b
+change_turning alphas fs fs' b rise before =
     let over = before.over in
     let planned = over.planned in
     let w = whole b planned in
@@ -108,16 +105,14 @@ change_turning alphas rule number fs fs' b rise before =
         unbound = λ m h. elim h as (λ _. HasValuesOf [] m) [ inl i ↦ nothing_bound m i | inr i ↦ nothing_bound m i ];
         turned = before.turned;
       };
-      indexed = over.indexed;
       sorted = last_sorted b planned rise fs before.rising;
       sorted_now = last_sorted b planned rise fs' before.rising_now;
     }
 
 -- and a filling
-module _ {T : Type 0} (alphas : MemoryValues) (rule number : ℕ) (fs : IndexedFacts) (rise : WaysRise) (rising : IsRising fs) (b : Branch T) (planned : CanBeFilled b)
+module _ {T : Type 0} (alphas : MemoryValues) (fs : IndexedFacts) (rise : WaysRise) (rising : IsRising fs) (b : Branch T) (planned : CanBeFilled b)
     (empties : List BetaMemoryValue) (long : length empties ≡ suc (length b.nodes.items)) (empty : (j : ℕ) (m : BetaMemoryValue) → slice_get empties j ≡ Some m → m ≡ no_tokens)
-    (cleared : AreNodesCleared b.nodes.items) (first : BeginsFilling empties b.lists.items) (index : (at : ℕ → Partial) → IsIndex rule number at (λ n. ⊥) b.matches)
-    (turned : AreTurned alphas fs fs b) where
+    (cleared : AreNodesCleared b.nodes.items) (first : BeginsFilling empties b.lists.items) (turned : AreTurned alphas fs fs b) where
   abbrev nodes_of : List FlatNode
   nodes_of = flat_nodes b.nodes.items
 
@@ -136,10 +131,7 @@ module _ {T : Type 0} (alphas : MemoryValues) (rule number : ℕ) (fs : IndexedF
       filling_begins b.sources.items empties b.lists.items was (branch_lists nodes_of fs) one.0 g.0 g.1 (record { parent = 0; taken = None }) rest (none b planned fs 0)
       (start b planned fs (no_parts ∷ [])) one.1 g.2 g.3
 
-  no_token : (m : BetaMemoryValue) → m ≡ no_tokens → (i : ℕ) → IsThere m i → ⊥
-  no_token m e i h = subst (λ it. IsThere it i → ⊥) (sym e) (λ k. let no : None ≡ Some k.0 = k.1 in cc) h
-
-  pub fill_turning : IsTurning alphas rule number empties fs fs [] (no_parts ∷ []) was (branch_lists nodes_of fs) b
+  pub fill_turning : IsTurning alphas empties fs fs [] (no_parts ∷ []) was (branch_lists nodes_of fs) b
   fill_turning = record {
     planned = planned;
     nodes = record {
@@ -158,10 +150,6 @@ module _ {T : Type 0} (alphas : MemoryValues) (rule number : ℕ) (fs : IndexedF
       unbound = λ m h. elim h as (λ _. HasValuesOf [] m) [ inl i ↦ absurd i | inr i ↦ nothing_bound m i ];
       turned = turned;
     };
-    indexed = λ m is.
-        let at = partial_at b.sources.items empties b.last in
-        stays_index b.matches rule number at at (λ n. ⊥) (IsThere m) (index at)
-        (record { to = λ i h. absurd h; from = λ i h. no_token m (empty b.last m is) i h; same = λ i h. absurd h });
     sorted = subst IsSorted (sym (none b planned fs b.last)) tt;
     sorted_now = last_sorted b planned rise fs rising;
   }

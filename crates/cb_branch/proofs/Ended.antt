@@ -8,42 +8,28 @@ use Rattle.cb_branch.specs.Alphas.{live_facts}
 use Rattle.cb_branch.specs.Ready.{AreNodesReady}
 use Rattle.cb_branch.specs.Turning.{AreNodesAfter, AreNodesBefore}
 use Rattle.cb_facts.specs.FactLists.{IndexedFacts}
-use Rattle.cb_list_changes.proofs.Ends.{all_rest, alike_then}
-use Rattle.cb_list_changes.proofs.Places.{at_place, at_same}
-use Rattle.cb_list_changes.proofs.Relying.{alike_was}
+use Rattle.cb_list_changes.proofs.Ends.{all_rest}
+use Rattle.cb_list_changes.proofs.Places.{at_place}
 use Rattle.cb_list_changes.specs.Resting.{AreEnded, AreResting}
-use Rattle.cb_match_index.proofs.Turned.{stays_index}
-use Rattle.cb_match_index.specs.MatchIndexes.{IsIndex}
-use Rattle.cb_match_index.specs.declared.match_index.MatchIndex.{MatchIndex}
 use Rattle.cb_matches.specs.Matches.{Partial}
 use Rattle.cb_nodes.specs.Flat.{AreWidths, FlatNode, Lists}
 use Rattle.cb_branch.specs.Nodes.{flat_node, flat_nodes}
 use Rattle.cb_branch.specs.declared.node.Node.{Node}
 use Rattle.cb_token_lists.specs.Partials.{SourceValue, partial_at}
-use Rattle.cb_token_lists.specs.Turns.{IsThere, Turns, WasThere}
+use Rattle.cb_token_lists.specs.Turns.{Turns}
 
 module _ {T : Type 0} (alphas : MemoryValues) (sources : List SourceValue) (before start : List BetaMemoryValue) (fs fs' : IndexedFacts) (one one' : List Partial) (old new : Lists)
     (first : List (Node T)) (w : AreNodesBefore alphas sources before start fs fs' one one' old new first)
-    (lists : List BetaMemoryValue) (nodes : List (Node T)) (same : flat_nodes nodes ≡ flat_nodes first) (after : AreNodesAfter alphas sources before lists old new nodes)
-    (last : ℕ) (within : last < suc (length first)) where
+    (lists : List BetaMemoryValue) (nodes : List (Node T)) (same : flat_nodes nodes ≡ flat_nodes first) (after : AreNodesAfter alphas sources before lists old new nodes) where
   as_many : length nodes ≡ length first
   as_many = sym (length-map nodes flat_node) ∙ (ap length same ∙ length-map first flat_node)
 
-  pub last_there : (m : BetaMemoryValue) × (slice_get lists last ≡ Some m)
-  last_there = at_place lists last (let long = after.long in omega (arith, within, as_many, long))
+  pub last_there : (last : ℕ) → last < suc (length first) → (m : BetaMemoryValue) × (slice_get lists last ≡ Some m)
+  last_there last within = at_place lists last (let long = after.long in omega (arith, within, as_many, long))
 
   -- the last list has turned
-  pub last_turns : Turns (partial_at sources lists last) last_there.0 (old last) (new last)
-  last_turns = after.halfway.turned last last_there.0 (omega (arith, within, as_many)) last_there.1
-
-  -- what is looked up is what was there
-  pub index_was : (rule number : ℕ) (index : MatchIndex)
-      → ((m : BetaMemoryValue) → slice_get before last ≡ Some m → IsIndex rule number (partial_at sources before last) (IsThere m) index)
-      → IsIndex rule number (partial_at sources lists last) (WasThere last_there.0) index
-  index_was rule number index indexed =
-      let m = at_same lists before last last_there.0 (sym after.halfway.long) last_there.1 in
-      stays_index index rule number (partial_at sources before last) (partial_at sources lists last) (IsThere m.0) (WasThere last_there.0) (indexed m.0 m.1)
-      (alike_was sources before lists old new (length nodes) w.rest after.halfway last m.0 last_there.0 m.1 last_there.1)
+  pub last_turns : (last : ℕ) (within : last < suc (length first)) → Turns (partial_at sources lists last) (last_there last within).0 (old last) (new last)
+  last_turns last within = let m = last_there last within in after.halfway.turned last m.0 (omega (arith, within, as_many)) m.1
 
   -- and at the end of the change
   module _ (ended : List BetaMemoryValue) (ends : AreEnded lists ended) where
@@ -61,9 +47,3 @@ module _ {T : Type 0} (alphas : MemoryValues) (sources : List SourceValue) (befo
         ends_ready sources nodes w.widths (subst (λ (it : List FlatNode). AreWidths it w.widths) (sym same) w.well)
         (λ k n is. w.leads k n (subst (λ (it : List FlatNode). slice_get it k ≡ Some n) same is))
         before lists ended old new (length nodes) (live_facts alphas) new after.halfway short ends after.ready
-
-    pub ended_index : (rule number : ℕ) (index : MatchIndex) → IsIndex rule number (partial_at sources lists last) (IsThere last_there.0) index
-        → (m : BetaMemoryValue) → slice_get ended last ≡ Some m → IsIndex rule number (partial_at sources ended last) (IsThere m) index
-    ended_index rule number index indexed m is =
-        stays_index index rule number (partial_at sources lists last) (partial_at sources ended last) (IsThere last_there.0) (IsThere m) indexed
-        (alike_then sources before lists ended old new (length nodes) after.halfway short ends last last_there.0 m last_there.1 is)

@@ -1,13 +1,13 @@
 -- Patterns that are decided by values: the fields with variables that have values before.
-use Rattle.std.proofs.Common.{◌≡◌, ◌≢◌, ◌∙◌, ◌∷◌, ◌++◌, ◌+◌, ◌||◌, inl, inr, ℕ, Bool, true, false, cond, not, List, [], Option, Some, None, map, refl, sym, ap, ap₂, subst}
+use Rattle.std.proofs.Common.{◌≡◌, ◌≢◌, ◌∙◌, ◌∷◌, ◌+◌, ◌||◌, inl, inr, ℕ, true, false, cond, not, List, [], Option, Some, None, refl, sym, ap, subst}
 use Rattle.std.proofs.lemmas.List.Elements.{filter_agree}
 use Rattle.std.specs.Cmp.Lexicographic.{bytes_decides}
-use Rattle.std.specs.List.{Contains, filter, flat_map, list_any}
+use Rattle.std.specs.List.{filter, list_any}
 use Rattle.std.specs.Str.{bytes_eq}
 use Rattle.cb_branch.proofs.BoundNames.{in_named, never, or_true, same_bytes, same_named}
 use Rattle.cb_branch.specs.Internal.Bounds.{AreSame}
-use Rattle.cb_branch.specs.Internal.ByValues.{IsDecidedBy, IsElsewhere, is_own}
-use Rattle.cb_constraints.specs.Binders.{binders, binders_in, constraints_in}
+use Rattle.cb_branch.specs.Internal.ByValues.{IsElsewhere, is_own}
+use Rattle.cb_constraints.specs.Binders.{binders, constraints_in}
 use Rattle.cb_constraints.specs.Constraints.{Constraint}
 use Rattle.cb_constraints.specs.PatternValues.{PatternParts, PatternValue, SlotValue}
 use Rattle.cb_constraints.specs.PatternValues as pattern
@@ -20,7 +20,7 @@ use Rattle.cb_fit.specs.declared.join_fields.JoinField.{JoinField}
 use Rattle.cb_join_node.specs.Nodes.{IsByValues}
 use Rattle.cb_join_node.specs.declared.by_values.ByValues.{ByValues}
 use Rattle.cb_join_node.specs.declared.joining.Joining.{Joining}
-use Rattle.cb_lookup_node.specs.LookupNodes.{IsLookup, compared_join}
+use Rattle.cb_lookup_node.specs.LookupNodes.{AsksBy, IsLookup, looking_of}
 use Rattle.cb_lookup_node.specs.declared.node.LookupNode.{LookupNode}
 use Rattle.cb_matches.proofs.Lists.{by_test, flat_in, in_contains, in_filter, in_flat, in_map}
 use Rattle.cb_matches.specs.Chains.{In}
@@ -51,9 +51,7 @@ module _ {T : Type 0} where
   lookup_same us bs node same is = record {
     decided = is.decided;
     unchosen = is.unchosen;
-    fields = is.fields ∙ ap (λ (it : List JoinField). it ++ map compared_join (compared_fields node.pattern.parts)) (known_same (join_fields node.pattern.parts) us bs same);
-    comparison = is.comparison;
-    by_order = is.by_order;
+    asks = subst (λ (it : List JoinField). AsksBy (looking_of node.sight) node.fields.items it (compared_fields node.pattern.parts)) (known_same (join_fields node.pattern.parts) us bs same) is.asks;
   }
 
 -- what is asked of a field that is taken alone is what a constraint asks

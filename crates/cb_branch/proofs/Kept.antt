@@ -29,16 +29,15 @@ use Rattle.cb_token_lists.specs.Keeping.{Rests}
 use Rattle.cb_token_lists.specs.Partials.{partial_at}
 
 -- other facts under the same numbers
-pub facts_over : {T : Type 0} (rule number : ℕ) (facts facts' : Facts) (fs : IndexedFacts) (b : Branch T) → IsBranchOver rule number facts fs b
-    → ((k : ℕ) (u : AlphaUse) → HasAlpha b k u → (n : ℕ) → facts u.alpha n ≡ facts' u.alpha n) → IsBranchOver rule number facts' fs b
-facts_over rule number facts facts' fs b over same =
+pub facts_over : {T : Type 0} (facts facts' : Facts) (fs : IndexedFacts) (b : Branch T) → IsBranchOver facts fs b
+    → ((k : ℕ) (u : AlphaUse) → HasAlpha b k u → (n : ℕ) → facts u.alpha n ≡ facts' u.alpha n) → IsBranchOver facts' fs b
+facts_over facts facts' fs b over same =
     let ls = branch_lists (flat_nodes b.nodes.items) fs in
     record {
       planned = over.planned;
       long = over.long;
       rest = over.rest;
       ready = facts_stay b.sources.items b.nodes.items (widths_of (flat_nodes b.nodes.items)) (widths b over.planned) (leads b over.planned) b.lists.items facts facts' ls ls same (λ j. refl) over.ready;
-      indexed = over.indexed;
     }
 
 module _ {T : Type 0} (f : ℕ × FactValue) where
@@ -55,12 +54,12 @@ module _ {T : Type 0} (f : ℕ × FactValue) where
       All-cons (λ m. takes f m ≡ false) (flat_node n) (flat_nodes nodes) (one_takes n (λ u e. none 0 u e)) (none_takes nodes (λ k u e. none (suc k) u e))
 
 -- facts more or fewer that no pattern takes
-module _ {T : Type 0} (shapeless : Shapeless) (rule number : ℕ) (facts : Facts) (fs fs' : IndexedFacts) (f : ℕ × FactValue) (b : Branch T) (differ : DifferBy f fs fs')
-    (none : (k : ℕ) (u : AlphaUse) → HasAlpha b k u → has_shape u.pattern f.1 ≡ false) (over : IsBranchOver rule number facts fs b) where
+module _ {T : Type 0} (shapeless : Shapeless) (facts : Facts) (fs fs' : IndexedFacts) (f : ℕ × FactValue) (b : Branch T) (differ : DifferBy f fs fs')
+    (none : (k : ℕ) (u : AlphaUse) → HasAlpha b k u → has_shape u.pattern f.1 ≡ false) (over : IsBranchOver facts fs b) where
   same_lists : (k : ℕ) → branch_lists (flat_nodes b.nodes.items) fs k ≡ branch_lists (flat_nodes b.nodes.items) fs' k
   same_lists k = lists_stay shapeless f fs fs' (flat_nodes b.nodes.items) (none_takes f b.nodes.items none) differ k
 
-  pub untaken_over : IsBranchOver rule number facts fs' b
+  pub untaken_over : IsBranchOver facts fs' b
   untaken_over = record {
     planned = over.planned;
     long = over.long;
@@ -70,7 +69,6 @@ module _ {T : Type 0} (shapeless : Shapeless) (rule number : ℕ) (facts : Facts
     };
     ready = facts_stay b.sources.items b.nodes.items (widths_of (flat_nodes b.nodes.items)) (widths b over.planned) (leads b over.planned) b.lists.items facts facts
         (branch_lists (flat_nodes b.nodes.items) fs) (branch_lists (flat_nodes b.nodes.items) fs') (λ k u h n. refl) same_lists over.ready;
-    indexed = over.indexed;
   }
 
   pub untaken_matches : WaysRise → IsRising fs → IsRising fs' → matches_of (branch_elements b) fs ≡ matches_of (branch_elements b) fs'

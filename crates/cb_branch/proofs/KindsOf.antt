@@ -1,7 +1,7 @@
 -- Groups of one pattern: what is known by how they are kept.
-use Rattle.std.proofs.Common.{◌≡◌, ◌∙◌, ◌∷◌, ◌&&◌, ◌||◌, [], Bool, List, Option, None, Some, Global, Vec, ap, cond, false, is_some, map, refl, sym, subst, true}
+use Rattle.std.proofs.Common.{◌≡◌, ◌∙◌, ◌∷◌, ◌||◌, [], List, Option, None, Some, Global, Vec, ap, cond, false, is_some, map, refl, sym, subst, true}
 use Rattle.std.specs.Option.{option_map}
-use Rattle.cb_branch.proofs.BoundNames.{both, never, or_true}
+use Rattle.cb_branch.proofs.BoundNames.{never, or_true}
 use Rattle.cb_branch.specs.Internal.ByValues.{IsDecidedBy, IsKind}
 use Rattle.cb_branch.specs.declared.kinds.Kind.{Kind}
 use Rattle.cb_branch.specs.declared.kinds.Kind.TheVariants as kind
@@ -13,7 +13,7 @@ use Rattle.cb_fit.specs.StandsAlone.{stands_alone}
 use Rattle.cb_fit.specs.declared.comparison.ComparedField.{ComparedField}
 use Rattle.cb_fit.specs.declared.decision.Decision.{Decision}
 use Rattle.cb_matches.proofs.Lists.{by_test}
-use Rattle.cb_nodes.specs.Flat.{are_by_order, are_none_chosen, is_looked_up, lone_pattern}
+use Rattle.cb_nodes.specs.Flat.{are_none_chosen, is_looked_up, lone_pattern}
 use Rattle.cb_rules.specs.Elements.{element, no_elements, pattern}
 
 one_pattern : (p q : PatternValue) → Some p ≡ Some q → p ≡ q
@@ -36,9 +36,6 @@ pub looked_decided : (k : Kind) (compared : Vec ComparedField Global) (lone : Op
 looked_decided k compared lone q is found e =
     let it : IsKind (kind.LookedUp compared) lone = subst (λ (j : Kind). IsKind j lone) is found in
     subst (λ (p : PatternValue). IsDecidedBy p compared.items) (one_pattern it.0 q (sym it.1 ∙ e)) it.2
-
-pub looked_by_order : (k : Kind) (compared : Vec ComparedField Global) (lone : Option PatternValue) → k ≡ kind.LookedUp compared → IsKind k lone → are_by_order compared.items ≡ true
-looked_by_order k compared lone is found = let it : IsKind (kind.LookedUp compared) lone = subst (λ (j : Kind). IsKind j lone) is found in it.3
 
 -- other elements
 pub nested_none : (k : Kind) (lone : Option PatternValue) → k ≡ kind.Nested → IsKind k lone → lone ≡ None
@@ -75,18 +72,11 @@ none_chosen (c ∷ cs) e = never (sym e)
 pub looked_kind : (p : PatternValue) (d : Decision) → option_map decision_of (Some d) ≡ decision p.parts → is_looked_up (Some (decision_of d)) ≡ true
     → IsKind (kind.LookedUp d.compared) (lone_pattern (element (pattern None p) no_elements))
 looked_kind p d is looked =
-    let all : is_looked_up (decision p.parts) ≡ true = ap is_looked_up (sym is) ∙ looked in
-    let split = both (are_by_order d.compared.items) (are_none_chosen (map choice_field_of d.chosen.items)) looked in (
+    let all : is_looked_up (decision p.parts) ≡ true = ap is_looked_up (sym is) ∙ looked in (
       p,
       ap (λ b. cond (stands_alone p || b) (Some p) None) all ∙ ap (λ b. cond b (Some p) None) (or_true (stands_alone p)),
-      decided_is p d is (none_chosen (map choice_field_of d.chosen.items) split.1),
-      split.0,
+      decided_is p d is (none_chosen (map choice_field_of d.chosen.items) looked),
     )
 
 pub nested_kind : (p : PatternValue) → stands_alone p ≡ false → is_looked_up (decision p.parts) ≡ false → IsKind kind.Nested (lone_pattern (element (pattern None p) no_elements))
 nested_kind p alone looked = ap (λ b. cond (b || is_looked_up (decision p.parts)) (Some p) None) alone ∙ ap (λ b. cond b (Some p) None) looked
-
--- by order no more than one field is compared
-pub one_by_order : (c : ComparedField) (cs : List ComparedField) → are_by_order (c ∷ cs) ≡ true → cs ≡ []
-one_by_order c [] e = refl
-one_by_order c (d ∷ cs) e = never (sym e)

@@ -1,4 +1,5 @@
 mod Alike
+mod AtEnd
 mod Begun
 mod BoundNames
 mod Changed
@@ -7,7 +8,7 @@ mod Done
 mod Ended
 mod Endings
 mod Entered
-mod EnteredNodes
+pub mod EnteredNodes
 mod Fills
 mod GroupKind
 mod JoinKind
@@ -16,7 +17,6 @@ mod Kept
 mod KindsOf
 mod LoneKind
 mod LookupKind
-mod Looked
 mod Loop
 mod Matched
 mod NodeProbes

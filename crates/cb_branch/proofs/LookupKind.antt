@@ -1,5 +1,5 @@
 -- A change of a group of one pattern that is looked up by values.
-use Rattle.std.proofs.Common.{◌≡◌, ◌∙◌, ◌++◌, ◌≤◌, ◌<◌, ℕ, suc, Bool, List, None, Option, Some, Global, Vec, ap, arith, filter, map, option_to_list, refl, slice_get, subst, sym}
+use Rattle.std.proofs.Common.{◌≡◌, ◌∙◌, ◌≤◌, ◌<◌, ℕ, suc, Bool, List, None, Some, Global, Vec, ap, arith, filter, refl, slice_get, subst, sym}
 use Rattle.std.proofs.lemmas.Option.{get_or_from_slice_get}
 use Rattle.cb_alpha.specs.AlphaMemories.{AlphaMemoryValue, live}
 use Rattle.cb_alpha.specs.Turning.{AlphaTurns, HasJoin, were_in}
@@ -13,15 +13,13 @@ use Rattle.cb_constraints.specs.PatternValues.{PatternValue}
 use Rattle.cb_facts.specs.FactLists.{IndexedFacts}
 use Rattle.cb_fit.specs.Comparisons.{choice_fields, compared_fields, is_decided}
 use Rattle.cb_fit.specs.JoinFields.{join_fields}
-use Rattle.cb_fit.specs.declared.comparison.ComparedField.{ComparedField}
-use Rattle.cb_fit.specs.declared.comparison.Comparison.{Comparison}
 use Rattle.cb_fit.specs.declared.join_fields.JoinField.{JoinField}
 use Rattle.cb_list_changes.proofs.Places.{one_at}
 use Rattle.cb_list_changes.specs.Halfway.{IsStepped}
 use Rattle.cb_lookup_node.proofs.Staying.{parent_there}
-use Rattle.cb_lookup_node.specs.LookupNodes.{AsksTheSame, IsAfterLookup, IsBeforeLookup, IsLookup, IsLookupReady, compared_join}
+use Rattle.cb_lookup_node.specs.LookupNodes.{AsksBy, AsksTheSame, IsAfterLookup, IsBeforeLookup, IsLookup, IsLookupReady, Looking, looking_of}
 use Rattle.cb_lookup_node.specs.declared.node.LookupNode.{LookupNode}
-use Rattle.cb_nodes.specs.Flat.{Lists, alone, are_by_order, holds_alone}
+use Rattle.cb_nodes.specs.Flat.{Lists, alone, holds_alone}
 use Rattle.cb_branch.specs.declared.node.Node.{Node}
 use Rattle.cb_branch.specs.declared.node.Node.TheVariants as kept
 use Rattle.cb_scopes.specs.Decided.{known_fields}
@@ -36,27 +34,25 @@ use_of alpha p join fields = record { pattern = p; alpha = alpha; join = Some (j
 module _ {T : Type 0} where
   -- the number of the join says nothing of what is looked up
   pub lookup_of_join : (names : Scope) (node : LookupNode T) (join : ℕ) → IsLookup names node → IsLookup names (record node { join = join })
-  lookup_of_join names node join is = record { decided = is.decided; unchosen = is.unchosen; fields = is.fields; comparison = is.comparison; by_order = is.by_order }
+  lookup_of_join names node join is = record { decided = is.decided; unchosen = is.unchosen; asks = is.asks }
 
   pub lookup_of_any : (names : Scope) (node : LookupNode T) (join : ℕ) → IsLookup names (record node { join = join }) → IsLookup names node
-  lookup_of_any names node join is = record { decided = is.decided; unchosen = is.unchosen; fields = is.fields; comparison = is.comparison; by_order = is.by_order }
+  lookup_of_any names node join is = record { decided = is.decided; unchosen = is.unchosen; asks = is.asks }
 
   -- what is looked up is, where the node asks the same
   pub lookup_with : (names : Scope) (node node' : LookupNode T) → AsksTheSame node node' → IsLookup names node → IsLookup names node'
   lookup_with names node node' same is = record {
     decided = ap (λ (p : PatternValue). is_decided p) same.pattern ∙ is.decided;
     unchosen = ap (λ (p : PatternValue). choice_fields p.parts) same.pattern ∙ is.unchosen;
-    fields = ap (λ (v : Vec JoinField Global). v.items) same.fields
-        ∙ (is.fields ∙ ap (λ (p : PatternValue). known_fields (join_fields p.parts) names ++ map compared_join (compared_fields p.parts)) (sym same.pattern));
-    comparison = ap (λ (c : Option Comparison). option_to_list c) same.comparison
-        ∙ (is.comparison ∙ ap (λ (p : PatternValue). map (λ (c : ComparedField). c.comparison) (compared_fields p.parts)) (sym same.pattern));
-    by_order = ap (λ (p : PatternValue). are_by_order (compared_fields p.parts)) same.pattern ∙ is.by_order;
+    asks = subst (λ (it : Looking). AsksBy it node'.fields.items (known_fields (join_fields node'.pattern.parts) names) (compared_fields node'.pattern.parts)) (sym same.looking)
+        (subst (λ (v : Vec JoinField Global). AsksBy (looking_of node.sight) v.items (known_fields (join_fields node'.pattern.parts) names) (compared_fields node'.pattern.parts)) (sym same.fields)
+        (subst (λ (p : PatternValue). AsksBy (looking_of node.sight) node.fields.items (known_fields (join_fields p.parts) names) (compared_fields p.parts)) (sym same.pattern) is.asks));
   }
 
   pub lookup_back : (names : Scope) (node node' : LookupNode T) → AsksTheSame node node' → IsLookup names node' → IsLookup names node
   lookup_back names node node' same is =
       lookup_with names node' node
-      (record { from = sym same.from; positive = sym same.positive; pattern = sym same.pattern; join = sym same.join; fields = sym same.fields; comparison = sym same.comparison }) is
+      (record { from = sym same.from; positive = sym same.positive; pattern = sym same.pattern; join = sym same.join; fields = sym same.fields; looking = sym same.looking }) is
 
   -- what the node is but for what it keeps
   pub lookup_same : (alpha : ℕ) (node node' : LookupNode T) → AsksTheSame node node' → IsSameNode (kept.Lookup alpha node) (kept.Lookup alpha node')
@@ -118,5 +114,5 @@ module _ {T : Type 0} (alphas : List AlphaMemoryValue) (sources : List SourceVal
         subst (λ o. IsLookupReady node' names (partial_at sources read node'.from) (IsThere m') (live o) own') (sym same_memory)
         (subst (λ n. IsLookupReady node' names (partial_at sources read n) (IsThere m') (live a) own') (sym same.from)
         (subst (λ it. IsLookupReady node' names (partial_at sources read node.from) (IsThere it) (live a) own') (one_at read node.from m m' is here)
-        (record { lookup = looked; filed = after.ready.filed; tokens = after.ready.tokens })));
+        (record { lookup = looked; kept = after.ready.kept; tokens = after.ready.tokens })));
   }

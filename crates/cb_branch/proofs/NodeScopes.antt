@@ -1,5 +1,5 @@
 -- The scopes of lists, while nodes are added.
-use Rattle.std.proofs.Common.{◌≡◌, ◌∙◌, ◌+◌, ◌≤◌, ◌<◌, ℕ, zero, suc, List, [], ◌∷◌, ◌++◌, length, slice_index_or, refl, sym, ap, arith}
+use Rattle.std.proofs.Common.{◌≡◌, ◌∙◌, ◌+◌, ◌≤◌, ◌<◌, ℕ, zero, suc, List, [], ◌∷◌, ◌++◌, length, slice_index_or, refl, ap, arith}
 use Rattle.std.proofs.lemmas.List.{length-append}
 use Rattle.cb_branch.specs.Internal.Plans.{KeepsScopes, last_tested, node_with}
 use Rattle.cb_exprs.specs.Terms.{Term}

@@ -1,5 +1,5 @@
 -- Nodes that are planned: they are ready for nothing.
-use Rattle.std.proofs.Common.{◌≡◌, ◌∙◌, ◌≤◌, ◌<◌, ◌+◌, ℕ, suc, Bool, [], ◌∷◌, ◌++◌, List, None, Some, Global, Vec, Option, ap, ap₂, arith, false, get_or, length, map, refl, set, subst, sym, true}
+use Rattle.std.proofs.Common.{◌≡◌, ◌∙◌, ◌≤◌, ◌<◌, ◌+◌, ℕ, suc, Bool, [], ◌∷◌, ◌++◌, List, None, Some, Global, Vec, Option, ap, arith, false, get_or, length, map, refl, set, subst, sym, true}
 use Rattle.std.proofs.lemmas.List.{length-append, length-map, length-set, map-append}
 use Rattle.std.proofs.lemmas.List.Elements.{All-get_or, All-nil, All-push, All-set, All-weaker}
 use Rattle.std.specs.List.{All}
@@ -14,18 +14,18 @@ use Rattle.cb_join_node.specs.Nodes.{IsByValues, IsReady}
 use Rattle.cb_join_node.specs.declared.by_values.ByValues.{ByValues}
 use Rattle.cb_join_node.specs.declared.joining.Joining.{Joining}
 use Rattle.cb_join_node.specs.declared.node.JoinNode.{JoinNode}
-use Rattle.cb_lookup_node.specs.LookupNodes.{IsLookup, IsLookupReady, compared_join}
+use Rattle.cb_lookup_node.specs.LookupNodes.{IsLookup, IsLookupReady}
 use Rattle.cb_lookup_node.specs.declared.node.LookupNode.{LookupNode}
 use Rattle.cb_matches.specs.Matches.{Partial}
 use Rattle.cb_constraints.specs.PatternValues.{PatternValue}
 use Rattle.cb_exprs.specs.Terms.{Term}
+use Rattle.cb_fit.specs.Comparisons.{choice_fields, compared_fields, is_decided}
 use Rattle.cb_fit.specs.JoinFields.{join_fields}
 use Rattle.cb_fit.specs.Plain.{bound_names}
 use Rattle.cb_fit.specs.declared.comparison.ComparedField.{ComparedField}
-use Rattle.cb_fit.specs.declared.comparison.Comparison.{Comparison}
 use Rattle.cb_fit.specs.declared.join_fields.JoinField.{JoinField}
 use Rattle.cb_nodes.specs.Patterns.{AreJoinFields}
-use Rattle.cb_nodes.specs.Flat.{FlatNode, alone, are_by_order, grouping, joining, testing}
+use Rattle.cb_nodes.specs.Flat.{FlatNode, alone, grouping, joining, testing}
 use Rattle.cb_scopes.specs.Decided.{known_fields}
 use Rattle.cb_scopes.specs.Scopes.{Scope, node_scope, scope_of}
 use Rattle.cb_branch.proofs.BoundNames.{same_before, same_both, same_by, with_several}
@@ -264,25 +264,15 @@ module _ {T : Type 0} where
           none f = cc
 
   -- that of a group of a pattern that is looked up
-  pub lookup_planned : (ss : ℕ → Scope) (names : Scope) (from : ℕ) (node : LookupNode T) (p : PatternValue) (cs : List ComparedField) (known : List JoinField) (comparison : Option Comparison) → AreSame names (ss from)
-      → node.from ≡ from → node.pattern ≡ p → node.fields.items ≡ known ++ map compared_join cs → known ≡ known_fields (join_fields p.parts) names → node.comparison ≡ comparison
-      → option_to_list comparison ≡ map (λ (c : ComparedField). c.comparison) cs → IsDecidedBy p cs → are_by_order cs ≡ true
+  pub lookup_planned : (ss : ℕ → Scope) (names : Scope) (from : ℕ) (node : LookupNode T) (p : PatternValue) (cs : List ComparedField) (known : List JoinField) → AreSame names (ss from) → node.from ≡ from
+      → known ≡ known_fields (join_fields p.parts) names → IsDecidedBy p cs
+      → ((ns : Scope) → is_decided p ≡ true → choice_fields p.parts ≡ [] → known ≡ known_fields (join_fields p.parts) ns → cs ≡ compared_fields p.parts → IsLookup ns node)
       → ((names : Scope) (at : ℕ → Partial) (facts : ℕ → Option (ℕ × FactValue)) → IsLookup names node → IsLookupReady node names at (λ number. ⊥) facts no_tokens)
       → IsPlannedNode ss (kept.Lookup 0 node)
-  lookup_planned ss names from node p cs known comparison same is_from is_pattern is_fields is_known is_comparison compares decided by_order ready =
-      let own : IsDecidedBy node.pattern cs = subst (λ (q : PatternValue). IsDecidedBy q cs) (sym is_pattern) decided in
-      let own_known : known ≡ known_fields (join_fields node.pattern.parts) names = is_known ∙ ap (λ (q : PatternValue). known_fields (join_fields q.parts) names) (sym is_pattern) in
-      let lookup : IsLookup names node = record {
-        decided = own.decided;
-        unchosen = own.unchosen;
-        fields = is_fields ∙ ap₂ (λ (a : List JoinField) (b : List ComparedField). a ++ map compared_join b) own_known own.compared;
-        comparison = ap option_to_list is_comparison ∙ (compares ∙ ap (λ (it : List ComparedField). map (λ (c : ComparedField). c.comparison) it) own.compared);
-        by_order = subst (λ (it : List ComparedField). are_by_order it ≡ true) own.compared by_order;
-      } in
-      record {
-        prepared = subst (λ k. IsLookup (ss k) node) (sym is_from) (lookup_same names (ss from) node same lookup);
-        ready = ready;
-      }
+  lookup_planned ss names from node p cs known same is_from is_known decided lookup ready = record {
+    prepared = subst (λ k. IsLookup (ss k) node) (sym is_from) (lookup_same names (ss from) node same (lookup names decided.decided decided.unchosen is_known decided.compared));
+    ready = ready;
+  }
 
   -- a test, and a group
   pub test_planned : (ss : ℕ → Scope) (from : ℕ) (test : Expr) → IsPlannedNode {T = T} ss (kept.Test from test)

@@ -1,5 +1,5 @@
 -- What a change of a branch leads to, tells and pays.
-use Rattle.std.proofs.Common.{◌≡◌, ◌∙◌, ◌+◌, ◌≤◌, ℕ, suc, List, [], ◌∷◌, None, Option, Some, ap, arith, length, map, refl, slice_get, subst, sym}
+use Rattle.std.proofs.Common.{◌≡◌, ◌∙◌, ◌+◌, ◌≤◌, ℕ, suc, List, [], ◌∷◌, None, Option, Some, ap, arith, length, map, refl, subst, sym}
 use Rattle.cb_alpha_network.specs.Networks.{MemoryValues}
 use Rattle.cb_beta.specs.BetaMemories.{BetaMemoryValue}
 use Rattle.cb_branch.proofs.Matched.{last_is_matches}
@@ -15,7 +15,6 @@ use Rattle.cb_flat.proofs.Joins.{joins_within, only_joins_within}
 use Rattle.cb_flat.specs.Joined.{flat_joins}
 use Rattle.cb_flat.specs.Taking.{pattern_count}
 use Rattle.cb_list_changes.specs.Resting.{AreResting}
-use Rattle.cb_match_index.specs.MatchIndexes.{IsIndex}
 use Rattle.cb_matches.specs.Changes.{come_of}
 use Rattle.cb_matches.specs.Keys.{KeyValue}
 use Rattle.cb_matches.specs.Order.{IsRising, WaysRise}
@@ -28,36 +27,29 @@ use Rattle.cb_branch.specs.Nodes.{flat_nodes}
 use Rattle.cb_branch.specs.declared.node.Node.{Node}
 use Rattle.cb_rule_keys.specs.Keys.{Tells, key_of, keys_in_branch}
 use Rattle.cb_rules.specs.Elements.{Elements}
-use Rattle.cb_token_lists.specs.Partials.{partial_at}
-use Rattle.cb_token_lists.specs.Turns.{IsThere}
 
 -- a branch of these parts has turned
-pub turned_branch : {T : Type 0} (alphas : MemoryValues) (rule number : ℕ) (new : Lists) (b : Branch T) (nodes : List (Node T)) (lists : List BetaMemoryValue) → b.nodes.items ≡ nodes → b.lists.items ≡ lists
-    → length lists ≡ suc (length nodes) → AreResting b.sources.items lists new → AreNodesReady (live_facts alphas) b.sources.items lists new nodes
-    → ((m : BetaMemoryValue) → slice_get lists b.last ≡ Some m → IsIndex rule number (partial_at b.sources.items lists b.last) (IsThere m) b.matches) → IsTurned alphas rule number new b
-turned_branch {T} alphas rule number new b nodes lists nodes_are lists_are long rest ready indexed = record {
+pub turned_branch : {T : Type 0} (alphas : MemoryValues) (new : Lists) (b : Branch T) (nodes : List (Node T)) (lists : List BetaMemoryValue) → b.nodes.items ≡ nodes → b.lists.items ≡ lists
+    → length lists ≡ suc (length nodes) → AreResting b.sources.items lists new → AreNodesReady (live_facts alphas) b.sources.items lists new nodes → IsTurned alphas new b
+turned_branch {T} alphas new b nodes lists nodes_are lists_are long rest ready = record {
   long = ap length lists_are ∙ (long ∙ ap (λ (it : List (Node T)). suc (length it)) (sym nodes_are));
   rest = subst (λ it. AreResting b.sources.items it new) (sym lists_are) rest;
   ready = subst (λ it. AreNodesReady (live_facts alphas) b.sources.items it new b.nodes.items) (sym lists_are)
       (subst (λ (it : List (Node T)). AreNodesReady (live_facts alphas) b.sources.items lists new it) (sym nodes_are) ready);
-  indexed = λ m is.
-      let at : slice_get lists b.last ≡ Some m = ap (λ (it : List BetaMemoryValue). slice_get it b.last) (sym lists_are) ∙ is in
-      subst (λ it. IsIndex rule number (partial_at b.sources.items it b.last) (IsThere m) b.matches) (sym lists_are) (indexed m at);
 }
 
 -- what is kept is right after the change
-module _ {T : Type 0} (alphas : MemoryValues) (rule number : ℕ) (fs : IndexedFacts) (b b' : Branch T) (planned : CanBeFilled b) (planned' : CanBeFilled b')
+module _ {T : Type 0} (alphas : MemoryValues) (fs : IndexedFacts) (b b' : Branch T) (planned : CanBeFilled b) (planned' : CanBeFilled b')
     (same : branch_elements b' ≡ branch_elements b) where
   flat_same : flat_nodes b'.nodes.items ≡ flat_nodes b.nodes.items
   flat_same = planned'.nodes ∙ (ap branch_nodes same ∙ sym planned.nodes)
 
-  pub over_of : IsTurned alphas rule number (branch_lists (flat_nodes b.nodes.items) fs) b' → IsBranchOver rule number (live_facts alphas) fs b'
+  pub over_of : IsTurned alphas (branch_lists (flat_nodes b.nodes.items) fs) b' → IsBranchOver (live_facts alphas) fs b'
   over_of t = record {
     planned = planned';
     long = t.long;
     rest = subst (λ (it : List FlatNode). AreResting b'.sources.items b'.lists.items (branch_lists it fs)) (sym flat_same) t.rest;
     ready = subst (λ (it : List FlatNode). AreNodesReady (live_facts alphas) b'.sources.items b'.lists.items (branch_lists it fs) b'.nodes.items) (sym flat_same) t.ready;
-    indexed = t.indexed;
   }
 
 -- the last lists before and after are the matches, whose keys are told

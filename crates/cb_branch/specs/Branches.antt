@@ -1,8 +1,7 @@
 -- What is kept for a branch, and what its patterns have of the alpha network.
-use Rattle.std.specs.Prelude.{◌≡◌, ◌↔◌, ◌⊎◌, ◌+◌, ℕ, suc, Option, Some, None, length, map, slice_get}
-use Rattle.cb_alpha_network.specs.Networks.{AlphaNetworkValue, IsShapeOf, MemoryValues, memory_at, shape_count}
+use Rattle.std.specs.Prelude.{◌≡◌, ◌↔◌, ◌⊎◌, ◌+◌, ℕ, suc, Option, None, length, map}
+use Rattle.cb_alpha_network.specs.Networks.{AlphaNetworkValue, IsShapeOf, MemoryValues, memory_at, use_count}
 use Rattle.cb_alpha_network.specs.declared.node_place.NodePlace.{NodePlace}
-use Rattle.cb_beta.specs.BetaMemories.{BetaMemoryValue}
 use Rattle.cb_branch.specs.declared.branch.Branch.{Branch}
 use Rattle.cb_branch.specs.Alphas.{AlphaUse, Facts, HasTurned, HasUse, HasUsedJoin, TakesAdded, were_facts}
 use Rattle.cb_branch.specs.Ready.{AreNodesReady}
@@ -12,24 +11,21 @@ use Rattle.cb_facts.specs.FactLists.{IndexedFacts, fact_at, with_fact}
 use Rattle.cb_facts.specs.Facts.{FactValue}
 use Rattle.cb_flat.specs.Sources.{sources_of}
 use Rattle.cb_list_changes.specs.Resting.{AreResting}
-use Rattle.cb_match_index.specs.MatchIndexes.{IsIndex}
 use Rattle.cb_matches.specs.Order.{IsRising}
 use Rattle.cb_nodes.specs.Flat.{branch_last, branch_nodes}
 use Rattle.cb_nodes.specs.Lists.{branch_lists}
 use Rattle.cb_branch.specs.Nodes.{flat_nodes}
 use Rattle.cb_rules.specs.Elements.{Elements, element_of, elements}
-use Rattle.cb_token_lists.specs.Partials.{partial_at}
-use Rattle.cb_token_lists.specs.Turns.{IsThere}
 
 -- its pattern is in the network with this place, and so is its join
 pub record IsUsed (v : AlphaNetworkValue) (place : NodePlace) (u : AlphaUse) : Type 0 where
   pub shape : IsShapeOf v u.alpha u.pattern place
   pub joins : HasUsedJoin (memory_at v u.alpha) u.join
 
--- those of the branch with this number of the rule with this number are out of the network, and all others are as they were
+-- the patterns of the branch with this number of the rule with this number are out of the network, so many, and all others are in it
 pub record IsLeft (rule number patterns : ℕ) (old new : AlphaNetworkValue) : Type 0 where
   pub others : KeepsShapesElsewhere rule number old new
-  pub count : shape_count new + patterns ≡ shape_count old
+  pub count : use_count new + patterns ≡ use_count old
 
 -- one list of facts has this fact more than the other
 abbrev pub DifferBy : ℕ × FactValue → IndexedFacts → IndexedFacts → Type 0
@@ -52,14 +48,12 @@ module _ {T : Type 0} where
     pub last : b.last ≡ branch_last (branch_elements b)
     pub prepared : ArePrepared b.nodes.items
 
-  -- what is kept is right over these facts, which stand in alpha memories under these numbers, where it is the branch with this number
-  -- of the rule with this number
-  pub record IsBranchOver (rule number : ℕ) (facts : Facts) (fs : IndexedFacts) (b : Branch T) : Type 0 where
+  -- what is kept is right over these facts, which stand in alpha memories under these numbers
+  pub record IsBranchOver (facts : Facts) (fs : IndexedFacts) (b : Branch T) : Type 0 where
     pub planned : CanBeFilled b
     pub long : length b.lists.items ≡ suc (length b.nodes.items)
     pub rest : AreResting b.sources.items b.lists.items (branch_lists (flat_nodes b.nodes.items) fs)
     pub ready : AreNodesReady facts b.sources.items b.lists.items (branch_lists (flat_nodes b.nodes.items) fs) b.nodes.items
-    pub indexed : (m : BetaMemoryValue) → slice_get b.lists.items b.last ≡ Some m → IsIndex rule number (partial_at b.sources.items b.lists.items b.last) (IsThere m) b.matches
 
   -- each pattern has the same of the alpha network
   abbrev pub HasSameAlphas : Branch T → Branch T → Type 0
@@ -78,8 +72,8 @@ module _ {T : Type 0} where
   AreAdded alphas added b = (k : ℕ) (u : AlphaUse) → HasAlpha b k u → TakesAdded alphas added u
 
   -- a branch before a change of the facts, where the alpha memories have changed already
-  pub record IsBefore (alphas : MemoryValues) (rule number : ℕ) (fs fs' : IndexedFacts) (b : Branch T) : Type 0 where
+  pub record IsBefore (alphas : MemoryValues) (fs fs' : IndexedFacts) (b : Branch T) : Type 0 where
     pub rising : IsRising fs
     pub rising_now : IsRising fs'
-    pub over : IsBranchOver rule number (were_facts alphas) fs b
+    pub over : IsBranchOver (were_facts alphas) fs b
     pub turned : AreTurned alphas fs fs' b

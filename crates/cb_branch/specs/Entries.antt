@@ -1,31 +1,32 @@
 -- The patterns of a branch in the alpha network.
-use Rattle.std.specs.Prelude.{◌≡◌, ◌≢◌, ℕ, List, Some, slice_get}
+use Rattle.std.specs.Prelude.{◌≡◌, ◌≤◌, ◌+◌, ℕ, List, Some, slice_get}
 use Rattle.cb_alpha.specs.Turning.{HasJoin}
-use Rattle.cb_alpha_network.specs.Networks.{AlphaNetworkValue, IsShapeOf, ShapeValue, memory_at, shape_at}
+use Rattle.cb_alpha_network.specs.Networks.{AlphaNetworkValue, AreAlphas, AreAtRest, IsShapeOf, KeepsShapes, memory_at, use_count}
 use Rattle.cb_alpha_network.specs.declared.node_place.NodePlace.{NodePlace}
 use Rattle.cb_branch.specs.Nodes.{IsPrepared, IsReadyForNothing, flat_node, flat_nodes}
 use Rattle.cb_branch.specs.declared.node.Node.{Node}
 use Rattle.cb_branch.specs.declared.node.Node.TheVariants as kept
+use Rattle.cb_constraints.specs.PatternValues.{PatternValue}
+use Rattle.cb_facts.specs.FactLists.{IndexedFacts}
 use Rattle.cb_scopes.specs.Scopes.{Scope}
 
 -- the place of a node, by the numbers of its rule and of its branch
 abbrev pub node_at : ℕ → ℕ → ℕ → NodePlace
 node_at rule branch node = record { rule = rule; branch = branch; node = node }
 
--- the shapes that are there stay, and so do their memories
-abbrev pub KeepsShapes : AlphaNetworkValue → AlphaNetworkValue → Type 0
-KeepsShapes old new = (n : ℕ) (s : ShapeValue) → shape_at old n ≡ Some s → (shape_at new n ≡ Some s) × (memory_at new n ≡ memory_at old n)
+-- at most so many patterns more are entered, and those that were are still: the memories are at rest, and right over these facts if
+-- they were
+pub record GainsPatterns (fs : IndexedFacts) (patterns : ℕ) (old new : AlphaNetworkValue) : Type 0 where
+  pub stay : KeepsShapes old new
+  pub rest : AreAtRest new.memories
+  pub alphas : AreAlphas old fs → AreAlphas new fs
+  pub count : use_count new ≤ use_count old + patterns
 
--- those do that are not at this place
-abbrev pub KeepsShapesBut : NodePlace → AlphaNetworkValue → AlphaNetworkValue → Type 0
-KeepsShapesBut place old new =
-    (n : ℕ) (s : ShapeValue) → shape_at old n ≡ Some s → s.place ≢ place → (shape_at new n ≡ Some s) × (memory_at new n ≡ memory_at old n)
-
--- those do that are not of this branch of this rule
+-- each node that isn't of this branch of this rule uses its shape still, and the memory of that is as it was
 abbrev pub KeepsShapesElsewhere : ℕ → ℕ → AlphaNetworkValue → AlphaNetworkValue → Type 0
 KeepsShapesElsewhere rule branch old new =
-    (n : ℕ) (s : ShapeValue) → shape_at old n ≡ Some s → (s.place.rule ≡ rule → s.place.branch ≡ branch → ⊥)
-    → (shape_at new n ≡ Some s) × (memory_at new n ≡ memory_at old n)
+    (n : ℕ) (p : PatternValue) (place : NodePlace) → IsShapeOf old n p place → (place.rule ≡ rule → place.branch ≡ branch → ⊥)
+    → IsShapeOf new n p place × (memory_at new n ≡ memory_at old n)
 
 module _ {T : Type 0} where
   -- the pattern of a node stands in the network for the node at this place, under the number that the node has, and so does its join

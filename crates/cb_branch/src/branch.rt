@@ -1,12 +1,13 @@
 //! A branch.
-ghost use Rattle.std.specs.Prelude.{◌≡◌, ◌≤◌, ◌+◌, ◌++◌, ℕ, IfOk, None, OnOk, Option, Some, map};
+ghost use Rattle.std.specs.Prelude.{◌≡◌, ◌≤◌, ◌+◌, ◌++◌, IfOk, OnOk, Option, map};
 ghost use Rattle.std.specs.Map.{lookup};
 ghost use Rattle.std.specs.Option.{option_map_or};
-ghost use Rattle.cb_alpha_network.specs.Networks.{AreAlphas, shape_count};
+ghost use Rattle.cb_alpha_network.specs.Networks.{AreAlphas, AreAtRest};
 ghost use Rattle.cb_branch.specs.Branches.{AreAdded, AreTurned, CanBeFilled, HasSameAlphas, IsBefore, IsBranchOver, IsEntered, IsLeft, branch_elements};
 ghost use Rattle.cb_branch.specs.Alphas.{Facts, live_facts};
 ghost use Rattle.cb_branch.specs.Patterns.{branch_patterns, shape_tests};
-ghost use Rattle.cb_branch.specs.Entries.{KeepsShapes};
+ghost use Rattle.cb_branch.specs.Entries.{GainsPatterns};
+ghost use Rattle.cb_branch.specs.Internal.{IsEndOf};
 ghost use Rattle.cb_exprs.specs.Bindings.{no_bindings};
 ghost use Rattle.cb_facts.specs.FactLists.{IndexedFacts};
 ghost use Rattle.cb_facts.specs.Facts.{FactValue};
@@ -28,19 +29,19 @@ use crate::turning::turn;
 use cb_alpha::AlphaMemory;
 use cb_alpha_network::AlphaNetwork;
 use cb_beta::BetaMemory;
+use cb_branch_end::BranchEnd;
 use cb_exprs::Env;
 use cb_facts::FactList;
 use cb_fit::Meter;
 use cb_fit::laws::the_ways_rise_by_their_cuts;
 use cb_forms::{History, NoMemory};
 use cb_functions::Constants;
-use cb_match_index::MatchIndex;
 use cb_matches::{Delta, Key};
 use cb_rules::Ce;
 use cb_token_lists::{Source, TokenLists};
 use std::alloc::Global;
 
-/// A branch: its nodes, the lists that these make, and its matches by their keys.
+/// A branch: its nodes, and the lists that these make.
 #[derive(Drop)]
 pub struct Branch<T> {
     /// Its elements, for contracts alone.
@@ -52,8 +53,6 @@ pub struct Branch<T> {
     pub(crate) last: usize,
     /// The list before the first node, and the one that each node makes; none before anything is found.
     pub(crate) lists: Vec<BetaMemory>,
-    /// The tokens in the list of its matches, by their keys.
-    pub(crate) matches: MatchIndex,
 }
 
 impl<T> Branch<T> {
@@ -72,7 +71,6 @@ impl<T> Branch<T> {
             sources: plan.sources,
             last: plan.last,
             lists: Vec::new(alloc),
-            matches: MatchIndex::new(alloc),
         })
     }
 
@@ -87,14 +85,13 @@ impl<T> Branch<T> {
         network: &mut AlphaNetwork<T>,
         meter: &mut Meter<T>,
     ) -> Result<(), NoMemory>
-        requires { CanBeFilled self.old }
+        requires plan { CanBeFilled self.old }
+        requires rest { AreAtRest network.old.memories }
         ensures elements { OnOk result (branch_elements self.new ≡ branch_elements self.old) }
         ensures plan { OnOk result (CanBeFilled self.new) }
         ensures entered { OnOk result (IsEntered network.new rule number self.new) }
-        ensures stay { OnOk result (KeepsShapes network.old network.new) }
-        ensures alphas { OnOk result (AreAlphas network.old facts.now → AreAlphas network.new facts.now) }
-        ensures count { OnOk result (shape_count network.new
-            ≡ shape_count network.old + branch_patterns (branch_elements self.old)) }
+        ensures network { OnOk result (GainsPatterns facts.now (branch_patterns (branch_elements self.old))
+            network.old network.new) }
     {
         enter_nodes(
             self.nodes.as_mut_slice(),
@@ -108,13 +105,19 @@ impl<T> Branch<T> {
         )
     }
 
-    /// Takes its patterns out of the alpha network again.
-    pub fn leave(&self, alloc: Global, network: &mut AlphaNetwork<T>) -> Result<(), NoMemory>
-        ensures left { OnOk result ((rule number : ℕ) → CanBeFilled self.now → IsEntered network.old rule number self.now
+    /// Takes its patterns out of the alpha network again, where it is the branch with this number of the rule with this number.
+    pub fn leave(
+        &self,
+        alloc: Global,
+        rule: u64,
+        number: u64,
+        network: &mut AlphaNetwork<T>,
+    ) -> Result<(), NoMemory>
+        ensures left { OnOk result (CanBeFilled self.now → IsEntered network.old rule number self.now
             → IsLeft rule number (branch_patterns (branch_elements self.now)) network.old network.new) }
         ensures alphas { OnOk result ((fs : IndexedFacts) → AreAlphas network.old fs → AreAlphas network.new fs) }
     {
-        leave_nodes(self.nodes.as_slice(), alloc, network)
+        leave_nodes(self.nodes.as_slice(), alloc, rule, number, network)
     }
 
     /// Finds all matches, and what is kept, in place of what was. The keys stand behind those that are told of before, in their order.
@@ -132,14 +135,13 @@ impl<T> Branch<T> {
         ensures elements { OnOk result (branch_elements self.new ≡ branch_elements self.old) }
         ensures alphas { OnOk result (HasSameAlphas self.old self.new) }
         ensures over { OnOk result ((fs : IndexedFacts) → IsRising fs → AreTurned alphas.now fs fs self.old
-            → IsBranchOver rule number (live_facts alphas.now) fs self.new) }
+            → IsBranchOver (live_facts alphas.now) fs self.new) }
         ensures come { OnOk result ((fs : IndexedFacts) → IsRising fs → AreTurned alphas.now fs fs self.old
             → come.new.items ≡ come.old.items ++ keys_in_branch rule number (branch_elements self.old) fs) }
     {
         the_ways_rise_by_their_cuts();
         self.lists = empty_lists(alloc, self.sources.len() + 1)?;
         clear_nodes(self.nodes.as_mut_slice());
-        self.matches.clear();
         add_first(self.lists.as_mut_slice())?;
         let mut delta = Delta {
             gone: Vec::new(alloc),
@@ -166,13 +168,13 @@ impl<T> Branch<T> {
     ) -> Result<(), NoMemory>
         ensures elements { OnOk result (branch_elements self.new ≡ branch_elements self.old) }
         ensures alphas { OnOk result (HasSameAlphas self.old self.new) }
-        ensures over { OnOk result ((fs fs' : IndexedFacts) → IsBefore alphas.now rule number fs fs' self.old
-            → IsBranchOver rule number (live_facts alphas.now) fs' self.new) }
-        ensures told { OnOk result ((fs fs' : IndexedFacts) → IsBefore alphas.now rule number fs fs' self.old
+        ensures over { OnOk result ((fs fs' : IndexedFacts) → IsBefore alphas.now fs fs' self.old
+            → IsBranchOver (live_facts alphas.now) fs' self.new) }
+        ensures told { OnOk result ((fs fs' : IndexedFacts) → IsBefore alphas.now fs fs' self.old
             → Tells delta.old delta.new (keys_in_branch rule number (branch_elements self.old) fs)
             (keys_in_branch rule number (branch_elements self.old) fs')) }
         ensures probes { OnOk result ((fs fs' : IndexedFacts) (added : Option FactValue)
-            → IsBefore alphas.now rule number fs fs' self.old → AreAdded alphas.now added self.old
+            → IsBefore alphas.now fs fs' self.old → AreAdded alphas.now added self.old
             → meter.new + shape_tests added (branch_elements self.old)
             ≤ meter.old + branch_probes added fs fs' (branch_elements self.old)) }
     {
@@ -181,33 +183,59 @@ impl<T> Branch<T> {
     }
 
     /// Tells the keys of all matches, in their order, behind those that are told of before.
-    pub fn tell(&self, keys: &mut Vec<Key>) -> Result<(), NoMemory>
-        ensures { OnOk result ((rule number : ℕ) (facts : Facts) (fs : IndexedFacts) → IsRising fs
-            → IsBranchOver rule number facts fs self.now
+    pub fn tell(
+        &self,
+        alloc: Global,
+        constants: &Constants,
+        rule: u64,
+        number: u64,
+        keys: &mut Vec<Key>,
+    ) -> Result<(), NoMemory>
+        ensures { OnOk result ((facts : Facts) (fs : IndexedFacts) → IsRising fs
+            → IsBranchOver facts fs self.now
             → keys.new.items ≡ keys.old.items ++ keys_in_branch rule number (branch_elements self.now) fs) }
     {
         the_ways_rise_by_their_cuts();
-        self.matches.tell(keys)
+        self.end(alloc, constants, rule, number).tell_all(keys)
     }
 
     /// What variables have by the match with this key, nothing where the branch has none.
     pub fn env(&self, alloc: Global, constants: &Constants, key: &Key) -> Result<Env, NoMemory>
         ensures { IfOk result (λ env. (facts : Facts) (fs : IndexedFacts) → IsRising fs
-            → IsBranchOver key.now.rule key.now.branch facts fs self.now
+            → IsBranchOver facts fs self.now
             → env ≡ option_map_or (λ env. env) (lookup (key_eq key.now)
             (map (keyed key.now.rule key.now.branch) (matches_of (branch_elements self.now) fs))) no_bindings) }
     {
         the_ways_rise_by_their_cuts();
-        let Some(number) = self.matches.find(key) else {
+        let end = self.end(alloc, constants, key.rule(), key.branch());
+        let Some(number) = end.find(key)? else {
             return Ok(Env::new(alloc));
         };
+        end.lists.env(end.last, number)
+    }
+
+    /// The list of its matches, where it is the branch with a number of the rule with a number.
+    pub(crate) fn end<'a>(
+        &'a self,
+        alloc: Global,
+        constants: &'a Constants,
+        rule: u64,
+        number: u64,
+    ) -> BranchEnd<'a>
+        ensures { IsEndOf rule number self.now result }
+    {
         let lists = TokenLists {
             alloc,
             constants,
             sources: self.sources.as_slice(),
             lists: self.lists.as_slice(),
         };
-        lists.env(self.last, number)
+        BranchEnd {
+            lists,
+            last: self.last,
+            rule,
+            branch: number,
+        }
     }
 }
 

@@ -1,8 +1,8 @@
 //! The patterns of nodes, entered in the alpha network.
-ghost use Rattle.std.specs.Prelude.{◌≡◌, ◌+◌, IfOk, OnOk};
+ghost use Rattle.std.specs.Prelude.{◌≡◌, IfOk, OnOk};
 ghost use Rattle.cb_alpha.specs.Turning.{HasJoin};
-ghost use Rattle.cb_alpha_network.specs.Networks.{AreAlphas, IsShapeOf, memory_at, shape_count};
-ghost use Rattle.cb_branch.specs.Entries.{AreNodesEntered, AreRenumbered, IsNodeEntered, IsRenumbered, KeepsShapes};
+ghost use Rattle.cb_alpha_network.specs.Networks.{AreAtRest, IsShapeOf, memory_at};
+ghost use Rattle.cb_branch.specs.Entries.{AreNodesEntered, AreRenumbered, GainsPatterns, IsNodeEntered, IsRenumbered};
 ghost use Rattle.cb_flat.specs.Taking.{pattern_count, patterns_of};
 ghost use Rattle.cb_branch.specs.Nodes.{flat_node, flat_nodes};
 
@@ -16,7 +16,7 @@ use cb_join_node::JoinNode;
 use cb_lookup_node::LookupNode;
 use std::alloc::Global;
 
-/// Enters the patterns of the nodes of a branch, the one with this number of the rule with this number. The alpha memory of each gets
+/// Enters the patterns of the nodes of a branch, the one with this number of the rule with this number. The alpha memory of each has
 /// those of these facts that have its shape. Growth is refused as `NoMemory`, and so is a count of sharers that is full; then some may
 /// have been entered.
 pub(crate) fn enter_nodes<T>(
@@ -29,12 +29,10 @@ pub(crate) fn enter_nodes<T>(
     network: &mut AlphaNetwork<T>,
     meter: &mut Meter<T>,
 ) -> Result<(), NoMemory>
+    requires { AreAtRest network.old.memories }
     ensures nodes { OnOk result (AreRenumbered nodes.old nodes.new) }
     ensures entered { OnOk result (AreNodesEntered network.new rule branch nodes.new) }
-    ensures stay { OnOk result (KeepsShapes network.old network.new) }
-    ensures alphas { OnOk result (AreAlphas network.old facts.now → AreAlphas network.new facts.now) }
-    ensures count { OnOk result (shape_count network.new
-        ≡ shape_count network.old + pattern_count (flat_nodes nodes.old)) }
+    ensures network { OnOk result (GainsPatterns facts.now (pattern_count (flat_nodes nodes.old)) network.old network.new) }
 {
     let mut number = 0;
     for node in nodes.iter_mut() {
@@ -59,12 +57,10 @@ fn enter_node<T>(
     network: &mut AlphaNetwork<T>,
     meter: &mut Meter<T>,
 ) -> Result<(), NoMemory>
+    requires { AreAtRest network.old.memories }
     ensures node { OnOk result (IsRenumbered node.old node.new) }
     ensures entered { OnOk result (IsNodeEntered network.new place node.new) }
-    ensures stay { OnOk result (KeepsShapes network.old network.new) }
-    ensures alphas { OnOk result (AreAlphas network.old facts.now → AreAlphas network.new facts.now) }
-    ensures count { OnOk result (shape_count network.new
-        ≡ shape_count network.old + patterns_of (flat_node node.old)) }
+    ensures network { OnOk result (GainsPatterns facts.now (patterns_of (flat_node node.old)) network.old network.new) }
 {
     match node {
         Node::Join { alpha, node } => {
@@ -93,12 +89,11 @@ fn enter_lookup<T>(
     network: &mut AlphaNetwork<T>,
     meter: &mut Meter<T>,
 ) -> Result<u32, NoMemory>
+    requires { AreAtRest network.old.memories }
     ensures node { OnOk result (node.new ≡ record node.old { join = node.new.join }) }
     ensures shape { IfOk result (λ alpha. IsShapeOf network.new alpha node.old.pattern place) }
     ensures join { IfOk result (λ alpha. HasJoin (memory_at network.new alpha) node.new.join node.old.fields.items) }
-    ensures stay { OnOk result (KeepsShapes network.old network.new) }
-    ensures alphas { OnOk result (AreAlphas network.old facts.now → AreAlphas network.new facts.now) }
-    ensures count { OnOk result (shape_count network.new ≡ shape_count network.old + 1) }
+    ensures network { OnOk result (GainsPatterns facts.now 1 network.old network.new) }
 {
     let alpha = network.enter(alloc, constants, facts, place, &node.pattern, meter)?;
     let looked_up = copied(alloc, node.fields.as_slice())?;
@@ -116,12 +111,11 @@ fn enter_join<T>(
     network: &mut AlphaNetwork<T>,
     meter: &mut Meter<T>,
 ) -> Result<u32, NoMemory>
+    requires { AreAtRest network.old.memories }
     ensures node { OnOk result (node.new ≡ record node.old { join = node.new.join }) }
     ensures shape { IfOk result (λ alpha. IsShapeOf network.new alpha node.old.asked.pattern place) }
     ensures join { IfOk result (λ alpha. HasJoin (memory_at network.new alpha) node.new.join node.old.asked.fields.items) }
-    ensures stay { OnOk result (KeepsShapes network.old network.new) }
-    ensures alphas { OnOk result (AreAlphas network.old facts.now → AreAlphas network.new facts.now) }
-    ensures count { OnOk result (shape_count network.new ≡ shape_count network.old + 1) }
+    ensures network { OnOk result (GainsPatterns facts.now 1 network.old network.new) }
 {
     let alpha = network.enter(alloc, constants, facts, place, &node.asked.pattern, meter)?;
     let fields = copied(alloc, node.asked.fields.as_slice())?;

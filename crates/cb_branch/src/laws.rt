@@ -16,28 +16,28 @@ use cb_fit::laws::{no_shape_gives_no_ways, the_ways_rise_by_their_cuts};
 
 /// What is kept for a branch can be found anew.
 pub fn what_is_kept_can_be_filled<T>()
-    ensures { (rule number : ℕ) (facts : Facts) (fs : IndexedFacts) (b : Branch T)
-        → IsBranchOver rule number facts fs b → CanBeFilled b }
+    ensures { (facts : Facts) (fs : IndexedFacts) (b : Branch T)
+        → IsBranchOver facts fs b → CanBeFilled b }
 {}
 
 /// What is kept for a branch is right as long as the same facts stand under the numbers of its patterns.
 pub fn what_is_kept_stays<T>()
-    ensures { (rule number : ℕ) (facts facts' : Facts) (fs : IndexedFacts) (b : Branch T)
-        → IsBranchOver rule number facts fs b
+    ensures { (facts facts' : Facts) (fs : IndexedFacts) (b : Branch T)
+        → IsBranchOver facts fs b
         → ((k : ℕ) (u : AlphaUse) → HasAlpha b k u → (n : ℕ) → facts u.alpha n ≡ facts' u.alpha n)
-        → IsBranchOver rule number facts' fs b }
+        → IsBranchOver facts' fs b }
 {}
 
 /// A fact that has the shape of no pattern of a branch changes nothing where it comes or goes.
 pub fn what_no_pattern_takes_changes_nothing<T>()
-    ensures over { (rule number : ℕ) (facts : Facts) (fs fs' : IndexedFacts) (f : ℕ × FactValue) (b : Branch T)
+    ensures over { (facts : Facts) (fs fs' : IndexedFacts) (f : ℕ × FactValue) (b : Branch T)
         → IsRising fs → IsRising fs' → DifferBy f fs fs'
         → ((k : ℕ) (u : AlphaUse) → HasAlpha b k u → has_shape u.pattern f.1 ≡ false)
-        → IsBranchOver rule number facts fs b → IsBranchOver rule number facts fs' b }
-    ensures matches { (rule number : ℕ) (facts : Facts) (fs fs' : IndexedFacts) (f : ℕ × FactValue) (b : Branch T)
+        → IsBranchOver facts fs b → IsBranchOver facts fs' b }
+    ensures matches { (facts : Facts) (fs fs' : IndexedFacts) (f : ℕ × FactValue) (b : Branch T)
         → IsRising fs → IsRising fs' → DifferBy f fs fs'
         → ((k : ℕ) (u : AlphaUse) → HasAlpha b k u → has_shape u.pattern f.1 ≡ false)
-        → IsBranchOver rule number facts fs b
+        → IsBranchOver facts fs b
         → matches_of (branch_elements b) fs ≡ matches_of (branch_elements b) fs' }
 {
     no_shape_gives_no_ways();

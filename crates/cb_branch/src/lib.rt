@@ -1,5 +1,5 @@
-//! A branch over tokens: its elements planned as nodes, their patterns in the alpha network, the lists of tokens that the nodes make,
-//! and its matches by their keys; what a change of facts does to all of these, node after node.
+//! A branch over tokens: its elements planned as nodes, their patterns in the alpha network, and the lists of tokens that the nodes
+//! make, the last of them its matches; what a change of facts does to all of these, node after node.
 //!
 //! `docs/ARCHITECTURE.md` says where it belongs.
 #![tactic(auto)]

@@ -18,10 +18,10 @@ use cb_fit::Meter;
 use cb_forms::NoMemory;
 use cb_functions::Constants;
 use cb_matches::Delta;
-use cb_token_lists::TokenLists;
 use std::alloc::Global;
 
-/// Changes the lists behind the first one, which has changed already, and what is kept besides. Growth is refused as `NoMemory`.
+/// Changes the lists behind the first one, which has changed already, and what is kept besides. The keys of the matches that go and come
+/// stand behind those that are told of before, in their order. Growth is refused as `NoMemory`.
 pub(crate) fn turn<T>(
     branch: &mut Branch<T>,
     alloc: Global,
@@ -36,13 +36,13 @@ pub(crate) fn turn<T>(
     ensures planned { OnOk result (CanBeFilled branch.old → CanBeFilled branch.new) }
     ensures alphas { OnOk result (HasSameAlphas branch.old branch.new) }
     ensures turned { OnOk result ((before : List BetaMemoryValue) (fs fs' : IndexedFacts) (first first' : List Partial) (old new : Lists)
-        → IsTurning alphas.now rule number before fs fs' first first' old new branch.old
-        → IsTurned alphas.now rule number new branch.new) }
+        → IsTurning alphas.now before fs fs' first first' old new branch.old
+        → IsTurned alphas.now new branch.new) }
     ensures told { OnOk result ((before : List BetaMemoryValue) (fs fs' : IndexedFacts) (first first' : List Partial) (old new : Lists)
-        → IsTurning alphas.now rule number before fs fs' first first' old new branch.old
+        → IsTurning alphas.now before fs fs' first first' old new branch.old
         → Tells delta.old delta.new (map (key_of rule number) (old branch.old.last)) (map (key_of rule number) (new branch.old.last))) }
     ensures probes { OnOk result ((before : List BetaMemoryValue) (fs fs' : IndexedFacts) (first first' : List Partial) (old new : Lists) (added : Option FactValue)
-        → IsTurning alphas.now rule number before fs fs' first first' old new branch.old
+        → IsTurning alphas.now before fs fs' first first' old new branch.old
         → AreAdded alphas.now added branch.old
         → meter.new ≤ meter.old + flat_joins added fs' old new (flat_nodes branch.old.nodes.items)) }
 {
@@ -55,15 +55,9 @@ pub(crate) fn turn<T>(
         branch.lists.as_mut_slice(),
         meter,
     )?;
-    let lists = TokenLists {
-        alloc,
-        constants,
-        sources: branch.sources.as_slice(),
-        lists: branch.lists.as_slice(),
-    };
     branch
-        .matches
-        .change(&lists, branch.last, rule, number, delta)?;
+        .end(alloc, constants, rule, number)
+        .tell_change(delta)?;
     end_change(branch.lists.as_mut_slice());
     Ok(())
 }

@@ -2,10 +2,10 @@
 use Rattle.std.proofs.Common.{◌≡◌, ◌∙◌, ◌++◌, ◌+◌, ◌∷◌, ℕ, List, [], ap, arith, inl, inr, nat_cmp, refl, subst, sym}
 use Rattle.std.proofs.lemmas.List.{map-append}
 use Rattle.std.specs.BTreeMap.{BTreeMap, insert_entry, values}
-use Rattle.cb_alpha_network.specs.Networks.{AlphaNetworkValue, AreAlphas, shape_count}
+use Rattle.cb_alpha_network.specs.Networks.{AlphaNetworkValue}
 use Rattle.cb_branch.specs.Branches.{HasAlpha, IsBranchOver}
 use Rattle.cb_branch.specs.Alphas.{AlphaUse}
-use Rattle.cb_branch.specs.Entries.{KeepsShapes}
+use Rattle.cb_branch.specs.Entries.{GainsPatterns}
 use Rattle.cb_branch.specs.Alphas.{Facts, live_facts}
 use Rattle.cb_branch.specs.Patterns.{branch_patterns}
 use Rattle.cb_branch.specs.declared.branch.Branch.{Branch}
@@ -43,20 +43,20 @@ module _ {T : Type 0} (rules rules' : BTreeMap ℕ (Rule T)) (rule new : Rule T)
       ]
     ]
 
-    pub keeping_with : (stays : (rule number : ℕ) (facts facts' : Facts) (fs : IndexedFacts) (b : Branch T) → IsBranchOver rule number facts fs b
-        → ((k : ℕ) (u : AlphaUse) → HasAlpha b k u → (n : ℕ) → facts u.alpha n ≡ facts' u.alpha n) → IsBranchOver rule number facts' fs b)
-        → KeepsShapes v v' → AreAlphas v' fs → shape_count v' ≡ shape_count v + branches_sum branch_patterns (kept_rule rule).1
-        → AreBranchesOver new.id (live_facts v'.memories) fs new.branches.items → AreBranchesEntered v' new.id new.branches.items → IsKeeping v' fs rules'
-    keeping_with stays shapes alphas count over entered = record {
+    pub keeping_with : (stays : (facts facts' : Facts) (fs : IndexedFacts) (b : Branch T) → IsBranchOver facts fs b
+        → ((k : ℕ) (u : AlphaUse) → HasAlpha b k u → (n : ℕ) → facts u.alpha n ≡ facts' u.alpha n) → IsBranchOver facts' fs b)
+        → GainsPatterns fs (branches_sum branch_patterns (kept_rule rule).1) v v' → AreBranchesOver (live_facts v'.memories) fs new.branches.items → AreBranchesEntered v' new.id new.branches.items → IsKeeping v' fs rules'
+    keeping_with stays gains over entered = record {
       named = named_with kept_rule new.id new rules.entries rules'.entries last refl keeping.named;
-      alphas = alphas;
-      over = each_with (λ e. AreBranchesOver e.1.id (live_facts v'.memories) fs e.1.branches.items)
-          (λ e i. over_kept stays v v' e.1.id fs e.1.branches.items (keeps_all e.1.id v v' shapes) (keeping.entered e i) (keeping.over e i)) over;
+      alphas = gains.alphas keeping.alphas;
+      over = each_with (λ e. AreBranchesOver (live_facts v'.memories) fs e.1.branches.items)
+          (λ e i. over_kept stays v v' e.1.id fs e.1.branches.items (keeps_all e.1.id v v' gains.stay) (keeping.entered e i) (keeping.over e i)) over;
       entered = each_with (λ e. AreBranchesEntered v' e.1.id e.1.branches.items)
-          (λ e i. branches_kept v v' e.1.id e.1.branches.items (keeps_all e.1.id v v' shapes) (keeping.entered e i)) entered;
+          (λ e i. branches_kept v v' e.1.id e.1.branches.items (keeps_all e.1.id v v' gains.stay) (keeping.entered e i)) entered;
       count =
           let e = ap (rules_sum branch_patterns) kept_with in
           let f = rules_sum_with branch_patterns (kept_rules (values rules)) (kept_rule rule ∷ []) in
           let l = keeping.count in
+          let count = gains.count in
           omega (arith, count, e, f, l);
     }

@@ -2,7 +2,7 @@
 use Rattle.std.proofs.Common.{◌≡◌, ◌∙◌, ◌≤◌, ◌++◌, ℕ, [], Option, Some, None, ap, arith, inl, inr, refl, sym}
 use Rattle.std.specs.BTreeMap.{BTreeMap, values}
 use Rattle.cb_alpha.specs.AlphaMemories.{AlphaMemoryValue, IsEnded, index_of, live, live_in}
-use Rattle.cb_alpha_network.specs.Networks.{AlphaNetworkValue, AlphasTurn, AreAlphas, HasNoFact, NetworkChangesFrom, memory_at, shape_count}
+use Rattle.cb_alpha_network.specs.Networks.{AlphaNetworkValue, AlphasTurn, AreAlphas, HasNoFact, NetworkChangesFrom, memory_at, use_count}
 use Rattle.cb_branch.specs.Branches.{HasAlpha, IsBranchOver}
 use Rattle.cb_branch.specs.Alphas.{AlphaUse}
 use Rattle.cb_branch.specs.Alphas.{Facts, live_facts, were_facts}
@@ -67,23 +67,23 @@ some_index (Some f) ix h = let e : f.0 ≡ ix = cc in (f, refl, e)
 
 -- no alpha memory has a fact with an index that is free
 pub no_fact : (v : AlphaNetworkValue) (fs : IndexedFacts) (ix : ℕ) (f : FactValue) → AreAlphas v fs → fact_at fs ix ≡ None → HasNoFact v ix
-no_fact v fs ix f alphas free n p place shape i h =
+no_fact v fs ix f alphas free n p shape i h =
     let at = some_index (live (memory_at v n) i) ix h in
-    let there = (alphas.over n p place shape).has.are i at.0 at.1 in
+    let there = (alphas.over n p shape).has.are i at.0 at.1 in
     (added_fact fs ix f free).absent at.0 there.0 at.2
 
 -- ---- the rules
 
-module _ {T : Type 0} (stays : (rule number : ℕ) (facts facts' : Facts) (fs : IndexedFacts) (b : Branch T) → IsBranchOver rule number facts fs b
-    → ((k : ℕ) (u : AlphaUse) → HasAlpha b k u → (n : ℕ) → facts u.alpha n ≡ facts' u.alpha n) → IsBranchOver rule number facts' fs b) where
+module _ {T : Type 0} (stays : (facts facts' : Facts) (fs : IndexedFacts) (b : Branch T) → IsBranchOver facts fs b
+    → ((k : ℕ) (u : AlphaUse) → HasAlpha b k u → (n : ℕ) → facts u.alpha n ≡ facts' u.alpha n) → IsBranchOver facts' fs b) where
   -- where the memories have changed, rules are ready
   pub all_ready : (v v' : AlphaNetworkValue) (fs fs' : IndexedFacts) (f : ℕ × FactValue) (added : Option FactValue) (rules : BTreeMap ℕ (Rule T)) → NetworkChangesFrom v v' → IsKeeping v fs rules
       → AreRulesReady (turn_of v' fs fs' f added) rules.entries
   all_ready v v' fs fs' f added rules changes keeping = record {
     named = keeping.named;
     each = λ e i n b h. record {
-      over = stays e.1.id n (live_facts v.memories) (were_facts v'.memories) fs b (keeping.over e i n b h) (λ k u has m. sym ((changes.memories u.alpha).were m));
-      entered = entered_in_change v v' e.1.id n b changes.shapes (λ m. (changes.memories m).joins) (keeping.entered e i n b h);
+      over = stays (live_facts v.memories) (were_facts v'.memories) fs b (keeping.over e i n b h) (λ k u has m. sym ((changes.memories u.alpha).were m));
+      entered = entered_in_change v v' e.1.id n b changes.shapes changes.users (λ m. (changes.memories m).joins) (keeping.entered e i n b h);
     };
   }
 
@@ -91,23 +91,23 @@ module _ {T : Type 0} (stays : (rule number : ℕ) (facts facts' : Facts) (fs : 
   live_ended m m' n ended = sym (ap (λ (o : Option ℕ). live_in m'.candidates o n) ended.gone ∙ ended.candidates n)
 
   -- and where the change has ended, they are as they are between changes
-  pub all_turned : (turn : TurnValue) (v : AlphaNetworkValue) (old new : BTreeMap ℕ (Rule T)) (none delta : Delta) (meter meter' : ℕ) → v.shapes ≡ turn.network.shapes
+  pub all_turned : (turn : TurnValue) (v : AlphaNetworkValue) (old new : BTreeMap ℕ (Rule T)) (none delta : Delta) (meter meter' : ℕ) → v.shapes ≡ turn.network.shapes → v.users ≡ turn.network.users
       → ((n : ℕ) → IsEnded (memory_at turn.network n) (memory_at v n)) → AreAlphas v turn.after → none.gone.items ≡ [] → none.come.items ≡ []
       → AreRulesChanged turn old new none delta meter meter' → AreRulesTurned turn v old new delta meter meter'
-  all_turned turn v old new none delta meter meter' shapes ended alphas none_gone none_come changed = record {
+  all_turned turn v old new none delta meter meter' shapes users ended alphas none_gone none_come changed = record {
     stay = changed.stay;
     named = changed.named;
     alphas = alphas;
-    over = λ e i n b h. stays e.1.id n (live_facts turn.network.memories) (live_facts v.memories) turn.after b (changed.done e i n b h).over
+    over = λ e i n b h. stays (live_facts turn.network.memories) (live_facts v.memories) turn.after b (changed.done e i n b h).over
         (λ k u has m. live_ended (memory_at turn.network u.alpha) (memory_at v u.alpha) m (ended u.alpha));
-    entered = λ e i n b h. entered_in_change turn.network v e.1.id n b shapes (λ m. (ended m).joins) (changed.done e i n b h).entered;
+    entered = λ e i n b h. entered_in_change turn.network v e.1.id n b shapes users (λ m. (ended m).joins) (changed.done e i n b h).entered;
     gone = changed.told.gone ∙ ap (λ it. it ++ come_of (rule_keys (kept_rules (values old)) turn.after) (rule_keys (kept_rules (values old)) turn.before)) none_gone;
     come = changed.told.come ∙ ap (λ it. it ++ come_of (rule_keys (kept_rules (values old)) turn.before) (rule_keys (kept_rules (values old)) turn.after)) none_come;
     paid = changed.paid;
   }
 
 module _ {T : Type 0} (turn : TurnValue) (v : AlphaNetworkValue) (old new : BTreeMap ℕ (Rule T)) (delta : Delta) (meter meter' : ℕ) (turned : AreRulesTurned turn v old new delta meter meter') where
-  pub keeping_after : shape_count v ≤ rules_sum branch_patterns (kept_rules (values old)) → IsKeeping v turn.after new
+  pub keeping_after : use_count v ≤ rules_sum branch_patterns (kept_rules (values old)) → IsKeeping v turn.after new
   keeping_after count = record {
     named = turned.named;
     alphas = turned.alphas;

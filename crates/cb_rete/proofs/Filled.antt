@@ -29,7 +29,7 @@ branch_told r i fs bs es d ks ls all h e =
 module _ {T : Type 0} (v : AlphaNetworkValue) (fs : IndexedFacts) (rule : ℕ) where
   -- those before a place are filled
   pub record AreFilledTo (at : ℕ) (elements : List Elements) (bs : List (Branch T)) (told told' : List KeyValue) : Type 0 where
-    pub done : (k : ℕ) (b : Branch T) → k < at → slice_get bs k ≡ Some b → IsBranchOver rule k (live_facts v.memories) fs b
+    pub done : (k : ℕ) (b : Branch T) → k < at → slice_get bs k ≡ Some b → IsBranchOver (live_facts v.memories) fs b
     pub entered : AreBranchesEntered v rule bs
     pub come : told' ++ branch_keys rule at (drop at elements) fs ≡ told ++ branch_keys rule 0 elements fs
 
@@ -38,9 +38,9 @@ module _ {T : Type 0} (v : AlphaNetworkValue) (fs : IndexedFacts) (rule : ℕ) w
 
   module _ (at : ℕ) (elements : List Elements) (bs : List (Branch T)) (old new : Branch T) (told ks ls : List KeyValue) (got : slice_get bs at ≡ Some old) (stays : kept_branches bs ≡ elements)
       (was : AreFilledTo at elements bs told ks) where
-    pub filled_more : HasSameAlphas old new → IsBranchOver rule at (live_facts v.memories) fs new → ls ≡ ks ++ keys_in_branch rule at (branch_elements old) fs → AreFilledTo (at + 1) elements (set bs at new) told ls
+    pub filled_more : HasSameAlphas old new → IsBranchOver (live_facts v.memories) fs new → ls ≡ ks ++ keys_in_branch rule at (branch_elements old) fs → AreFilledTo (at + 1) elements (set bs at new) told ls
     filled_more same over come = record {
-      done = set_more (λ k b. IsBranchOver rule k (live_facts v.memories) fs b) bs at old new got over was.done;
+      done = set_more (λ k b. IsBranchOver (live_facts v.memories) fs b) bs at old new got over was.done;
       entered = set_each (λ k b. IsEntered v rule k b) bs at old new got (entered_alike v rule at old new same (was.entered at old got)) was.entered;
       come = branch_told rule at fs elements (branch_elements old) (dropped_at elements at (branch_elements old) (subst (λ es. slice_get es at ≡ Some (branch_elements old)) stays (got_mapped branch_elements bs at old got)))
           ks ls (told ++ branch_keys rule 0 elements fs) was.come come;

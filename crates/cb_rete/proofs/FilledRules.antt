@@ -33,7 +33,7 @@ module _ {T : Type 0} where
 
   -- a rule over these facts, in this network
   pub record IsFilled (v : AlphaNetworkValue) (fs : IndexedFacts) (r : Rule T) : Type 0 where
-    pub over : AreBranchesOver r.id (live_facts v.memories) fs r.branches.items
+    pub over : AreBranchesOver (live_facts v.memories) fs r.branches.items
     pub entered : AreBranchesEntered v r.id r.branches.items
 
   -- those that are filled are so, and what is told by then and at the end
@@ -104,7 +104,7 @@ module _ {T : Type 0} where
         let filled = fills (before.left (id, r) (subst (In (id, r)) (sym cut) (inl refl))) in
         record {
           done = in_more (λ e. IsFilled v fs e.1) before.done (record {
-            over = subst (λ n. AreBranchesOver n (live_facts v.memories) fs r'.branches.items) (sym same_id) filled.over;
+            over = filled.over;
             entered = subst (λ n. AreBranchesEntered v n r'.branches.items) (sym same_id) filled.entered;
           });
           left = λ e i. before.left e (subst (In e) (sym cut) (inr i));

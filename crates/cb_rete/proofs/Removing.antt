@@ -3,7 +3,8 @@ use Rattle.std.proofs.Common.{◌≡◌, ◌∙◌, ℕ, List, Some, None, ap, a
 use Rattle.std.specs.BTreeMap.{BTreeMap, is_at}
 use Rattle.std.specs.List.Sorted.{IsStrictlySortedBy}
 use Rattle.std.specs.Map.{keys_of, lookup, remove_entry, values_of}
-use Rattle.cb_alpha_network.specs.Networks.{AlphaNetworkValue, AreAlphas}
+use Rattle.cb_alpha_network.specs.Networks.{AlphaNetworkValue, AreAlphas, memory_at}
+use Rattle.cb_branch.proofs.EnteredNodes.{facts_same}
 use Rattle.cb_branch.specs.Branches.{HasAlpha, IsBranchOver}
 use Rattle.cb_branch.specs.Alphas.{AlphaUse}
 use Rattle.cb_branch.specs.Alphas.{Facts}
@@ -29,11 +30,13 @@ module _ {T : Type 0} (id : ℕ) (rules rules' : BTreeMap ℕ (Rule T)) (sorted 
         let number : e.0 ≡ e.1.id = keeping.named e j.0 in
         let own : id ≡ r.id = keeping.named (id, r) (found_in id rules.entries r found) in (
           j.0,
-          λ n s h at. left.others n s h (λ is. j.1 (number ∙ (sym at ∙ (is ∙ sym own)))),
+          λ n p place h at.
+              let kept = left.others n p place h (λ is. j.1 (number ∙ (sym at ∙ (is ∙ sym own)))) in
+              (kept.0, facts_same (memory_at v n) (memory_at v' n) kept.1),
         )
 
-    pub keeping_without : (stays : (rule number : ℕ) (facts facts' : Facts) (fs : IndexedFacts) (b : Branch T) → IsBranchOver rule number facts fs b
-        → ((k : ℕ) (u : AlphaUse) → HasAlpha b k u → (n : ℕ) → facts u.alpha n ≡ facts' u.alpha n) → IsBranchOver rule number facts' fs b)
+    pub keeping_without : (stays : (facts facts' : Facts) (fs : IndexedFacts) (b : Branch T) → IsBranchOver facts fs b
+        → ((k : ℕ) (u : AlphaUse) → HasAlpha b k u → (n : ℕ) → facts u.alpha n ≡ facts' u.alpha n) → IsBranchOver facts' fs b)
         → AreAlphas v' fs → IsKeeping v' fs rules'
     keeping_without stays alphas = record {
       named = λ e i. keeping.named e (other e i).0;

@@ -23,7 +23,7 @@ use Rattle.cb_matches.specs.Order.{IsRising}
 use Rattle.cb_matches.specs.declared.delta.Delta.{Delta}
 use Rattle.cb_nodes.proofs.Facts.{added_fact}
 use Rattle.cb_partials.specs.Probes.{branch_probes}
-use Rattle.cb_rete.proofs.Entered.{entered_alike, shape_of}
+use Rattle.cb_rete.proofs.Entered.{entered_alike}
 use Rattle.cb_rete.specs.Changing.{IsBranchDone, IsBranchReady, IsTurn, TurnValue, join_tests}
 use Rattle.cb_rule_keys.proofs.Branches.{IsBranchUnconcerned}
 use Rattle.cb_rule_keys.specs.Changing.{IsBranchChanged}
@@ -96,12 +96,12 @@ came_is p m fs fs' n f turns came =
 module _ {T : Type 0} (turn : TurnValue) (given : MemoryValues) (found : List NodePlace) (is : IsTurn turn given found) (rule n : ℕ) (b : Branch T) (ready : IsBranchReady turn rule n b) where
   -- the branch's memories turned
   memory_turns : (k : ℕ) (u : AlphaUse) → HasAlpha b k u → AlphaTurns u.pattern (memory_at turn.network u.alpha) turn.before turn.after
-  memory_turns k u h = is.turning.alphas u.alpha u.pattern (node_at rule n k) (ready.entered k u h).shape
+  memory_turns k u h = is.turning.alphas u.alpha u.pattern (ready.entered k u h).shape.shape
 
   pub turned : AreTurned given turn.before turn.after b
   turned k u h =
       let used = ready.entered k u h in (
-        is.within u.alpha u.pattern (node_at rule n k) used.shape,
+        is.within u.alpha u.pattern used.shape.shape,
         subst (λ ms. AlphaTurns u.pattern (memory_in ms u.alpha) turn.before turn.after) (sym is.memories) (memory_turns k u h),
         subst (λ ms. HasUsedJoin (memory_in ms u.alpha) u.join) (sym is.memories) used.joins,
       )
@@ -111,23 +111,23 @@ module _ {T : Type 0} (turn : TurnValue) (given : MemoryValues) (found : List No
       let one = came_is u.pattern (memory_at turn.network u.alpha) turn.before turn.after i f (memory_turns k u h) (subst (λ ms. came_in (memory_in ms u.alpha) i ≡ Some f) is.memories came) in
       is.turning.comes f one.0 one.1
 
-  pub before : IsBefore given rule n turn.before turn.after b
+  pub before : IsBefore given turn.before turn.after b
   before = record {
     rising = is.turning.rising;
     rising_now = is.turning.rising_now;
-    over = subst (λ ms. IsBranchOver rule n (were_facts ms) turn.before b) (sym is.memories) ready.over;
+    over = subst (λ ms. IsBranchOver (were_facts ms) turn.before b) (sym is.memories) ready.over;
     turned = turned;
   }
 
   -- it is changed
-  pub changed : (new : Branch T) (delta delta' : Delta) (meter meter' : ℕ) → branch_elements new ≡ branch_elements b → HasSameAlphas b new → IsBranchOver rule n (live_facts given) turn.after new
+  pub changed : (new : Branch T) (delta delta' : Delta) (meter meter' : ℕ) → branch_elements new ≡ branch_elements b → HasSameAlphas b new → IsBranchOver (live_facts given) turn.after new
       → Tells delta delta' (keys_in_branch rule n (branch_elements b) turn.before) (keys_in_branch rule n (branch_elements b) turn.after)
       → meter' + shape_tests turn.added (branch_elements b) ≤ meter + branch_probes turn.added turn.before turn.after (branch_elements b)
       → IsBranchChanged branch_elements (IsBranchDone turn rule) turn.before turn.after (join_tests turn) rule n b new delta delta' meter meter'
   changed new delta delta' meter meter' stay same over told probes = record {
     stay = stay;
     is = record {
-      over = subst (λ ms. IsBranchOver rule n (live_facts ms) turn.after new) is.memories over;
+      over = subst (λ ms. IsBranchOver (live_facts ms) turn.after new) is.memories over;
       entered = entered_alike turn.network rule n b new same ready.entered;
     };
     told = told;
@@ -135,15 +135,15 @@ module _ {T : Type 0} (turn : TurnValue) (given : MemoryValues) (found : List No
   }
 
   -- the branch has no place that is found
-  module _ (stays : (rule number : ℕ) (facts facts' : Facts) (fs : IndexedFacts) (b : Branch T) → IsBranchOver rule number facts fs b
-      → ((k : ℕ) (u : AlphaUse) → HasAlpha b k u → (n : ℕ) → facts u.alpha n ≡ facts' u.alpha n) → IsBranchOver rule number facts' fs b)
-      (over : (rule number : ℕ) (facts : Facts) (fs fs' : IndexedFacts) (f : ℕ × FactValue) (b : Branch T) → IsRising fs → IsRising fs' → DifferBy f fs fs'
-      → ((k : ℕ) (u : AlphaUse) → HasAlpha b k u → has_shape u.pattern f.1 ≡ false) → IsBranchOver rule number facts fs b → IsBranchOver rule number facts fs' b)
-      (matches : (rule number : ℕ) (facts : Facts) (fs fs' : IndexedFacts) (f : ℕ × FactValue) (b : Branch T) → IsRising fs → IsRising fs' → DifferBy f fs fs'
-      → ((k : ℕ) (u : AlphaUse) → HasAlpha b k u → has_shape u.pattern f.1 ≡ false) → IsBranchOver rule number facts fs b → matches_of (branch_elements b) fs ≡ matches_of (branch_elements b) fs')
+  module _ (stays : (facts facts' : Facts) (fs : IndexedFacts) (b : Branch T) → IsBranchOver facts fs b → ((k : ℕ) (u : AlphaUse) → HasAlpha b k u → (n : ℕ) → facts u.alpha n ≡ facts' u.alpha n)
+      → IsBranchOver facts' fs b)
+      (over : (facts : Facts) (fs fs' : IndexedFacts) (f : ℕ × FactValue) (b : Branch T) → IsRising fs → IsRising fs' → DifferBy f fs fs'
+      → ((k : ℕ) (u : AlphaUse) → HasAlpha b k u → has_shape u.pattern f.1 ≡ false) → IsBranchOver facts fs b → IsBranchOver facts fs' b)
+      (matches : (facts : Facts) (fs fs' : IndexedFacts) (f : ℕ × FactValue) (b : Branch T) → IsRising fs → IsRising fs' → DifferBy f fs fs'
+      → ((k : ℕ) (u : AlphaUse) → HasAlpha b k u → has_shape u.pattern f.1 ≡ false) → IsBranchOver facts fs b → matches_of (branch_elements b) fs ≡ matches_of (branch_elements b) fs')
       (none : (k : ℕ) → In (node_at rule n k) found → ⊥) where
     at_rest : (k : ℕ) (u : AlphaUse) → HasAlpha b k u → IsAtRest (memory_at turn.network u.alpha)
-    at_rest k u h = elim (is.changed u.alpha (shape_of u (node_at rule n k)) (ready.entered k u h).shape) as (λ _. IsAtRest (memory_at turn.network u.alpha)) [
+    at_rest k u h = elim (is.changed u.alpha u.pattern (node_at rule n k) (ready.entered k u h).shape) as (λ _. IsAtRest (memory_at turn.network u.alpha)) [
       | inl rest ↦ rest
       | inr i ↦ absurd (none k i)
     ]
@@ -154,9 +154,9 @@ module _ {T : Type 0} (turn : TurnValue) (given : MemoryValues) (found : List No
     pub unconcerned : IsBranchUnconcerned branch_elements (IsBranchReady turn rule) (IsBranchDone turn rule) turn.before turn.after (join_tests turn) rule n b
     unconcerned = record {
       is = record {
-        over = over rule n (live_facts turn.network.memories) turn.before turn.after turn.fact b is.turning.rising is.turning.rising_now is.turning.differ no_shape
-            (stays rule n (were_facts turn.network.memories) (live_facts turn.network.memories) turn.before b ready.over (λ k u h i. same_at_rest (memory_at turn.network u.alpha) i (at_rest k u h)));
+        over = over (live_facts turn.network.memories) turn.before turn.after turn.fact b is.turning.rising is.turning.rising_now is.turning.differ no_shape
+            (stays (were_facts turn.network.memories) (live_facts turn.network.memories) turn.before b ready.over (λ k u h i. same_at_rest (memory_at turn.network u.alpha) i (at_rest k u h)));
         entered = ready.entered;
       };
-      keys = ap (map (key_of rule n)) (matches rule n (were_facts turn.network.memories) turn.before turn.after turn.fact b is.turning.rising is.turning.rising_now is.turning.differ no_shape ready.over);
+      keys = ap (map (key_of rule n)) (matches (were_facts turn.network.memories) turn.before turn.after turn.fact b is.turning.rising is.turning.rising_now is.turning.differ no_shape ready.over);
     }

@@ -38,12 +38,12 @@ keys_alike {T} fs fs' rule at (b ∷ bs) same =
     subst (λ k. keys_in_branch rule k (branch_elements x) fs ≡ keys_in_branch rule k (branch_elements x) fs') e (same (suc n) x h)))
     ∙ sym (branch_keys_more rule at (branch_elements b) (kept_branches bs) fs'))
 
-module _ {T : Type 0} (stays : (rule number : ℕ) (facts facts' : Facts) (fs : IndexedFacts) (b : Branch T) → IsBranchOver rule number facts fs b
-    → ((k : ℕ) (u : AlphaUse) → HasAlpha b k u → (n : ℕ) → facts u.alpha n ≡ facts' u.alpha n) → IsBranchOver rule number facts' fs b)
-    (over : (rule number : ℕ) (facts : Facts) (fs fs' : IndexedFacts) (f : ℕ × FactValue) (b : Branch T) → IsRising fs → IsRising fs' → DifferBy f fs fs'
-    → ((k : ℕ) (u : AlphaUse) → HasAlpha b k u → has_shape u.pattern f.1 ≡ false) → IsBranchOver rule number facts fs b → IsBranchOver rule number facts fs' b)
-    (matches : (rule number : ℕ) (facts : Facts) (fs fs' : IndexedFacts) (f : ℕ × FactValue) (b : Branch T) → IsRising fs → IsRising fs' → DifferBy f fs fs'
-    → ((k : ℕ) (u : AlphaUse) → HasAlpha b k u → has_shape u.pattern f.1 ≡ false) → IsBranchOver rule number facts fs b → matches_of (branch_elements b) fs ≡ matches_of (branch_elements b) fs')
+module _ {T : Type 0} (stays : (facts facts' : Facts) (fs : IndexedFacts) (b : Branch T) → IsBranchOver facts fs b → ((k : ℕ) (u : AlphaUse) → HasAlpha b k u → (n : ℕ) → facts u.alpha n ≡ facts' u.alpha n)
+    → IsBranchOver facts' fs b)
+    (over : (facts : Facts) (fs fs' : IndexedFacts) (f : ℕ × FactValue) (b : Branch T) → IsRising fs → IsRising fs' → DifferBy f fs fs'
+    → ((k : ℕ) (u : AlphaUse) → HasAlpha b k u → has_shape u.pattern f.1 ≡ false) → IsBranchOver facts fs b → IsBranchOver facts fs' b)
+    (matches : (facts : Facts) (fs fs' : IndexedFacts) (f : ℕ × FactValue) (b : Branch T) → IsRising fs → IsRising fs' → DifferBy f fs fs'
+    → ((k : ℕ) (u : AlphaUse) → HasAlpha b k u → has_shape u.pattern f.1 ≡ false) → IsBranchOver facts fs b → matches_of (branch_elements b) fs ≡ matches_of (branch_elements b) fs')
     (turn : TurnValue) (given : MemoryValues) (found : List NodePlace) (is : IsTurn turn given found) where
   -- a branch that has none of its rule's places
   pub branch_unconcerned : (rule from end : ℕ) → AreAllOfRule found from end rule → (n : ℕ) (b : Branch T) → IsBranchReady turn rule n b

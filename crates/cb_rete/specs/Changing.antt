@@ -3,7 +3,7 @@ use Rattle.std.specs.Prelude.{◌≡◌, ◌+◌, ◌-◌, ◌<◌, ◌≤◌, �
 use Rattle.std.specs.BTreeMap.{BTreeMap, get, is_at, values}
 use Rattle.std.specs.Map.{set_value}
 use Rattle.std.specs.Ordering.{nat_cmp}
-use Rattle.cb_alpha_network.specs.Networks.{AlphaNetworkValue, AlphasTurn, AreAlphas, HasChanged, IsShapeOf, MemoryValues}
+use Rattle.cb_alpha_network.specs.Networks.{AlphaNetworkValue, AlphasTurn, AreAlphas, HasChanged, IsShapeAt, MemoryValues}
 use Rattle.cb_alpha_network.specs.declared.node_place.NodePlace.{NodePlace}
 use Rattle.cb_branch.specs.Branches.{DifferBy, IsBranchOver, IsEntered, branch_elements}
 use Rattle.cb_branch.specs.Alphas.{live_facts, were_facts}
@@ -46,7 +46,7 @@ pub record IsTurning (turn : TurnValue) : Type 0 where
 pub record IsTurn (turn : TurnValue) (alphas : MemoryValues) (found : List NodePlace) : Type 0 where
   pub turning : IsTurning turn
   pub memories : alphas ≡ turn.network.memories
-  pub within : (n : ℕ) (p : PatternValue) (place : NodePlace) → IsShapeOf turn.network n p place → n < length alphas
+  pub within : (n : ℕ) (p : PatternValue) → IsShapeAt turn.network n p → n < length alphas
   pub changed : HasChanged turn.network found
 
 -- how often the patterns of a branch may be tested besides for their shape
@@ -56,11 +56,11 @@ join_tests turn es = branch_probes turn.added turn.before turn.after es - shape_
 module _ {T : Type 0} where
   -- a branch before the change, and after it
   pub record IsBranchReady (turn : TurnValue) (rule n : ℕ) (b : Branch T) : Type 0 where
-    pub over : IsBranchOver rule n (were_facts turn.network.memories) turn.before b
+    pub over : IsBranchOver (were_facts turn.network.memories) turn.before b
     pub entered : IsEntered turn.network rule n b
 
   pub record IsBranchDone (turn : TurnValue) (rule n : ℕ) (b : Branch T) : Type 0 where
-    pub over : IsBranchOver rule n (live_facts turn.network.memories) turn.after b
+    pub over : IsBranchOver (live_facts turn.network.memories) turn.after b
     pub entered : IsEntered turn.network rule n b
 
   -- so are the branches of a rule

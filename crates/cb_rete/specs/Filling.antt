@@ -1,8 +1,7 @@
 -- Rules that are filled over all facts.
 use Rattle.std.specs.Prelude.{◌≡◌, ◌++◌, ◌<◌, ℕ, List, length}
 use Rattle.std.specs.BTreeMap.{BTreeMap, values}
-use Rattle.cb_alpha_network.specs.Networks.{AlphaNetworkValue, AreAlphas, IsShapeOf, MemoryValues}
-use Rattle.cb_alpha_network.specs.declared.node_place.NodePlace.{NodePlace}
+use Rattle.cb_alpha_network.specs.Networks.{AlphaNetworkValue, AreAlphas, IsShapeAt, MemoryValues}
 use Rattle.cb_branch.specs.Alphas.{live_facts}
 use Rattle.cb_branch.specs.declared.branch.Branch.{Branch}
 use Rattle.cb_constraints.specs.PatternValues.{PatternValue}
@@ -17,14 +16,14 @@ use Rattle.cb_rules.specs.Elements.{Elements}
 -- these are the memories of the network, over these facts
 pub record IsFilling (v : AlphaNetworkValue) (fs : IndexedFacts) (given : MemoryValues) : Type 0 where
   pub memories : given ≡ v.memories
-  pub within : (n : ℕ) (p : PatternValue) (place : NodePlace) → IsShapeOf v n p place → n < length given
+  pub within : (n : ℕ) (p : PatternValue) → IsShapeAt v n p → n < length given
   pub rising : IsRising fs
   pub alphas : AreAlphas v fs
 
 module _ {T : Type 0} where
   -- the branches of a rule with these elements are filled, and their keys told
   pub record AreBranchesFilled (v : AlphaNetworkValue) (fs : IndexedFacts) (rule : ℕ) (elements : List Elements) (bs : List (Branch T)) (told told' : List KeyValue) : Type 0 where
-    pub over : AreBranchesOver rule (live_facts v.memories) fs bs
+    pub over : AreBranchesOver (live_facts v.memories) fs bs
     pub entered : AreBranchesEntered v rule bs
     pub come : told' ≡ told ++ branch_keys rule 0 elements fs
 

@@ -1,7 +1,7 @@
 -- What is kept for rules.
 use Rattle.std.specs.Prelude.{◌≡◌, ◌≤◌, ℕ, List, Some, All, map, slice_get}
 use Rattle.std.specs.BTreeMap.{BTreeMap, values}
-use Rattle.cb_alpha_network.specs.Networks.{AlphaNetworkValue, AreAlphas, shape_count}
+use Rattle.cb_alpha_network.specs.Networks.{AlphaNetworkValue, AreAlphas, use_count}
 use Rattle.cb_branch.specs.Branches.{CanBeFilled, IsBranchOver, IsEntered, branch_elements}
 use Rattle.cb_branch.specs.Alphas.{Facts, live_facts}
 use Rattle.cb_branch.specs.Patterns.{branch_patterns}
@@ -30,8 +30,8 @@ module _ {T : Type 0} where
   CanRuleBeFilled r = All CanBeFilled r.branches.items
 
   -- what is kept for the branches of a rule is right over these facts, which stand in alpha memories under these numbers
-  abbrev pub AreBranchesOver : ℕ → Facts → IndexedFacts → List (Branch T) → Type 0
-  AreBranchesOver rule facts fs bs = (j : ℕ) (b : Branch T) → slice_get bs j ≡ Some b → IsBranchOver rule j facts fs b
+  abbrev pub AreBranchesOver : Facts → IndexedFacts → List (Branch T) → Type 0
+  AreBranchesOver facts fs bs = (j : ℕ) (b : Branch T) → slice_get bs j ≡ Some b → IsBranchOver facts fs b
 
   -- their patterns are in the alpha network
   abbrev pub AreBranchesEntered : AlphaNetworkValue → ℕ → List (Branch T) → Type 0
@@ -39,16 +39,16 @@ module _ {T : Type 0} where
 
   -- the same of rules
   abbrev pub AreRulesOver : Facts → IndexedFacts → List (ℕ × Rule T) → Type 0
-  AreRulesOver facts fs rules = (e : ℕ × Rule T) → In e rules → AreBranchesOver e.1.id facts fs e.1.branches.items
+  AreRulesOver facts fs rules = (e : ℕ × Rule T) → In e rules → AreBranchesOver facts fs e.1.branches.items
 
   abbrev pub AreRulesEntered : AlphaNetworkValue → List (ℕ × Rule T) → Type 0
   AreRulesEntered v rules = (e : ℕ × Rule T) → In e rules → AreBranchesEntered v e.1.id e.1.branches.items
 
-  -- what a matcher keeps between changes: rules under their numbers, and alpha memories, over the same facts. The network has no
-  -- patterns but those of the rules
+  -- what a matcher keeps between changes: rules under their numbers, and alpha memories, over the same facts. No nodes
+  -- use the network but those of the rules' patterns
   pub record IsKeeping (v : AlphaNetworkValue) (fs : IndexedFacts) (rules : BTreeMap ℕ (Rule T)) : Type 0 where
     pub named : AreNamed kept_rule rules.entries
     pub alphas : AreAlphas v fs
     pub over : AreRulesOver (live_facts v.memories) fs rules.entries
     pub entered : AreRulesEntered v rules.entries
-    pub count : shape_count v ≤ rules_sum branch_patterns (kept_rules (values rules))
+    pub count : use_count v ≤ rules_sum branch_patterns (kept_rules (values rules))

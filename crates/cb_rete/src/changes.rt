@@ -2,7 +2,7 @@
 ghost use Rattle.std.specs.Prelude.{◌≡◌, ◌≤◌, ◌+◌, ◌++◌, ◌∷◌, ℕ, [], None, Some, IfOk, IsSome, OnOk, if◌then◌else◌, nat_eq, not};
 ghost use Rattle.std.specs.BTreeMap.{values};
 ghost use Rattle.std.specs.List.{All, filter, flat_map};
-ghost use Rattle.cb_alpha_network.specs.Networks.{AreAlphas, shape_count};
+ghost use Rattle.cb_alpha_network.specs.Networks.{AreAlphas, use_count};
 ghost use Rattle.cb_branch.specs.Branches.{CanBeFilled};
 ghost use Rattle.cb_branch.specs.Alphas.{Facts};
 ghost use Rattle.cb_branch.specs.Patterns.{branch_patterns};
@@ -116,7 +116,7 @@ fn change_facts<T>(
     ensures turned { IfOk result (λ delta. (turn : TurnValue) → turn.network ≡ alphas.old → IsTurning turn
         → AreRulesReady turn rules.old.entries
         → AreRulesTurned turn alphas.new rules.old rules.new delta meter.old meter.new) }
-    ensures count { OnOk result (shape_count alphas.new ≡ shape_count alphas.old) }
+    ensures count { OnOk result (use_count alphas.new ≡ use_count alphas.old) }
 {
     what_is_kept_stays::<T>();
     alphas.places_changed(found)?;
@@ -183,6 +183,7 @@ pub(crate) fn add_planned<T>(
 /// Takes the rule with this number away, if there is one.
 pub(crate) fn drop_rule<T>(
     alloc: Global,
+    constants: &mut Option<Constants>,
     alphas: &mut AlphaNetwork<T>,
     rules: &mut BTreeMap<u64, Rule<T>>,
     facts: &FactList,
@@ -202,14 +203,16 @@ pub(crate) fn drop_rule<T>(
 {
     let _count = facts.len();
     let _rules = rules.len();
+    let constants = made(alloc, constants)?;
     let mut delta = no_delta(alloc);
-    drop_numbered(alloc, alphas, rules, id, &mut delta.gone)?;
+    drop_numbered(alloc, constants, alphas, rules, id, &mut delta.gone)?;
     Ok(delta)
 }
 
 /// The same. The keys of its matches stand behind those that are told of before, in their order.
 fn drop_numbered<T>(
     alloc: Global,
+    constants: &Constants,
     alphas: &mut AlphaNetwork<T>,
     rules: &mut BTreeMap<u64, Rule<T>>,
     id: u64,
@@ -228,28 +231,37 @@ fn drop_numbered<T>(
     what_is_kept_can_be_filled::<T>();
     let _count = rules.len();
     match rules.remove(&id) {
-        Some(rule) => drop_branches(alloc, rule.branches.as_slice(), alphas, gone),
+        Some(rule) => drop_branches(
+            alloc,
+            constants,
+            rule.id,
+            rule.branches.as_slice(),
+            alphas,
+            gone,
+        ),
         None => Ok(()),
     }
 }
 
-/// Takes the patterns of the branches of a rule out of the alpha network, and tells the keys of their matches.
+/// Takes the patterns of the branches of the rule with this number out of the alpha network, and tells the keys of their matches.
 fn drop_branches<T>(
     alloc: Global,
+    constants: &Constants,
+    rule: u64,
     branches: &[Branch<T>],
     alphas: &mut AlphaNetwork<T>,
     gone: &mut Vec<Key>,
 ) -> Result<(), NoMemory>
-    ensures left { OnOk result ((rule : ℕ) → All CanBeFilled branches.now
+    ensures left { OnOk result (All CanBeFilled branches.now
         → AreBranchesEntered alphas.old rule branches.now
         → IsRuleLeft rule (branches_sum branch_patterns (kept_branches branches.now)) alphas.old alphas.new) }
     ensures alphas { OnOk result ((fs : IndexedFacts) → AreAlphas alphas.old fs → AreAlphas alphas.new fs) }
-    ensures gone { OnOk result ((rule : ℕ) (facts : Facts) (fs : IndexedFacts) → IsRising fs
-        → AreBranchesOver rule facts fs branches.now
+    ensures gone { OnOk result ((facts : Facts) (fs : IndexedFacts) → IsRising fs
+        → AreBranchesOver facts fs branches.now
         → gone.new.items ≡ gone.old.items ++ branch_keys rule 0 (kept_branches branches.now) fs) }
 {
-    leave_branches(alloc, branches, alphas)?;
-    tell_branches(branches, gone)
+    leave_branches(alloc, rule, branches, alphas)?;
+    tell_branches(alloc, constants, rule, branches, gone)
 }
 
 /// Takes all facts out of the alpha network, and finds all matches. The answer is their keys.

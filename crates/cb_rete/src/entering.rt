@@ -1,8 +1,8 @@
 //! Rules in the alpha network.
-ghost use Rattle.std.specs.Prelude.{◌≡◌, ◌+◌, ℕ, All, OnOk};
-ghost use Rattle.cb_alpha_network.specs.Networks.{AreAlphas, shape_count};
+ghost use Rattle.std.specs.Prelude.{◌≡◌, All, OnOk};
+ghost use Rattle.cb_alpha_network.specs.Networks.{AreAlphas, AreAtRest};
 ghost use Rattle.cb_branch.specs.Branches.{CanBeFilled};
-ghost use Rattle.cb_branch.specs.Entries.{KeepsShapes};
+ghost use Rattle.cb_branch.specs.Entries.{GainsPatterns};
 ghost use Rattle.cb_branch.specs.Patterns.{branch_patterns};
 ghost use Rattle.cb_facts.specs.FactLists.{IndexedFacts};
 ghost use Rattle.cb_rete.specs.Entering.{IsRuleLeft};
@@ -27,14 +27,13 @@ pub(crate) fn enter_rule<T>(
     network: &mut AlphaNetwork<T>,
     meter: &mut Meter<T>,
 ) -> Result<(), NoMemory>
-    requires { CanRuleBeFilled rule.old }
+    requires plans { CanRuleBeFilled rule.old }
+    requires rest { AreAtRest network.old.memories }
     ensures stay { OnOk result (kept_rule rule.new ≡ kept_rule rule.old) }
     ensures plans { OnOk result (CanRuleBeFilled rule.new) }
     ensures entered { OnOk result (AreBranchesEntered network.new rule.new.id rule.new.branches.items) }
-    ensures shapes { OnOk result (KeepsShapes network.old network.new) }
-    ensures alphas { OnOk result (AreAlphas network.old facts.now → AreAlphas network.new facts.now) }
-    ensures count { OnOk result (shape_count network.new
-        ≡ shape_count network.old + branches_sum branch_patterns (kept_rule rule.old).1) }
+    ensures network { OnOk result (GainsPatterns facts.now (branches_sum branch_patterns (kept_rule rule.old).1)
+        network.old network.new) }
 {
     enter_branches(
         alloc,
@@ -57,14 +56,13 @@ fn enter_branches<T>(
     network: &mut AlphaNetwork<T>,
     meter: &mut Meter<T>,
 ) -> Result<(), NoMemory>
-    requires { All CanBeFilled branches.old }
+    requires plans { All CanBeFilled branches.old }
+    requires rest { AreAtRest network.old.memories }
     ensures stay { OnOk result (kept_branches branches.new ≡ kept_branches branches.old) }
     ensures plans { OnOk result (All CanBeFilled branches.new) }
     ensures entered { OnOk result (AreBranchesEntered network.new rule branches.new) }
-    ensures shapes { OnOk result (KeepsShapes network.old network.new) }
-    ensures alphas { OnOk result (AreAlphas network.old facts.now → AreAlphas network.new facts.now) }
-    ensures count { OnOk result (shape_count network.new
-        ≡ shape_count network.old + branches_sum branch_patterns (kept_branches branches.old)) }
+    ensures network { OnOk result (GainsPatterns facts.now (branches_sum branch_patterns (kept_branches branches.old))
+        network.old network.new) }
 {
     let mut number = 0;
     for branch in branches.iter_mut() {
@@ -74,19 +72,22 @@ fn enter_branches<T>(
     Ok(())
 }
 
-/// Takes the patterns of the branches of a rule out of the alpha network.
+/// Takes the patterns of the branches of the rule with this number out of the alpha network.
 pub(crate) fn leave_branches<T>(
     alloc: Global,
+    rule: u64,
     branches: &[Branch<T>],
     network: &mut AlphaNetwork<T>,
 ) -> Result<(), NoMemory>
-    ensures left { OnOk result ((rule : ℕ) → All CanBeFilled branches.now
+    ensures left { OnOk result (All CanBeFilled branches.now
         → AreBranchesEntered network.old rule branches.now
         → IsRuleLeft rule (branches_sum branch_patterns (kept_branches branches.now)) network.old network.new) }
     ensures alphas { OnOk result ((fs : IndexedFacts) → AreAlphas network.old fs → AreAlphas network.new fs) }
 {
+    let mut number = 0;
     for branch in branches {
-        branch.leave(alloc, network)?;
+        branch.leave(alloc, rule, number, network)?;
+        number += 1;
     }
     Ok(())
 }

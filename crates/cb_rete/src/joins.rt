@@ -116,6 +116,7 @@ impl<T> Matcher<T> for Joins<T> {
         self.failed = true;
         let delta = drop_rule(
             self.alloc,
+            &mut self.constants,
             &mut self.alphas,
             &mut self.rules,
             &self.facts,
@@ -207,6 +208,9 @@ impl<T> Matcher<T> for Joins<T> {
     }
 
     fn bindings(&self, key: &Key) -> Result<Env, NoMemory> {
+        if self.failed {
+            return Err(NoMemory);
+        }
         let _facts = self.facts.len();
         match &self.constants {
             Some(constants) => find_env(self.alloc, constants, &self.rules, key),

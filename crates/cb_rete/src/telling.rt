@@ -1,5 +1,5 @@
 //! The keys of a rule's matches.
-ghost use Rattle.std.specs.Prelude.{◌≡◌, ◌++◌, ℕ, OnOk};
+ghost use Rattle.std.specs.Prelude.{◌≡◌, ◌++◌, OnOk};
 ghost use Rattle.cb_branch.specs.Alphas.{Facts};
 ghost use Rattle.cb_facts.specs.FactLists.{IndexedFacts};
 ghost use Rattle.cb_matches.specs.Order.{IsRising};
@@ -8,16 +8,26 @@ ghost use Rattle.cb_rule_keys.specs.Keys.{branch_keys};
 
 use cb_branch::Branch;
 use cb_forms::NoMemory;
+use cb_functions::Constants;
 use cb_matches::Key;
+use std::alloc::Global;
 
-/// Tells the keys of the matches of the branches of a rule, in their order, behind those that are told of before.
-pub(crate) fn tell_branches<T>(branches: &[Branch<T>], keys: &mut Vec<Key>) -> Result<(), NoMemory>
-    ensures { OnOk result ((rule : ℕ) (facts : Facts) (fs : IndexedFacts) → IsRising fs
-        → AreBranchesOver rule facts fs branches.now
+/// Tells the keys of the matches of the branches of the rule with this number, in their order, behind those that are told of before.
+pub(crate) fn tell_branches<T>(
+    alloc: Global,
+    constants: &Constants,
+    rule: u64,
+    branches: &[Branch<T>],
+    keys: &mut Vec<Key>,
+) -> Result<(), NoMemory>
+    ensures { OnOk result ((facts : Facts) (fs : IndexedFacts) → IsRising fs
+        → AreBranchesOver facts fs branches.now
         → keys.new.items ≡ keys.old.items ++ branch_keys rule 0 (kept_branches branches.now) fs) }
 {
+    let mut number = 0;
     for branch in branches {
-        branch.tell(keys)?;
+        branch.tell(alloc, constants, rule, number, keys)?;
+        number += 1;
     }
     Ok(())
 }

@@ -1,5 +1,6 @@
 mod building;
 mod changing;
+mod coming_back;
 mod drawn;
 mod probes;
 mod rows;

@@ -9,7 +9,6 @@ use Rattle.cb_fit.specs.Comparisons.{choice_fields, compared_fields, is_decided}
 use Rattle.cb_fit.specs.Plain.{bound_names, is_named}
 use Rattle.cb_fit.specs.Shapes.{loose}
 use Rattle.cb_fit.specs.declared.comparison.ComparedField.{ComparedField}
-use Rattle.cb_nodes.specs.Flat.{are_by_order}
 
 -- a variable is that of an address
 abbrev pub is_own : Option (List ℕ) → List ℕ → Bool
@@ -29,5 +28,5 @@ IsElsewhere address p cs = (x : List ℕ) → address ≡ Some x → (is_named x
 -- how a group of this pattern is kept, or of other elements
 abbrev pub IsKind : Kind → Option PatternValue → Type 0
 IsKind kind.Alone lone = (p : PatternValue) × (lone ≡ Some p) × (loose p ≡ p)
-IsKind (kind.LookedUp compared) lone = (p : PatternValue) × (lone ≡ Some p) × IsDecidedBy p compared.items × (are_by_order compared.items ≡ true)
+IsKind (kind.LookedUp compared) lone = (p : PatternValue) × (lone ≡ Some p) × IsDecidedBy p compared.items
 IsKind kind.Nested lone = lone ≡ None

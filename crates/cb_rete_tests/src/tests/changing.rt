@@ -142,7 +142,10 @@ fn compared<M: Matcher<Mark>, N: Matcher<Mark>>(
     told: &Delta,
     also: &Delta,
 ) -> Result<Option<usize>, NoMemory> {
-    if !told_alike(told, also) || !bind_alike(alloc, one, other, told.come.as_slice())? {
+    if !told_alike(told, also)
+        || !bind_alike(alloc, one, other, told.come.as_slice())?
+        || !bind_alike(alloc, one, other, also.come.as_slice())?
+    {
         return Ok(None);
     }
     Ok(Some(told.gone.len().saturating_add(told.come.len())))

@@ -1,10 +1,14 @@
+use Rattle.cb_branch.proofs.EnteredNodes.{gains_joined}
 use Rattle.cb_branch.proofs.entering.enter_lookup.Goals as goal
 
 pub join-requires-clause-there : goal.join-requires-clause-there
-join-requires-clause-there g c = λ none. let is = c.in_ok-alpha.ensures.entered in cc
+join-requires-clause-there g c = λ none. let is = c.in_ok-alpha.ensures.entered.shape in cc
 
-pub join-requires-clause-rest : goal.join-requires-clause-rest
-join-requires-clause-rest g c = record { none_gone = c.in_ok-alpha.ensures.over.none_gone; none_come = c.in_ok-alpha.ensures.over.none_come }
+pub returns-clause-shape : goal.returns-clause-shape
+returns-clause-shape g c = (c.in_ok-node.ensures.stay c.in_ok-alpha.alpha c.args.node.now.pattern c.args.place c.in_ok-alpha.ensures.entered).0
 
-pub returns-clause-alphas : goal.returns-clause-alphas
-returns-clause-alphas g c = λ are. c.in_ok-node.ensures.alphas c.args.facts.now (c.in_ok-alpha.ensures.alphas are)
+pub returns-clause-network : goal.returns-clause-network
+returns-clause-network g c =
+    let entered = c.in_ok-alpha.ensures in
+    let joined = c.in_ok-node.ensures in
+    gains_joined c.args.facts.now c.args.network.now c.enter.new.self c.join.new.self entered.stay entered.count entered.alphas joined.stay joined.users joined.rest (joined.alphas c.args.facts.now)

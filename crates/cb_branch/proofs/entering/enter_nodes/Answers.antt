@@ -1,5 +1,5 @@
 use Rattle.std.proofs.Common.{◌≡◌, ◌<◌, ◌∙◌, ℕ, Some, arith, get_or, length, slice_get, subst, sym}
-use Rattle.cb_branch.proofs.EnteredNodes.{entered_still, stay_then}
+use Rattle.cb_branch.proofs.EnteredNodes.{entered_still, gains_then}
 use Rattle.cb_branch.proofs.Numbers.{count_more, got, left_set, one_renumbered, set_either, within_got}
 use Rattle.cb_branch.proofs.entering.enter_nodes.Goals as goal
 use Rattle.cb_branch.specs.Entries.{IsNodeEntered, node_at}
@@ -27,14 +27,8 @@ loop-node-preserved g c =
       same = one_renumbered olds xs i x y inv.same at now.node;
       left = λ k m. left_set xs olds i k y inv.left m;
       entered = λ k n m e. set_either (λ j (z : Node g.row.T.Denot). IsNodeEntered new (node_at c.args.rule c.args.branch j) z) xs i y here k n
-          (λ ne h. entered_still mid new (node_at c.args.rule c.args.branch k) n now.stay (inv.entered k n (omega (arith, m, ne)) h)) e;
-      stay = stay_then old mid new inv.stay now.stay;
-      alphas = λ are. now.alphas (inv.alphas are);
-      count =
-          let e = now.count in
-          let f = inv.count in
-          let more = count_more olds i x was in
-          omega (arith, e, f, more);
+          (λ ne h. entered_still mid new (node_at c.args.rule c.args.branch k) n now.network.stay (inv.entered k n (omega (arith, m, ne)) h)) e;
+      gains = gains_then c.args.facts.now _ _ _ old mid new (count_more olds i x was) inv.gains now.network;
     }
 
 pub returns-clause-entered : goal.returns-clause-entered

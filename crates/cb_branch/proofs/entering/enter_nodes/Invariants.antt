@@ -1,7 +1,6 @@
-use Rattle.std.proofs.Common.{◌≡◌, ◌+◌, ◌<◌, ◌≤◌, ℕ, Some, slice_get, take}
-use Rattle.cb_alpha_network.specs.Networks.{AreAlphas, shape_count}
+use Rattle.std.proofs.Common.{◌≡◌, ◌<◌, ◌≤◌, ℕ, Some, slice_get, take}
 use Rattle.cb_branch.proofs.entering.enter_nodes.Given as goal
-use Rattle.cb_branch.specs.Entries.{AreRenumbered, IsNodeEntered, KeepsShapes, node_at}
+use Rattle.cb_branch.specs.Entries.{AreRenumbered, GainsPatterns, IsNodeEntered, node_at}
 use Rattle.cb_flat.specs.Taking.{pattern_count}
 use Rattle.cb_branch.specs.Nodes.{flat_nodes}
 use Rattle.cb_branch.specs.declared.node.Node.{Node}
@@ -12,7 +11,5 @@ invariant-loop-node g l = record {
   same : AreRenumbered l.initial.nodes l.nodes;
   left : (k : ℕ) → l.node-index ≤ k → slice_get l.nodes k ≡ slice_get l.initial.nodes k;
   entered : (k : ℕ) (n : Node g.row.T.Denot) → k < l.node-index → slice_get l.nodes k ≡ Some n → IsNodeEntered l.network (node_at l.rule l.branch k) n;
-  stay : KeepsShapes l.initial.network l.network;
-  alphas : AreAlphas l.initial.network l.facts → AreAlphas l.network l.facts;
-  count : shape_count l.network ≡ shape_count l.initial.network + pattern_count (flat_nodes (take l.node-index l.initial.nodes));
+  gains : GainsPatterns l.facts (pattern_count (flat_nodes (take l.node-index l.initial.nodes))) l.initial.network l.network;
 }

@@ -1,4 +1,3 @@
-use Rattle.std.proofs.Common.{◌≡◌, ◌++◌, ap₂, subst, sym}
 use Rattle.cb_branch.proofs.Ready.{join_planned}
 use Rattle.cb_branch.proofs.planning.pattern_node.Goals as goal
 

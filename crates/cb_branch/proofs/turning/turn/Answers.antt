@@ -1,8 +1,9 @@
-use Rattle.std.proofs.Common.{◌≡◌, ◌∙◌, ◌≤◌, ◌+◌, ◌↔◌, ℕ, List, Some, ap, map, slice_get, subst, sym}
+use Rattle.std.proofs.Common.{◌≡◌, ◌∙◌, ◌≤◌, ◌+◌, ◌↔◌, ℕ, List, Some, ap, slice_get, subst, sym}
 use Rattle.std.proofs.lemmas.List.{with_items_is}
 use Rattle.std.specs.Vec.{with_items}
 use Rattle.cb_beta.specs.BetaMemories.{BetaMemoryValue}
-use Rattle.cb_branch.proofs.Ended.{ended_index, ended_long, ended_ready, ended_rest, index_was, last_there, last_turns}
+use Rattle.cb_branch.proofs.AtEnd.{change_told}
+use Rattle.cb_branch.proofs.Ended.{ended_long, ended_ready, ended_rest, last_there, last_turns}
 use Rattle.cb_branch.proofs.Matched.{last_within}
 use Rattle.cb_branch.proofs.Told.{turned_branch}
 use Rattle.cb_branch.proofs.turning.turn.Goals as goal
@@ -10,14 +11,10 @@ use Rattle.cb_branch.specs.Alphas.{AlphaUse, HasUse, TakesAdded}
 use Rattle.cb_branch.specs.Turning.{AreNodesAfter, AreNodesBefore}
 use Rattle.cb_flat.specs.Joined.{flat_joins}
 use Rattle.cb_list_changes.specs.Resting.{AreEnded}
-use Rattle.cb_match_index.specs.MatchIndexes.{IsIndex}
-use Rattle.cb_match_index.specs.TellingKeys.{Tells as TellsKeys}
-use Rattle.cb_matches.specs.Order.{IsSorted}
 use Rattle.cb_branch.specs.Nodes.{flat_nodes}
 use Rattle.cb_branch.specs.declared.node.Node.{Node}
-use Rattle.cb_rule_keys.specs.Keys.{key_of}
 use Rattle.cb_token_lists.specs.Partials.{SourceValue, partial_at}
-use Rattle.cb_token_lists.specs.Turns.{IsThere, Turns, WasThere}
+use Rattle.cb_token_lists.specs.Turns.{Turns}
 
 pub returns-clause-alphas : goal.returns-clause-alphas
 returns-clause-alphas g c k u =
@@ -30,8 +27,6 @@ returns-clause-alphas g c k u =
 pub returns-clause-turned : goal.returns-clause-turned
 returns-clause-turned g c before fs fs' first first' old new w =
     let alphas = c.args.alphas.now in
-    let rule = c.args.rule in
-    let number = c.args.number in
     let b = c.args.branch.now in
     let ss = b.sources.items in
     let nodes = c.change_nodes.new.nodes in
@@ -48,24 +43,11 @@ returns-clause-turned g c before fs fs' first first' old new w =
     let after : AreNodesAfter alphas ss before lists old new nodes =
     subst (λ (it : List SourceValue). AreNodesAfter alphas it before lists old new nodes) c.as_slice.ensures.value
     (c.in_ok-change_nodes.ensures.after before fs fs' first first' old new before_nodes) in
-    let within = last_within b w.planned in
-    let m = last_there alphas ss before b.lists.items fs fs' first first' old new b.nodes.items w.nodes lists nodes same after b.last within in
-    let turned = last_turns alphas ss before b.lists.items fs fs' first first' old new b.nodes.items w.nodes lists nodes same after b.last within in
-    let was = index_was alphas ss before b.lists.items fs fs' first first' old new b.nodes.items w.nodes lists nodes same after b.last within rule number b.matches w.indexed in
-    let changed : slice_get lists b.last ≡ Some m.0 → Turns (partial_at ss lists b.last) m.0 (old b.last) (new b.last) → IsIndex rule number (partial_at ss lists b.last) (WasThere m.0) b.matches
-    → IsIndex rule number (partial_at ss lists b.last) (IsThere m.0) c.change.new.self =
-    subst (λ (ls : List BetaMemoryValue). slice_get ls b.last ≡ Some m.0 → Turns (partial_at ss ls b.last) m.0 (old b.last) (new b.last)
-    → IsIndex rule number (partial_at ss ls b.last) (WasThere m.0) b.matches → IsIndex rule number (partial_at ss ls b.last) (IsThere m.0) c.change.new.self)
-    (c.as_slice-3.ensures.value ∙ lists_are)
-    (subst (λ (it : List SourceValue). slice_get c.as_slice-3.result.now b.last ≡ Some m.0 → Turns (partial_at it c.as_slice-3.result.now b.last) m.0 (old b.last) (new b.last)
-    → IsIndex rule number (partial_at it c.as_slice-3.result.now b.last) (WasThere m.0) b.matches → IsIndex rule number (partial_at it c.as_slice-3.result.now b.last) (IsThere m.0) c.change.new.self)
-    c.as_slice-2.ensures.value (c.in_ok-change.ensures.index m.0 (old b.last) (new b.last))) in
     let ends : AreEnded lists ended = subst (λ (it : List BetaMemoryValue). AreEnded it ended) (c.as_mut_slice-3.ensures.value ∙ lists_are) c.end_change.ensures in
-    turned_branch alphas rule number new _ nodes ended nodes_are ended_are
-    (ended_long alphas ss before b.lists.items fs fs' first first' old new b.nodes.items w.nodes lists nodes same after b.last within ended ends)
-    (ended_rest alphas ss before b.lists.items fs fs' first first' old new b.nodes.items w.nodes lists nodes same after b.last within ended ends)
-    (ended_ready alphas ss before b.lists.items fs fs' first first' old new b.nodes.items w.nodes lists nodes same after b.last within ended ends)
-    (ended_index alphas ss before b.lists.items fs fs' first first' old new b.nodes.items w.nodes lists nodes same after b.last within ended ends rule number c.change.new.self (changed m.1 turned was))
+    turned_branch alphas new _ nodes ended nodes_are ended_are
+    (ended_long alphas ss before b.lists.items fs fs' first first' old new b.nodes.items w.nodes lists nodes same after ended ends)
+    (ended_rest alphas ss before b.lists.items fs fs' first first' old new b.nodes.items w.nodes lists nodes same after ended ends)
+    (ended_ready alphas ss before b.lists.items fs fs' first first' old new b.nodes.items w.nodes lists nodes same after ended ends)
 
 pub returns-clause-told : goal.returns-clause-told
 returns-clause-told g c before fs fs' first first' old new w =
@@ -88,17 +70,9 @@ returns-clause-told g c before fs fs' first first' old new w =
     let within = last_within b w.planned in
     let m = last_there alphas ss before b.lists.items fs fs' first first' old new b.nodes.items w.nodes lists nodes same after b.last within in
     let turned = last_turns alphas ss before b.lists.items fs fs' first first' old new b.nodes.items w.nodes lists nodes same after b.last within in
-    let tells : slice_get lists b.last ≡ Some m.0 → Turns (partial_at ss lists b.last) m.0 (old b.last) (new b.last) → IsSorted (old b.last) → IsSorted (new b.last)
-    → TellsKeys c.args.delta.now c.change.new.delta (map (key_of rule number) (old b.last)) (map (key_of rule number) (new b.last)) =
-    subst (λ (ls : List BetaMemoryValue). slice_get ls b.last ≡ Some m.0 → Turns (partial_at ss ls b.last) m.0 (old b.last) (new b.last) → IsSorted (old b.last) → IsSorted (new b.last)
-    → TellsKeys c.args.delta.now c.change.new.delta (map (key_of rule number) (old b.last)) (map (key_of rule number) (new b.last)))
-    (c.as_slice-3.ensures.value ∙ lists_are)
-    (subst (λ (it : List SourceValue). slice_get c.as_slice-3.result.now b.last ≡ Some m.0 → Turns (partial_at it c.as_slice-3.result.now b.last) m.0 (old b.last) (new b.last)
-    → IsSorted (old b.last) → IsSorted (new b.last)
-    → TellsKeys c.args.delta.now c.change.new.delta (map (key_of rule number) (old b.last)) (map (key_of rule number) (new b.last)))
-    c.as_slice-2.ensures.value (c.in_ok-change.ensures.told m.0 (old b.last) (new b.last))) in
-    let told = tells m.1 turned w.sorted w.sorted_now in
-    record { gone = told.gone; come = told.come }
+    change_told rule number _ c.end.result c.end.ensures m.0 (old b.last) (new b.last) c.args.delta.now c.tell_change.new.delta
+    (subst (λ (it : List BetaMemoryValue). slice_get it b.last ≡ Some m.0) (sym lists_are) m.1)
+    (subst (λ (it : List BetaMemoryValue). Turns (partial_at ss it b.last) m.0 (old b.last) (new b.last)) (sym lists_are) turned) w.sorted w.sorted_now c.in_ok-tell_change.ensures
 
 pub returns-clause-probes : goal.returns-clause-probes
 returns-clause-probes g c before fs fs' first first' old new added w takes =

@@ -1,7 +1,6 @@
 use Rattle.std.proofs.Common.{◌≡◌, ◌<◌, ◌∙◌, ◌++◌, ◌∷◌, ℕ, List, [], ap, length, subst, sym}
 use Rattle.std.specs.BTreeMap.{values}
-use Rattle.cb_alpha_network.specs.Networks.{AlphaNetworkValue, AreAlphas, IsShapeOf, MemoryValues}
-use Rattle.cb_alpha_network.specs.declared.node_place.NodePlace.{NodePlace}
+use Rattle.cb_alpha_network.specs.Networks.{AlphaNetworkValue, AreAlphas, IsShapeAt, MemoryValues}
 use Rattle.cb_branch.specs.Alphas.{live_facts}
 use Rattle.cb_constraints.specs.PatternValues.{PatternValue}
 use Rattle.cb_facts.specs.FactLists.{IndexedFacts}
@@ -19,11 +18,11 @@ use Rattle.cb_rule_keys.specs.Keys.{branch_keys}
 use Rattle.cb_rules.specs.Elements.{Elements}
 
 -- these memories are those of the network, over its facts
-filling : (v : AlphaNetworkValue) (given : MemoryValues) (fs : IndexedFacts) → given ≡ v.memories → ((n : ℕ) (p : PatternValue) (place : NodePlace) → IsShapeOf v n p place → n < length v.memories)
+filling : (v : AlphaNetworkValue) (given : MemoryValues) (fs : IndexedFacts) → given ≡ v.memories → ((n : ℕ) (p : PatternValue) → IsShapeAt v n p → n < length v.memories)
     → IsRising fs → AreAlphas v fs → IsFilling v fs given
 filling v given fs is within rising alphas = record {
   memories = is;
-  within = subst (λ (ms : MemoryValues). (n : ℕ) (p : PatternValue) (place : NodePlace) → IsShapeOf v n p place → n < length ms) (sym is) within;
+  within = subst (λ (ms : MemoryValues). (n : ℕ) (p : PatternValue) → IsShapeAt v n p → n < length ms) (sym is) within;
   rising = rising;
   alphas = alphas;
 }
@@ -41,12 +40,11 @@ returns-clause-keeping g c =
     let entered : Rule g.row.T.Denot = c.enter_rule.new.rule in
     let new : Rule g.row.T.Denot = c.fill_rule.new.rule in
     let in_network = c.in_ok-enter_rule.ensures in
-    let alphas = in_network.alphas c.requires.keeping.alphas in
+    let alphas = in_network.network.alphas c.requires.keeping.alphas in
     let filled = c.in_ok-fill_rule.ensures.filled v' fs (filling v' c.memories.result.now fs c.memories.ensures.memories c.memories.ensures.within (rising_base fs c.len-count.ensures.base) alphas) in_network.entered in
     let number : new.id ≡ entered.id = ap (λ (q : ℕ × List Elements). q.0) c.in_ok-fill_rule.ensures.stay in
     keeping_with c.args.rules.now c.insert.new.self c.args.rule new (c.in_ok-fill_rule.ensures.stay ∙ in_network.stay) c.requires.above c.in_ok-insert.ensures.entries
-    c.args.alphas.now v' fs c.requires.keeping c.what_is_kept_stays.ensures in_network.shapes alphas in_network.count
-    (subst (λ n. AreBranchesOver n (live_facts v'.memories) fs new.branches.items) (sym number) filled.over)
+    c.args.alphas.now v' fs c.requires.keeping c.what_is_kept_stays.ensures in_network.network filled.over
     (subst (λ n. AreBranchesEntered v' n new.branches.items) (sym number) filled.entered)
 
 pub returns-clause-delta : goal.returns-clause-delta
@@ -56,7 +54,7 @@ returns-clause-delta g c =
     let r : ℕ × List Elements = kept_rule c.args.rule in
     let v' : AlphaNetworkValue = c.enter_rule.new.network in
     let in_network = c.in_ok-enter_rule.ensures in
-    let alphas = in_network.alphas c.requires.keeping.alphas in
+    let alphas = in_network.network.alphas c.requires.keeping.alphas in
     let filled = c.in_ok-fill_rule.ensures.filled v' fs (filling v' c.memories.result.now fs c.memories.ensures.memories c.memories.ensures.within (rising_base fs c.len-count.ensures.base) alphas) in_network.entered in
     let told = filled.come ∙ ap (λ (q : ℕ × List Elements). c.no_delta-delta.result.come.items ++ branch_keys q.0 0 q.1 fs) in_network.stay in
     let come = told ∙ (ap (λ it. it ++ branch_keys r.0 0 r.1 fs) c.no_delta-delta.ensures.come ∙ added_keys rs r fs c.requires.above) in

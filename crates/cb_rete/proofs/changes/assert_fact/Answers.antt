@@ -1,6 +1,7 @@
-use Rattle.std.proofs.Common.{◌≡◌, ◌≤◌, ℕ, Some, ap, arith, refl}
+use Rattle.std.proofs.Common.{◌≡◌, ◌≤◌, ℕ, List, Some, ap, arith, length, refl}
 use Rattle.std.specs.BTreeMap.{values}
-use Rattle.cb_alpha_network.specs.Networks.{AlphaNetworkValue, shape_count}
+use Rattle.cb_alpha_network.specs.Networks.{AlphaNetworkValue, use_count}
+use Rattle.cb_alpha_network.specs.declared.user.User.{User}
 use Rattle.cb_branch.specs.Patterns.{branch_patterns}
 use Rattle.cb_facts.specs.FactLists.{IndexedFacts, with_fact}
 use Rattle.cb_facts.specs.Facts.{FactValue}
@@ -26,9 +27,9 @@ returns g c =
     let turn : TurnValue = turn_of v fs (with_fact fs ix f) (ix, f) (Some f) in
     let turning = assert_turning v fs ix f (rising_base fs c.len-count.ensures.base) c.requires.free (c.in_ok-assert.ensures.turn fs c.requires.keeping.alphas c.requires.free) in
     let ready = all_ready c.what_is_kept_stays.ensures c.args.alphas.now v fs (with_fact fs ix f) (ix, f) (Some f) c.args.rules.now c.in_ok-assert.ensures.changes c.requires.keeping in
-    let shapes : shape_count v ≡ shape_count c.args.alphas.now = ap (λ ss. shape_count (record { shapes = ss; memories = v.memories })) c.in_ok-assert.ensures.changes.shapes in
+    let uses : use_count v ≡ use_count c.args.alphas.now = ap (λ (us : List User). length us) c.in_ok-assert.ensures.changes.users in
     let rs : Conditions = kept_rules (values c.args.rules.now) in
-    let most : shape_count c.args.alphas.now ≤ rules_sum branch_patterns rs = c.requires.keeping.count in
+    let most : use_count c.args.alphas.now ≤ rules_sum branch_patterns rs = c.requires.keeping.count in
     let few = c.assert.ensures.probes in
     let within = all_within c.each_pattern_may_be_tested.ensures turn turning.rising turning.rising_now rs in
     record {
@@ -36,7 +37,7 @@ returns g c =
       rules = if_on c.change_facts.result c.change_facts.ensures.turned (λ delta turned. (turned turn refl turning ready).stay);
       keeping = if_on_too c.change_facts.result c.change_facts.ensures.turned c.change_facts.ensures.count
           (λ delta turned count. keeping_after turn c.change_facts.new.alphas c.args.rules.now c.change_facts.new.rules delta c.assert.new.meter c.change_facts.new.meter (turned turn refl turning ready)
-          (let most = c.requires.keeping.count in omega (arith, count, shapes, most)));
+          (let most = c.requires.keeping.count in omega (arith, count, uses, most)));
       delta = if_one c.change_facts.result c.change_facts.ensures.turned
           (λ delta turned. delta_after turn c.change_facts.new.alphas c.args.rules.now c.change_facts.new.rules delta c.assert.new.meter c.change_facts.new.meter (turned turn refl turning ready));
       probes = if_on c.change_facts.result c.change_facts.ensures.turned

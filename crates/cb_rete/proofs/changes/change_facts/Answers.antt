@@ -1,5 +1,5 @@
 use Rattle.std.proofs.Common.{◌≡◌, ◌<◌, ◌∙◌, ℕ, List, ap, length, subst, sym}
-use Rattle.cb_alpha_network.specs.Networks.{AlphaNetworkValue, AlphasTurn, HasChanged, IsShapeOf, MemoryValues, memory_at}
+use Rattle.cb_alpha_network.specs.Networks.{AlphaNetworkValue, AlphasTurn, HasChanged, IsShapeAt, MemoryValues, memory_at}
 use Rattle.cb_alpha.specs.AlphaMemories.{IsEnded}
 use Rattle.cb_alpha_network.specs.declared.node_place.NodePlace.{NodePlace}
 use Rattle.cb_constraints.specs.PatternValues.{PatternValue}
@@ -17,14 +17,14 @@ returns-clause-turned g c =
     let is : IsTurn turn given found = record {
       turning = turning;
       memories = memories ∙ ap (λ (it : AlphaNetworkValue). it.memories) (sym same);
-      within = subst (λ (it : AlphaNetworkValue). (n : ℕ) (p : PatternValue) (place : NodePlace) → IsShapeOf it n p place → n < length given) (sym same)
-          (subst (λ (ms : MemoryValues). (n : ℕ) (p : PatternValue) (place : NodePlace) → IsShapeOf v n p place → n < length ms) (sym memories) c.memories.ensures.within);
+      within = subst (λ (it : AlphaNetworkValue). (n : ℕ) (p : PatternValue) → IsShapeAt it n p → n < length given) (sym same)
+          (subst (λ (ms : MemoryValues). (n : ℕ) (p : PatternValue) → IsShapeAt v n p → n < length ms) (sym memories) c.memories.ensures.within);
       changed = subst (λ (it : AlphaNetworkValue). HasChanged it found) (sym same) (subst (λ (them : List NodePlace). HasChanged v them) (sym c.as_slice.ensures.value) c.in_ok-places_changed.ensures.changed);
     } in
     let done = c.in_ok-change_rules.ensures turn is ready in
     let end = c.end_change.ensures in
     all_turned c.what_is_kept_stays.ensures turn c.end_change.new.self c.args.rules.now c.change_rules.new.rules c.no_delta-delta.result c.change_rules.new.delta c.args.meter.now c.change_rules.new.meter
-    (end.shapes ∙ ap (λ (it : AlphaNetworkValue). it.shapes) (sym same))
+    (end.shapes ∙ ap (λ (it : AlphaNetworkValue). it.shapes) (sym same)) (end.users ∙ ap (λ (it : AlphaNetworkValue). it.users) (sym same))
     (λ n. subst (λ (it : AlphaNetworkValue). IsEnded (memory_at it n) (memory_at c.end_change.new.self n)) (sym same) (end.ended n))
     (end.alphas turn.before turn.after (subst (λ (it : AlphaNetworkValue). AlphasTurn it turn.before turn.after) same turning.alphas))
     c.no_delta-delta.ensures.gone c.no_delta-delta.ensures.come done

@@ -32,8 +32,8 @@ returns-in-Some-clause-keeping g c =
     let entered = keeping.entered (c.args.id, rule) (found_in c.args.id es rule found) in
     let over = keeping.over (c.args.id, rule) (found_in c.args.id es rule found) in
     let plans : All CanBeFilled rule.branches.items =
-    got_all CanBeFilled rule.branches.items (λ n b h. c.what_is_kept_can_be_filled.ensures rule.id n (live_facts c.args.alphas.now.memories) fs b (over n b h)) in
-    let out = left rule.id (subst (λ (bs : List (Branch g.row.T.Denot)). All CanBeFilled bs) (sym c.as_slice.ensures.value) plans) (subst (λ (bs : List (Branch g.row.T.Denot)). AreBranchesEntered c.args.alphas.now rule.id bs) (sym c.as_slice.ensures.value) entered) in
+    got_all CanBeFilled rule.branches.items (λ n b h. c.what_is_kept_can_be_filled.ensures (live_facts c.args.alphas.now.memories) fs b (over n b h)) in
+    let out = left (subst (λ (bs : List (Branch g.row.T.Denot)). All CanBeFilled bs) (sym c.as_slice.ensures.value) plans) (subst (λ (bs : List (Branch g.row.T.Denot)). AreBranchesEntered c.args.alphas.now rule.id bs) (sym c.as_slice.ensures.value) entered) in
     keeping_without c.args.id c.args.rules.now c.remove.new.self c.len-count.ensures.ordered c.remove.ensures.entries c.args.alphas.now fs keeping c.drop_branches.new.alphas rule found
     (subst (λ (bs : List (Branch g.row.T.Denot)). IsRuleLeft rule.id (branches_sum branch_patterns (kept_branches bs)) c.args.alphas.now c.drop_branches.new.alphas) c.as_slice.ensures.value out)
     c.what_is_kept_stays.ensures (alphas fs keeping.alphas))
@@ -47,7 +47,7 @@ returns-in-Some-clause-gone g c =
     (λ gone fs rising keeping.
     let over = keeping.over (c.args.id, rule) (found_in c.args.id es rule found) in
     let facts = live_facts c.args.alphas.now.memories in
-    gone rule.id facts fs rising (subst (λ (bs : List (Branch g.row.T.Denot)). AreBranchesOver rule.id facts fs bs) (sym c.as_slice.ensures.value) over)
+    gone facts fs rising (subst (λ (bs : List (Branch g.row.T.Denot)). AreBranchesOver facts fs bs) (sym c.as_slice.ensures.value) over)
     ∙ (ap (λ (bs : List (Branch g.row.T.Denot)). c.args.gone.now.items ++ branch_keys rule.id 0 (kept_branches bs) fs) c.as_slice.ensures.value
     ∙ ap (λ it. c.args.gone.now.items ++ it) (sym (told_found kept_rule c.args.id fs es rule c.requires c.len-count.ensures.ordered found))))
 

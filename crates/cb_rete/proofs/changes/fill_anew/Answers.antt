@@ -1,7 +1,7 @@
-use Rattle.std.proofs.Common.{◌≡◌, ◌<◌, ◌∙◌, ◌++◌, ℕ, [], ap, arith, length, subst, sym}
+use Rattle.std.proofs.Common.{◌≡◌, ◌<◌, ◌∙◌, ◌++◌, ℕ, List, [], ap, arith, length, subst, sym}
 use Rattle.std.specs.BTreeMap.{values}
-use Rattle.cb_alpha_network.specs.Networks.{AlphaNetworkValue, IsShapeOf, MemoryValues, shape_count}
-use Rattle.cb_alpha_network.specs.declared.node_place.NodePlace.{NodePlace}
+use Rattle.cb_alpha_network.specs.Networks.{AlphaNetworkValue, IsShapeAt, MemoryValues, use_count}
+use Rattle.cb_alpha_network.specs.declared.user.User.{User}
 use Rattle.cb_branch.specs.Branches.{CanBeFilled}
 use Rattle.cb_branch.specs.Alphas.{live_facts}
 use Rattle.cb_branch.specs.Patterns.{branch_patterns}
@@ -24,7 +24,7 @@ fill_rules-requires-clause-plans g c =
     (λ r i. let e = value_in c.args.rules.now.entries r i in
     subst CanRuleBeFilled (sym e.2)
     (got_all CanBeFilled e.0.1.branches.items
-    (λ n b h. c.what_is_kept_can_be_filled.ensures e.0.1.id n (live_facts c.args.alphas.now.memories) fs b (keeping.over e.0 e.1 n b h))))
+    (λ n b h. c.what_is_kept_can_be_filled.ensures (live_facts c.args.alphas.now.memories) fs b (keeping.over e.0 e.1 n b h))))
 
 pub returns-clause-keeping : goal.returns-clause-keeping
 returns-clause-keeping g c =
@@ -34,19 +34,19 @@ returns-clause-keeping g c =
     let clear = c.clear.ensures in
     let is : IsFilling v' [] c.memories.result.now = record {
       memories = c.memories.ensures.memories;
-      within = subst (λ (ms : MemoryValues). (n : ℕ) (p : PatternValue) (place : NodePlace) → IsShapeOf v' n p place → n < length ms) (sym c.memories.ensures.memories) c.memories.ensures.within;
+      within = subst (λ (ms : MemoryValues). (n : ℕ) (p : PatternValue) → IsShapeAt v' n p → n < length ms) (sym c.memories.ensures.memories) c.memories.ensures.within;
       rising = tt;
       alphas = clear.alphas;
     } in
-    let entered : AreRulesEntered v' c.args.rules.now.entries = λ e i n b h. entered_in_change v v' e.1.id n b clear.shapes clear.joins (keeping.entered e i n b h) in
+    let entered : AreRulesEntered v' c.args.rules.now.entries = λ e i n b h. entered_in_change v v' e.1.id n b clear.shapes clear.users clear.joins (keeping.entered e i n b h) in
     let filled = c.in_ok-fill_rules.ensures.filled v' [] is entered in
-    let shapes : shape_count v' ≡ shape_count v = ap (λ ss. shape_count (record { shapes = ss; memories = v.memories })) clear.shapes in
+    let uses : use_count v' ≡ use_count v = ap (λ (us : List User). length us) clear.users in
     record {
       named = c.in_ok-fill_rules.ensures.named;
       alphas = clear.alphas;
       over = filled.over;
       entered = filled.entered;
-      count = let e = ap (rules_sum branch_patterns) c.in_ok-fill_rules.ensures.stay in let most = keeping.count in omega (arith, e, shapes, most);
+      count = let e = ap (rules_sum branch_patterns) c.in_ok-fill_rules.ensures.stay in let most = keeping.count in omega (arith, e, uses, most);
     }
 
 pub returns-clause-keys : goal.returns-clause-keys
@@ -57,10 +57,10 @@ returns-clause-keys g c =
     let clear = c.clear.ensures in
     let is : IsFilling v' [] c.memories.result.now = record {
       memories = c.memories.ensures.memories;
-      within = subst (λ (ms : MemoryValues). (n : ℕ) (p : PatternValue) (place : NodePlace) → IsShapeOf v' n p place → n < length ms) (sym c.memories.ensures.memories) c.memories.ensures.within;
+      within = subst (λ (ms : MemoryValues). (n : ℕ) (p : PatternValue) → IsShapeAt v' n p → n < length ms) (sym c.memories.ensures.memories) c.memories.ensures.within;
       rising = tt;
       alphas = clear.alphas;
     } in
-    let entered : AreRulesEntered v' c.args.rules.now.entries = λ e i n b h. entered_in_change v v' e.1.id n b clear.shapes clear.joins (keeping.entered e i n b h) in
+    let entered : AreRulesEntered v' c.args.rules.now.entries = λ e i n b h. entered_in_change v v' e.1.id n b clear.shapes clear.users clear.joins (keeping.entered e i n b h) in
     let filled = c.in_ok-fill_rules.ensures.filled v' [] is entered in
     filled.come ∙ ap (λ it. it ++ rule_keys (kept_rules (values c.args.rules.now)) []) c.new-come.ensures.items

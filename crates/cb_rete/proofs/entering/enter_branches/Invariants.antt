@@ -1,8 +1,7 @@
 use Rattle.std.proofs.Common.{◌≡◌, ℕ, ◌+◌, ◌<◌, Some, drop}
 use Rattle.std.specs.List.{All, slice_get}
-use Rattle.cb_alpha_network.specs.Networks.{AreAlphas, shape_count}
 use Rattle.cb_branch.specs.Branches.{CanBeFilled, IsEntered}
-use Rattle.cb_branch.specs.Entries.{KeepsShapes}
+use Rattle.cb_branch.specs.Entries.{GainsPatterns}
 use Rattle.cb_branch.specs.Patterns.{branch_patterns}
 use Rattle.cb_branch.specs.declared.branch.Branch.{Branch}
 use Rattle.cb_rete.proofs.entering.enter_branches.Given as goal
@@ -17,7 +16,5 @@ invariant-loop-branch g l =
       stays : kept_branches l.branches ≡ bs;
       plans : All CanBeFilled l.branches;
       entered : (k : ℕ) (b : Branch g.row.T.Denot) → k < l.branch-index → slice_get l.branches k ≡ Some b → IsEntered l.network l.rule k b;
-      shapes : KeepsShapes l.initial.network l.network;
-      alphas : AreAlphas l.initial.network l.facts → AreAlphas l.network l.facts;
-      count : shape_count l.network + branches_sum branch_patterns (drop l.branch-index bs) ≡ shape_count l.initial.network + branches_sum branch_patterns bs;
+      gains : (n : ℕ) × (n + branches_sum branch_patterns (drop l.branch-index bs) ≡ branches_sum branch_patterns bs) × GainsPatterns l.facts n l.initial.network l.network;
     }

@@ -1,8 +1,9 @@
-use Rattle.std.proofs.Common.{◌≡◌, ◌∙◌, ◌<◌, ◌≤◌, ℕ, List, Some, ap, arith, length, sym}
+use Rattle.std.proofs.Common.{◌≡◌, ◌∙◌, ◌<◌, ◌≤◌, ℕ, List, Some, ap, arith, length, refl, subst, sym}
 use Rattle.std.proofs.lemmas.Option.{slice_get-get_or}
 use Rattle.std.specs.List.{slice_get}
 use Rattle.cb_branch.specs.declared.branch.Branch.{Branch}
-use Rattle.cb_branch.specs.Branches.{CanBeFilled}
+use Rattle.cb_branch.specs.Branches.{CanBeFilled, IsEntered, IsLeft, branch_elements}
+use Rattle.cb_branch.specs.Patterns.{branch_patterns}
 use Rattle.cb_rete.proofs.Lists.{all_got}
 use Rattle.cb_rete.proofs.Leaving.{left_all, left_more, left_none, still_entered}
 use Rattle.cb_rete.proofs.entering.leave_branches.Goals as goal
@@ -10,7 +11,8 @@ use Rattle.cb_rete.specs.Rules.{kept_branches}
 
 pub loop-branch-init : goal.loop-branch-init
 loop-branch-init g c = record {
-  left = λ rule plans entered. left_none rule (kept_branches c.args.branches.now) c.args.network.now;
+  place = refl;
+  left = λ plans entered. left_none c.args.rule (kept_branches c.args.branches.now) c.args.network.now;
   alphas = λ fs before. before;
 }
 
@@ -26,15 +28,19 @@ loop-branch-preserved g c =
     let v = c.args.network.now in
     let v' = c.loop-branch.network in
     let v'' = c.leave.new.network in
+    let rule : ℕ = c.args.rule in
+    let place : c.loop-branch.number ≡ i = inv.place in
     record {
-      left = λ rule plans entered.
-          let was = inv.left rule plans entered in
-          left_more rule i bs v v' v'' b got entered was (now.left rule i (all_got CanBeFilled bs plans i b got) (still_entered rule i bs v v' v'' b got entered was));
+      place = omega (arith, place);
+      left = λ plans entered.
+          let was = inv.left plans entered in
+          left_more rule i bs v v' v'' b got entered was
+          (subst (λ n. CanBeFilled b → IsEntered v' rule n b → IsLeft rule n (branch_patterns (branch_elements b)) v' v'') place now.left (all_got CanBeFilled bs plans i b got) (still_entered rule i bs v v' v'' b got entered was));
       alphas = λ fs before. now.alphas fs (inv.alphas fs before);
     }
 
 pub returns-clause-left : goal.returns-clause-left
 returns-clause-left g c =
-    λ rule plans entered.
+    λ plans entered.
     let end : length c.args.branches.now ≤ c.loop-branch.branch-index = omega arith in
-    left_all rule c.loop-branch.branch-index c.args.branches.now c.args.network.now c.loop-branch.network end (c.loop-branch.invariant.left rule plans entered)
+    left_all c.args.rule c.loop-branch.branch-index c.args.branches.now c.args.network.now c.loop-branch.network end (c.loop-branch.invariant.left plans entered)

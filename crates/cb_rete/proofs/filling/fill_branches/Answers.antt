@@ -50,7 +50,7 @@ loop-branch-preserved g c =
           let was = inv.filled v fs is entered in
           let turned : AreTurned given fs fs old = fill_turned v given fs rule i old is.memories is.within is.alphas (was.entered i old got) in
           filled_more v fs rule i bs xs old new c.args.come.now.items c.loop-branch.come.items c.fill.new.come.items got inv.stays was now.alphas
-          (subst (λ ms. IsBranchOver rule i (live_facts ms) fs new) is.memories (subst (λ n. IsBranchOver rule n (live_facts given) fs new) place (now.over fs is.rising turned)))
+          (subst (λ ms. IsBranchOver (live_facts ms) fs new) is.memories (now.over fs is.rising turned))
           (subst (λ n. c.fill.new.come.items ≡ c.loop-branch.come.items ++ keys_in_branch rule n (branch_elements old) fs) place (now.come fs is.rising turned));
     }
 

@@ -70,9 +70,6 @@ returns g c =
     if_one c.env.result c.env.ensures
     (λ env is facts fs rising named over.
     let own = numbers_own rs (numbers_rise kept_rule rules.entries named c.len-count.ensures.ordered) in
-    let i = found_in c.rule.result rules.entries rule there in
-    let number : rule.id ≡ key.rule = sym (named (c.rule.result, rule) i) ∙ c.rule.ensures in
-    let right = subst (λ n. IsBranchOver n key.branch facts fs b) number (over (c.rule.result, rule) i key.branch b at) in
-    is facts fs rising right
+    is facts fs rising (over (c.rule.result, rule) (found_in c.rule.result rules.entries rule there) key.branch b at)
     ∙ sym (env_found key fs rs (kept_branches rule.branches.items) (branch_elements b) own (kept_under rules.entries c.rule.result key.rule c.rule.ensures named rule there)
     (got_mapped branch_elements rule.branches.items key.branch b at)))

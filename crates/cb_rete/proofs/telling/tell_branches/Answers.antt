@@ -1,4 +1,4 @@
-use Rattle.std.proofs.Common.{◌≡◌, ◌∙◌, ◌<◌, ◌≤◌, ◌++◌, ℕ, List, [], Some, ap, append-nil, arith, drop, length, sym}
+use Rattle.std.proofs.Common.{◌≡◌, ◌∙◌, ◌<◌, ◌≤◌, ◌++◌, ℕ, List, [], Some, ap, append-nil, arith, drop, length, refl, subst, sym}
 use Rattle.std.proofs.lemmas.Option.{slice_get-get_or, slice_get_past}
 use Rattle.std.specs.List.{slice_get}
 use Rattle.cb_branch.specs.Branches.{branch_elements}
@@ -7,26 +7,36 @@ use Rattle.cb_rete.proofs.Filled.{branch_told}
 use Rattle.cb_rete.proofs.telling.tell_branches.Goals as goal
 use Rattle.cb_rete.specs.Rules.{kept_branches}
 use Rattle.cb_rule_keys.proofs.Branches.{dropped_at, got_mapped, none_at, none_mapped}
-use Rattle.cb_rule_keys.specs.Keys.{branch_keys}
+use Rattle.cb_rule_keys.specs.Keys.{branch_keys, keys_in_branch}
 use Rattle.cb_rules.specs.Elements.{Elements}
+
+pub loop-branch-init : goal.loop-branch-init
+loop-branch-init g c = record { place = refl; told = λ facts fs rising over. refl }
 
 pub loop-branch-preserved : goal.loop-branch-preserved
 loop-branch-preserved g c =
-    λ rule facts fs rising over.
+    let inv = c.loop-branch.invariant in
+    let rule : ℕ = c.args.rule in
     let xs : List (Branch g.row.T.Denot) = c.args.branches.now in
     let i : ℕ = c.loop-branch.branch-index in
     let bs : List Elements = kept_branches xs in
     let b : Branch g.row.T.Denot = c.branch-item.result in
     let l : i < length xs = omega arith in
     let got : slice_get xs i ≡ Some b = slice_get-get_or xs i b l ∙ ap (λ (it : Branch g.row.T.Denot). Some it) (sym c.branch-item.is) in
-    branch_told rule i fs bs (branch_elements b) (dropped_at bs i (branch_elements b) (got_mapped branch_elements xs i b got)) c.loop-branch.keys.items c.tell.new.keys.items _
-    (c.loop-branch.invariant rule facts fs rising over) (c.in_ok-tell.ensures rule i facts fs rising (over i b got))
+    let place : c.loop-branch.number ≡ i = inv.place in
+    record {
+      place = omega (arith, place);
+      told = λ facts fs rising over.
+          branch_told rule i fs bs (branch_elements b) (dropped_at bs i (branch_elements b) (got_mapped branch_elements xs i b got)) c.loop-branch.keys.items c.tell.new.keys.items _
+          (inv.told facts fs rising over)
+          (subst (λ n. c.tell.new.keys.items ≡ c.loop-branch.keys.items ++ keys_in_branch rule n (branch_elements b) fs) place (c.in_ok-tell.ensures facts fs rising (over i b got)));
+    }
 
 pub returns : goal.returns
 returns g c =
-    λ rule facts fs rising over.
+    λ facts fs rising over.
     let xs : List (Branch g.row.T.Denot) = c.args.branches.now in
     let i : ℕ = c.loop-branch.branch-index in
     let end : length xs ≤ i = omega arith in
     let none : drop i (kept_branches xs) ≡ [] = none_at (kept_branches xs) i (none_mapped branch_elements xs i (slice_get_past xs i end)) in
-    sym (append-nil c.loop-branch.keys.items) ∙ (ap (λ it. c.loop-branch.keys.items ++ branch_keys rule i it fs) (sym none) ∙ c.loop-branch.invariant rule facts fs rising over)
+    sym (append-nil c.loop-branch.keys.items) ∙ (ap (λ it. c.loop-branch.keys.items ++ branch_keys c.args.rule i it fs) (sym none) ∙ c.loop-branch.invariant.told facts fs rising over)

@@ -12,9 +12,9 @@ returns-clause-changes g c =
     let f = c.args.fact.now in
     let found : List ℕ = c.numbers_for.new.found.items in
     let ms' = c.retract_found.new.memories in
-    let v : AlphaNetworkValue = record { shapes = old.shapes.slots; memories = old.memories } in
+    let v : AlphaNetworkValue = record { shapes = old.shapes.slots; users = old.users.keys; memories = old.memories } in
     on_ok_weaker c.retract_found.result
-    (λ done. subst (λ it. NetworkChangesFrom it (record { shapes = old.shapes.slots; memories = ms' })) c.self.view_is
+    (λ done. subst (λ it. NetworkChangesFrom it (record { shapes = old.shapes.slots; users = old.users.keys; memories = ms' })) c.self.view_is
     (retracted_changes v ms' ix f found (subst (λ it. ChangesThose (λ n. IsRetracted ix) it old.memories ms') c.as_slice.ensures.value done)
     (subst (λ (it : AlphaNetworkValue). AreAtRest it.memories) (sym c.self.view_is) c.requires)))
     c.retract_found.ensures.changed
@@ -26,8 +26,8 @@ returns-clause-turn g c =
     let f = c.args.fact.now in
     let found : List ℕ = c.numbers_for.new.found.items in
     let ms' = c.retract_found.new.memories in
-    let v : AlphaNetworkValue = record { shapes = old.shapes.slots; memories = old.memories } in
-    let all : AreFound v f found = are_found old.asked v _ c.self.invariant f found c.in_ok-numbers_for.ensures.found in
+    let v : AlphaNetworkValue = record { shapes = old.shapes.slots; users = old.users.keys; memories = old.memories } in
+    let all : AreFound v f found = are_found old.asked old.numbers v _ c.self.invariant f found c.in_ok-numbers_for.ensures.found in
     on_ok_weaker c.retract_found.result
     (λ done fs was rising there.
     retracted_turns v ms' ix f found (subst (λ it. ChangesThose (λ n. IsRetracted ix) it old.memories ms') c.as_slice.ensures.value done)

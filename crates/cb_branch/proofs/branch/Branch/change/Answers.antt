@@ -20,9 +20,9 @@ returns-clause-over g c =
     let rise = ways_rise c.the_ways_rise_by_their_cuts.ensures in
     on_three c.turn.result
     (λ same planned turned fs fs' before.
-    let w = change_turning c.args.alphas.now c.args.rule c.args.number fs fs' b rise before in
+    let w = change_turning c.args.alphas.now fs fs' b rise before in
     let t = turned b.lists.items fs fs' (no_parts ∷ []) (no_parts ∷ []) (branch_lists ns fs) (branch_lists ns fs') w in
-    over_of c.args.alphas.now c.args.rule c.args.number fs' b c.turn.new.branch before.over.planned (planned before.over.planned) same t)
+    over_of c.args.alphas.now fs' b c.turn.new.branch before.over.planned (planned before.over.planned) same t)
     c.turn.ensures.elements c.turn.ensures.planned c.turn.ensures.turned
 
 pub returns-clause-told : goal.returns-clause-told
@@ -32,7 +32,7 @@ returns-clause-told g c =
     let rise = ways_rise c.the_ways_rise_by_their_cuts.ensures in
     on_ok c.turn.result
     (λ told fs fs' before.
-    let w = change_turning c.args.alphas.now c.args.rule c.args.number fs fs' b rise before in
+    let w = change_turning c.args.alphas.now fs fs' b rise before in
     told_matches c.args.rule c.args.number fs fs' b before.over.planned c.args.delta.now c.turn.new.delta rise before.rising before.rising_now
     (told b.lists.items fs fs' (no_parts ∷ []) (no_parts ∷ []) (branch_lists ns fs) (branch_lists ns fs') w))
     c.turn.ensures.told
@@ -44,7 +44,7 @@ returns-clause-probes g c =
     let rise = ways_rise c.the_ways_rise_by_their_cuts.ensures in
     on_ok c.turn.result
     (λ pays fs fs' added before takes.
-    let w = change_turning c.args.alphas.now c.args.rule c.args.number fs fs' b rise before in
+    let w = change_turning c.args.alphas.now fs fs' b rise before in
     let paid = pays b.lists.items fs fs' (no_parts ∷ []) (no_parts ∷ []) (branch_lists ns fs) (branch_lists ns fs') added w takes in
     let most = joins_paid rise added fs fs' (branch_elements b) ns before.rising before.rising_now before.over.planned.nodes in
     omega (arith, paid, most))

@@ -35,8 +35,6 @@ returns-clause-alphas g c k u =
 pub returns-clause-over : goal.returns-clause-over
 returns-clause-over g c fs rising turned =
     let alphas = c.args.alphas.now in
-    let rule = c.args.rule in
-    let number = c.args.number in
     let rise = ways_rise c.the_ways_rise_by_their_cuts.ensures in
     let b = c.args.self.now in
     let planned = c.requires in
@@ -44,7 +42,7 @@ returns-clause-over g c fs rising turned =
     let empties = c.in_ok-self.field-0 in
     let lists = c.add_first.new.lists in
     let b₁ : Branch g.row.T.Denot =
-    record { elements = b.elements; nodes = with_items b.nodes nodes; sources = b.sources; last = b.last; lists = with_items empties lists; matches = c.clear.new.self } in
+    record { elements = b.elements; nodes = with_items b.nodes nodes; sources = b.sources; last = b.last; lists = with_items empties lists } in
     let nodes_are = with_items_is b.nodes nodes (c.clear_nodes.auto.nodes ∙ c.as_mut_slice.ensures.len) in
     let lists_are = with_items_is empties lists (c.add_first.auto.lists ∙ c.as_mut_slice-2.ensures.len) in
     let same : AreSameNodes b.nodes.items nodes = subst (λ (it : List (Node g.row.T.Denot)). AreSameNodes it nodes) c.as_mut_slice.ensures.value c.clear_nodes.ensures.same in
@@ -63,10 +61,10 @@ returns-clause-over g c fs rising turned =
     let first : BeginsFilling empties.items (with_items empties lists).items = subst (λ (it : List BetaMemoryValue). BeginsFilling empties.items it) (sym lists_are)
     (subst (λ (it : List BetaMemoryValue). BeginsFilling it lists) c.as_mut_slice-2.ensures.value c.in_ok-add_first.ensures) in
     let turned₁ : AreTurned alphas fs fs b₁ = λ k u h. turned k u ((same.uses k u).1 (subst (λ (it : List (Node g.row.T.Denot)). HasUse it k u) nodes_are h)) in
-    let w = fill_turning alphas rule number fs rise rising b₁ planned₁ empties.items long c.in_ok-self.ensures.empty cleared first (λ at. c.clear.ensures rule number at) turned₁ in
+    let w = fill_turning alphas fs rise rising b₁ planned₁ empties.items long c.in_ok-self.ensures.empty cleared first turned₁ in
     let ns = flat_nodes (with_items b.nodes nodes).items in
     let t = c.in_ok-turn.ensures.turned empties.items fs fs [] (no_parts ∷ []) (lists_of ns fs []) (branch_lists ns fs) w in
-    over_of alphas rule number fs b₁ c.turn.new.branch planned₁ (c.in_ok-turn.ensures.planned planned₁) c.in_ok-turn.ensures.elements t
+    over_of alphas fs b₁ c.turn.new.branch planned₁ (c.in_ok-turn.ensures.planned planned₁) c.in_ok-turn.ensures.elements t
 
 pub returns-clause-come : goal.returns-clause-come
 returns-clause-come g c fs rising turned =
@@ -80,7 +78,7 @@ returns-clause-come g c fs rising turned =
     let empties = c.in_ok-self.field-0 in
     let lists = c.add_first.new.lists in
     let b₁ : Branch g.row.T.Denot =
-    record { elements = b.elements; nodes = with_items b.nodes nodes; sources = b.sources; last = b.last; lists = with_items empties lists; matches = c.clear.new.self } in
+    record { elements = b.elements; nodes = with_items b.nodes nodes; sources = b.sources; last = b.last; lists = with_items empties lists } in
     let nodes_are = with_items_is b.nodes nodes (c.clear_nodes.auto.nodes ∙ c.as_mut_slice.ensures.len) in
     let lists_are = with_items_is empties lists (c.add_first.auto.lists ∙ c.as_mut_slice-2.ensures.len) in
     let same : AreSameNodes b.nodes.items nodes = subst (λ (it : List (Node g.row.T.Denot)). AreSameNodes it nodes) c.as_mut_slice.ensures.value c.clear_nodes.ensures.same in
@@ -99,7 +97,7 @@ returns-clause-come g c fs rising turned =
     let first : BeginsFilling empties.items (with_items empties lists).items = subst (λ (it : List BetaMemoryValue). BeginsFilling empties.items it) (sym lists_are)
     (subst (λ (it : List BetaMemoryValue). BeginsFilling it lists) c.as_mut_slice-2.ensures.value c.in_ok-add_first.ensures) in
     let turned₁ : AreTurned alphas fs fs b₁ = λ k u h. turned k u ((same.uses k u).1 (subst (λ (it : List (Node g.row.T.Denot)). HasUse it k u) nodes_are h)) in
-    let w = fill_turning alphas rule number fs rise rising b₁ planned₁ empties.items long c.in_ok-self.ensures.empty cleared first (λ at. c.clear.ensures rule number at) turned₁ in
+    let w = fill_turning alphas fs rise rising b₁ planned₁ empties.items long c.in_ok-self.ensures.empty cleared first turned₁ in
     let ns = flat_nodes (with_items b.nodes nodes).items in
     let told = c.in_ok-turn.ensures.told empties.items fs fs [] (no_parts ∷ []) (lists_of ns fs []) (branch_lists ns fs) w in
     let ks = map (key_of rule number) (branch_lists ns fs b.last) in

@@ -1,5 +1,5 @@
 use Rattle.std.proofs.Common.{◌∙◌, ◌+◌, Err, List, Ok, OnOk, Result, ap, subst, sym}
-use Rattle.cb_alpha_network.specs.Networks.{shape_count}
+use Rattle.cb_alpha_network.specs.Networks.{use_count}
 use Rattle.cb_branch.proofs.Entered.{patterns_are, used_are}
 use Rattle.cb_branch.proofs.branch.Branch.leave.Goals as goal
 use Rattle.cb_branch.specs.Entries.{AreNodesEntered}
@@ -16,12 +16,14 @@ returns-clause-left g c =
     let b = c.args.self.now in
     let network = c.args.network.now in
     on_both c.leave_nodes.result
-    (λ others count rule number planned used.
+    (λ others count planned used.
+    let rule = c.args.rule in
+    let number = c.args.number in
     let entered : AreNodesEntered network rule number c.as_slice.result.now =
     subst (λ (it : List (Node g.row.T.Denot)). AreNodesEntered network rule number it) (sym c.as_slice.ensures.value) (used_are network rule number b.nodes.items used) in
     record {
-      others = others rule number entered;
-      count = ap (λ n. shape_count c.leave_nodes.new.network + n) (sym (ap (λ (it : List (Node g.row.T.Denot)). pattern_count (flat_nodes it)) c.as_slice.ensures.value ∙ patterns_are b planned))
-          ∙ count rule number entered;
+      others = others;
+      count = ap (λ n. use_count c.leave_nodes.new.network + n) (sym (ap (λ (it : List (Node g.row.T.Denot)). pattern_count (flat_nodes it)) c.as_slice.ensures.value ∙ patterns_are b planned))
+          ∙ count entered;
     })
     c.leave_nodes.ensures.others c.leave_nodes.ensures.count

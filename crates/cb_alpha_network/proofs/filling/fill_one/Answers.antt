@@ -1,8 +1,8 @@
 use Rattle.std.proofs.Common.{◌≡◌, ◌∙◌, ap, rules, subst, sym}
 use Rattle.cb_alpha.specs.AlphaMemories.{AlphaMemoryValue, GainsFact}
 use Rattle.cb_alpha.specs.Turning.{AlphaTurns}
-use Rattle.cb_alpha_network.proofs.shape.fill_one.Goals as goal
-use Rattle.cb_alpha_network.proofs.shape.fill_one.Goals.{then-branch+in_ok-clone+in_ok-add, else-branch}
+use Rattle.cb_alpha_network.proofs.filling.fill_one.Goals as goal
+use Rattle.cb_alpha_network.proofs.filling.fill_one.Goals.{then-branch+in_ok-clone+in_ok-add, else-branch}
 use Rattle.cb_alpha_network.specs.Internal.{fits}
 use Rattle.cb_facts.specs.FactLists.{with_fact}
 use Rattle.cb_fit.specs.Shapes.{has_shape}

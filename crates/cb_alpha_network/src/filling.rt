@@ -1,4 +1,4 @@
-//! The shapes of patterns.
+//! The facts that have a shape.
 ghost use Rattle.std.specs.Prelude.{◌≡◌, ◌≤◌, ◌≢◌, ◌+◌, ℕ, IfOk, None, OnOk};
 ghost use Rattle.cb_alpha.specs.AlphaMemories.{index_of, live};
 ghost use Rattle.cb_alpha.specs.Turning.{IsAlphaOver};
@@ -8,7 +8,6 @@ ghost use Rattle.cb_constraints.specs.PatternValues.{PatternValue};
 ghost use Rattle.cb_facts.specs.FactLists.{IndexedFacts, fact_at, with_fact};
 ghost use Rattle.cb_fit.specs.Shapes.{loose};
 
-use crate::node_place::NodePlace;
 use cb_alpha::laws::{
     a_change_of_an_alpha_memory_ends, a_fact_that_comes_turns_an_alpha_memory,
     a_fact_without_the_shape_comes, an_alpha_memory_begins_over_no_facts,
@@ -20,27 +19,6 @@ use cb_fit::{Meter, Pattern, fits};
 use cb_forms::NoMemory;
 use cb_functions::Constants;
 use std::alloc::Global;
-use std::marker::Model;
-
-/// A pattern without its variables and expressions, and the place of the node that it is for.
-#[derive(Drop)]
-pub(crate) struct Shape<T> {
-    pub(crate) pattern: Pattern<T>,
-    pub(crate) place: NodePlace,
-}
-
-impl<T> Model for Shape<T> {
-    ghost use Rattle.std.specs.Coded.{codes};
-    ghost use Rattle.cb_alpha_network.specs.Codes.{shape_code};
-    ghost use Rattle.cb_alpha_network.specs.Networks.{ShapeValue};
-    ghost use Rattle.cb_constraints.specs.Internal.Codes.{pattern_code};
-
-    ghost Value = { ShapeValue };
-
-    ghost coded = { shape_code (pattern_code (Prim.hlevel codes) (Prim.hlevel codes) (Prim.hlevel codes)) (Prim.hlevel codes) };
-
-    ghost view = { λ s. record { pattern = s.pattern; place = s.place } };
-}
 
 /// Whether a pattern without variables fits a fact.
 pub(crate) fn fits_alone<T>(

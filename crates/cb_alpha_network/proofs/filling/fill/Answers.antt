@@ -1,7 +1,7 @@
 use Rattle.std.proofs.Common.{◌≡◌, ◌∷◌, ◌∙◌, [], rules, subst, sym}
 use Rattle.cb_alpha.specs.Turning.{IsAlphaOver}
 use Rattle.cb_alpha_network.proofs.Filled.{IsFilled, filled_all, filled_more, free_now, not_filled}
-use Rattle.cb_alpha_network.proofs.shape.fill.Goals as goal
+use Rattle.cb_alpha_network.proofs.filling.fill.Goals as goal
 use Rattle.cb_facts.specs.FactLists.{IndexedFacts}
 use Rattle.cb_matches.proofs.Indices.{rising_keys}
 use Rattle.cb_matches.specs.Order.{IsRising}
