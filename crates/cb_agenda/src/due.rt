@@ -1,16 +1,14 @@
-//! The activations, however they came.
-ghost use Rattle.std.specs.Prelude.{◌≡◌, ◌⊎◌, ◌++◌, [], IfOk, None, OnErr, OnOk, map};
-ghost use Rattle.std.specs.BTreeMap.{insert_entry, is_at};
-ghost use Rattle.std.specs.List.{list_any};
-ghost use Rattle.std.specs.List.Sorted.{IsStrictlySortedBy};
-ghost use Rattle.std.specs.Map.{keys_of, lookup};
-ghost use Rattle.cb_agenda.specs.Agendas.{firing_order, key_and_salience, top_of, without_key, without_keys};
-ghost use Rattle.cb_agenda.specs.Internal.{AreBelow, BeginsAt, left_and_key};
-ghost use Rattle.cb_agenda.specs.Ranks.{rank_cmp};
+//! The activations of an agenda.
+ghost use Rattle.std.specs.Prelude.{◌≡◌, ◌<◌, ◌+◌, ◌≤◌, ℕ, [], IfOk, None, OnErr, OnOk, map};
+ghost use Rattle.std.specs.BTreeMap.{insert_entry};
+ghost use Rattle.std.specs.List.{AllByRecursion, list_any};
+ghost use Rattle.cb_agenda.specs.Agendas.{Activation, firing_order, key_and_salience, top_of, without_key, without_keys};
+ghost use Rattle.cb_agenda.specs.Internal.{IsFiled, IsStampedUpTo, Rises, current, left_and_key, rank_at};
+ghost use Rattle.cb_agenda.specs.Ranks.{greatest_stamp, rank_cmp};
 ghost use Rattle.cb_matches.specs.Keys.{key_eq};
 
-use crate::pairs::Pairs;
-use crate::queue::Queue;
+use crate::key_ranks::KeyRanks;
+use crate::lanes::Lanes;
 use crate::rank::Rank;
 use crate::strategy::Strategy;
 use cb_forms::NoMemory;
@@ -18,68 +16,73 @@ use cb_matches::Key;
 use std::alloc::Global;
 use std::marker::Model;
 
-/// The activations of an agenda.
+/// The activations of an agenda, and the stamp that was given last.
 ///
-/// While they come in order, as those of one rule often do, they stand in a queue, beside a few others at most, which are of lower
-/// ranks. The first that comes out of order, or is taken out of the midst, moves them to the others. So each is moved once at
-/// most.
+/// One that is taken out leaves its entry behind in its lane, where it is stale: the rank that its key has, if it has one, is
+/// another.
 ///
-/// Contracts see them by rising rank, each with its key.
+/// Contracts see the activations by rising rank, each with its key.
 #[derive(Drop)]
 pub(crate) struct Due {
     alloc: Global,
-    others: Pairs,
-    queue: Queue,
+    lanes: Lanes,
+    ranks: KeyRanks,
+    last: u64,
 }
 
 impl Model for Due {
-    ghost use Rattle.std.specs.Prelude.{◌++◌};
-    ghost use Rattle.cb_agenda.specs.Agendas.{Entries};
-    ghost use Rattle.cb_agenda.specs.Internal.{AreBelow};
+    ghost use Rattle.std.specs.Prelude.{◌≤◌};
+    ghost use Rattle.cb_agenda.specs.Internal.{DueValue, IsFiled, IsStampedUpTo, current, rank_at};
+    ghost use Rattle.cb_agenda.specs.Ranks.{greatest_stamp};
 
-    ghost Value = { Entries };
+    ghost Value = { DueValue };
 
-    ghost view = { λ d. d.others ++ d.queue };
+    ghost view = { λ d. record { entries = current (rank_at d.ranks) d.lanes; last = d.last } };
 
-    ghost invariant = { λ d. AreBelow d.others d.queue };
+    ghost invariant = { λ d. IsFiled d.lanes (rank_at d.ranks) × IsStampedUpTo d.last d.lanes × (d.last ≤ greatest_stamp) };
 }
 
 impl Due {
-    /// No activation. It takes no memory yet.
-    pub(crate) fn new(alloc: Global) -> Due
-        ensures { result ≡ [] }
+    /// No activation, with this stamp as the last. It takes no memory yet.
+    pub(crate) fn new(alloc: Global, last: u64) -> Due
+        requires { last ≤ greatest_stamp }
+        ensures { result ≡ record { entries = []; last = last } }
     {
         Due {
             alloc,
-            others: Pairs::new(alloc),
-            queue: Queue::new(alloc),
+            lanes: Lanes::new(alloc),
+            ranks: KeyRanks::new(alloc),
+            last,
         }
+    }
+
+    /// The stamp that was given last.
+    pub(crate) fn last(&self) -> u64
+        ensures last { result ≡ self.now.last }
+        ensures bound { result ≤ greatest_stamp }
+    {
+        self.last
     }
 
     /// Takes all activations out.
     pub(crate) fn clear(&mut self)
-        ensures { self.new ≡ [] }
+        ensures { self.new ≡ record self.old { entries = [] } }
     {
-        self.others.clear(self.alloc);
-        self.queue.clear();
+        self.lanes.clear();
+        self.ranks = KeyRanks::new(self.alloc);
     }
 
     /// Whether there is an activation with this key.
     pub(crate) fn has(&self, key: &Key) -> bool
-        ensures { result ≡ list_any (λ e. key_eq key.now e.1) self.now }
+        ensures { result ≡ list_any (λ e. key_eq key.now e.1) self.now.entries }
     {
-        self.others.has(key) || self.queue.has(key)
+        self.ranks.find(key).is_some()
     }
 
-    /// Takes the activations with these keys out. Where all that are queued go, they are not searched for.
+    /// Takes the activations with these keys out.
     pub(crate) fn remove_keys(&mut self, keys: &[Key])
-        ensures { self.new ≡ without_keys self.old keys.now }
+        ensures { self.new ≡ record self.old { entries = without_keys self.old.entries keys.now } }
     {
-        if self.queue.are_among(keys) {
-            self.queue.clear();
-            self.others.remove_keys(self.alloc, keys);
-            return;
-        }
         for key in keys {
             self.remove_key(key);
         }
@@ -87,51 +90,45 @@ impl Due {
 
     /// Takes the activation with this key out, if there is one.
     pub(crate) fn remove_key(&mut self, key: &Key)
-        ensures { self.new ≡ without_key self.old key.now }
+        ensures { self.new ≡ record self.old { entries = without_key self.old.entries key.now } }
     {
-        if self.queue.remove_near_end(key) {
-            self.others.remove_key(key);
-            return;
-        }
-        // Where memory is refused, some stay in the queue.
-        let _moved = self.queue.move_to(&mut self.others);
-        self.others.remove_key(key);
-        self.queue.remove_key(key);
+        remove_from(&mut self.lanes, &mut self.ranks, key);
     }
 
-    /// Gives a match an activation of a rank that none has, in place of the one that it has already, if it has one.
-    /// Growth is refused as `NoMemory`, and then that one may be taken out.
-    pub(crate) fn put(&mut self, rank: Rank, key: Key) -> Result<(), NoMemory>
-        requires { lookup (is_at (rank_cmp rank)) self.old ≡ None }
-        ensures ok { OnOk result
-            (self.new ≡ insert_entry rank_cmp (without_key self.old key) rank key) }
-        ensures err { OnErr result
-            ((self.new ≡ self.old) ⊎ (self.new ≡ without_key self.old key)) }
+    /// Gives a match an activation with the next stamp, in place of the one that it has already, if it has one. Growth is refused as
+    /// `NoMemory`, and then that one may be taken out.
+    pub(crate) fn put(&mut self, salience: i64, key: &Key) -> Result<(), NoMemory>
+        requires { self.old.last < greatest_stamp }
+        ensures { OnOk result (self.new ≡ record {
+          entries = insert_entry rank_cmp (without_key self.old.entries key.now)
+              (record { salience = salience; stamp = self.old.last + 1 }) key.now;
+          last = self.old.last + 1;
+        }) }
     {
-        if self.queue.takes(rank, &key) && self.others.are_few_below(rank, &key) {
-            return self.queue.push(rank, key);
-        }
-        self.queue.move_to(&mut self.others)?;
-        self.others.put(rank, key)
+        let stamp = self.last + 1;
+        put_in(
+            &mut self.lanes,
+            &mut self.ranks,
+            Rank { salience, stamp },
+            key,
+        )?;
+        self.last = stamp;
+        Ok(())
     }
 
     /// Takes the activation that fires first out, if there is one. The answer is its key.
     pub(crate) fn pop(&mut self, strategy: Strategy) -> Option<Key>
-        ensures { left_and_key self.old (top_of strategy self.old) ≡ (self.new, result) }
+        ensures left { left_and_key self.old.entries (top_of strategy self.old.entries)
+            ≡ (self.new.entries, result) }
+        ensures last { self.new.last ≡ self.old.last }
     {
-        match self.queue.salience() {
-            Some(salience) => match strategy {
-                Strategy::Depth => self.queue.pop_newest(),
-                Strategy::Breadth => pop_oldest(&mut self.others, &mut self.queue, salience),
-            },
-            None => self.others.pop(strategy),
-        }
+        pop_current(&mut self.lanes, &mut self.ranks, strategy)
     }
 
     /// Keys and saliences in the order of firing. Growth is refused as `NoMemory`.
     pub(crate) fn list(&self, strategy: Strategy) -> Result<Vec<(Key, i64)>, NoMemory>
         ensures { IfOk result
-            (λ v. v.items ≡ map key_and_salience (firing_order strategy self.now)) }
+            (λ v. v.items ≡ map key_and_salience (firing_order strategy self.now.entries)) }
     {
         let mut listed = self.by_rank()?;
         match strategy {
@@ -148,26 +145,63 @@ impl Due {
 
     /// Keys and saliences by rising rank. Growth is refused as `NoMemory`.
     fn by_rank(&self) -> Result<Vec<(Key, i64)>, NoMemory>
-        ensures all { IfOk result (λ v. v.items ≡ map key_and_salience self.now) }
-        ensures rising { OnOk result (IsStrictlySortedBy rank_cmp (keys_of self.now)) }
+        ensures all { IfOk result (λ v. v.items ≡ map key_and_salience self.now.entries) }
+        ensures rising { Rises self.now.entries }
     {
-        let mut listed = self.others.by_rank(self.alloc)?;
-        self.queue.add_listed(&mut listed)?;
-        Ok(listed)
+        self.lanes.by_rank(&self.ranks)
     }
 }
 
-/// Takes the oldest activation of the greatest salience out. A queue that isn't empty has that salience, others may have it.
-fn pop_oldest(others: &mut Pairs, queue: &mut Queue, salience: i64) -> Option<Key>
-    requires begins { BeginsAt salience queue.old }
-    requires below { AreBelow others.old queue.old }
-    ensures left { left_and_key (others.old ++ queue.old)
-        (top_of Strategy.Breadth (others.old ++ queue.old)) ≡ (others.new ++ queue.new, result) }
-    ensures below { AreBelow others.new queue.new }
+/// Takes the activation with this key out, if there is one.
+fn remove_from(lanes: &mut Lanes, ranks: &mut KeyRanks, key: &Key)
+    requires filed { IsFiled lanes.old (rank_at ranks.old) }
+    ensures filed { IsFiled lanes.new (rank_at ranks.new) }
+    ensures due { current (rank_at ranks.new) lanes.new
+        ≡ without_key (current (rank_at ranks.old) lanes.old) key.now }
+    ensures none { rank_at ranks.new key.now ≡ None }
+    ensures stamped { (n : ℕ) → IsStampedUpTo n lanes.old → IsStampedUpTo n lanes.new }
 {
-    if others.reach(salience) {
-        others.pop(Strategy::Breadth)
-    } else {
-        queue.pop_oldest()
+    if let Some(rank) = ranks.remove(key) {
+        lanes.thin(rank.salience, ranks);
     }
+}
+
+/// Gives a match an activation of this rank, in place of the one that it has already, if it has one. The stamp is greater than all
+/// others.
+fn put_in(lanes: &mut Lanes, ranks: &mut KeyRanks, rank: Rank, key: &Key) -> Result<(), NoMemory>
+    requires filed { IsFiled lanes.old (rank_at ranks.old) }
+    requires above { (n : ℕ) × IsStampedUpTo n lanes.old × (n < rank.stamp) }
+    ensures filed { IsFiled lanes.new (rank_at ranks.new) }
+    ensures due { OnOk result (current (rank_at ranks.new) lanes.new
+        ≡ insert_entry rank_cmp (without_key (current (rank_at ranks.old) lanes.old) key.now) rank key.now) }
+    ensures stamped { OnOk result (IsStampedUpTo rank.stamp lanes.new) }
+    ensures err { OnErr result ((n : ℕ) → IsStampedUpTo n lanes.old → IsStampedUpTo n lanes.new) }
+{
+    let shared = key.clone()?;
+    let filed = key.clone()?;
+    remove_from(lanes, ranks, key);
+    ranks.insert(filed, rank)?;
+    let pushed = lanes.push(rank, shared);
+    if pushed.is_err() {
+        ranks.remove(key);
+    }
+    pushed
+}
+
+/// Takes the activation that fires first out, if there is one. The answer is its key. Stale entries that fire before are let go.
+fn pop_current(lanes: &mut Lanes, ranks: &mut KeyRanks, strategy: Strategy) -> Option<Key>
+    requires filed { IsFiled lanes.old (rank_at ranks.old) }
+    ensures filed { IsFiled lanes.new (rank_at ranks.new) }
+    ensures left { left_and_key (current (rank_at ranks.old) lanes.old)
+        (top_of strategy (current (rank_at ranks.old) lanes.old))
+        ≡ (current (rank_at ranks.new) lanes.new, result) }
+    ensures stamped { (n : ℕ) → IsStampedUpTo n lanes.old → IsStampedUpTo n lanes.new }
+{
+    while let Some((rank, key)) = lanes.pop(strategy) {
+        if ranks.are_paired(&key, rank) {
+            ranks.remove(&key);
+            return Some(key);
+        }
+    }
+    None
 }

@@ -1,3 +1,4 @@
 mod calls;
+mod many;
 mod refusals;
 mod steps;

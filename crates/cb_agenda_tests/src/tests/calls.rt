@@ -1,5 +1,5 @@
 //! The calls of an agenda, step by step.
-use super::steps::{Call, GONE, LAST_STAMPS, STEPS, Step};
+use super::steps::{AMID, Call, GONE, LAST_STAMPS, STEPS, Step};
 use cb_agenda::{Agenda, ApplyFault, Strategy};
 use cb_forms::NoMemory;
 use cb_matches::{Delta, Key};
@@ -9,7 +9,7 @@ fn key(alloc: Global, rule: u64) -> Result<Key, NoMemory> {
     Key::new(alloc, rule, 0, Vec::new(alloc))
 }
 
-fn keys(alloc: Global, rules: &[u64]) -> Result<Vec<Key>, NoMemory> {
+pub(super) fn keys(alloc: Global, rules: &[u64]) -> Result<Vec<Key>, NoMemory> {
     let mut keys = Vec::new(alloc);
     for rule in rules {
         keys.push(key(alloc, *rule)?)?;
@@ -134,6 +134,14 @@ fn goes_step_by_step(rt: HostRuntime) -> Result<(), NoMemory> {
 fn takes_out_what_is_gone(rt: HostRuntime) -> Result<(), NoMemory> {
     let mut agenda = Agenda::new(rt.alloc());
     let wrong = wrong_step(rt.alloc(), &mut agenda, &GONE)?;
+    assert!(rt; wrong.is_none(), "{wrong:?}");
+    Ok(())
+}
+
+#[test]
+fn takes_out_what_stands_amid_others(rt: HostRuntime) -> Result<(), NoMemory> {
+    let mut agenda = Agenda::new(rt.alloc());
+    let wrong = wrong_step(rt.alloc(), &mut agenda, &AMID)?;
     assert!(rt; wrong.is_none(), "{wrong:?}");
     Ok(())
 }

@@ -219,3 +219,87 @@ pub const LAST_STAMPS: [Step; 6] = [
         list: "",
     },
 ];
+
+/// Matches go whose activations stand amid others of their salience, and others come.
+pub const AMID: [Step; 16] = [
+    Step {
+        call: Call::Change(&[], &[1, 2, 3, 4, 5, 6, 7], &[0, 0, 0, 0, 0, 0, 2]),
+        answer: "done",
+        list: "7:2 6:0 5:0 4:0 3:0 2:0 1:0 ",
+    },
+    Step {
+        call: Call::Change(&[3, 5], &[], &[]),
+        answer: "done",
+        list: "7:2 6:0 4:0 2:0 1:0 ",
+    },
+    Step {
+        call: Call::Pop,
+        answer: "7",
+        list: "6:0 4:0 2:0 1:0 ",
+    },
+    Step {
+        call: Call::Pop,
+        answer: "6",
+        list: "4:0 2:0 1:0 ",
+    },
+    Step {
+        call: Call::Pop,
+        answer: "4",
+        list: "2:0 1:0 ",
+    },
+    Step {
+        call: Call::Change(&[], &[5, 4, 3, 6], &[]),
+        answer: "done",
+        list: "6:0 3:0 4:0 5:0 2:0 1:0 ",
+    },
+    Step {
+        call: Call::Set(Strategy::Breadth),
+        answer: "depth",
+        list: "1:0 2:0 5:0 4:0 3:0 6:0 ",
+    },
+    Step {
+        call: Call::Change(&[2, 4], &[], &[]),
+        answer: "done",
+        list: "1:0 5:0 3:0 6:0 ",
+    },
+    Step {
+        call: Call::Pop,
+        answer: "1",
+        list: "5:0 3:0 6:0 ",
+    },
+    Step {
+        call: Call::Pop,
+        answer: "5",
+        list: "3:0 6:0 ",
+    },
+    Step {
+        call: Call::Change(&[], &[3], &[0]),
+        answer: "done",
+        list: "6:0 3:0 ",
+    },
+    Step {
+        call: Call::Change(&[6], &[6, 7], &[1, 0]),
+        answer: "done",
+        list: "6:1 3:0 7:0 ",
+    },
+    Step {
+        call: Call::Set(Strategy::Depth),
+        answer: "breadth",
+        list: "6:1 7:0 3:0 ",
+    },
+    Step {
+        call: Call::Change(&[3, 7, 6], &[], &[]),
+        answer: "done",
+        list: "",
+    },
+    Step {
+        call: Call::Has(3),
+        answer: "no",
+        list: "",
+    },
+    Step {
+        call: Call::Pop,
+        answer: "none",
+        list: "",
+    },
+];

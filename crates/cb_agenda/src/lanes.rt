@@ -1,0 +1,191 @@
+//! The entries of all saliences.
+ghost use Rattle.std.specs.Prelude.{◌≡◌, ◌≢◌, ◌<◌, ◌-◌, ◌⊎◌, ℤ, [], IfOk, None, OnErr, OnOk, Some, false, length, map, slice_get, true};
+ghost use Rattle.std.specs.BTreeMap.{IsOrdered, get, insert_entry, is_at};
+ghost use Rattle.std.specs.List.{AllByRecursion, filter};
+ghost use Rattle.std.specs.Map.{remove_entry, set_value};
+ghost use Rattle.std.specs.Ordering.{int_cmp};
+ghost use Rattle.cb_agenda.specs.Agendas.{Activation, key_and_salience, top_of};
+ghost use Rattle.cb_agenda.specs.Internal.{AreFilled, Line, Rises, Thinned, TookAt, current, laned, left_and_entry, rank_at, stays};
+ghost use Rattle.cb_agenda.specs.Ranks.{rank_cmp};
+
+use crate::key_ranks::KeyRanks;
+use crate::lane::Lane;
+use crate::rank::Rank;
+use crate::strategy::Strategy;
+use cb_forms::NoMemory;
+use cb_matches::Key;
+use std::alloc::Global;
+use std::collections::BTreeMap;
+use std::marker::Model;
+
+/// The entries of an agenda: a lane for each salience that has some. An entry is stale where its activation was taken out.
+///
+/// What comes has the greatest stamp, and what fires stands at an end of its lane, so neither is searched for but by its salience.
+///
+/// Contracts see all entries by rising rank.
+#[derive(Drop)]
+pub(crate) struct Lanes {
+    alloc: Global,
+    lanes: BTreeMap<i64, Lane>,
+}
+
+impl Model for Lanes {
+    ghost use Rattle.cb_agenda.specs.Agendas.{Entries};
+    ghost use Rattle.cb_agenda.specs.Internal.{AreFilled, Rises, laned};
+
+    ghost Value = { Entries };
+
+    ghost view = { λ l. laned l.lanes.entries };
+
+    ghost invariant = { λ l. Rises (laned l.lanes.entries) × AreFilled l.lanes.entries };
+}
+
+impl Lanes {
+    /// No entry. It takes no memory yet.
+    pub(crate) fn new(alloc: Global) -> Lanes
+        ensures { result ≡ [] }
+    {
+        Lanes {
+            alloc,
+            lanes: BTreeMap::new(alloc),
+        }
+    }
+
+    /// Takes all entries out.
+    pub(crate) fn clear(&mut self)
+        ensures { self.new ≡ [] }
+    {
+        *self = Lanes::new(self.alloc);
+    }
+
+    /// Adds an entry with a stamp that is greater than all others. Growth is refused as `NoMemory`, and then nothing has changed.
+    pub(crate) fn push(&mut self, rank: Rank, key: Key) -> Result<(), NoMemory>
+        requires { AllByRecursion (λ e. e.0.stamp < rank.stamp) self.old }
+        ensures ok { OnOk result (self.new ≡ insert_entry rank_cmp self.old rank key) }
+        ensures err { OnErr result (self.new ≡ self.old) }
+        ensures rising { Rises self.new }
+    {
+        push_to(self.alloc, &mut self.lanes, rank, key)
+    }
+
+    /// Takes the entry out that fires first, stale or not, if there is one.
+    pub(crate) fn pop(&mut self, strategy: Strategy) -> Option<(Rank, Key)>
+        ensures left { left_and_entry self.old (top_of strategy self.old) ≡ (self.new, result) }
+        ensures rising { Rises self.new }
+    {
+        pop_from(&mut self.lanes, strategy)
+    }
+
+    /// An entry of this salience has become stale. Where more than half of that lane is, those entries are let go.
+    pub(crate) fn thin(&mut self, salience: i64, ranks: &KeyRanks)
+        ensures thinned { Thinned (rank_at ranks.now) self.old self.new }
+        ensures rising { Rises self.new }
+    {
+        thin_at(&mut self.lanes, salience, ranks);
+        settle(&mut self.lanes, salience);
+    }
+
+    /// The keys and saliences of the activations by rising rank. Growth is refused as `NoMemory`.
+    pub(crate) fn by_rank(&self, ranks: &KeyRanks) -> Result<Vec<(Key, i64)>, NoMemory>
+        ensures all { IfOk result
+            (λ v. v.items ≡ map key_and_salience (current (rank_at ranks.now) self.now)) }
+        ensures rising { Rises self.now }
+    {
+        let mut listed = Vec::new(self.alloc);
+        for (salience, lane) in self.lanes.iter() {
+            lane.add_listed(*salience, ranks, &mut listed)?;
+        }
+        Ok(listed)
+    }
+}
+
+/// Adds an entry with a stamp that is greater than all others.
+fn push_to(
+    alloc: Global,
+    lanes: &mut BTreeMap<i64, Lane>,
+    rank: Rank,
+    key: Key,
+) -> Result<(), NoMemory>
+    requires { AllByRecursion (λ e. e.0.stamp < rank.stamp) (laned lanes.old.entries) }
+    ensures ok { OnOk result
+        (laned lanes.new.entries ≡ insert_entry rank_cmp (laned lanes.old.entries) rank key) }
+    ensures err { OnErr result (laned lanes.new.entries ≡ laned lanes.old.entries) }
+    ensures filled { AreFilled lanes.old.entries → AreFilled lanes.new.entries }
+{
+    match lanes.get_mut(&rank.salience) {
+        Some(lane) => lane.push(rank.stamp, key),
+        None => {
+            let lane = Lane::of(alloc, rank.stamp, key)?;
+            lanes.insert(rank.salience, lane)?;
+            Ok(())
+        }
+    }
+}
+
+/// Takes the entry out that fires first, if there is one.
+fn pop_from(lanes: &mut BTreeMap<i64, Lane>, strategy: Strategy) -> Option<(Rank, Key)>
+    requires rising { Rises (laned lanes.old.entries) }
+    requires filled { AreFilled lanes.old.entries }
+    ensures left { left_and_entry (laned lanes.old.entries) (top_of strategy (laned lanes.old.entries))
+        ≡ (laned lanes.new.entries, result) }
+    ensures filled { AreFilled lanes.new.entries }
+{
+    let salience = greatest(lanes)?;
+    let (stamp, key) = pop_at(lanes, salience, strategy)?;
+    settle(lanes, salience);
+    Some((Rank { salience, stamp }, key))
+}
+
+/// The greatest salience that has a lane, if there is one.
+fn greatest(lanes: &BTreeMap<i64, Lane>) -> Option<i64>
+    ensures some { (s : ℤ) → result ≡ Some s → (xs : Line) × (slice_get lanes.now.entries (length lanes.now.entries - 1) ≡ Some (s, xs)) }
+    ensures none { result ≡ None → lanes.now.entries ≡ [] }
+{
+    let (salience, _) = lanes.last_key_value()?;
+    Some(*salience)
+}
+
+/// Takes the entry of a lane out that fires first.
+fn pop_at(lanes: &mut BTreeMap<i64, Lane>, salience: i64, strategy: Strategy) -> Option<(u64, Key)>
+    ensures took { (xs : Line) → get int_cmp lanes.old salience ≡ Some xs
+        → TookAt strategy salience xs lanes.old.entries lanes.new.entries result }
+    ensures ordered { IsOrdered int_cmp lanes.old }
+{
+    match lanes.get_mut(&salience) {
+        Some(lane) => lane.pop(strategy),
+        None => None,
+    }
+}
+
+/// An entry of this salience has become stale.
+fn thin_at(lanes: &mut BTreeMap<i64, Lane>, salience: i64, ranks: &KeyRanks)
+    ensures thinned { (laned lanes.new.entries ≡ laned lanes.old.entries)
+        ⊎ (laned lanes.new.entries ≡ filter (stays (rank_at ranks.now) salience) (laned lanes.old.entries)) }
+    ensures set { (xs : Line) × (lanes.new.entries ≡ set_value (is_at (int_cmp salience)) lanes.old.entries xs) }
+{
+    if let Some(lane) = lanes.get_mut(&salience) {
+        lane.thin(salience, ranks);
+    }
+}
+
+/// Removes this lane, if it is empty.
+fn settle(lanes: &mut BTreeMap<i64, Lane>, salience: i64)
+    ensures empty { get int_cmp lanes.old salience ≡ Some []
+        → lanes.new.entries ≡ remove_entry (is_at (int_cmp salience)) lanes.old.entries }
+    ensures other { get int_cmp lanes.old salience ≢ Some [] → lanes.new.entries ≡ lanes.old.entries }
+{
+    if is_empty_at(lanes, salience) {
+        drop(lanes.remove(&salience));
+    }
+}
+
+/// Whether there is a lane of this salience that is empty.
+fn is_empty_at(lanes: &BTreeMap<i64, Lane>, salience: i64) -> bool
+    ensures yes { result ≡ true → get int_cmp lanes.now salience ≡ Some [] }
+    ensures no { result ≡ false → get int_cmp lanes.now salience ≢ Some [] }
+{
+    match lanes.get(&salience) {
+        Some(lane) => lane.is_empty(),
+        None => false,
+    }
+}
