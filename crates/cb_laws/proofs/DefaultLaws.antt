@@ -15,7 +15,7 @@ use Rattle.cb_forms.specs.declared.token.Token.{Token}
 use Rattle.cb_forms.specs.declared.token.Token.TheVariants as token
 use Rattle.cb_laws.specs.Reached.{HasItsDefault}
 use Rattle.cb_laws.proofs.SlotFormLaws.{AreSlots}
-use Rattle.cb_templates.specs.Internal.SlotReads.{attribute_by, attributes_after, default_constant, default_constants, default_of, finished, multi_default, no_attributes, one_default, slot_by, slot_defined, slot_with, types_of, with_default, with_types}
+use Rattle.cb_templates.specs.Internal.{attribute_by, attributes_after, default_constant, default_constants, default_of, finished, multi_default, no_attributes, one_default, slot_by, slot_defined, slot_with, types_of, with_default, with_types}
 use Rattle.cb_templates.specs.SlotForms.{derived, is_variable, no_constant}
 use Rattle.cb_templates.specs.Slots.{SlotShape, Types, allows_all, are_only}
 use Rattle.cb_templates.specs.declared.slot_type.SlotType.TheVariants as type

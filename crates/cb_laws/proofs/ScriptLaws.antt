@@ -46,7 +46,7 @@ use Rattle.cb_words.specs.Reserved.{is_reserved}
 use Rattle.cb_templates.specs.Slots.{SlotShape}
 use Rattle.cb_templates.specs.TemplateFaults.{named_template_faults, slots_form_faults}
 use Rattle.cb_templates.specs.TemplateShapes.{slots_said, template_said}
-use Rattle.cb_templates.specs.Internal.SlotReads.{slots_after}
+use Rattle.cb_templates.specs.Internal.{slots_after}
 use Rattle.cb_templates.specs.Templates.{with_template, without_comment}
 use Rattle.cb_templates.proofs.TemplateFaultLaws.{slots_said_so}
 use Rattle.cb_words.specs.Words.{head_of}

@@ -10,7 +10,7 @@ use Rattle.cb_forms.specs.Trees.{Tree, Trees, atom, branch, no_trees, tree}
 use Rattle.cb_forms.specs.declared.fault.Fault.{Fault}
 use Rattle.cb_forms.specs.declared.fault.Fault.TheVariants.{MalformedForm}
 use Rattle.cb_forms.specs.declared.token.Token.TheVariants as token
-use Rattle.cb_templates.specs.Internal.SlotReads.{attributes_after, finished, no_attributes, slot_by, slot_defined, slots_after}
+use Rattle.cb_templates.specs.Internal.{attributes_after, finished, no_attributes, slot_by, slot_defined, slots_after}
 use Rattle.cb_templates.specs.Slots.{SlotShape, names, slot_named}
 use Rattle.cb_templates.proofs.SlotLaws.{slots_differ}
 
