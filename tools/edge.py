@@ -1,5 +1,6 @@
 #!/usr/bin/env python3
-"""Runs the built program where no proof reaches: on arguments, files, pipes and statuses as the system has them.
+"""Runs the built program where no proof reaches: on arguments, files, pipes and statuses as the system has them, and on large scripts
+within limits of time and memory (large.py).
 
     tools/edge.py [--after LINE] [PROGRAM ..]
 
@@ -19,10 +20,12 @@ import tempfile
 import time
 from collections import namedtuple
 
+import large
+
 TOP = os.path.dirname(os.path.dirname(os.path.abspath(__file__)))
 
 # A case takes a second or so. One that takes this long has failed: it hangs, or its cost grows with the square of its size.
-SECONDS = 60
+SECONDS = 120
 
 # What Python doesn't have by name everywhere.
 F_SETPIPE_SZ = 1031
@@ -236,6 +239,14 @@ def run_without_memory(program):
     return run(program, [], script, preexec_fn=limit(resource.RLIMIT_AS, 256 << 20))
 
 
+def run_large(program, it):
+    """Runs the program on a large script, within the processor time and the memory that it may take."""
+    def within():
+        resource.setrlimit(resource.RLIMIT_CPU, (it.seconds, it.seconds))
+        resource.setrlimit(resource.RLIMIT_AS, (it.memory, it.memory))
+    return run(program, [], it.script, preexec_fn=within)
+
+
 def small_pipe():
     reader, writer = os.pipe()
     fcntl.fcntl(writer, F_SETPIPE_SZ, 4096)
@@ -376,6 +387,9 @@ def cases():
     yield "a reader that goes, SIGPIPE ignored", deaf, Ended(LONG[:100], WRITE_FAILED, 3)
     numbers = b"".join(b"%d\n" % it for it in [*range(100000), 0, 99999])
     yield "100,000 variables", variables, Ended(numbers, b"", 0)
+    for make in large.ALL:
+        it = make()
+        yield it.name, lambda program: run_large(program, it), Ended(it.out, b"", 0)
 
 
 def is_as_wanted(got, wanted):
