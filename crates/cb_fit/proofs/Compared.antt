@@ -1,9 +1,9 @@
 -- What a comparison of a field with a variable asks.
 use Rattle.std.proofs.Common.{◌≡◌, ◌∙◌, ◌&&◌, ◌⊎◌, inl, inr, ℕ, Bool, true, false, not, List, [], ◌∷◌, Option, Some, None, Result, Ok, Err, ap, ap₂, refl, sym, if◌then◌else◌}
-use Rattle.std.specs.Option.{ok_or, option_map_or}
+use Rattle.std.specs.Option.{ok_or, option_and_then, option_map_or, option_or}
 use Rattle.cb_constraints.specs.Constraints.{Test, constant, variable, predicate, return_value}
 use Rattle.cb_constraints.specs.Holding.{opposite_if, test_holds, value_if_any}
-use Rattle.cb_fit.specs.Comparisons.{WithVariable, both_integers, compared_call, compared_term, compared_test, compares, comparison_of, integer_so, turned, variable_of, with_arguments, with_other}
+use Rattle.cb_fit.specs.Comparisons.{WithConstant, WithVariable, both_integers, compared_call, compared_term, compared_test, compares, comparison_of, constant_of, integer_so, limited_arguments, limited_call, limited_term, limited_test, turned, variable_of, with_arguments, with_constant, with_other}
 use Rattle.cb_fit.specs.Plain.{is_named}
 use Rattle.cb_fit.specs.declared.comparison.Comparison.{Comparison}
 use Rattle.cb_fit.specs.declared.comparison.Comparison.TheVariants as k
@@ -221,3 +221,72 @@ test_compares own false (variable x) r u env e has = absurd (cc)
 test_compares own true (predicate t) r u env e has = absurd (cc)
 test_compares own true (return_value t) r u env e has = absurd (cc)
 test_compares own false (return_value t) r u env e has = absurd (cc)
+
+-- the field's value is compared with a constant
+abbrev pub limit_one : Value → WithConstant → Bool
+limit_one u r = compares r.0 u r.1
+
+is_constant : (t : Term) (w : Value) → constant_of t ≡ Some w → (env : Bindings) → value_of t env ≡ ok_or (Some w) UnboundVariable
+is_constant (expression.constant v) w e env = ap (λ o. ok_or o UnboundVariable) e
+is_constant t w e env = absurd (cc)
+
+-- which constant a call compares the field with
+abbrev Limited : List (List ℕ) → Comparison → Option (List ℕ) → Option Value → WithConstant → Type 0
+Limited own c p q r = (x : List ℕ) × (w : Value) × (p ≡ Some x) × (q ≡ Some w) × (is_named x own ≡ true) × ((c, w) ≡ r)
+
+limited_by : (own : List (List ℕ)) (c : Comparison) (p : Option (List ℕ)) (q : Option Value) (r : WithConstant) → with_constant own c p q ≡ Some r → Limited own c p q r
+limited_by own c (Some x) (Some w) r e = by (is_named x own) refl e
+  where
+    got : (a b : WithConstant) → Some a ≡ Some b → a ≡ b
+    got a b d = cc
+
+    by : (s : Bool) → is_named x own ≡ s → (if s then Some (c, w) else None) ≡ Some r → Limited own c (Some x) (Some w) r
+    by true i d = (x, w, refl, refl, i, got (c, w) r d)
+    by false i d = absurd (cc)
+limited_by own c (Some x) None r e = absurd (cc)
+limited_by own c None q r e = absurd (cc)
+
+field_first : (own : List (List ℕ)) (f : Function) (c : Comparison) (t s : Term) (r : WithConstant) (u : Value) (env : Bindings) → comparison_of f ≡ Some c → AreOwn own u env
+    → Limited own c (variable_of t) (constant_of s) r → held (value_of (expression.call f (term t (term s no_terms))) env) ≡ limit_one u r
+field_first own f c t s r u env is has (x, w, var, con, named, so) =
+    ap₂ (λ (q z : Result Value Fault). held (of_two f q z)) (is_variable t x var env) (is_constant s w con env)
+    ∙ (call_held f c is (value_at x env.variables) (Some w) ∙ (ap (λ o. compare_both c o (Some w)) (has x named) ∙ ap (limit_one u) so))
+
+field_second : (own : List (List ℕ)) (f : Function) (c : Comparison) (t s : Term) (r : WithConstant) (u : Value) (env : Bindings) → comparison_of f ≡ Some c → AreOwn own u env
+    → Limited own (turned c) (variable_of s) (constant_of t) r → held (value_of (expression.call f (term t (term s no_terms))) env) ≡ limit_one u r
+field_second own f c t s r u env is has (x, w, var, con, named, so) =
+    ap₂ (λ (q z : Result Value Fault). held (of_two f q z)) (is_constant t w con env) (is_variable s x var env)
+    ∙ (call_held f c is (Some w) (value_at x env.variables) ∙ (ap (compare_both c (Some w)) (has x named) ∙ (turned_compares c w u ∙ ap (limit_one u) so)))
+
+arguments_limited : (own : List (List ℕ)) (f : Function) (c : Comparison) (t s : Term) (r : WithConstant) (u : Value) (env : Bindings) → comparison_of f ≡ Some c → AreOwn own u env
+    → limited_arguments own c t s ≡ Some r → held (value_of (expression.call f (term t (term s no_terms))) env) ≡ limit_one u r
+arguments_limited own f c t s r u env is has e = by (with_constant own c (variable_of t) (constant_of s)) refl e
+  where
+    by : (o : Option WithConstant) → with_constant own c (variable_of t) (constant_of s) ≡ o → option_or o (with_constant own (turned c) (variable_of s) (constant_of t)) ≡ Some r
+        → held (value_of (expression.call f (term t (term s no_terms))) env) ≡ limit_one u r
+    by (Some l) i d = field_first own f c t s r u env is has (limited_by own c (variable_of t) (constant_of s) r (i ∙ d))
+    by None i d = field_second own f c t s r u env is has (limited_by own (turned c) (variable_of s) (constant_of t) r d)
+
+call_limited : (own : List (List ℕ)) (f : Function) (ts : Terms) (r : WithConstant) (u : Value) (env : Bindings) → limited_call own f ts ≡ Some r → AreOwn own u env
+    → held (value_of (expression.call f ts) env) ≡ limit_one u r
+call_limited own f no_terms r u env e has = absurd (cc)
+call_limited own f (term t no_terms) r u env e has = absurd (cc)
+call_limited own f (term t (term s no_terms)) r u env e has = by (comparison_of f) refl e
+  where
+    by : (o : Option Comparison) → comparison_of f ≡ o → option_and_then (λ c. limited_arguments own c t s) o ≡ Some r → held (value_of (expression.call f (term t (term s no_terms))) env) ≡ limit_one u r
+    by None is d = absurd (cc)
+    by (Some c) is d = arguments_limited own f c t s r u env is has d
+call_limited own f (term t (term s (term w ws))) r u env e has = absurd (cc)
+
+term_limited : (own : List (List ℕ)) (t : Term) (r : WithConstant) (u : Value) (env : Bindings) → limited_term own t ≡ Some r → AreOwn own u env → held (value_of t env) ≡ limit_one u r
+term_limited own (expression.call f ts) r u env e has = call_limited own f ts r u env e has
+term_limited own t r u env e has = absurd (cc)
+
+-- a test that compares the field with a constant holds where the comparison does
+pub test_limited : (own : List (List ℕ)) (negated : Bool) (t : Test) (r : WithConstant) (u : Value) (env : Bindings) → limited_test own negated t ≡ Some r → AreOwn own u env
+    → opposite_if negated (test_holds t u env) ≡ limit_one u r
+test_limited own false (predicate t) r u env e has = term_limited own t r u env e has
+test_limited own true (predicate t) r u env e has = absurd (cc)
+test_limited own negated (constant w) r u env e has = absurd (cc)
+test_limited own negated (variable x) r u env e has = absurd (cc)
+test_limited own negated (return_value t) r u env e has = absurd (cc)

@@ -1,7 +1,7 @@
 -- Whether a pattern that is decided by values fits a fact, and the way in which it does.
-use Rattle.std.proofs.Common.{arith, ◌≡◌, ◌≢◌, ◌↔◌, ◌∙◌, ◌&&◌, ◌||◌, ◌∷◌, ◌++◌, ℕ, zero, suc, Bool, true, false, not, Contains, List, [], Option, Some, None, ap, ap₂, flat_map, map, refl, subst, sym}
+use Rattle.std.proofs.Common.{arith, ◌≡◌, ◌≢◌, ◌↔◌, ◌∙◌, ◌&&◌, ◌||◌, ◌∷◌, ◌++◌, inl, ℕ, zero, suc, Bool, true, false, not, Contains, List, [], Option, Some, None, ap, ap₂, flat_map, map, refl, subst, sym, if◌then◌else◌}
 use Rattle.std.proofs.lemmas.Bool.{and_from, and_parts}
-use Rattle.std.proofs.lemmas.Grind.{flat_map-append}
+use Rattle.std.proofs.lemmas.List.{map-append}
 use Rattle.std.proofs.lemmas.List.Folds.{flat_map-map, list_all-map}
 use Rattle.std.specs.Cmp.{IsTotalOrder}
 use Rattle.std.specs.Cmp.Lexicographic.{nat_list_cmp_total, slice_cmp}
@@ -11,29 +11,31 @@ use Rattle.std.specs.Ordering.{nat_cmp, ordering_reverse}
 use Rattle.std.specs.declared.cmp.Ordering.{Ordering}
 use Rattle.std.specs.declared.cmp.Ordering.TheVariants.{Less}
 use Rattle.cb_constraints.specs.Binders.{binders, constraints_in}
-use Rattle.cb_constraints.specs.Bound.{given, newly_bound}
+use Rattle.cb_constraints.specs.Bound.{each_once, given, newly_bound}
 use Rattle.cb_constraints.specs.Constraints.{Constraint, Demand}
 use Rattle.cb_constraints.specs.Holding.{may_hold, provided}
 use Rattle.cb_constraints.specs.PatternValues.{PatternValue}
 use Rattle.cb_fit.proofs.Asked.{AreLong, Asked, after_all, are_single, asked_of, parts_in, parts_out}
-use Rattle.cb_fit.proofs.CheckLaws.{agree_one, alike, are_others, compare_one, weaker}
+use Rattle.cb_fit.proofs.CheckLaws.{agree_one, alike, are_others, weaker}
 use Rattle.cb_fit.proofs.DemandLaws.{choose_one}
+use Rattle.cb_fit.proofs.Givers.{the_names, they_take}
 use Rattle.cb_fit.proofs.Members.{all_of_flat, all_pass, one_passes, only_this}
 use Rattle.cb_fit.proofs.LooseDecided.{HoldsLoosely, all_may, asked_loose, long_loose, ones_loose, single_loose}
 use Rattle.cb_fit.proofs.PlacedFields.{AskedIf, parts_asked, parts_placed, placed_value, with_a_value}
-use Rattle.cb_fit.proofs.Whole.{all_hold, are_all_others, are_decided, given_over, given_values, names_of, once, taken_from, whole}
-use Rattle.cb_fit.specs.Comparisons.{ChoiceFieldValue, WithVariable, choice_fields, choices, compared_fields, compares, compares_others, comparisons, demand_choice_fields, demand_compared_fields, is_decided, is_decided_constraint, is_decided_demand, is_other}
-use Rattle.cb_fit.specs.Decided.{AgreeWith, AreOneOf, HoldOf, HoldsOf, IsOneOf, ValuesDecide, ones, taken_by, taken_by_all, way_by_values}
-use Rattle.cb_fit.specs.Plain.{are_apart, bound_names, is_named}
+use Rattle.cb_fit.proofs.Passed.{compare_if, compared}
+use Rattle.cb_fit.proofs.Whole.{AllStand, agree_of, all_compared, all_own, are_all_others, choose_of, decides, given_over, in_sequence, may_of, names_of, over_stands, together, whole}
+use Rattle.cb_fit.specs.Comparisons.{ChoiceFieldValue, all_own_hold, choice_fields, choices, chooses_others, compared_fields, compares, compares_others, comparisons, demand_choice_fields, is_decided, is_decided_constraint, is_decided_demand, is_other, own_fields, own_fields_from}
+use Rattle.cb_fit.specs.Decided.{AgreeWith, AreOneOf, HoldOf, HoldsOf, IsOneOf, ValuesDecide, ones, taken_by_all, way_by_values}
+use Rattle.cb_fit.specs.Plain.{bound_names, is_named}
 use Rattle.cb_fit.specs.declared.comparison.ComparedField.{ComparedField}
 use Rattle.cb_exprs.specs.Bindings.{Bindings, no_bindings, value_at}
 use Rattle.cb_facts.proofs.Equality.{value-Decides}
 use Rattle.cb_facts.specs.Facts.{FactContent, FactValue}
 use Rattle.cb_facts.specs.declared.value.Value.{Value}
 use Rattle.cb_fit.specs.FieldPlaces.{PlacedDemand, field_value, placed_demands}
-use Rattle.cb_fit.specs.JoinFields.{demand_join_fields, join_fields, value_in}
+use Rattle.cb_fit.specs.JoinFields.{demand_join_fields, fields_for, giving_fields, join_fields, value_in}
 use Rattle.cb_fit.specs.Related.{Fits}
-use Rattle.cb_fit.specs.Shapes.{HasShape, has_shape, loose, loose_parts}
+use Rattle.cb_fit.specs.Shapes.{HasShape, has_shape, is_selected, loose, loose_parts}
 use Rattle.cb_fit.specs.Ways.{WayValue, taken_way, ways}
 use Rattle.cb_fit.specs.declared.join_fields.JoinField.{JoinField}
 use Rattle.cb_functions.specs.Comparison.{same}
@@ -48,20 +50,16 @@ pub record WaysAreKnown : Type 0 where
   pub loosely : HoldsLoosely
   pub agree : (p : PatternValue) (f : FactValue) (before : Bindings) (w : WayValue) → Contains (ways p f before) w → AgreeWith (join_fields p.parts) before f.content
 
-both_all : {X : Type 0} (s t : X → Bool) (xs : List X) → list_all s xs ≡ true → list_all t xs ≡ true → list_all (λ x. s x && t x) xs ≡ true
-both_all s t [] e d = refl
-both_all s t (x ∷ xs) e d =
-    let first = and_parts (s x) (list_all s xs) e in
-    let other = and_parts (t x) (list_all t xs) d in
-    and_from (s x && t x) (list_all (λ y. s y && t y) xs) (and_from (s x) (t x) first.0 other.0) (both_all s t xs first.1 other.1)
-
-flat_of_flat : {X Y Z : Type 0} (f : Y → List Z) (g : X → List Y) (xs : List X) → flat_map f (flat_map g xs) ≡ flat_map (λ x. flat_map f (g x)) xs
-flat_of_flat f g [] = refl
-flat_of_flat f g (x ∷ xs) = flat_map-append f (g x) (flat_map g xs) ∙ ap (λ ys. flat_map f (g x) ++ ys) (flat_of_flat f g xs)
-
-flat_alike : {X Y : Type 0} (f g : X → List Y) (xs : List X) → ((x : X) → f x ≡ g x) → flat_map f xs ≡ flat_map g xs
-flat_alike f g [] h = refl
-flat_alike f g (x ∷ xs) h = ap₂ (λ a b. a ++ b) (h x) (flat_alike f g xs h)
+-- the variables of these fields
+variables_of : (ds : List PlacedDemand) → map (λ (j : JoinField). j.variable) (flat_map demand_join_fields ds) ≡ flat_map (λ (d : PlacedDemand). binders d.demand) ds
+variables_of [] = refl
+variables_of (d ∷ ds) =
+    map-append (λ (j : JoinField). j.variable) (demand_join_fields d) (flat_map demand_join_fields ds)
+    ∙ ap₂ (λ (xs ys : List (List ℕ)). xs ++ ys) (each_name (binders d.demand)) (variables_of ds)
+  where
+    each_name : (names : List (List ℕ)) → map (λ (j : JoinField). j.variable) (fields_for d.place names) ≡ names
+    each_name [] = refl
+    each_name (x ∷ xs) = ap (λ (ys : List (List ℕ)). x ∷ ys) (each_name xs)
 
 not_less : (cuts : List ℕ) → slice_cmp nat_cmp cuts cuts ≢ Less
 not_less cuts e = by (slice_cmp nat_cmp cuts cuts) e (IsTotalOrder.antisymm nat_list_cmp_total cuts cuts)
@@ -69,18 +67,12 @@ not_less cuts e = by (slice_cmp nat_cmp cuts cuts) e (IsTotalOrder.antisymm nat_
     by : (r : Ordering) → r ≡ Less → r ≡ ordering_reverse r → ⊥
     by r is d = let turned : Less ≡ ordering_reverse Less = subst (λ s. s ≡ ordering_reverse s) is d in cc
 
--- a field agrees with a variable, or is compared with it, if it has a value
+-- a field agrees with a variable, if it has a value
 abbrev agree_if : Bindings → Option Value → List ℕ → Bool
 agree_if before o x = option_map_or (λ w. option_map_or (λ v. same v w) o false) (value_at x before.variables) true
 
-abbrev compare_if : Bindings → Option Value → WithVariable → Bool
-compare_if before o c = option_map_or (λ v. compare_one v before c) o false
-
 abbrev joined : FactContent → Bindings → JoinField → Bool
 joined content before j = agree_if before (value_in j content) j.variable
-
-abbrev compared : FactContent → Bindings → ComparedField → Bool
-compared content before c = compare_if before (field_value c.place.slot c.place.field content) (c.comparison, c.variable)
 
 joined_if : (content : FactContent) (before : Bindings) (j : JoinField) → ((v : Value) → value_at j.variable before.variables ≡ Some v → value_in j content ≡ Some v) → joined content before j ≡ true
 joined_if content before j h = by (value_at j.variable before.variables) refl
@@ -158,23 +150,23 @@ module _ (p : PatternValue) (content : FactContent) (before : Bindings) (e : is_
   abbrev the_after : Bindings
   the_after = given_over asked before
 
-  decided_all : list_all is_decided_constraint (constraints_in p.parts) ≡ true
-  decided_all = (and_parts (list_all is_decided_constraint (constraints_in p.parts)) (are_apart (bound_names p) && compares_others p.parts) e).0
+  abbrev decided_one : Constraint → Bool
+  decided_one c = is_decided_constraint c && compares_others c
 
-  apart_all : (are_apart (bound_names p) ≡ true) × (compares_others p.parts ≡ true)
-  apart_all = and_parts (are_apart (bound_names p)) (compares_others p.parts) (and_parts (list_all is_decided_constraint (constraints_in p.parts)) (are_apart (bound_names p) && compares_others p.parts) e).1
+  decided_all : (list_all decided_one (constraints_in p.parts) ≡ true) × (chooses_others p.parts ≡ true)
+  decided_all = and_parts (list_all decided_one (constraints_in p.parts)) (chooses_others p.parts) e
 
-  abbrev other_compared : ComparedField → Bool
-  other_compared c = is_other (bound_names p) c.variable
+  -- what it compares of one fact
+  own_are : own_fields p.parts ≡ own_fields_from [] placed
+  own_are = ap (λ b. if b then own_fields_from [] placed else []) e
 
   abbrev other_choice : ChoiceFieldValue → Bool
   other_choice c = list_all (is_other (bound_names p)) c.variables
 
-  others_all : (list_all other_compared (compared_fields p.parts) ≡ true) × (list_all other_choice (choice_fields p.parts) ≡ true)
-  others_all = and_parts (list_all other_compared (compared_fields p.parts)) (list_all other_choice (choice_fields p.parts)) apart_all.1
-
   pub single_all : are_single (constraints_in p.parts) ≡ true
-  single_all = weaker is_decided_constraint (λ (c : Constraint). not c.segment) (constraints_in p.parts) (λ c i. (and_parts (not c.segment) (is_decided_demand c.demand) i).0) decided_all
+  single_all =
+      weaker decided_one (λ (c : Constraint). not c.segment) (constraints_in p.parts)
+      (λ c i. (and_parts (not c.segment) (is_decided_demand c.demand) (and_parts (is_decided_constraint c) (compares_others c) i).0).0) decided_all.0
 
   module _ (long : AreLong p.parts content) where
     over_placed : (t : AskedIf → Bool) → list_all (λ (d : PlacedDemand). t (placed_value content d)) placed ≡ list_all (λ (a : Demand × Value). t (with_a_value a)) asked
@@ -196,44 +188,38 @@ module _ (p : PatternValue) (content : FactContent) (before : Bindings) (e : is_
         flat [] = refl
         flat (a ∷ more) = ap (λ xs. binders a.0 ++ xs) (flat more)
 
-    demands_are : list_all (λ (a : Demand × Value). is_decided_demand a.0) asked ≡ true
-    demands_are =
-        sym (list_all-map is_decided_demand (λ (a : Demand × Value). a.0) asked)
-        ∙ (ap (list_all is_decided_demand) (parts_asked p.parts content long)
-        ∙ (list_all-map is_decided_demand (λ (c : Constraint). c.demand) (constraints_in p.parts)
-        ∙ weaker is_decided_constraint (λ (c : Constraint). is_decided_demand c.demand) (constraints_in p.parts) (λ c i. (and_parts (not c.segment) (is_decided_demand c.demand) i).1) decided_all))
+    abbrev demand_decides : Demand → Bool
+    demand_decides d = is_decided_demand d && are_others (binders d) (comparisons d)
 
-    -- a test of all compared fields is one of all comparisons
-    over_compared : (t : ComparedField → Bool) (u : AskedIf → Bool) → ((d : PlacedDemand) → list_all t (demand_compared_fields d) ≡ u (placed_value content d))
-        → list_all t (compared_fields p.parts) ≡ list_all (λ (a : Demand × Value). u (with_a_value a)) asked
-    over_compared t u h = all_of_flat t demand_compared_fields placed ∙ (alike (λ d. list_all t (demand_compared_fields d)) (λ d. u (placed_value content d)) placed h ∙ over_placed u)
+    demands_are : list_all decides asked ≡ true
+    demands_are =
+        sym (list_all-map demand_decides (λ (a : Demand × Value). a.0) asked)
+        ∙ (ap (list_all demand_decides) (parts_asked p.parts content long)
+        ∙ (list_all-map demand_decides (λ (c : Constraint). c.demand) (constraints_in p.parts)
+        ∙ weaker decided_one (λ (c : Constraint). demand_decides c.demand) (constraints_in p.parts)
+        (λ c i.
+        let both = and_parts (is_decided_constraint c) (compares_others c) i in
+        and_from (is_decided_demand c.demand) (compares_others c) (and_parts (not c.segment) (is_decided_demand c.demand) both.0).1 both.1) decided_all.0))
 
     over_choices : (t : ChoiceFieldValue → Bool) (u : AskedIf → Bool) → ((d : PlacedDemand) → list_all t (demand_choice_fields d) ≡ u (placed_value content d))
         → list_all t (choice_fields p.parts) ≡ list_all (λ (a : Demand × Value). u (with_a_value a)) asked
     over_choices t u h = all_of_flat t demand_choice_fields placed ∙ (alike (λ d. list_all t (demand_choice_fields d)) (λ d. u (placed_value content d)) placed h ∙ over_placed u)
 
-    others_are : list_all (λ (a : Demand × Value). are_others (bound_names p) (comparisons a.0)) asked ≡ true
-    others_are =
-        sym (over_compared other_compared (λ (b : AskedIf). are_others (bound_names p) (comparisons b.0))
-        (λ d. list_all-map other_compared (λ (c : WithVariable). record { place = d.place; comparison = c.0; variable = c.1 }) (comparisons d.demand)))
-        ∙ others_all.0
-
     choices_others : list_all (λ (a : Demand × Value). are_all_others (bound_names p) (choices a.0)) asked ≡ true
     choices_others =
         sym (over_choices other_choice (λ (b : AskedIf). are_all_others (bound_names p) (choices b.0))
         (λ d. list_all-map other_choice (λ names. record { place = d.place; variables = names }) (choices d.demand)))
-        ∙ others_all.1
+        ∙ decided_all.1
 
-    decided_are : are_decided (bound_names p) asked ≡ true
-    decided_are =
-        both_all (λ (a : Demand × Value). is_decided_demand a.0) (λ (a : Demand × Value). are_others (bound_names p) (comparisons a.0) && are_all_others (bound_names p) (choices a.0)) asked demands_are
-        (both_all (λ (a : Demand × Value). are_others (bound_names p) (comparisons a.0)) (λ (a : Demand × Value). are_all_others (bound_names p) (choices a.0)) asked others_are choices_others)
+    exactly : after_all asked before ≡ provided (in_sequence asked before) the_after
+    exactly = whole asked before demands_are
 
-    apart_are : are_apart (names_of asked) ≡ true
-    apart_are = ap are_apart names_are ∙ apart_all.0
-
-    exactly : after_all asked before ≡ provided (all_hold asked before) the_after
-    exactly = whole (bound_names p) before asked before decided_are apart_are (λ y i. ap (is_named y) (sym names_are) ∙ i) (λ y i. refl) (λ y i. refl)
+    fields_are : map (λ (j : JoinField). j.variable) (join_fields p.parts) ≡ bound_names p
+    fields_are = variables_of placed ∙ (flat_over_placed (λ (b : AskedIf). binders b.0) ∙ (flat asked ∙ names_are))
+      where
+        flat : (more : Asked) → flat_map (λ (a : Demand × Value). binders a.0) more ≡ names_of more
+        flat [] = refl
+        flat (a ∷ more) = ap (λ xs. binders a.0 ++ xs) (flat more)
 
     -- variables
     joins_are : list_all (joined content before) (join_fields p.parts) ≡ list_all (λ (a : Demand × Value). list_all (agree_one a.1 before) (binders a.0)) asked
@@ -243,73 +229,73 @@ module _ (p : PatternValue) (content : FactContent) (before : Bindings) (e : is_
         (λ d. list_all-map (joined content before) (λ x. record { variable = x; slot = d.place.slot; field = d.place.field }) (binders d.demand))
         ∙ over_placed (λ (b : AskedIf). list_all (agree_if before b.1) (binders b.0)))
 
-    -- comparisons
-    compared_are : list_all (compared content before) (compared_fields p.parts) ≡ list_all (λ (a : Demand × Value). list_all (compare_one a.1 before) (comparisons a.0)) asked
-    compared_are =
-        over_compared (compared content before) (λ (b : AskedIf). list_all (compare_if before b.1) (comparisons b.0))
-        (λ d. list_all-map (compared content before) (λ (c : WithVariable). record { place = d.place; comparison = c.0; variable = c.1 }) (comparisons d.demand))
-
     -- alternatives
     choices_are : list_all (chosen content before) (choice_fields p.parts) ≡ list_all (λ (a : Demand × Value). list_all (choose_one a.1 before) (choices a.0)) asked
     choices_are =
         over_choices (chosen content before) (λ (b : AskedIf). list_all (choose_if before b.1) (choices b.0))
         (λ d. list_all-map (chosen content before) (λ names. record { place = d.place; variables = names }) (choices d.demand))
 
-    -- all that is asked of one field
-    abbrev may_of : Demand × Value → Bool
-    may_of a = may_hold a.0 a.1
+    -- where the fields agree with the variables
+    module _ (agree : AgreeWith (join_fields p.parts) before content) where
+      agrees : list_all (agree_of content before) asked ≡ true
+      agrees = sym joins_are ∙ all_pass (joined content before) (join_fields p.parts) (λ j i. joined_if content before j (agree j i))
 
-    abbrev agree_of : Demand × Value → Bool
-    agree_of a = list_all (agree_one a.1 before) (binders a.0)
+      nothing_stands : AllStand content before [] before
+      nothing_stands x = inl (refl, refl)
 
-    abbrev compare_of : Demand × Value → Bool
-    compare_of a = list_all (compare_one a.1 before) (comparisons a.0)
+      abbrev each_holds : Bool
+      each_holds = (list_all (may_of content before) asked && (all_own content before [] placed && all_compared content before [] placed)) && list_all (choose_of content before) asked
 
-    abbrev choose_of : Demand × Value → Bool
-    choose_of a = list_all (choose_one a.1 before) (choices a.0)
+      holds_where : in_sequence asked before ≡ each_holds
+      holds_where =
+          together content before (bound_names p) placed asked [] before (parts_placed p.parts content single_all long) nothing_stands (λ y i. refl)
+          (λ y i. ap (is_named y) (sym names_are) ∙ i) agrees choices_others
 
-    pub hold_all : list_all (λ (a : Demand × Value). may_hold a.0 a.1) asked ≡ true → ValuesDecide p before content → after_all asked before ≡ Some the_after
-    hold_all may (agree, hold, one) =
-        exactly
-        ∙ ap (λ t. provided t the_after)
-        (both_all (λ a. may_of a && (agree_of a && compare_of a)) choose_of asked
-        (both_all may_of (λ a. agree_of a && compare_of a) asked may
-        (both_all agree_of compare_of asked
-        (sym joins_are ∙ all_pass (joined content before) (join_fields p.parts) (λ j i. joined_if content before j (agree j i)))
-        (sym compared_are ∙ all_pass (compared content before) (compared_fields p.parts) (λ c i. compared_if content before c (hold c i)))))
-        (sym choices_are ∙ all_pass (chosen content before) (choice_fields p.parts) (λ c i. chosen_if content before c (one c i))))
+      pub hold_all : list_all (λ (a : Demand × Value). may_hold a.0 a.1) asked ≡ true → all_own_hold (own_fields p.parts) content ≡ true → HoldOf (compared_fields p.parts) before content
+          → AreOneOf (choice_fields p.parts) before content → after_all asked before ≡ Some the_after
+      hold_all may own hold one =
+          let all = list_all (may_of content before) asked in
+          let others = all_compared content before [] placed in
+          exactly
+          ∙ ap (λ t. provided t the_after)
+          (holds_where
+          ∙ and_from (all && (all_own content before [] placed && others)) (list_all (choose_of content before) asked)
+          (and_from all (all_own content before [] placed && others) may
+          (and_from (all_own content before [] placed) others (ap (λ os. all_own_hold os content) (sym own_are) ∙ own)
+          (all_pass (compared content before) (compared_fields p.parts) (λ c i. compared_if content before c (hold c i)))))
+          (sym choices_are ∙ all_pass (chosen content before) (choice_fields p.parts) (λ c i. chosen_if content before c (one c i))))
 
-    provided_if : (after : Bindings) (t : Bool) → provided t the_after ≡ Some after → t ≡ true
-    provided_if after true d = refl
-    provided_if after false d = absurd (cc)
+      provided_if : (after : Bindings) (t : Bool) → provided t the_after ≡ Some after → t ≡ true
+      provided_if after true d = refl
+      provided_if after false d = absurd (cc)
 
-    -- and all of it holds where the pattern fits
-    module _ (after : Bindings) (h : after_all asked before ≡ Some after) where
-      holds : list_all (λ a. (may_of a && (agree_of a && compare_of a)) && choose_of a) asked ≡ true
-      holds = provided_if after (all_hold asked before) (sym exactly ∙ h)
+      -- and all of it holds where the pattern fits
+      module _ (after : Bindings) (h : after_all asked before ≡ Some after) where
+        holds : (list_all (may_of content before) asked && (all_own content before [] placed && all_compared content before [] placed) ≡ true) × (list_all (choose_of content before) asked ≡ true)
+        holds =
+            and_parts (list_all (may_of content before) asked && (all_own content before [] placed && all_compared content before [] placed)) (list_all (choose_of content before) asked)
+            (sym holds_where ∙ provided_if after (in_sequence asked before) (sym exactly ∙ h))
 
-      pub comparisons_hold : HoldOf (compared_fields p.parts) before content
-      comparisons_hold c i =
-          compared_is content before c (one_passes (compared content before) (compared_fields p.parts) c
-          (compared_are
-          ∙ weaker (λ a. (may_of a && (agree_of a && compare_of a)) && choose_of a) compare_of asked
-          (λ a d. (and_parts (agree_of a) (compare_of a) (and_parts (may_of a) (agree_of a && compare_of a) (and_parts (may_of a && (agree_of a && compare_of a)) (choose_of a) d).0).1).1) holds) i)
+        fields_hold : (all_own content before [] placed ≡ true) × (all_compared content before [] placed ≡ true)
+        fields_hold =
+            and_parts (all_own content before [] placed) (all_compared content before [] placed)
+            (and_parts (list_all (may_of content before) asked) (all_own content before [] placed && all_compared content before [] placed) holds.0).1
 
-      pub choices_hold : AreOneOf (choice_fields p.parts) before content
-      choices_hold c i =
-          chosen_is content before c (one_passes (chosen content before) (choice_fields p.parts) c
-          (choices_are
-          ∙ weaker (λ a. (may_of a && (agree_of a && compare_of a)) && choose_of a) choose_of asked (λ a d. (and_parts (may_of a && (agree_of a && compare_of a)) (choose_of a) d).1) holds) i)
+        pub own_hold : all_own_hold (own_fields p.parts) content ≡ true
+        own_hold = ap (λ os. all_own_hold os content) own_are ∙ fields_hold.0
 
-    -- what the way gives
-    pub bound_is : newly_bound p.parts before the_after ≡ taken_by_all (join_fields p.parts) before content
-    bound_is =
-        ap (flat_map (given before the_after)) (once (bound_names p) apart_all.0 ∙ sym names_are)
-        ∙ (given_values before the_after asked before apart_are (λ y i. refl) refl
-        ∙ sym (flat_of_flat (taken_by before content) demand_join_fields placed
-        ∙ (flat_alike (λ (d : PlacedDemand). flat_map (taken_by before content) (demand_join_fields d)) (λ d. flat_map (taken_from before (placed_value content d).1) (binders d.demand)) placed
-        (λ d. flat_map-map (taken_by before content) (λ x. record { variable = x; slot = d.place.slot; field = d.place.field }) (binders d.demand))
-        ∙ flat_over_placed (λ (b : AskedIf). flat_map (taken_from before b.1) (binders b.0)))))
+        pub comparisons_hold : HoldOf (compared_fields p.parts) before content
+        comparisons_hold c i = compared_is content before c (one_passes (compared content before) (compared_fields p.parts) c fields_hold.1 i)
+
+        pub choices_hold : AreOneOf (choice_fields p.parts) before content
+        choices_hold c i = chosen_is content before c (one_passes (chosen content before) (choice_fields p.parts) c (choices_are ∙ holds.1) i)
+
+      -- what the way gives
+      pub bound_is : newly_bound p.parts before the_after ≡ taken_by_all (giving_fields p.parts) before content
+      bound_is =
+          ap (flat_map (given before the_after)) (ap each_once (sym fields_are) ∙ the_names (join_fields p.parts))
+          ∙ they_take content before the_after (join_fields p.parts)
+          (over_stands content before placed asked [] before (parts_placed p.parts content single_all long) nothing_stands agrees)
 
 -- the pattern fits where the fact has its shape, and the values agree and compare so
 module _ (known : WaysAreKnown) (p : PatternValue) (f : FactValue) (before : Bindings) (e : is_decided p ≡ true) where
@@ -335,39 +321,44 @@ module _ (known : WaysAreKnown) (p : PatternValue) (f : FactValue) (before : Bin
       same_one : (a b : Bindings) → Some a ≡ Some b → a ≡ b
       same_one a b d = cc
 
-  pub fits_so : has_shape p f ≡ true → ValuesDecide p before f.content → ways p f before ≡ the_way ∷ []
-  fits_so h decide =
-      let shape = the_shape h in
+  selected : is_selected p f ≡ true → (has_shape p f ≡ true) × (all_own_hold (own_fields p.parts) f.content ≡ true)
+  selected h = and_parts (has_shape p f) (all_own_hold (own_fields p.parts) f.content) h
+
+  pub fits_so : is_selected p f ≡ true → ValuesDecide p before f.content → ways p f before ≡ the_way ∷ []
+  fits_so h (agree, hold, choose) =
+      let shape = the_shape (selected h).0 in
       let long = shape.1 in
       let after = given_over (asked_of p.parts f.content) before in
-      let is = hold_all p f.content before e long shape.2 decide in
+      let is = hold_all p f.content before e long agree shape.2 (selected h).1 hold choose in
       let one = taken_way p before (ones (constraints_in p.parts)) after in
       let there = known.listed p f (ones (constraints_in p.parts)) before after (shape.0, parts_out p.parts f.content before after (single_all p f.content before e) long is) in
       only_this (λ (w : WayValue). w.cuts) one (ways p f before) there (each_is after long is) (known.rising p f before) (not_less (ones (constraints_in p.parts)))
-      ∙ ap (λ bound. record { cuts = ones (constraints_in p.parts); bound = bound } ∷ []) (bound_is p f.content before e long)
+      ∙ ap (λ bound. record { cuts = ones (constraints_in p.parts); bound = bound } ∷ []) (bound_is p f.content before e long agree)
 
-  pub fits_only : (w : WayValue) → Contains (ways p f before) w → (has_shape p f ≡ true) × ValuesDecide p before f.content
+  pub fits_only : (w : WayValue) → Contains (ways p f before) w → (is_selected p f ≡ true) × ValuesDecide p before f.content
   fits_only w i =
       let fits = known.fitting p f before w i in
-      let took = parts_in p.parts f.content w.cuts before fits.0 (single_all p f.content before e) fits.1.1 in (
-        (known.tested p f).1 (known.shape p f w.cuts before fits.0 fits.1),
+      let took = parts_in p.parts f.content w.cuts before fits.0 (single_all p f.content before e) fits.1.1 in
+      let agree = known.agree p f before w i in (
+        and_from (has_shape p f) (all_own_hold (own_fields p.parts) f.content) ((known.tested p f).1 (known.shape p f w.cuts before fits.0 fits.1))
+            (own_hold p f.content before e took.0 agree fits.0 took.2),
         (
-          known.agree p f before w i,
-          comparisons_hold p f.content before e took.0 fits.0 took.2,
-          choices_hold p f.content before e took.0 fits.0 took.2,
+          agree,
+          comparisons_hold p f.content before e took.0 agree fits.0 took.2,
+          choices_hold p f.content before e took.0 agree fits.0 took.2,
         ),
       )
 
-  pub fits_where : (ways p f before ≢ []) ↔ ((has_shape p f ≡ true) × ValuesDecide p before f.content)
+  pub fits_where : (ways p f before ≢ []) ↔ ((is_selected p f ≡ true) × ValuesDecide p before f.content)
   fits_where = (
     λ some. by (ways p f before) refl some,
-    λ (h : (has_shape p f ≡ true) × ValuesDecide p before f.content) none. apart (sym none ∙ fits_so h.0 h.1),
+    λ (h : (is_selected p f ≡ true) × ValuesDecide p before f.content) none. apart (sym none ∙ fits_so h.0 h.1),
   )
     where
       apart : [] ≡ the_way ∷ [] → ⊥
       apart d = cc
 
-      by : (ws : List WayValue) → ways p f before ≡ ws → ws ≢ [] → (has_shape p f ≡ true) × ValuesDecide p before f.content
+      by : (ws : List WayValue) → ways p f before ≡ ws → ws ≢ [] → (is_selected p f ≡ true) × ValuesDecide p before f.content
       by [] is some = absurd (some refl)
       by (w ∷ ws) is some = fits_only w (subst (λ it. Contains it w) (sym is) (zero, omega arith, refl))
 

@@ -2,12 +2,15 @@
 use Rattle.std.proofs.Common.{◌≡◌, ℕ, pos, List, [], ◌∷◌, None, codes, true, false, refl}
 use Rattle.cb_constraints.specs.Constraints.{Check, Constraint, Test, constant, variable, predicate, each, either}
 use Rattle.cb_constraints.specs.PatternValues.{PatternValue, fields}
-use Rattle.cb_fit.specs.Comparisons.{choice_fields, compared_fields, compares, is_decided}
-use Rattle.cb_fit.specs.Plain.{is_plain}
-use Rattle.cb_fit.specs.declared.comparison.Comparison.TheVariants.{Differs, GreaterOrEqual, Less}
+use Rattle.cb_fit.specs.Comparisons.{all_own_hold, choice_fields, compared_fields, compares, is_decided, own_fields}
+use Rattle.cb_fit.specs.declared.comparison.Comparison.TheVariants.{Differs, GreaterOrEqual, Less, LessOrEqual, Same}
+use Rattle.cb_fit.specs.declared.own_field.Operand.TheVariants as operand
 use Rattle.cb_exprs.specs.Terms.{Term, no_terms, term}
 use Rattle.cb_exprs.specs.Terms as expression
+use Rattle.cb_facts.specs.Facts as fact
+use Rattle.cb_facts.specs.declared.single.Single.TheVariants as single
 use Rattle.cb_facts.specs.declared.value.Value.TheVariants as value
+use Rattle.cb_fit.specs.JoinFields.{giving_fields}
 use Rattle.cb_words.specs.declared.words.Function.{Function}
 use Rattle.cb_words.specs.declared.words.Function.TheVariants as function
 
@@ -40,18 +43,74 @@ asks f a b = is (predicate (expression.call f (term a (term b no_terms))))
 abbrev without_comparison : PatternValue
 without_comparison = of (one (is (variable w) ∷ differs red ∷ []) ∷ record { segment = false; demand = either None ((is red ∷ []) ∷ (differs red ∷ []) ∷ []) } ∷ [])
 
-plain_one : is_plain without_comparison ≡ true
-plain_one = refl
+decided_plain : is_decided without_comparison ≡ true
+decided_plain = refl
 
--- (x ?w ?w), (x $?w) and (x ~?w)
-not_plain_twice : is_plain (of (one (is (variable w) ∷ []) ∷ one (is (variable w) ∷ []) ∷ [])) ≡ false
-not_plain_twice = refl
+compares_no_other : compared_fields without_comparison.parts ≡ []
+compares_no_other = refl
 
-not_plain_segment : is_plain (of (record { segment = true; demand = each (is (variable w) ∷ []) } ∷ [])) ≡ false
-not_plain_segment = refl
+compares_no_own : own_fields without_comparison.parts ≡ []
+compares_no_own = refl
 
-not_plain_comparison : is_plain (of (one (differs (variable w) ∷ []) ∷ [])) ≡ false
-not_plain_comparison = refl
+-- (x ?w ?w): the second field is equal to the first
+abbrev twice : PatternValue
+twice = of (one (is (variable w) ∷ []) ∷ one (is (variable w) ∷ []) ∷ [])
+
+decided_twice : is_decided twice ≡ true
+decided_twice = refl
+
+own_twice : own_fields twice.parts ≡ record { place = record { slot = None; field = 1 }; comparison = Same; other = operand.Field (record { slot = None; field = 0 }) } ∷ []
+own_twice = refl
+
+-- so ?w has the value of the first
+gives_twice : giving_fields twice.parts ≡ record { variable = w; slot = None; field = 0 } ∷ []
+gives_twice = refl
+
+two_equal : all_own_hold (own_fields twice.parts) (fact.fields (single.Int (pos 1) ∷ single.Int (pos 1) ∷ [])) ≡ true
+two_equal = refl
+
+two_different : all_own_hold (own_fields twice.parts) (fact.fields (single.Int (pos 1) ∷ single.Int (pos 2) ∷ [])) ≡ false
+two_different = refl
+
+-- (x ?v ?w&:(<= ?w ?v)): the second field is not greater than the first
+abbrev not_greater : PatternValue
+not_greater = of (one (is (variable v) ∷ []) ∷ one (is (variable w) ∷ asks function.LessOrEqual (expression.variable w) (expression.variable v) ∷ []) ∷ [])
+
+decided_not_greater : is_decided not_greater ≡ true
+decided_not_greater = refl
+
+own_not_greater : own_fields not_greater.parts ≡ record { place = record { slot = None; field = 1 }; comparison = LessOrEqual; other = operand.Field (record { slot = None; field = 0 }) } ∷ []
+own_not_greater = refl
+
+no_other_not_greater : compared_fields not_greater.parts ≡ []
+no_other_not_greater = refl
+
+-- (x ~?w ?w): ?w doesn't stand before `~?w`, so the first field differs from what ?w has before the pattern
+abbrev behind : PatternValue
+behind = of (one (differs (variable w) ∷ []) ∷ one (is (variable w) ∷ []) ∷ [])
+
+decided_behind : is_decided behind ≡ true
+decided_behind = refl
+
+compares_behind : compared_fields behind.parts ≡ record { place = record { slot = None; field = 0 }; comparison = Differs; variable = w } ∷ []
+compares_behind = refl
+
+no_own_behind : own_fields behind.parts ≡ []
+no_own_behind = refl
+
+-- (x ?v ~?v): the second field differs from the first
+abbrev unlike : PatternValue
+unlike = of (one (is (variable v) ∷ []) ∷ one (differs (variable v) ∷ []) ∷ [])
+
+decided_unlike : is_decided unlike ≡ true
+decided_unlike = refl
+
+own_unlike : own_fields unlike.parts ≡ record { place = record { slot = None; field = 1 }; comparison = Differs; other = operand.Field (record { slot = None; field = 0 }) } ∷ []
+own_unlike = refl
+
+-- (x $?w)
+not_decided_segment : is_decided (of (record { segment = true; demand = each (is (variable w) ∷ []) } ∷ [])) ≡ false
+not_decided_segment = refl
 
 -- (x ?w&:(< ?w ?v)): the field is less than ?v
 abbrev least : PatternValue
@@ -95,13 +154,55 @@ decided_one_of_two = refl
 chooses_one_of_two : choice_fields one_of_two.parts ≡ record { place = record { slot = None; field = 0 }; variables = v ∷ w ∷ [] } ∷ []
 chooses_one_of_two = refl
 
--- (x ?v ~?v): what is compared stands in the pattern
-not_decided_own : is_decided (of (one (is (variable v) ∷ []) ∷ one (differs (variable v) ∷ []) ∷ [])) ≡ false
+-- (x ?v|?w ?v): an alternative stands in the pattern elsewhere
+not_decided_alternative : is_decided (of (record { segment = false; demand = either None ((is (variable v) ∷ []) ∷ (is (variable w) ∷ []) ∷ []) } ∷ one (is (variable v) ∷ []) ∷ [])) ≡ false
+not_decided_alternative = refl
+
+-- (x ?v&~?v): the field is compared with its own variable
+not_decided_own : is_decided (of (one (is (variable v) ∷ differs (variable v) ∷ []) ∷ [])) ≡ false
 not_decided_own = refl
 
--- (x ?w&:(< ?w 3)) and (x ?w&:(< ?v ?v)): no comparison of the field with a variable
-not_decided_constant : is_decided (of (one (is (variable w) ∷ asks function.Less (expression.variable w) (expression.constant (value.Int (pos 3))) ∷ []) ∷ [])) ≡ false
-not_decided_constant = refl
+-- (x ?v&?v): the field is equal to itself
+within_one : is_decided (of (one (is (variable v) ∷ is (variable v) ∷ []) ∷ [])) ≡ true
+within_one = refl
+
+no_own_within_one : own_fields (of (one (is (variable v) ∷ is (variable v) ∷ []) ∷ [])).parts ≡ []
+no_own_within_one = refl
+
+-- (x ?v ?w&?v): two variables of one field, of which one stands before
+abbrev both_names : PatternValue
+both_names = of (one (is (variable v) ∷ []) ∷ one (is (variable w) ∷ is (variable v) ∷ []) ∷ [])
+
+own_both_names : own_fields both_names.parts ≡ record { place = record { slot = None; field = 1 }; comparison = Same; other = operand.Field (record { slot = None; field = 0 }) } ∷ []
+own_both_names = refl
+
+-- (x ?w&:(< ?w 3)): the field is less than a constant
+abbrev less_than_three : PatternValue
+less_than_three = of (one (is (variable w) ∷ asks function.Less (expression.variable w) (expression.constant (value.Int (pos 3))) ∷ []) ∷ [])
+
+decided_constant : is_decided less_than_three ≡ true
+decided_constant = refl
+
+own_constant : own_fields less_than_three.parts ≡ record { place = record { slot = None; field = 0 }; comparison = Less; other = operand.Constant (value.Int (pos 3)) } ∷ []
+own_constant = refl
+
+no_other_constant : compared_fields less_than_three.parts ≡ []
+no_other_constant = refl
+
+two_is_less : all_own_hold (own_fields less_than_three.parts) (fact.fields (single.Int (pos 2) ∷ [])) ≡ true
+two_is_less = refl
+
+three_is_not : all_own_hold (own_fields less_than_three.parts) (fact.fields (single.Int (pos 3) ∷ [])) ≡ false
+three_is_not = refl
+
+-- (x ?w&:(<= 3 ?w)): the constant stands first
+own_turned : own_fields (of (one (is (variable w) ∷ asks function.LessOrEqual (expression.constant (value.Int (pos 3))) (expression.variable w) ∷ []) ∷ [])).parts
+    ≡ record { place = record { slot = None; field = 0 }; comparison = GreaterOrEqual; other = operand.Constant (value.Int (pos 3)) } ∷ []
+own_turned = refl
+
+-- (x ?w&:(< ?v 3)) and (x ?w&:(< ?v ?v)): no comparison of the field
+not_decided_other : is_decided (of (one (is (variable w) ∷ asks function.Less (expression.variable v) (expression.constant (value.Int (pos 3))) ∷ []) ∷ [])) ≡ false
+not_decided_other = refl
 
 not_decided_elsewhere : is_decided (of (one (is (variable w) ∷ asks function.Less (expression.variable v) (expression.variable v) ∷ []) ∷ [])) ≡ false
 not_decided_elsewhere = refl

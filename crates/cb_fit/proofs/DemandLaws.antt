@@ -9,8 +9,8 @@ use Rattle.cb_constraints.specs.Binders.{binder, binders, binders_of}
 use Rattle.cb_constraints.specs.Constraints.{Test, constant, variable, predicate, return_value, Check, Demand, nothing, each, either}
 use Rattle.cb_constraints.specs.Holding.{after_demand, check_holds, constant_holds, constants_hold, may_hold, one_holds, provided}
 use Rattle.cb_constraints.specs.Internal.Known.{given_to, given_to_all}
-use Rattle.cb_fit.proofs.CheckLaws.{agree_one, agrees_still, alike, are_others, checks_claim, in_turn, values_hold, variable_step}
-use Rattle.cb_fit.specs.Comparisons.{choices, choices_of, compared_checks, comparisons, is_decided_demand, is_one_variable, is_variable}
+use Rattle.cb_fit.proofs.CheckLaws.{agree_one, agrees_still, alike, are_others, checks_claim, in_turn, limits_hold, values_hold, variable_step}
+use Rattle.cb_fit.specs.Comparisons.{choices, choices_of, compared_checks, comparisons, is_decided_demand, is_one_variable, is_variable, limited_checks, limits}
 use Rattle.cb_exprs.specs.Bindings.{Bindings}
 use Rattle.cb_facts.specs.declared.value.Value.{Value}
 use Rattle.cb_fit.specs.StandsAlone.{are_constants}
@@ -21,18 +21,19 @@ choose_one v env names = list_any (agree_one v env) names
 
 -- what is asked of a field holds of its value where the constants, the variables, the comparisons and the alternatives do
 abbrev pub demand_holds : Demand → Value → Bindings → Bool
-demand_holds d v env = values_hold (may_hold d v) (binders d) (comparisons d) v env && list_all (choose_one v env) (choices d)
+demand_holds d v env = values_hold (may_hold d v && limits_hold v (limits d)) (binders d) (comparisons d) v env && list_all (choose_one v env) (choices d)
 
 and_true : (t : Bool) → t && true ≡ t
 and_true true = refl
 and_true false = refl
 
-alone : (t l : Bool) → t && l ≡ (t && (true && true)) && l
+alone : (t l : Bool) → t && l ≡ ((t && true) && (true && true)) && l
 alone true l = refl
 alone false l = refl
 
-set_apart : (g k l : Bool) → g && (k && l) ≡ (k && ((g && true) && true)) && l
-set_apart true k l = ap (λ t. t && l) (sym (and_true k))
+set_apart : (g k l : Bool) → g && (k && l) ≡ ((k && true) && ((g && true) && true)) && l
+set_apart true true l = refl
+set_apart true false l = refl
 set_apart false true l = refl
 set_apart false false l = refl
 
@@ -90,7 +91,7 @@ pub demand_claim : (d : Demand) (v : Value) (env : Bindings) → is_decided_dema
     → after_demand d v env ≡ provided (demand_holds d v env) (given_to_all (binders d) v env)
 demand_claim nothing v env e others = refl
 demand_claim (each cs) v env e others =
-    checks_claim cs [] v env e (λ y i. absurd (cc)) others ∙ ap (λ t. provided t (given_to_all (binders_of cs) v env)) (sym (and_true (values_hold (constants_hold v cs) (binders_of cs) (compared_checks [] cs) v env)))
+    checks_claim cs [] v env e (λ y i. absurd (cc)) others ∙ ap (λ t. provided t (given_to_all (binders_of cs) v env)) (sym (and_true (values_hold (constants_hold v cs && limits_hold v (limited_checks [] cs)) (binders_of cs) (compared_checks [] cs) v env)))
 demand_claim (either None alternatives) v env e others =
     let chosen = list_all (choose_one v env) (choices (either None alternatives)) in
     ap (λ t. provided t env) (alternatives_hold (list_all are_constants alternatives) alternatives v env refl e ∙ alone (may_hold (either None alternatives) v) chosen)

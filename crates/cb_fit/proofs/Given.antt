@@ -13,7 +13,7 @@ use Rattle.cb_facts.specs.declared.value.Value.{Value}
 abbrev pub if_so : Bool → Value → Option Value
 if_so b v = cond b (Some v) None
 
-or_none : (o : Option Value) → option_or o None ≡ o
+pub or_none : (o : Option Value) → option_or o None ≡ o
 or_none None = refl
 or_none (Some w) = refl
 
@@ -59,11 +59,3 @@ others_keep y xs v env e = after_several y xs v env ∙ (ap (λ b. option_or (va
 
 pub other_keeps : (y x : List ℕ) (v : Value) (env : Bindings) → bytes_eq y x ≡ false → value_at y (given_to x v env).variables ≡ value_at y env.variables
 other_keeps y x v env e = after_one y x v env ∙ (ap (λ b. option_or (value_at y env.variables) (if_so b v)) e ∙ or_none (value_at y env.variables))
-
--- one of them has its own or this
-pub one_has : (y : List ℕ) (xs : List (List ℕ)) (v : Value) (env : Bindings) → is_named y xs ≡ true → value_at y (given_to_all xs v env).variables ≡ option_or (value_at y env.variables) (Some v)
-one_has y xs v env e = after_several y xs v env ∙ ap (λ b. option_or (value_at y env.variables) (if_so b v)) e
-
--- one with a value keeps it
-pub with_value_keeps : (y x : List ℕ) (v w : Value) (env : Bindings) → value_at y env.variables ≡ Some w → value_at y (given_to x v env).variables ≡ Some w
-with_value_keeps y x v w env e = after_one y x v env ∙ ap (λ o. option_or o (if_so (bytes_eq y x) v)) e

@@ -13,7 +13,9 @@ mod DecidedExamples
 mod DemandLaws
 mod Enough
 mod Examples
+mod FirstFields
 mod Given
+mod Givers
 mod Givings
 mod Groups
 mod Having
@@ -27,12 +29,13 @@ mod Members
 mod Numbers
 mod Ones
 mod Parted
+mod Passed
 mod PlacedFields
 mod Places
-mod Plain
 mod Related
 mod Rows
 mod Segments
+mod Selected
 mod ShapeKeys
 pub mod ShapeOrder
 mod ShapeTested

@@ -1,14 +1,14 @@
 -- Tests of all members of a list, names among others, and lists with one member.
-use Rattle.std.proofs.Common.{arith, ◌≡◌, ◌≢◌, ◌∙◌, ◌&&◌, ◌||◌, ◌++◌, ℕ, zero, suc, Bool, true, false, not, Contains, List, [], ◌∷◌, Option, Some, None, ap, ap₂, refl, subst, sym}
-use Rattle.std.proofs.lemmas.Bool.{and_from, and_parts, both_ways, not-true}
+use Rattle.std.proofs.Common.{arith, ◌≡◌, ◌≢◌, ◌∙◌, ◌&&◌, ◌||◌, ◌++◌, ℕ, zero, suc, Bool, true, false, Contains, List, [], ◌∷◌, Option, Some, None, ap, ap₂, refl, sym}
+use Rattle.std.proofs.lemmas.Bool.{and_from, and_parts}
 use Rattle.std.proofs.lemmas.List.Folds.{list_all-append, list_any-append}
-use Rattle.std.specs.Cmp.Lexicographic.{bytes_decides, slice_cmp}
+use Rattle.std.specs.Cmp.Lexicographic.{slice_cmp}
 use Rattle.std.specs.List.{AllPairs, flat_map, list_all}
 use Rattle.std.specs.Option.{option_and_then}
 use Rattle.std.specs.Ordering.{nat_cmp}
 use Rattle.std.specs.Str.{bytes_eq}
 use Rattle.std.specs.declared.cmp.Ordering.TheVariants.{Less}
-use Rattle.cb_fit.specs.Plain.{are_apart, is_named}
+use Rattle.cb_fit.specs.Plain.{is_named}
 
 -- what holds of each member holds of all
 pub all_pass : {X : Type 0} (t : X → Bool) (xs : List X) → ((x : X) → Contains xs x → t x ≡ true) → list_all t xs ≡ true
@@ -50,18 +50,3 @@ behind y xs ys e = named_append y xs ys ∙ (ap (λ b. is_named y xs || b) e ∙
     or_true : (b : Bool) → b || true ≡ true
     or_true true = refl
     or_true false = refl
-
--- of names that are apart, one behind is not in front
-pub apart_behind : (xs ys : List (List ℕ)) → are_apart (xs ++ ys) ≡ true → are_apart ys ≡ true
-apart_behind [] ys e = e
-apart_behind (x ∷ xs) ys e = apart_behind xs ys (and_parts (not (is_named x (xs ++ ys))) (are_apart (xs ++ ys)) e).1
-
-pub not_in_front : (xs ys : List (List ℕ)) (y : List ℕ) → are_apart (xs ++ ys) ≡ true → is_named y ys ≡ true → is_named y xs ≡ false
-not_in_front [] ys y e i = refl
-not_in_front (x ∷ xs) ys y e i =
-    let both = and_parts (not (is_named x (xs ++ ys))) (are_apart (xs ++ ys)) e in
-    by (bytes_eq y x) (bytes_decides y x).0 (not-true (is_named x (xs ++ ys)) both.0) (not_in_front xs ys y both.1 i)
-  where
-    by : (b : Bool) → (b ≡ true → y ≡ x) → is_named x (xs ++ ys) ≡ false → is_named y xs ≡ false → b || is_named y xs ≡ false
-    by true same away more = absurd (both_ways (is_named x (xs ++ ys)) away (behind x xs ys (subst (λ z. is_named z ys ≡ true) (same refl) i)))
-    by false same away more = more

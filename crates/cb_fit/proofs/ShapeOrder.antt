@@ -6,15 +6,33 @@ use Rattle.std.specs.Cmp.{first_so, second_so, tied_itself}
 use Rattle.std.specs.Cmp.Lexicographic.{pointwise, pointwise_decides, bytes_decides}
 use Rattle.std.specs.Cmp.Rules.{hashing}
 use Rattle.cb_facts.proofs.Equality.{value-Decides}
+use Rattle.cb_fit.specs.contracts.own_field.OperandPartialEq.TheImpl as operand_eq
 use Rattle.cb_fit.specs.contracts.pieces.PiecePartialEq.TheImpl as piece_eq
 use Rattle.cb_fit.specs.contracts.shape.ShapeOrd.TheImpl as shape_ord
 use Rattle.cb_fit.specs.contracts.shape.ShapeOrd.TheImpl.Laws as shape_laws
 use Rattle.cb_fit.specs.contracts.shape.ShapePartialEq.TheImpl as shape_eq
+use Rattle.cb_fit.specs.declared.own_field.Operand.{Operand}
+use Rattle.cb_fit.specs.declared.own_field.Operand.TheVariants as operand
 use Rattle.cb_fit.specs.declared.pieces.Piece.{Piece}
 use Rattle.cb_fit.specs.declared.pieces.Piece.TheVariants as piece
 use Rattle.cb_fit.specs.declared.shape.Shape.{Shape}
 
+operand-Decides : (a b : Operand) → Decides (operand_eq.ghosts.eq a b) (a ≡ b)
+operand-Decides (operand.Field a) (operand.Field b) = search (hashing, rules)
+operand-Decides (operand.Field a) (operand.Constant w) = search (hashing, rules)
+operand-Decides (operand.Constant v) (operand.Field b) = search (hashing, rules)
+operand-Decides (operand.Constant v) (operand.Constant w) = search (hashing, rules, value-Decides v w)
+
 piece-Decides : (p q : Piece) → Decides (piece_eq.ghosts.eq p q) (p ≡ q)
+piece-Decides (piece.Own f) (piece.Own g) = search (hashing, rules, operand-Decides f.other g.other)
+piece-Decides (piece.Own f) piece.Ordered = search (hashing, rules)
+piece-Decides (piece.Own f) (piece.Slot m j) = search (hashing, rules)
+piece-Decides (piece.Own f) (piece.Wildcard t) = search (hashing, rules)
+piece-Decides (piece.Own f) (piece.Each t) = search (hashing, rules)
+piece-Decides (piece.Own f) (piece.Either t) = search (hashing, rules)
+piece-Decides (piece.Own f) piece.Alternative = search (hashing, rules)
+piece-Decides (piece.Own f) (piece.Constant m w) = search (hashing, rules)
+piece-Decides piece.Ordered (piece.Own g) = search (hashing, rules)
 piece-Decides piece.Ordered piece.Ordered = search (hashing, rules)
 piece-Decides piece.Ordered (piece.Slot m j) = search (hashing, rules)
 piece-Decides piece.Ordered (piece.Wildcard t) = search (hashing, rules)
@@ -22,6 +40,7 @@ piece-Decides piece.Ordered (piece.Each t) = search (hashing, rules)
 piece-Decides piece.Ordered (piece.Either t) = search (hashing, rules)
 piece-Decides piece.Ordered piece.Alternative = search (hashing, rules)
 piece-Decides piece.Ordered (piece.Constant m w) = search (hashing, rules)
+piece-Decides (piece.Slot n i) (piece.Own g) = search (hashing, rules)
 piece-Decides (piece.Slot n i) piece.Ordered = search (hashing, rules)
 piece-Decides (piece.Slot n i) (piece.Slot m j) = search (hashing, rules)
 piece-Decides (piece.Slot n i) (piece.Wildcard t) = search (hashing, rules)
@@ -29,6 +48,7 @@ piece-Decides (piece.Slot n i) (piece.Each t) = search (hashing, rules)
 piece-Decides (piece.Slot n i) (piece.Either t) = search (hashing, rules)
 piece-Decides (piece.Slot n i) piece.Alternative = search (hashing, rules)
 piece-Decides (piece.Slot n i) (piece.Constant m w) = search (hashing, rules)
+piece-Decides (piece.Wildcard s) (piece.Own g) = search (hashing, rules)
 piece-Decides (piece.Wildcard s) piece.Ordered = search (hashing, rules)
 piece-Decides (piece.Wildcard s) (piece.Slot m j) = search (hashing, rules)
 piece-Decides (piece.Wildcard s) (piece.Wildcard t) = search (hashing, rules)
@@ -36,6 +56,7 @@ piece-Decides (piece.Wildcard s) (piece.Each t) = search (hashing, rules)
 piece-Decides (piece.Wildcard s) (piece.Either t) = search (hashing, rules)
 piece-Decides (piece.Wildcard s) piece.Alternative = search (hashing, rules)
 piece-Decides (piece.Wildcard s) (piece.Constant m w) = search (hashing, rules)
+piece-Decides (piece.Each s) (piece.Own g) = search (hashing, rules)
 piece-Decides (piece.Each s) piece.Ordered = search (hashing, rules)
 piece-Decides (piece.Each s) (piece.Slot m j) = search (hashing, rules)
 piece-Decides (piece.Each s) (piece.Wildcard t) = search (hashing, rules)
@@ -43,6 +64,7 @@ piece-Decides (piece.Each s) (piece.Each t) = search (hashing, rules)
 piece-Decides (piece.Each s) (piece.Either t) = search (hashing, rules)
 piece-Decides (piece.Each s) piece.Alternative = search (hashing, rules)
 piece-Decides (piece.Each s) (piece.Constant m w) = search (hashing, rules)
+piece-Decides (piece.Either s) (piece.Own g) = search (hashing, rules)
 piece-Decides (piece.Either s) piece.Ordered = search (hashing, rules)
 piece-Decides (piece.Either s) (piece.Slot m j) = search (hashing, rules)
 piece-Decides (piece.Either s) (piece.Wildcard t) = search (hashing, rules)
@@ -50,6 +72,7 @@ piece-Decides (piece.Either s) (piece.Each t) = search (hashing, rules)
 piece-Decides (piece.Either s) (piece.Either t) = search (hashing, rules)
 piece-Decides (piece.Either s) piece.Alternative = search (hashing, rules)
 piece-Decides (piece.Either s) (piece.Constant m w) = search (hashing, rules)
+piece-Decides piece.Alternative (piece.Own g) = search (hashing, rules)
 piece-Decides piece.Alternative piece.Ordered = search (hashing, rules)
 piece-Decides piece.Alternative (piece.Slot m j) = search (hashing, rules)
 piece-Decides piece.Alternative (piece.Wildcard t) = search (hashing, rules)
@@ -57,6 +80,7 @@ piece-Decides piece.Alternative (piece.Each t) = search (hashing, rules)
 piece-Decides piece.Alternative (piece.Either t) = search (hashing, rules)
 piece-Decides piece.Alternative piece.Alternative = search (hashing, rules)
 piece-Decides piece.Alternative (piece.Constant m w) = search (hashing, rules)
+piece-Decides (piece.Constant n v) (piece.Own g) = search (hashing, rules)
 piece-Decides (piece.Constant n v) piece.Ordered = search (hashing, rules)
 piece-Decides (piece.Constant n v) (piece.Slot m j) = search (hashing, rules)
 piece-Decides (piece.Constant n v) (piece.Wildcard t) = search (hashing, rules)

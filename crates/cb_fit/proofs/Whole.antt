@@ -1,36 +1,43 @@
 -- All that a pattern asks, decided by values.
-use Rattle.std.proofs.Common.{arith, ◌≡◌, ◌∙◌, ◌&&◌, ◌||◌, ℕ, zero, suc, Bool, true, false, cond, not, Contains, List, [], ◌∷◌, ◌++◌, Option, Some, None, ap, ap₂, filter, flat_map, refl, sym}
+use Rattle.std.proofs.Common.{arith, ◌≡◌, ◌∙◌, ◌&&◌, ◌||◌, ℕ, zero, suc, Bool, true, false, Contains, List, [], ◌∷◌, ◌++◌, Some, ap, ap₂, flat_map, map, refl, subst, sym}
 use Rattle.std.proofs.lemmas.Bool.{and_parts, both_ways, not-true}
-use Rattle.std.proofs.lemmas.Grind.{flat_map-append}
+use Rattle.std.proofs.lemmas.List.{append-nil, append_assoc}
+use Rattle.std.proofs.lemmas.List.Folds.{list_all-append}
 use Rattle.std.specs.Cmp.Lexicographic.{bytes_decides}
 use Rattle.std.specs.List.{list_all, list_any}
-use Rattle.std.specs.Option.{option_and_then, option_map_or, option_or}
+use Rattle.std.specs.Option.{option_and_then, option_map_or}
 use Rattle.std.specs.Str.{bytes_eq}
 use Rattle.cb_constraints.specs.Binders.{binders}
-use Rattle.cb_constraints.specs.Bound.{each_once, given, given_if}
 use Rattle.cb_constraints.specs.Constraints.{Demand}
 use Rattle.cb_constraints.specs.Holding.{may_hold, provided}
 use Rattle.cb_constraints.specs.Internal.Known.{given_to_all}
 use Rattle.cb_fit.proofs.Asked.{Asked, after_all}
-use Rattle.cb_fit.proofs.CheckLaws.{agree_one, alike_where, are_others, compare_one, in_turn, values_hold, weaker}
-use Rattle.cb_fit.proofs.Compared.{compares_known}
+use Rattle.cb_fit.proofs.CheckLaws.{agree_one, alike_where, are_others, in_turn}
 use Rattle.cb_fit.proofs.DemandLaws.{choose_one, demand_claim, demand_holds}
-use Rattle.cb_fit.proofs.Given.{one_has, others_keep}
-use Rattle.cb_fit.proofs.Members.{all_pass, apart_behind, behind, in_front, named_append, not_in_front}
-use Rattle.cb_fit.specs.Comparisons.{WithVariable, choices, comparisons, is_decided_demand, is_other}
-use Rattle.cb_fit.specs.Plain.{are_apart, is_named}
+use Rattle.cb_fit.proofs.Given.{others_keep}
+use Rattle.cb_fit.proofs.Members.{behind, in_front}
+use Rattle.cb_fit.proofs.Passed.{HasField, Stands, at_left, compared, compared_hold, in_pairs, limited_hold, repeated_hold, stands_still}
+use Rattle.cb_fit.proofs.PlacedFields.{AskedIf, placed_value, with_a_value}
+use Rattle.cb_fit.specs.Comparisons.{choices, compared_at, compared_from, comparisons, is_decided_demand, is_other, limits, own_compared_at, own_fields_at, own_fields_from, own_holds, own_limits_at, repeated_at, with_others}
+use Rattle.cb_fit.specs.FieldPlaces.{PlacedDemand}
+use Rattle.cb_fit.specs.JoinFields.{demand_join_fields, fields_for}
+use Rattle.cb_fit.specs.Plain.{is_named}
+use Rattle.cb_fit.specs.declared.field_place.FieldPlace.{FieldPlace}
+use Rattle.cb_fit.specs.declared.join_fields.JoinField.{JoinField}
 use Rattle.cb_exprs.specs.Bindings.{Bindings, value_at}
+use Rattle.cb_facts.specs.Facts.{FactContent}
 use Rattle.cb_facts.specs.declared.value.Value.{Value}
 use Rattle.cb_functions.specs.Comparison.{same}
 
--- the variables and the comparisons of all that is asked
+-- the variables of all that is asked
 abbrev pub names_of : Asked → List (List ℕ)
 names_of [] = []
 names_of (a ∷ more) = binders a.0 ++ names_of more
 
--- all of it holds, by the values that variables have before
-abbrev pub all_hold : Asked → Bindings → Bool
-all_hold asked before = list_all (λ (a : Demand × Value). demand_holds a.0 a.1 before) asked
+-- all of it holds, each by what variables have after what was asked before
+abbrev pub in_sequence : Asked → Bindings → Bool
+in_sequence [] env = true
+in_sequence (a ∷ more) env = demand_holds a.0 a.1 env && in_sequence more (given_to_all (binders a.0) a.1 env)
 
 -- what variables have after it
 abbrev pub given_over : Asked → Bindings → Bindings
@@ -41,15 +48,20 @@ given_over (a ∷ more) env = given_over more (given_to_all (binders a.0) a.1 en
 abbrev pub are_all_others : List (List ℕ) → List (List (List ℕ)) → Bool
 are_all_others names sets = list_all (λ xs. list_all (is_other names) xs) sets
 
--- each constraint is decided, and compares with other variables than these
-abbrev pub are_decided : List (List ℕ) → Asked → Bool
-are_decided names asked = list_all (λ (a : Demand × Value). is_decided_demand a.0 && (are_others names (comparisons a.0) && are_all_others names (choices a.0))) asked
+-- a constraint is decided, and compares with other variables than its own
+abbrev pub decides : Demand × Value → Bool
+decides a = is_decided_demand a.0 && are_others (binders a.0) (comparisons a.0)
 
--- these variables have what they have before
-abbrev pub KeepNamed : List (List ℕ) → Bindings → Bindings → Type 0
-KeepNamed names before env = (y : List ℕ) → is_named y names ≡ true → value_at y env.variables ≡ value_at y before.variables
+pub whole : (asked : Asked) (env : Bindings) → list_all decides asked ≡ true → after_all asked env ≡ provided (in_sequence asked env) (given_over asked env)
+whole [] env e = refl
+whole (a ∷ more) env e =
+    let both = and_parts (decides a) (list_all decides more) e in
+    let first = and_parts (is_decided_demand a.0) (are_others (binders a.0) (comparisons a.0)) both.0 in
+    let env' = given_to_all (binders a.0) a.1 env in
+    ap (option_and_then (after_all more)) (demand_claim a.0 a.1 env first.0 first.1)
+    ∙ in_turn (demand_holds a.0 a.1 env) (in_sequence more env') (after_all more) env' (given_over more env') (λ g. whole more env' both.1)
 
--- and those that aren't these
+-- the variables that aren't these have what they have before
 abbrev pub KeepOthers : List (List ℕ) → Bindings → Bindings → Type 0
 KeepOthers names before env = (y : List ℕ) → is_named y names ≡ false → value_at y env.variables ≡ value_at y before.variables
 
@@ -66,128 +78,143 @@ named_contained (y ∷ ys) x (suc k, lt, is) = later (bytes_eq x y) (named_conta
     later true e = refl
     later false e = e
 
-pub all_named : (xs : List (List ℕ)) → list_all (λ x. is_named x xs) xs ≡ true
-all_named xs = all_pass (λ x. is_named x xs) xs (named_contained xs)
-
-away : (names xs : List (List ℕ)) (y : List ℕ) → AreWithin xs names → not (is_named y names) ≡ true → is_named y xs ≡ false
+away : (names xs : List (List ℕ)) (y : List ℕ) → AreWithin xs names → is_named y names ≡ false → is_named y xs ≡ false
 away names xs y within e = by (is_named y xs) refl
   where
     by : (b : Bool) → is_named y xs ≡ b → b ≡ false
     by false is = refl
-    by true is = absurd (both_ways (is_named y names) (not-true (is_named y names) e) (within y is))
+    by true is = absurd (both_ways (is_named y names) e (within y is))
 
 -- two tests say the same of all for which a third holds
 any_where : {X : Type 0} (s t u : X → Bool) (xs : List X) → ((x : X) → s x ≡ true → t x ≡ u x) → list_all s xs ≡ true → list_any t xs ≡ list_any u xs
 any_where s t u [] h e = refl
 any_where s t u (x ∷ xs) h e = let both = and_parts (s x) (list_all s xs) e in ap₂ (λ a b. a || b) (h x both.0) (any_where s t u xs h both.1)
 
--- what one constraint asks, by what variables have before
-module _ (names : List (List ℕ)) (d : Demand) (v : Value) (before env : Bindings) (rest : KeepOthers names before env) where
-  agrees_so : (x : List ℕ) → value_at x env.variables ≡ value_at x before.variables → agree_one v env x ≡ agree_one v before x
-  agrees_so x e = ap (λ o. option_map_or (same v) o true) e
+-- alternatives that are other variables hold as before
+choices_so : (names : List (List ℕ)) (sets : List (List (List ℕ))) (v : Value) (before env : Bindings) → KeepOthers names before env → are_all_others names sets ≡ true
+    → list_all (choose_one v env) sets ≡ list_all (choose_one v before) sets
+choices_so names sets v before env rest others =
+    alike_where (λ xs. list_all (is_other names) xs) (choose_one v env) (choose_one v before) sets
+    (λ xs i. any_where (is_other names) (agree_one v env) (agree_one v before) xs (λ x j. ap (λ o. option_map_or (same v) o true) (rest x (not-true (is_named x names) j))) i) others
 
-  values_so : are_others names (comparisons d) ≡ true → KeepNamed (binders d) before env → values_hold (may_hold d v) (binders d) (comparisons d) v env ≡ values_hold (may_hold d v) (binders d) (comparisons d) v before
-  values_so others own =
-      ap₂ (λ a b. may_hold d v && (a && b))
-      (alike_where (λ x. is_named x (binders d)) (agree_one v env) (agree_one v before) (binders d) (λ x i. agrees_so x (own x i)) (all_named (binders d)))
-      (alike_where (λ (c : WithVariable). not (is_named c.1 names)) (compare_one v env) (compare_one v before) (comparisons d)
-      (λ c i. ap (compares_known c.0 v) (rest c.1 (not-true (is_named c.1 names) i))) others)
+heads : {X : Type 0} (x y : X) (xs ys : List X) → x ∷ xs ≡ y ∷ ys → (x ≡ y) × (xs ≡ ys)
+heads x y xs ys e = (cc, cc)
 
-  choices_so : are_all_others names (choices d) ≡ true → list_all (choose_one v env) (choices d) ≡ list_all (choose_one v before) (choices d)
-  choices_so others =
-      alike_where (λ xs. list_all (is_other names) xs) (choose_one v env) (choose_one v before) (choices d)
-      (λ xs i. any_where (is_other names) (agree_one v env) (agree_one v before) xs (λ x j. agrees_so x (rest x (not-true (is_named x names) j))) i) others
+with_limits : (m l r k : Bool) → (m && l) && (r && k) ≡ m && ((l && r) && k)
+with_limits true true r k = refl
+with_limits true false r k = refl
+with_limits false l r k = refl
 
-  demand_so : are_others names (comparisons d) && are_all_others names (choices d) ≡ true → KeepNamed (binders d) before env → demand_holds d v env ≡ demand_holds d v before
-  demand_so others own =
-      let both = and_parts (are_others names (comparisons d)) (are_all_others names (choices d)) others in
-      ap₂ (λ a b. a && b) (values_so both.0 own) (choices_so both.1)
+some_is : (b : AskedIf) (a : Demand × Value) → b ≡ with_a_value a → (b.0 ≡ a.0) × (b.1 ≡ Some a.1)
+some_is b a is = (ap (λ (c : AskedIf). c.0) is, ap (λ (c : AskedIf). c.1) is)
 
-pub whole : (names : List (List ℕ)) (before : Bindings) (asked : Asked) (env : Bindings) → are_decided names asked ≡ true → are_apart (names_of asked) ≡ true → AreWithin (names_of asked) names
-    → KeepNamed (names_of asked) before env → KeepOthers names before env
-    → after_all asked env ≡ provided (all_hold asked before) (given_over asked env)
-whole names before [] env e apart within keep rest = refl
-whole names before (a ∷ more) env e apart within keep rest =
-    let own = binders a.0 in
-    let both = and_parts (is_decided_demand a.0 && (are_others names (comparisons a.0) && are_all_others names (choices a.0))) (are_decided names more) e in
-    let first = and_parts (is_decided_demand a.0) (are_others names (comparisons a.0) && are_all_others names (choices a.0)) both.0 in
-    let own_within : AreWithin own names = λ y i. within y (in_front y own (names_of more) i) in
-    let others : are_others own (comparisons a.0) ≡ true =
-    weaker (λ (c : WithVariable). not (is_named c.1 names)) (λ (c : WithVariable). not (is_named c.1 own)) (comparisons a.0) (λ c i. ap not (away names own c.1 own_within i))
-    (and_parts (are_others names (comparisons a.0)) (are_all_others names (choices a.0)) first.1).0 in
-    let env' = given_to_all own a.1 env in
-    let next = whole names before more env' both.1 (apart_behind own (names_of more) apart) (λ y i. within y (behind y own (names_of more) i))
-    (λ y i. others_keep y own a.1 env (not_in_front own (names_of more) y apart i) ∙ keep y (behind y own (names_of more) i))
-    (λ y i. others_keep y own a.1 env (away names own y own_within (ap not i)) ∙ rest y i) in
-    ap (option_and_then (after_all more)) (demand_claim a.0 a.1 env first.0 others)
-    ∙ (in_turn (demand_holds a.0 a.1 env) (all_hold more before) (after_all more) env' (given_over more env') (λ g. next)
-    ∙ ap (λ g. provided (g && all_hold more before) (given_over more env'))
-    (demand_so names a.0 a.1 before env rest first.1 (λ y i. keep y (in_front y own (names_of more) i))))
+module _ (content : FactContent) (before : Bindings) where
+  -- all that is asked of one field
+  abbrev pub may_of : Demand × Value → Bool
+  may_of a = may_hold a.0 a.1
 
--- names that are apart stand once each
-no_other : (x : List ℕ) (ys : List (List ℕ)) → is_named x ys ≡ false → filter (λ y. not (bytes_eq x y)) ys ≡ ys
-no_other x [] e = refl
-no_other x (y ∷ ys) e = by (no_other x ys) (bytes_eq x y) e
-  where
-    by : (is_named x ys ≡ false → filter (λ z. not (bytes_eq x z)) ys ≡ ys) → (b : Bool) → b || is_named x ys ≡ false
-        → cond (not b) (y ∷ filter (λ z. not (bytes_eq x z)) ys) (filter (λ z. not (bytes_eq x z)) ys) ≡ y ∷ ys
-    by more true d = absurd (cc)
-    by more false d = ap (λ zs. y ∷ zs) (more d)
+  abbrev pub agree_of : Demand × Value → Bool
+  agree_of a = list_all (agree_one a.1 before) (binders a.0)
 
-pub once : (xs : List (List ℕ)) → are_apart xs ≡ true → each_once xs ≡ xs
-once [] e = refl
-once (x ∷ xs) e =
-    let both = and_parts (not (is_named x xs)) (are_apart xs) e in
-    ap (λ ys. x ∷ filter (λ y. not (bytes_eq x y)) ys) (once xs both.1) ∙ ap (λ ys. x ∷ ys) (no_other x xs (not-true (is_named x xs) both.0))
+  abbrev pub choose_of : Demand × Value → Bool
+  choose_of a = list_all (choose_one a.1 before) (choices a.0)
 
--- those that one constraint gives a value
-flat_where : {Y : Type 0} (names : List (List ℕ)) (f g : List ℕ → List Y) (xs : List (List ℕ)) → ((x : List ℕ) → is_named x names ≡ true → f x ≡ g x) → list_all (λ x. is_named x names) xs ≡ true
-    → flat_map f xs ≡ flat_map g xs
-flat_where names f g [] h e = refl
-flat_where names f g (x ∷ xs) h e = let both = and_parts (is_named x names) (list_all (λ y. is_named y names) xs) e in ap₂ (λ a b. a ++ b) (h x both.0) (flat_where names f g xs h both.1)
+  -- the fields that are compared with one another, and with other variables
+  abbrev pub all_own : List JoinField → List PlacedDemand → Bool
+  all_own js ds = list_all (own_holds content) (own_fields_from js ds)
 
--- a variable that has no value takes that of its field
-abbrev pub taken_from : Bindings → Option Value → List ℕ → List (List ℕ × Value)
-taken_from before o x = given_if x (value_at x before.variables) o
+  abbrev pub all_compared : List JoinField → List PlacedDemand → Bool
+  all_compared js ds = list_all (compared content before) (compared_from js ds)
 
-not_behind : (xs ys : List (List ℕ)) (y : List ℕ) → are_apart (xs ++ ys) ≡ true → is_named y xs ≡ true → is_named y ys ≡ false
-not_behind xs ys y e i = by (is_named y ys) refl
-  where
-    by : (b : Bool) → is_named y ys ≡ b → b ≡ false
-    by false is = refl
-    by true is = absurd (both_ways (is_named y xs) (not_in_front xs ys y e is) i)
+  -- what is asked of these places is this
+  abbrev pub AreAt : List PlacedDemand → Asked → Type 0
+  AreAt ds asked = map (placed_value content) ds ≡ map with_a_value asked
 
-over_keeps : (asked : Asked) (env : Bindings) (y : List ℕ) → is_named y (names_of asked) ≡ false → value_at y (given_over asked env).variables ≡ value_at y env.variables
-over_keeps [] env y e = refl
-over_keeps (a ∷ more) env y e =
-    let none = neither (is_named y (binders a.0)) (is_named y (names_of more)) (sym (named_append y (binders a.0) (names_of more)) ∙ e) in
-    over_keeps more (given_to_all (binders a.0) a.1 env) y none.1 ∙ others_keep y (binders a.0) a.1 env none.0
-  where
-    neither : (s t : Bool) → s || t ≡ false → (s ≡ false) × (t ≡ false)
-    neither true t d = absurd (cc)
-    neither false t d = (refl, d)
+  abbrev pub AllStand : List JoinField → Bindings → Type 0
+  AllStand js env = (x : List ℕ) → Stands content before js env x
 
-takes : (x : List ℕ) (o : Option Value) (v : Value) → given_if x o (option_or o (Some v)) ≡ given_if x o (Some v)
-takes x None v = refl
-takes x (Some w) v = refl
+  -- one constraint
+  demand_step : (names : List (List ℕ)) (js : List JoinField) (env : Bindings) (at : FieldPlace) (d : Demand) (v : Value) → HasField content at v → AllStand js env → KeepOthers names before env
+      → agree_of (d, v) ≡ true → are_all_others names (choices d) ≡ true
+      → demand_holds d v env
+      ≡ (may_hold d v
+      && (list_all (own_holds content) (own_fields_at js at d) && list_all (compared content before) (compared_at at (with_others js (comparisons d)))))
+      && choose_of (d, v)
+  demand_step names js env at d v field stand rest agree others =
+      let own = list_all (own_holds content) (own_compared_at js at (comparisons d)) in
+      let repeated = list_all (own_holds content) (repeated_at js at (binders d)) in
+      let more = list_all (compared content before) (compared_at at (with_others js (comparisons d))) in
+      let limit = list_all (own_holds content) (own_limits_at at (limits d)) in
+      let fields = repeated_at js at (binders d) ++ own_compared_at js at (comparisons d) in
+      ap₂ (λ a b. a && b)
+      (ap₂ (λ l a. (may_hold d v && l) && a) (limited_hold content before at v field (limits d))
+      (ap₂ (λ a b. a && b) (repeated_hold content before js env at v field stand (binders d) agree) (compared_hold content before js env at v field stand (comparisons d))
+      ∙ (at_left repeated own more ∙ ap (λ b. b && more) (sym (list_all-append (own_holds content) (repeated_at js at (binders d)) (own_compared_at js at (comparisons d))))))
+      ∙ (with_limits (may_hold d v) limit (list_all (own_holds content) fields) more
+      ∙ ap (λ b. may_hold d v && (b && more)) (sym (list_all-append (own_holds content) (own_limits_at at (limits d)) fields))))
+      (choices_so names (choices d) v before env rest others)
 
-pub given_values : (before after : Bindings) (asked : Asked) (env : Bindings) → are_apart (names_of asked) ≡ true → KeepNamed (names_of asked) before env → given_over asked env ≡ after
-    → flat_map (given before after) (names_of asked) ≡ flat_map (λ (a : Demand × Value). flat_map (taken_from before (Some a.1)) (binders a.0)) asked
-given_values before after [] env apart keep is = refl
-given_values before after (a ∷ more) env apart keep is =
-    let own = binders a.0 in
-    let env' = given_to_all own a.1 env in
-    flat_map-append (given before after) own (names_of more)
-    ∙ ap₂ (λ x y. x ++ y)
-    (flat_where own (given before after) (taken_from before (Some a.1)) own (first (not_behind own (names_of more))) (all_named own))
-    (given_values before after more env' (apart_behind own (names_of more) apart)
-    (λ y i. others_keep y own a.1 env (not_in_front own (names_of more) y apart i) ∙ keep y (behind y own (names_of more) i)) is)
-  where
-    first : ((y : List ℕ) → are_apart (binders a.0 ++ names_of more) ≡ true → is_named y (binders a.0) ≡ true → is_named y (names_of more) ≡ false)
-        → (x : List ℕ) → is_named x (binders a.0) ≡ true → given before after x ≡ taken_from before (Some a.1) x
-    first last x i =
-        ap (given_if x (value_at x before.variables))
-        (ap (λ (b : Bindings). value_at x b.variables) (sym is)
-        ∙ (over_keeps more (given_to_all (binders a.0) a.1 env) x (last x apart i)
-        ∙ (one_has x (binders a.0) a.1 env i ∙ ap (λ o. option_or o (Some a.1)) (keep x (in_front x (binders a.0) (names_of more) i)))))
-        ∙ takes x (value_at x before.variables) a.1
+  -- and all of them
+  abbrev Together : List PlacedDemand → Asked → List JoinField → Bindings → Type 0
+  Together ds asked js env = in_sequence asked env ≡ (list_all may_of asked && (all_own js ds && all_compared js ds)) && list_all choose_of asked
+
+  pub together : (names : List (List ℕ)) (ds : List PlacedDemand) (asked : Asked) (js : List JoinField) (env : Bindings) → AreAt ds asked → AllStand js env → KeepOthers names before env
+      → AreWithin (names_of asked) names → list_all agree_of asked ≡ true → list_all (λ (a : Demand × Value). are_all_others names (choices a.0)) asked ≡ true
+      → Together ds asked js env
+  together names [] [] js env at stand rest within agree others = refl
+  together names [] (a ∷ more) js env at stand rest within agree others = absurd (cc)
+  together names (d ∷ ds) [] js env at stand rest within agree others = absurd (cc)
+  together names (d ∷ ds) (a ∷ more) js env at stand rest within agree others =
+      let is = heads (placed_value content d) (with_a_value a) (map (placed_value content) ds) (map with_a_value more) at in
+      let here = some_is (placed_value content d) a is.0 in
+      let own = binders a.0 in
+      let env' = given_to_all own a.1 env in
+      let passed = js ++ fields_for d.place own in
+      let agrees = and_parts (agree_of a) (list_all agree_of more) agree in
+      let other = and_parts (are_all_others names (choices a.0)) (list_all (λ (b : Demand × Value). are_all_others names (choices b.0)) more) others in
+      let next = together names ds more passed env' is.1 (λ x. stands_still content before js env d.place own a.1 x here.1 agrees.0 (stand x))
+      (λ y i. others_keep y own a.1 env (away names own y (λ z j. within z (in_front z own (names_of more) j)) i) ∙ rest y i)
+      (λ y i. within y (behind y own (names_of more) i)) agrees.1 other.1 in
+      subst (λ e. Together (record { place = d.place; demand = e } ∷ ds) (a ∷ more) js env) (sym here.0)
+      (joined d.place passed env' (demand_step names js env d.place a.0 a.1 here.1 stand rest agrees.0 other.0) next)
+    where
+      joined : (place : FieldPlace) (passed : List JoinField) (env' : Bindings)
+          → demand_holds a.0 a.1 env
+          ≡ (may_of a
+          && (list_all (own_holds content) (own_fields_at js place a.0)
+          && list_all (compared content before) (compared_at place (with_others js (comparisons a.0)))))
+          && choose_of a
+          → Together ds more passed env'
+          → demand_holds a.0 a.1 env && in_sequence more env'
+          ≡ (list_all may_of (a ∷ more)
+          && (list_all (own_holds content) (own_fields_at js place a.0 ++ own_fields_from passed ds)
+          && list_all (compared content before) (compared_at place (with_others js (comparisons a.0)) ++ compared_from passed ds)))
+          && list_all choose_of (a ∷ more)
+      joined place passed env' first next =
+          let own = own_fields_at js place a.0 in
+          let others = compared_at place (with_others js (comparisons a.0)) in
+          let o = list_all (own_holds content) own in
+          let c = list_all (compared content before) others in
+          ap₂ (λ s t. s && t) first next
+          ∙ (in_pairs (may_of a && (o && c)) (choose_of a) (list_all may_of more && (all_own passed ds && all_compared passed ds)) (list_all choose_of more)
+          ∙ ap (λ b. b && list_all choose_of (a ∷ more))
+          (in_pairs (may_of a) (o && c) (list_all may_of more) (all_own passed ds && all_compared passed ds)
+          ∙ ap (λ b. list_all may_of (a ∷ more) && b)
+          (in_pairs o c (all_own passed ds) (all_compared passed ds)
+          ∙ ap₂ (λ s t. s && t) (sym (list_all-append (own_holds content) own (own_fields_from passed ds))) (sym (list_all-append (compared content before) others (compared_from passed ds))))))
+
+  -- what variables have after all of it
+  pub over_stands : (ds : List PlacedDemand) (asked : Asked) (js : List JoinField) (env : Bindings) → AreAt ds asked → AllStand js env → list_all agree_of asked ≡ true
+      → AllStand (js ++ flat_map demand_join_fields ds) (given_over asked env)
+  over_stands [] [] js env at stand agree x = subst (λ ks. Stands content before ks env x) (sym (append-nil js)) (stand x)
+  over_stands [] (a ∷ more) js env at stand agree x = absurd (cc)
+  over_stands (d ∷ ds) [] js env at stand agree x = absurd (cc)
+  over_stands (d ∷ ds) (a ∷ more) js env at stand agree x =
+      let is = heads (placed_value content d) (with_a_value a) (map (placed_value content) ds) (map with_a_value more) at in
+      let here = some_is (placed_value content d) a is.0 in
+      let agrees = and_parts (agree_of a) (list_all agree_of more) agree in
+      let env' = given_to_all (binders a.0) a.1 env in
+      let next = over_stands ds more (js ++ fields_for d.place (binders a.0)) env' is.1
+      (λ y. stands_still content before js env d.place (binders a.0) a.1 y here.1 agrees.0 (stand y)) agrees.1 x in
+      subst (λ ks. Stands content before ks (given_over more env') x)
+      (append_assoc js (fields_for d.place (binders a.0)) (flat_map demand_join_fields ds) ∙ ap (λ e. js ++ (fields_for d.place (binders e) ++ flat_map demand_join_fields ds)) (sym here.0)) next

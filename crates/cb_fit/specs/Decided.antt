@@ -10,7 +10,7 @@ use Rattle.cb_exprs.specs.Bindings.{Bindings, value_at}
 use Rattle.cb_facts.specs.Facts.{FactContent}
 use Rattle.cb_facts.specs.declared.value.Value.{Value}
 use Rattle.cb_fit.specs.FieldPlaces.{field_value}
-use Rattle.cb_fit.specs.JoinFields.{join_fields, value_in}
+use Rattle.cb_fit.specs.JoinFields.{giving_fields, join_fields, value_in}
 use Rattle.cb_fit.specs.Ways.{WayValue}
 use Rattle.cb_fit.specs.declared.join_fields.JoinField.{JoinField}
 
@@ -55,4 +55,4 @@ ones cs = map (λ c. 1) cs
 
 -- the only way in which such a pattern can fit
 abbrev pub way_by_values : PatternValue → Bindings → FactContent → WayValue
-way_by_values p before content = record { cuts = ones (constraints_in p.parts); bound = taken_by_all (join_fields p.parts) before content }
+way_by_values p before content = record { cuts = ones (constraints_in p.parts); bound = taken_by_all (giving_fields p.parts) before content }

@@ -1,5 +1,6 @@
 -- What only the code needs. How far a search for ways has got with a row.
 pub mod Choices
+pub mod Codes
 pub mod Integers
 pub mod Lengths
 pub mod Placed

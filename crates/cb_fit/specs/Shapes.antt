@@ -1,12 +1,14 @@
 -- What a pattern asks by its constants and lengths alone.
-use Rattle.std.specs.Prelude.{ℕ, Bool, true, false, List, [], ◌∷◌, None, filter, map}
+use Rattle.std.specs.Prelude.{◌&&◌, ℕ, Bool, true, false, List, [], ◌∷◌, None, filter, map}
 use Rattle.cb_constraints.specs.Constraints.{Check, Demand, nothing, each, either, Constraint}
 use Rattle.cb_constraints.specs.Holding.{is_constant}
 use Rattle.cb_constraints.specs.PatternValues.{PatternParts, fields, slots, PatternValue, SlotValue}
 use Rattle.cb_exprs.specs.Bindings.{no_bindings}
 use Rattle.cb_facts.specs.Facts.{FactValue}
+use Rattle.cb_fit.specs.Comparisons.{all_own_hold, own_fields}
 use Rattle.cb_fit.specs.Related.{Fits}
 use Rattle.cb_fit.specs.Ways.{WayValue, ways}
+use Rattle.cb_fit.specs.declared.own_field.OwnField.{OwnField}
 
 -- the checks for constants; a variable or an expression, with `~` or without, counts as true
 abbrev pub constants_in : List Check → List Check
@@ -51,3 +53,22 @@ has_way (w ∷ ws) = true
 -- the same as a test
 abbrev pub has_shape : PatternValue → FactValue → Bool
 has_shape p f = has_way (ways (loose p) f no_bindings)
+
+-- what a pattern asks of a fact alone: that it fits without variables and expressions, and that its own fields compare so with
+-- constants and with one another
+pub record SelectionValue : Type 0 where
+  pub shape : PatternValue
+  pub own : List OwnField
+
+-- what this pattern asks of a fact alone
+abbrev pub selection : PatternValue → SelectionValue
+selection p = record { shape = loose p; own = own_fields p.parts }
+
+-- a fact is selected
+abbrev pub selects : SelectionValue → FactValue → Bool
+selects s f = has_way (ways s.shape f no_bindings) && all_own_hold s.own f.content
+
+-- a fact is selected for a pattern where it has its shape, and the fields that the pattern compares with constants and with one another
+-- compare so
+abbrev pub is_selected : PatternValue → FactValue → Bool
+is_selected p f = selects (selection p) f

@@ -8,7 +8,7 @@ use crate::field_place::FieldPlace;
 use cb_facts::{Name, Value};
 
 /// How the value of a field is compared with that of a variable. The first six hold of integers alone, the last two of any values.
-#[derive(Clone, Copy, PartialEq, Eq)]
+#[derive(Clone, Copy, PartialEq, Eq, PartialOrd, Ord)]
 pub enum Comparison {
     /// The field is less.
     Less,

@@ -1,22 +1,24 @@
 //! What decides whether a pattern fits a fact.
-ghost use Rattle.std.specs.Prelude.{◌≡◌, ◌++◌, [], IfOk, OnOk, flat_map, map, option_map};
+ghost use Rattle.std.specs.Prelude.{◌≡◌, ◌++◌, ◌∷◌, [], IfOk, OnOk, map, option_map};
 ghost use Rattle.std.specs.List.{list_all};
 ghost use Rattle.cb_constraints.specs.Binders.{binders_in, constraints_in};
 ghost use Rattle.cb_constraints.specs.Constraints.{constraint_of};
-ghost use Rattle.cb_constraints.specs.PartValues.{asked_parts, asked_slot};
-ghost use Rattle.cb_fit.specs.Comparisons.{choice_fields, compared_fields, decision, demand_choice_fields, demand_compared_fields, is_decided_constraint};
+ghost use Rattle.cb_constraints.specs.PartValues.{asked_parts};
+ghost use Rattle.cb_fit.specs.Comparisons.{are_decided_parts, choice_fields, compared_at, compared_fields, decision, with_others};
 ghost use Rattle.cb_fit.specs.Decided.{ones};
 ghost use Rattle.cb_fit.specs.Decisions.{choice_field_of, decision_of};
-ghost use Rattle.cb_fit.specs.Internal.Reading.{rows_of};
-ghost use Rattle.cb_fit.specs.FieldPlaces.{placed_demands, row_demands, slot_demands};
+ghost use Rattle.cb_fit.specs.Internal.Reading.{compared_of, is_decided_alone, rows_of};
 
-use crate::apart::{are_apart, are_others_chosen, are_others_compared};
+use crate::apart::{are_others_chosen, are_others_compared};
+use crate::checks::Compared;
 use crate::choice_field::ChoiceField;
 use crate::comparison::ComparedField;
 use crate::cuts::Cuts;
-use crate::demands::{add_chosen, add_compared, add_names, is_decided_demand};
+use crate::demands::{add_chosen, add_names, comparisons_of, is_decided_demand, names_of};
 use crate::field_place::FieldPlace;
-use cb_constraints::{Constraint, PatternParts, Row, SlotRow};
+use crate::join_fields::{JoinField, add_demand, field_of};
+use crate::placed::placed_demands;
+use cb_constraints::{Constraint, PatternParts, SlotRow};
 use cb_facts::Name;
 use cb_forms::NoMemory;
 use std::alloc::Global;
@@ -24,7 +26,7 @@ use std::alloc::Global;
 /// What decides whether a pattern fits a fact, beside the fact's shape and the fields that have to be equal to variables.
 #[derive(Drop)]
 pub struct Decision {
-    /// The fields that are compared with variables.
+    /// The fields that are compared with variables that don't stand before in the pattern.
     pub compared: Vec<ComparedField>,
     /// The fields that are to be equal to one of several variables.
     pub chosen: Vec<ChoiceField>,
@@ -38,52 +40,72 @@ pub(crate) fn decide_parts(
 ) -> Result<Option<Decision>, NoMemory>
     ensures { IfOk result (λ d. option_map decision_of d ≡ decision (asked_parts parts.now)) }
 {
-    if !are_decided(parts) {
+    if !are_decided_parts(alloc, parts)? {
         return Ok(None);
     }
-    let names = names_in(alloc, parts)?;
-    let found = fields_in(alloc, parts)?;
-    if !are_apart(names.as_slice())
-        || !are_others_compared(names.as_slice(), found.compared.as_slice())
-        || !are_others_chosen(names.as_slice(), found.chosen.as_slice())
-    {
-        return Ok(None);
-    }
-    Ok(Some(found))
+    let compared = compared_in(alloc, parts)?;
+    let chosen = chosen_in(alloc, parts)?;
+    Ok(Some(Decision { compared, chosen }))
 }
 
-/// Whether each constraint is decided by values.
-fn are_decided(parts: &PatternParts) -> bool
-    ensures { result ≡ list_all is_decided_constraint (constraints_in (asked_parts parts.now)) }
+/// Whether what parts ask is decided by values. Growth is refused as `NoMemory`, and so is a count of sharers that is full.
+pub(crate) fn are_decided_parts(alloc: Global, parts: &PatternParts) -> Result<bool, NoMemory>
+    ensures { IfOk result (λ yes. yes ≡ are_decided_parts (asked_parts parts.now)) }
+{
+    if !are_decided(alloc, parts)? {
+        return Ok(false);
+    }
+    let names = names_in(alloc, parts)?;
+    let chosen = chosen_in(alloc, parts)?;
+    Ok(are_others_chosen(names.as_slice(), chosen.as_slice()))
+}
+
+/// Whether each constraint is decided by values, and compares its field with other variables than its own.
+fn are_decided(alloc: Global, parts: &PatternParts) -> Result<bool, NoMemory>
+    ensures { IfOk result (λ yes. yes
+        ≡ list_all is_decided_alone (constraints_in (asked_parts parts.now))) }
 {
     match parts {
-        PatternParts::Fields(row) => is_decided_row(row.constraints()),
-        PatternParts::Slots(rows) => are_decided_rows(rows.as_slice()),
+        PatternParts::Fields(row) => is_decided_row(alloc, row.constraints()),
+        PatternParts::Slots(rows) => are_decided_rows(alloc, rows.as_slice()),
     }
 }
 
 /// The same of the rows of slots.
-fn are_decided_rows(rows: &[SlotRow]) -> bool
-    ensures { result ≡ list_all is_decided_constraint (rows_of rows.now) }
+fn are_decided_rows(alloc: Global, rows: &[SlotRow]) -> Result<bool, NoMemory>
+    ensures { IfOk result (λ yes. yes ≡ list_all is_decided_alone (rows_of rows.now)) }
 {
     for slot in rows {
-        if !is_decided_row(slot.row.constraints()) {
-            return false;
+        if !is_decided_row(alloc, slot.row.constraints())? {
+            return Ok(false);
         }
     }
-    true
+    Ok(true)
 }
 
 /// The same of a row.
-fn is_decided_row(constraints: &[Constraint]) -> bool
-    ensures { result ≡ list_all is_decided_constraint (map constraint_of constraints.now) }
+fn is_decided_row(alloc: Global, constraints: &[Constraint]) -> Result<bool, NoMemory>
+    ensures { IfOk result (λ yes. yes
+        ≡ list_all is_decided_alone (map constraint_of constraints.now)) }
 {
     for constraint in constraints {
-        if constraint.takes_segment || !is_decided_demand(&constraint.demand) {
-            return false;
+        if !is_decided_constraint(alloc, constraint)? {
+            return Ok(false);
         }
     }
-    true
+    Ok(true)
+}
+
+/// The same of one constraint.
+fn is_decided_constraint(alloc: Global, constraint: &Constraint) -> Result<bool, NoMemory>
+    ensures { IfOk result (λ yes. yes ≡ is_decided_alone (constraint_of constraint.now)) }
+{
+    if constraint.takes_segment || !is_decided_demand(&constraint.demand) {
+        return Ok(false);
+    }
+    let names = names_of(alloc, &constraint.demand)?;
+    let comparisons = comparisons_of(alloc, &constraint.demand)?;
+    Ok(are_others_compared(names.as_slice(), comparisons.as_slice()))
 }
 
 /// The variables that parts may give values.
@@ -152,60 +174,69 @@ fn add_row_ones(constraints: &[Constraint], all: &mut Vec<u64>) -> Result<(), No
     Ok(())
 }
 
-/// The fields that parts compare, and those with alternatives.
-fn fields_in(alloc: Global, parts: &PatternParts) -> Result<Decision, NoMemory>
-    ensures compared { IfOk result (λ d. d.compared.items
-        ≡ compared_fields (asked_parts parts.now)) }
-    ensures chosen { IfOk result (λ d. map choice_field_of d.chosen.items
-        ≡ choice_fields (asked_parts parts.now)) }
+/// The fields that parts compare with variables that don't stand before in them.
+fn compared_in(alloc: Global, parts: &PatternParts) -> Result<Vec<ComparedField>, NoMemory>
+    ensures { IfOk result (λ all. all.items ≡ compared_fields (asked_parts parts.now)) }
 {
-    let mut all = Decision {
-        compared: Vec::new(alloc),
-        chosen: Vec::new(alloc),
-    };
-    match parts {
-        PatternParts::Fields(row) => add_row_fields(alloc, None, row, &mut all)?,
-        PatternParts::Slots(rows) => add_slot_fields(alloc, rows.as_slice(), &mut all)?,
+    let mut all = Vec::new(alloc);
+    let mut before = Vec::new(alloc);
+    for placed in placed_demands(alloc, parts)? {
+        let comparisons = comparisons_of(alloc, placed.demand)?;
+        add_compared(
+            before.as_slice(),
+            placed.place,
+            comparisons.as_slice(),
+            &mut all,
+        )?;
+        add_demand(placed.place, placed.demand, &mut before)?;
     }
     Ok(all)
 }
 
-/// Adds those of slots.
-fn add_slot_fields(alloc: Global, rows: &[SlotRow], all: &mut Decision) -> Result<(), NoMemory>
-    ensures compared { OnOk result (all.new.compared.items ≡ all.old.compared.items
-        ++ flat_map demand_compared_fields (flat_map slot_demands (map asked_slot rows.now))) }
-    ensures chosen { OnOk result (map choice_field_of all.new.chosen.items
-        ≡ map choice_field_of all.old.chosen.items
-        ++ flat_map demand_choice_fields (flat_map slot_demands (map asked_slot rows.now))) }
+/// Adds the field at this place, for each of these comparisons with a variable that none of the fields before has.
+fn add_compared(
+    before: &[JoinField],
+    place: FieldPlace,
+    comparisons: &[Compared<'_>],
+    all: &mut Vec<ComparedField>,
+) -> Result<(), NoMemory>
+    ensures { OnOk result (all.new.items ≡ all.old.items
+        ++ compared_at place (with_others before.now (map compared_of comparisons.now))) }
 {
-    for slot in rows {
-        add_row_fields(alloc, Some(slot.place), &slot.row, all)?;
+    for compared in comparisons {
+        add_comparison(before, place, compared, all)?;
     }
     Ok(())
 }
 
-/// Adds those of a row.
-fn add_row_fields(
-    alloc: Global,
-    slot: Option<usize>,
-    row: &Row,
-    all: &mut Decision,
+/// The same of one comparison.
+fn add_comparison(
+    before: &[JoinField],
+    place: FieldPlace,
+    compared: &Compared<'_>,
+    all: &mut Vec<ComparedField>,
 ) -> Result<(), NoMemory>
-    ensures compared { OnOk result (all.new.compared.items ≡ all.old.compared.items
-        ++ flat_map demand_compared_fields (row_demands slot 0 row.now)) }
-    ensures chosen { OnOk result (map choice_field_of all.new.chosen.items
-        ≡ map choice_field_of all.old.chosen.items
-        ++ flat_map demand_choice_fields (row_demands slot 0 row.now)) }
+    ensures { OnOk result (all.new.items ≡ all.old.items
+        ++ compared_at place (with_others before.now (compared_of compared.now ∷ []))) }
 {
-    let mut field = 0;
-    for constraint in row.constraints() {
-        if constraint.takes_segment {
-            return Ok(());
-        }
-        let place = FieldPlace { slot, field };
-        add_compared(place, &constraint.demand, &mut all.compared)?;
-        add_chosen(alloc, place, &constraint.demand, &mut all.chosen)?;
-        field += 1;
+    if field_of(before, compared.variable).is_none() {
+        all.push(ComparedField {
+            place,
+            comparison: compared.comparison,
+            variable: compared.variable.clone()?,
+        })?;
     }
     Ok(())
+}
+
+/// The fields of parts that are to be equal to one of several variables.
+fn chosen_in(alloc: Global, parts: &PatternParts) -> Result<Vec<ChoiceField>, NoMemory>
+    ensures { IfOk result (λ all. map choice_field_of all.items
+        ≡ choice_fields (asked_parts parts.now)) }
+{
+    let mut all = Vec::new(alloc);
+    for placed in placed_demands(alloc, parts)? {
+        add_chosen(alloc, placed.place, placed.demand, &mut all)?;
+    }
+    Ok(all)
 }

@@ -4,14 +4,13 @@ ghost use Rattle.std.specs.List.{list_all};
 ghost use Rattle.cb_constraints.specs.Binders.{binder, binders, binders_of};
 ghost use Rattle.cb_constraints.specs.Constraints.{check_of, demand_of};
 ghost use Rattle.cb_constraints.specs.Holding.{is_constant};
-ghost use Rattle.cb_fit.specs.Comparisons.{chosen_at, choices, choices_of, compared_at, comparisons, is_decided_demand, is_one_variable, is_variable};
+ghost use Rattle.cb_fit.specs.Comparisons.{chosen_at, choices, choices_of, comparisons, is_decided_demand, is_one_variable, is_variable, limits};
 ghost use Rattle.cb_fit.specs.Decisions.{choice_field_of};
-ghost use Rattle.cb_fit.specs.Internal.Reading.{alternatives_of};
+ghost use Rattle.cb_fit.specs.Internal.Reading.{alternatives_of, compared_of, limit_of};
 ghost use Rattle.cb_fit.specs.StandsAlone.{are_constants};
 
-use crate::checks::{add_comparisons, are_decided_checks};
+use crate::checks::{Compared, Limit, add_comparisons, add_limits, are_decided_checks};
 use crate::choice_field::ChoiceField;
-use crate::comparison::ComparedField;
 use crate::field_place::FieldPlace;
 use cb_constraints::{Check, Demand, Test};
 use cb_facts::Name;
@@ -97,19 +96,35 @@ fn is_variable(check: &Check) -> bool
     }
 }
 
-/// Adds the comparisons that a constraint makes, for the field at this place.
-pub(crate) fn add_compared(
-    place: FieldPlace,
-    demand: &Demand,
-    all: &mut Vec<ComparedField>,
-) -> Result<(), NoMemory>
-    ensures { OnOk result (all.new.items
-        ≡ all.old.items ++ compared_at place (comparisons (demand_of demand.now))) }
+/// The comparisons that a constraint makes.
+pub(crate) fn comparisons_of(alloc: Global, demand: &Demand) -> Result<Vec<Compared<'_>>, NoMemory>
+    ensures { IfOk result (λ all. map compared_of all.items ≡ comparisons (demand_of demand.now)) }
 {
-    match demand {
-        Demand::Nothing | Demand::Either(_, _) => Ok(()),
-        Demand::Each(checks) => add_comparisons(place, checks.as_slice(), all),
+    let mut all = Vec::new(alloc);
+    if let Demand::Each(checks) = demand {
+        add_comparisons(checks.as_slice(), &mut all)?;
     }
+    Ok(all)
+}
+
+/// The comparisons with constants that a constraint makes.
+pub(crate) fn limits_of(alloc: Global, demand: &Demand) -> Result<Vec<Limit<'_>>, NoMemory>
+    ensures { IfOk result (λ all. map limit_of all.items ≡ limits (demand_of demand.now)) }
+{
+    let mut all = Vec::new(alloc);
+    if let Demand::Each(checks) = demand {
+        add_limits(checks.as_slice(), &mut all)?;
+    }
+    Ok(all)
+}
+
+/// The variables that a constraint may give values.
+pub(crate) fn names_of(alloc: Global, demand: &Demand) -> Result<Vec<Name>, NoMemory>
+    ensures { IfOk result (λ all. all.items ≡ binders (demand_of demand.now)) }
+{
+    let mut all = Vec::new(alloc);
+    add_names(demand, &mut all)?;
+    Ok(all)
 }
 
 /// Adds the field at this place with the variables that are alternatives, if a constraint has such.

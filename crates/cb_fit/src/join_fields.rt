@@ -3,8 +3,9 @@ ghost use Rattle.std.specs.Prelude.{◌≡◌, ◌++◌, ◌∷◌, [], IfOk, On
 ghost use Rattle.cb_constraints.specs.Binders.{binder, binders, binders_of};
 ghost use Rattle.cb_constraints.specs.Constraints.{check_of, demand_of};
 ghost use Rattle.cb_constraints.specs.PartValues.{asked_parts};
+ghost use Rattle.cb_fit.specs.Comparisons.{field_of};
 ghost use Rattle.cb_fit.specs.FieldPlaces.{field_value};
-ghost use Rattle.cb_fit.specs.JoinFields.{fields_for, join_fields, value_in};
+ghost use Rattle.cb_fit.specs.JoinFields.{fields_for, giving_fields, join_fields, place_of, value_in};
 
 use crate::field_place::FieldPlace;
 use crate::placed::placed_demands;
@@ -32,12 +33,47 @@ impl JoinField {
     pub fn value_in(&self, fact: &Fact) -> Result<Option<Value>, NoMemory>
         ensures { IfOk result (λ v. v ≡ value_in self.now fact.now.content) }
     {
-        let place = FieldPlace {
+        self.place().value_in(fact)
+    }
+
+    /// Its place.
+    fn place(&self) -> FieldPlace
+        ensures { result ≡ place_of self.now }
+    {
+        FieldPlace {
             slot: self.slot,
             field: self.field,
-        };
-        place.value_in(fact)
+        }
     }
+}
+
+/// The place of the first of these fields with a variable.
+pub(crate) fn field_of(fields: &[JoinField], name: &Name) -> Option<FieldPlace>
+    ensures { result ≡ field_of fields.now name.now }
+{
+    for field in fields {
+        if *name == field.variable {
+            return Some(field.place());
+        }
+    }
+    None
+}
+
+/// The first field with each variable, by what a pattern asks. Growth is refused as `NoMemory`, and so is a count of sharers that is
+/// full.
+pub(crate) fn giving_of_parts(
+    alloc: Global,
+    parts: &PatternParts,
+) -> Result<Vec<JoinField>, NoMemory>
+    ensures { IfOk result (λ all. all.items ≡ giving_fields (asked_parts parts.now)) }
+{
+    let mut all = Vec::new(alloc);
+    for field in fields_of_parts(alloc, parts)? {
+        if field_of(all.as_slice(), &field.variable).is_none() {
+            all.push(field)?;
+        }
+    }
+    Ok(all)
 }
 
 /// The fields that have to be equal to variables, by what a pattern asks. Growth is refused as `NoMemory`, and so is a count of
@@ -56,7 +92,11 @@ pub(crate) fn fields_of_parts(
 }
 
 /// Adds a field, once for each variable that it has to be equal to.
-fn add_demand(place: FieldPlace, demand: &Demand, all: &mut Vec<JoinField>) -> Result<(), NoMemory>
+pub(crate) fn add_demand(
+    place: FieldPlace,
+    demand: &Demand,
+    all: &mut Vec<JoinField>,
+) -> Result<(), NoMemory>
     ensures { OnOk result (all.new.items
         ≡ all.old.items ++ fields_for place (binders (demand_of demand.now))) }
 {

@@ -1,5 +1,5 @@
 //! Laws of ways: each is the contract of a function that does nothing.
-ghost use Rattle.std.specs.Prelude.{◌≡◌, ◌≢◌, ◌↔◌, ◌⊎◌, ◌∷◌, ℕ, List, [], AllPairs, Contains, None, Some, length, true};
+ghost use Rattle.std.specs.Prelude.{◌≡◌, ◌≢◌, ◌↔◌, ◌⊎◌, ◌∷◌, ℕ, List, [], AllPairs, Contains, None, Some, false, length, true};
 ghost use Rattle.std.specs.Cmp.Lexicographic.{slice_cmp};
 ghost use Rattle.std.specs.Ordering.{nat_cmp};
 ghost use Rattle.std.specs.declared.cmp.Ordering.TheVariants.{Less};
@@ -11,16 +11,16 @@ ghost use Rattle.cb_facts.specs.Facts.{FactValue, ordered_fact};
 ghost use Rattle.cb_facts.specs.declared.single.Single.{Single};
 ghost use Rattle.cb_facts.specs.declared.value.Value.{Value};
 ghost use Rattle.cb_constraints.specs.Bound.{newly_bound};
-ghost use Rattle.cb_fit.specs.Comparisons.{choice_fields, compared_fields, is_decided};
+ghost use Rattle.cb_fit.specs.Comparisons.{is_decided};
 ghost use Rattle.cb_fit.specs.ConstantFields.{constant_fields};
-ghost use Rattle.cb_fit.specs.Decided.{AgreeWith, ValuesDecide, way_by_values};
+ghost use Rattle.cb_fit.specs.Decided.{ValuesDecide, way_by_values};
 ghost use Rattle.cb_fit.specs.FieldPlaces.{field_value};
 ghost use Rattle.cb_fit.specs.JoinFields.{join_fields, value_in};
 ghost use Rattle.cb_fit.specs.Laws.{any_fields, of_length, of_one, one_field};
-ghost use Rattle.cb_fit.specs.Plain.{bound_names, is_plain};
+ghost use Rattle.cb_fit.specs.Plain.{bound_names};
 ghost use Rattle.cb_fit.specs.Related.{Fits};
-ghost use Rattle.cb_fit.specs.ShapeKeys.{shape_of};
-ghost use Rattle.cb_fit.specs.Shapes.{HasShape, has_shape, loose, loose_demand};
+ghost use Rattle.cb_fit.specs.ShapeKeys.{key_of, shape_of};
+ghost use Rattle.cb_fit.specs.Shapes.{HasShape, has_shape, is_selected, loose, loose_demand, selection};
 ghost use Rattle.cb_fit.specs.StandsAlone.{stands_alone};
 ghost use Rattle.cb_fit.specs.Ways.{WayValue, taken_way, ways};
 ghost use Rattle.cb_fit.specs.declared.constant_fields.ConstantField.{ConstantField};
@@ -132,26 +132,28 @@ pub fn a_pattern_that_stands_alone_is_its_shape()
     ensures { (p : PatternValue) → stands_alone p ≡ true → loose p ≡ p }
 {}
 
-/// Two patterns with the same shape are the same without their variables and expressions.
+/// Two patterns with the same shape ask the same of a fact alone: they are the same without their variables and expressions, and
+/// compare the same fields of the fact with the same constants and with one another.
 pub fn patterns_of_one_shape_are_equal_without_variables()
-    ensures { (p q : PatternValue) → shape_of p ≡ shape_of q → loose p ≡ loose q }
+    ensures { (p q : PatternValue) → shape_of p ≡ shape_of q → selection p ≡ selection q }
 {}
 
-/// A pattern without its variables and expressions has the shape that it had with them.
-pub fn the_shape_of_a_loose_pattern_is_its_shape()
-    ensures { (p : PatternValue) → shape_of (loose p) ≡ shape_of p }
+/// The key of what a pattern asks of a fact alone is the pattern's shape.
+pub fn the_key_of_a_selection_is_the_shape()
+    ensures { (p : PatternValue) → key_of (selection p) ≡ shape_of p }
 {}
 
-/// A pattern that is decided by values fits a fact just where the fact has its shape, each field with a variable has the variable's
-/// value, if that has one, each field that is compared with a variable is compared so with the variable's value, and each field with
-/// variables as alternatives has the value of one, or one has none. There is one way then: each constraint takes one field, and the
-/// variables that had no value get those of their fields, in the order of the pattern. The pattern without its variables and
-/// expressions takes the same fields.
+/// A pattern that is decided by values fits a fact just where the fact is selected for it, by its shape and by the fields that are
+/// compared with constants and with one another, each field with a variable has the
+/// variable's value, if that has one, each field that is compared with a variable which doesn't stand before in the pattern is
+/// compared so with the variable's value, and each field with variables as alternatives has the value of one, or one has none. There
+/// is one way then: each constraint takes one field, and the variables that had no value get those of the first fields that they stand
+/// in, in the order of the pattern. The pattern without its variables and expressions takes the same fields.
 pub fn a_pattern_is_decided_by_values()
     ensures fits { (p : PatternValue) (f : FactValue) (before : Bindings) → is_decided p ≡ true
-        → (ways p f before ≢ []) ↔ ((has_shape p f ≡ true) × ValuesDecide p before f.content) }
+        → (ways p f before ≢ []) ↔ ((is_selected p f ≡ true) × ValuesDecide p before f.content) }
     ensures way { (p : PatternValue) (f : FactValue) (before : Bindings) → is_decided p ≡ true
-        → has_shape p f ≡ true → ValuesDecide p before f.content
+        → is_selected p f ≡ true → ValuesDecide p before f.content
         → ways p f before ≡ way_by_values p before f.content ∷ [] }
     ensures cuts { (p : PatternValue) (f : FactValue) (before any : Bindings) → is_decided p ≡ true
         → (w : WayValue) → Contains (ways (loose p) f any) w
@@ -165,19 +167,28 @@ pub fn a_pattern_is_decided_by_values()
     a_fact_that_fits_has_the_values_of_variables();
 }
 
-/// A plain pattern is one that is decided by values and compares nothing: it fits a fact just where the fact has its shape and each
-/// field with a variable has the variable's value, if that has one.
-pub fn a_plain_pattern_is_decided_by_values()
-    ensures plain { (p : PatternValue) → is_plain p ≡ true ↔ ((is_decided p ≡ true)
-        × (compared_fields p.parts ≡ []) × (choice_fields p.parts ≡ [])) }
-    ensures fits { (p : PatternValue) (f : FactValue) (before : Bindings) → is_plain p ≡ true
-        → (ways p f before ≢ [])
-        ↔ ((has_shape p f ≡ true) × AgreeWith (join_fields p.parts) before f.content) }
-    ensures way { (p : PatternValue) (f : FactValue) (before : Bindings) → is_plain p ≡ true
-        → has_shape p f ≡ true → AgreeWith (join_fields p.parts) before f.content
-        → ways p f before ≡ way_by_values p before f.content ∷ [] }
+/// A pattern fits no fact that isn't selected for it, whatever values variables have.
+pub fn a_fact_that_fits_is_selected()
+    ensures { (p : PatternValue) (f : FactValue) (before : Bindings) → is_selected p f ≡ false
+        → ways p f before ≡ [] }
 {
     a_pattern_is_decided_by_values();
+    no_shape_gives_no_ways();
+}
+
+/// A fact that is selected for a pattern has the pattern's shape.
+pub fn a_fact_that_is_selected_has_the_shape()
+    ensures { (p : PatternValue) (f : FactValue) → is_selected p f ≡ true → has_shape p f ≡ true }
+{}
+
+/// A pattern that stands alone fits each fact that is selected for it, whatever values variables have.
+pub fn a_pattern_that_stands_alone_fits_what_is_selected()
+    ensures { (p : PatternValue) (f : FactValue) (before : Bindings) → stands_alone p ≡ true
+        → is_selected p f ≡ true → ways p f before ≢ [] }
+{
+    a_fact_that_is_selected_has_the_shape();
+    a_pattern_that_stands_alone_is_its_shape();
+    no_shape_gives_no_ways();
 }
 
 /// After a way, of any pattern, a variable has a value just where it had one before or is one of those to which the pattern may give

@@ -6,7 +6,7 @@
 //! `docs/ARCHITECTURE.md` says where it belongs.
 #![tactic(auto)]
 
-mod apart; // names that stand once, and names that don't stand among others
+mod apart; // names that don't stand among others
 mod checks; // reading the checks of a constraint
 mod choice; // a choice: the places where a segment may end
 mod choice_field; // fields with variables as alternatives
@@ -25,11 +25,14 @@ mod loose; // what a pattern asks without its variables and expressions
 mod may_take; // whether a row may take fields, by their number and by constants alone
 mod meter; // how often patterns were tested
 mod open_choices; // the choices that are open
+mod own_field; // fields of one fact that are compared with constants and with one another
+mod own_fields; // which fields of one fact a pattern compares with constants and with one another
 mod pattern; // a pattern; what it asks is private to the crate
 mod pieces; // the pieces of a shape
 mod placed; // what a pattern asks of each field that it takes alone
 mod rest; // how a row begins: the constraints before the first segment, and what is left after them
 mod search; // the search for all ways, which takes up one choice at a time
+mod selection; // what a pattern asks of a fact alone
 mod shape; // the shapes of patterns, as keys
 mod slots; // whether the rows of all slots may take what a fact has
 mod standing_alone; // whether a pattern asks by constants and lengths alone
@@ -45,6 +48,8 @@ pub use field_place::FieldPlace;
 pub use fitting::{fit, fits};
 pub use join_fields::JoinField;
 pub use meter::Meter;
+pub use own_field::{Operand, OwnField};
 pub use pattern::Pattern;
+pub use selection::Selection;
 pub use shape::Shape;
 pub use way::Way;

@@ -1,24 +1,27 @@
 //! Patterns.
-ghost use Rattle.std.specs.Prelude.{◌≡◌, IfOk, option_map};
+ghost use Rattle.std.specs.Prelude.{◌≡◌, ◌++◌, IfOk, option_map};
 ghost use Rattle.cb_constraints.specs.Binders.{constraints_in};
 ghost use Rattle.cb_constraints.specs.PartValues.{asked_parts};
 ghost use Rattle.cb_fit.specs.Comparisons.{decision};
 ghost use Rattle.cb_fit.specs.ConstantFields.{constant_fields};
 ghost use Rattle.cb_fit.specs.Decided.{ones};
 ghost use Rattle.cb_fit.specs.Decisions.{decision_of};
-ghost use Rattle.cb_fit.specs.JoinFields.{join_fields};
+ghost use Rattle.cb_fit.specs.JoinFields.{giving_fields, join_fields};
 ghost use Rattle.cb_fit.specs.Meters.{one_test_more};
 ghost use Rattle.cb_fit.specs.Plain.{bound_names};
-ghost use Rattle.cb_fit.specs.ShapeKeys.{shape_of};
-ghost use Rattle.cb_fit.specs.Shapes.{loose};
+ghost use Rattle.cb_fit.specs.ShapeKeys.{own_pieces, pieces_of, shape_of};
+ghost use Rattle.cb_fit.specs.Shapes.{loose, selection};
 ghost use Rattle.cb_fit.specs.StandsAlone.{stands_alone};
 
 use crate::constant_fields::{ConstantField, constants_of_parts};
 use crate::cuts::Cuts;
 use crate::decision::{Decision, decide_parts, names_in, ones_in};
-use crate::join_fields::{JoinField, fields_of_parts};
+use crate::join_fields::{JoinField, fields_of_parts, giving_of_parts};
 use crate::loose::loose_parts;
 use crate::meter::Meter;
+use crate::own_field::OwnField;
+use crate::own_fields::own_of_parts;
+use crate::selection::Selection;
 use crate::shape::{Shape, shape_in};
 use crate::standing_alone::parts_alone;
 use cb_constraints::{Body, PatternParts};
@@ -74,11 +77,31 @@ impl<T> Pattern<T> {
         Pattern::new(alloc, self.relation.clone()?, parts)
     }
 
+    /// What it asks of a fact alone: that the fact has its shape, and that the fields that it compares with one another compare so.
+    /// Growth is refused as `NoMemory`, and so is a count of sharers that is full.
+    pub fn selection(&self, alloc: Global) -> Result<Selection<T>, NoMemory>
+        ensures { IfOk result (λ s. s ≡ selection self.now) }
+    {
+        let own = own_of_parts(alloc, self.body.parts())?;
+        Ok(Selection::new(self.loose(alloc)?, own))
+    }
+
     /// Its shape. Growth is refused as `NoMemory`, and so is a count of sharers that is full.
     pub fn shape(&self, alloc: Global) -> Result<Shape, NoMemory>
         ensures { IfOk result (λ s. s ≡ shape_of self.now) }
     {
-        shape_in(alloc, &self.relation, self.body.parts())
+        let own = own_of_parts(alloc, self.body.parts())?;
+        self.shape_with(alloc, own.as_slice())
+    }
+
+    /// The shape that it has with these fields that are compared with one another.
+    pub(crate) fn shape_with(&self, alloc: Global, own: &[OwnField]) -> Result<Shape, NoMemory>
+        ensures { IfOk result (λ s. s ≡ record {
+          relation = self.now.relation;
+          pieces = own_pieces own.now ++ pieces_of self.now.parts;
+        }) }
+    {
+        shape_in(alloc, &self.relation, own, self.body.parts())
     }
 
     /// Whether it asks by constants and lengths alone: no constraint has a variable or an expression. Then whether it fits a fact doesn't
@@ -96,6 +119,14 @@ impl<T> Pattern<T> {
         ensures { IfOk result (λ all. all.items ≡ join_fields self.now.parts) }
     {
         fields_of_parts(alloc, self.body.parts())
+    }
+
+    /// The fields of a fact that may give variables their values: of those that have to be equal to variables the first with each
+    /// variable. Growth is refused as `NoMemory`, and so is a count of sharers that is full.
+    pub fn giving_fields(&self, alloc: Global) -> Result<Vec<JoinField>, NoMemory>
+        ensures { IfOk result (λ all. all.items ≡ giving_fields self.now.parts) }
+    {
+        giving_of_parts(alloc, self.body.parts())
     }
 
     /// The fields of a fact that have to be equal to constants, whatever else the pattern asks: where one of these fields is not equal

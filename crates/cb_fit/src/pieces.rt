@@ -6,13 +6,17 @@ ghost use Rattle.cb_fit.specs.contracts.pieces.PieceEq.TheImpl.Laws as piece_eq;
 ghost use Rattle.cb_fit.specs.contracts.pieces.PiecePartialOrd.TheImpl.Laws as piece_partial_ord;
 ghost use Rattle.cb_fit.specs.contracts.pieces.PieceOrd.TheImpl.Laws as piece_ord;
 
+use crate::own_field::OwnField;
 use cb_facts::{Name, Value};
 use std::cmp::Ordering;
 use std::marker::Model;
 
-/// A piece of a shape. What stands in a slot or in a constraint follows its head.
+/// A piece of a shape. What stands in a slot or in a constraint follows its head, and the fields that are compared with constants or with one
+/// another stand before all else.
 #[derive(PartialEq, Eq, PartialOrd, Ord, Drop)]
 pub(crate) enum Piece {
+    /// A field that is compared with a constant or with another of the same fact.
+    Own(OwnField),
     /// The head of a pattern for ordered facts: the constraints of its row follow.
     Ordered,
     /// The head of a slot, with its name and its place among the slots of the template: the constraints of its row follow.

@@ -3,16 +3,18 @@ ghost use Rattle.std.specs.Prelude.{◌≡◌, ◌++◌, IfOk, OnOk, flat_map, m
 ghost use Rattle.cb_constraints.specs.Constraints.{check_of, constraint_of, demand_of};
 ghost use Rattle.cb_constraints.specs.PartValues.{asked_parts, asked_slot};
 ghost use Rattle.cb_fit.specs.Internal.Reading.{alternatives_of};
-ghost use Rattle.cb_fit.specs.ShapeKeys.{alternative_pieces, check_pieces, checks_pieces, constraint_pieces, demand_pieces, pieces_of, row_pieces, slot_pieces};
+ghost use Rattle.cb_fit.specs.ShapeKeys.{alternative_pieces, check_pieces, checks_pieces, constraint_pieces, demand_pieces, own_pieces, pieces_of, row_pieces, slot_pieces};
 
+use crate::own_field::OwnField;
 use crate::pieces::{Piece, Pieces};
 use cb_constraints::{Check, Constraint, Demand, PatternParts, SlotRow, Test};
 use cb_facts::Name;
 use cb_forms::NoMemory;
 use std::alloc::Global;
 
-/// The shape of a pattern: its relation, and what it asks by constants and lengths alone. Two patterns with the same shape are the
-/// same without their variables and expressions, so the same facts have the shape of both.
+/// The shape of a pattern: its relation, what it asks by constants and lengths alone, and which of a fact's own fields it compares with
+/// constants and with one another. Two patterns with the same shape are the same without their variables and expressions and make the
+/// same of these comparisons, so they ask the same of a fact alone.
 ///
 /// Shapes are ordered by their relation, and then by what they ask, in an order that means nothing more.
 #[derive(PartialEq, Eq, PartialOrd, Ord, Drop)]
@@ -21,26 +23,30 @@ pub struct Shape {
     pieces: Pieces,
 }
 
-/// The shape of a pattern for this relation with these parts. The constants share their bytes and fields. Growth is refused as
-/// `NoMemory`, and so is a count of sharers that is full.
+/// The shape of a pattern for this relation with these parts, which compares these fields of a fact. The constants share their
+/// bytes and fields. Growth is refused as `NoMemory`, and so is a count of sharers that is full.
 pub(crate) fn shape_in(
     alloc: Global,
     relation: &Name,
+    own: &[OwnField],
     parts: &PatternParts,
 ) -> Result<Shape, NoMemory>
-    ensures { IfOk result (λ s. s
-        ≡ record { relation = relation.now; pieces = pieces_of (asked_parts parts.now) }) }
+    ensures { IfOk result (λ s. s ≡ record {
+      relation = relation.now;
+      pieces = own_pieces own.now ++ pieces_of (asked_parts parts.now);
+    }) }
 {
     let relation = relation.clone()?;
-    let pieces = pieces_in(alloc, parts)?;
+    let pieces = pieces_in(alloc, own, parts)?;
     Ok(Shape { relation, pieces })
 }
 
-/// The pieces of parts.
-fn pieces_in(alloc: Global, parts: &PatternParts) -> Result<Pieces, NoMemory>
-    ensures { IfOk result (λ all. all ≡ pieces_of (asked_parts parts.now)) }
+/// The pieces of these fields, and those of parts.
+fn pieces_in(alloc: Global, own: &[OwnField], parts: &PatternParts) -> Result<Pieces, NoMemory>
+    ensures { IfOk result (λ all. all ≡ own_pieces own.now ++ pieces_of (asked_parts parts.now)) }
 {
     let mut all = Vec::new(alloc);
+    add_own(own, &mut all)?;
     match parts {
         PatternParts::Fields(row) => {
             all.push(Piece::Ordered)?;
@@ -49,6 +55,17 @@ fn pieces_in(alloc: Global, parts: &PatternParts) -> Result<Pieces, NoMemory>
         PatternParts::Slots(rows) => add_slots(rows.as_slice(), &mut all)?,
     }
     Ok(Pieces::new(all))
+}
+
+/// Adds those of fields that are compared with constants or with one another.
+fn add_own(own: &[OwnField], all: &mut Vec<Piece>) -> Result<(), NoMemory>
+    ensures { OnOk result (all.new.items ≡ all.old.items ++ own_pieces own.now) }
+{
+    for field in own {
+        let field = field.clone()?;
+        all.push(Piece::Own(field))?;
+    }
+    Ok(())
 }
 
 /// Adds those of slots.

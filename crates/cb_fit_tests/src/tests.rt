@@ -1,9 +1,10 @@
-//! What decides whether a pattern fits, and its shape, read from patterns.
+//! What decides whether a pattern fits, its shape, and what it asks of a fact alone, read from patterns.
 use cb_constraints::{Check, Constraint, Demand, PatternParts, Row, Test};
 use cb_exprs::Expr;
-use cb_facts::{Name, Value};
-use cb_fit::{Comparison, Decision, Pattern, Shape};
+use cb_facts::{Fact, Multifield, Name, Single, Value};
+use cb_fit::{Comparison, Decision, Meter, Pattern, Selection, Shape};
 use cb_forms::NoMemory;
+use cb_functions::Constants;
 use cb_words::Function;
 use std::alloc::Global;
 
@@ -67,6 +68,7 @@ fn chosen(alloc: Global) -> Result<Constraint, NoMemory> {
 }
 
 /// Whose fits are counted.
+#[derive(Drop)]
 struct Counted;
 
 /// `(r ?w&:(<= ?v ?w) ~?a ?b|?c)`, or before the first field a segment.
@@ -147,11 +149,151 @@ fn shape(alloc: Global, variable: &[u8], number: i64) -> Result<Shape, NoMemory>
     pattern.shape(alloc)
 }
 
+/// Whether two shapes are equal.
+fn are_equal(one: &Shape, other: &Shape) -> bool {
+    one == other
+}
+
+/// Whether one shape stands before another.
+fn stands_before(one: &Shape, other: &Shape) -> bool {
+    one.cmp(other).is_lt()
+}
+
 #[test]
-fn shapes_have_constants_and_no_variables(rt: HostRuntime) -> Result<(), NoMemory> {
+fn shapes_have_no_variables(rt: HostRuntime) -> Result<(), NoMemory> {
     let one = shape(rt.alloc(), b"x", 1)?;
     let same = shape(rt.alloc(), b"y", 1)?;
+    assert!(rt; are_equal(&one, &same));
+    Ok(())
+}
+
+#[test]
+fn shapes_have_constants(rt: HostRuntime) -> Result<(), NoMemory> {
+    let one = shape(rt.alloc(), b"x", 1)?;
     let other = shape(rt.alloc(), b"x", 2)?;
-    assert!(rt; one == same && one < other);
+    assert!(rt; stands_before(&one, &other));
+    Ok(())
+}
+
+/// `(r ?v ?w&:(<= ?v ?w))`
+fn rising(alloc: Global) -> Result<Pattern<Counted>, NoMemory> {
+    let mut constraints = Vec::new(alloc);
+    constraints.push(one_field(Demand::Each(alone(alloc, b"v")?)))?;
+    constraints.push(compared(alloc)?)?;
+    let parts = PatternParts::Fields(Row::new(constraints));
+    Pattern::new(alloc, name(alloc, b"r")?, parts)
+}
+
+/// `(r ?v ?v)`
+fn repeating(alloc: Global) -> Result<Pattern<Counted>, NoMemory> {
+    let mut constraints = Vec::new(alloc);
+    constraints.push(one_field(Demand::Each(alone(alloc, b"v")?)))?;
+    constraints.push(one_field(Demand::Each(alone(alloc, b"v")?)))?;
+    let parts = PatternParts::Fields(Row::new(constraints));
+    Pattern::new(alloc, name(alloc, b"r")?, parts)
+}
+
+/// `(r ?v ?w&:(>= ?w 2))`
+fn limited(alloc: Global) -> Result<Pattern<Counted>, NoMemory> {
+    let mut args = Vec::new(alloc);
+    args.push(Expr::Variable(name(alloc, b"w")?))?;
+    args.push(Expr::Constant(Value::Int(2)))?;
+    let mut checks = alone(alloc, b"w")?;
+    checks.push(Check {
+        is_negated: false,
+        test: Test::Predicate(Expr::Call(Function::GreaterOrEqual, args)),
+    })?;
+    let mut constraints = Vec::new(alloc);
+    constraints.push(one_field(Demand::Each(alone(alloc, b"v")?)))?;
+    constraints.push(one_field(Demand::Each(checks)))?;
+    let parts = PatternParts::Fields(Row::new(constraints));
+    Pattern::new(alloc, name(alloc, b"r")?, parts)
+}
+
+/// `(r first second)`
+fn pair(alloc: Global, first: i64, second: i64) -> Result<Fact, NoMemory> {
+    let mut fields = Vec::new(alloc);
+    fields.push(Single::Int(first))?;
+    fields.push(Single::Int(second))?;
+    Fact::ordered(alloc, name(alloc, b"r")?, Multifield::from_vec(fields)?)
+}
+
+fn selects(
+    alloc: Global,
+    selection: &Selection<Counted>,
+    first: i64,
+    second: i64,
+) -> Result<bool, NoMemory> {
+    let constants = Constants::new(alloc)?;
+    let mut meter = Meter::new(Counted);
+    selection.selects(alloc, &constants, &pair(alloc, first, second)?, &mut meter)
+}
+
+/// Whether what a pattern asks of a fact alone selects `(r 2 2)`, and not `(r 2 1)`.
+fn tells_apart(alloc: Global, pattern: &Pattern<Counted>) -> Result<bool, NoMemory> {
+    let selection = pattern.selection(alloc)?;
+    let selects_one = selects(alloc, &selection, 2, 2)?;
+    let selects_other = selects(alloc, &selection, 2, 1)?;
+    Ok(selects_one && !selects_other)
+}
+
+#[test]
+fn selects_facts_by_fields_that_it_compares(rt: HostRuntime) -> Result<(), NoMemory> {
+    let pattern = rising(rt.alloc())?;
+    assert!(rt; tells_apart(rt.alloc(), &pattern)?);
+    Ok(())
+}
+
+#[test]
+fn selects_facts_by_variables_that_it_repeats(rt: HostRuntime) -> Result<(), NoMemory> {
+    let pattern = repeating(rt.alloc())?;
+    assert!(rt; tells_apart(rt.alloc(), &pattern)?);
+    Ok(())
+}
+
+#[test]
+fn compares_own_fields_apart_from_others(rt: HostRuntime) -> Result<(), NoMemory> {
+    let pattern = rising(rt.alloc())?;
+    let compares_none = match pattern.decide(rt.alloc())? {
+        Some(decision) => decision.compared.is_empty(),
+        None => false,
+    };
+    assert!(rt; compares_none);
+    Ok(())
+}
+
+#[test]
+fn has_the_key_of_its_shape(rt: HostRuntime) -> Result<(), NoMemory> {
+    let pattern = rising(rt.alloc())?;
+    let key = pattern.selection(rt.alloc())?.key(rt.alloc())?;
+    let shape = pattern.shape(rt.alloc())?;
+    assert!(rt; are_equal(&key, &shape));
+    Ok(())
+}
+
+#[test]
+fn has_own_fields_in_its_key(rt: HostRuntime) -> Result<(), NoMemory> {
+    let pattern = rising(rt.alloc())?;
+    let key = pattern.shape(rt.alloc())?;
+    let loose = pattern.loose(rt.alloc())?.shape(rt.alloc())?;
+    assert!(rt; stands_before(&key, &loose));
+    Ok(())
+}
+
+#[test]
+fn gives_a_variable_the_value_of_its_first_field(rt: HostRuntime) -> Result<(), NoMemory> {
+    let giving = repeating(rt.alloc())?.giving_fields(rt.alloc())?;
+    let is_first = match giving.as_slice() {
+        [field] => field.field == 0,
+        _ => false,
+    };
+    assert!(rt; is_first);
+    Ok(())
+}
+
+#[test]
+fn selects_facts_by_comparisons_with_constants(rt: HostRuntime) -> Result<(), NoMemory> {
+    let pattern = limited(rt.alloc())?;
+    assert!(rt; tells_apart(rt.alloc(), &pattern)?);
     Ok(())
 }

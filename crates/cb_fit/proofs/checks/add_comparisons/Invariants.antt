@@ -1,9 +1,10 @@
 use Rattle.std.proofs.Common.{◌≡◌, ◌++◌, [], drop, map, take}
 use Rattle.cb_constraints.specs.Constraints.{check_of}
 use Rattle.cb_fit.proofs.checks.add_comparisons.Given as goal
-use Rattle.cb_fit.specs.Comparisons.{compared_at, compared_checks}
+use Rattle.cb_fit.specs.Comparisons.{compared_checks}
+use Rattle.cb_fit.specs.Internal.Reading.{compared_of}
 
 abbrev pub invariant-loop-i : goal.invariant-loop-i
 invariant-loop-i l =
-    l.all.items ++ compared_at l.place (compared_checks (map check_of (take l.i l.checks)) (map check_of (drop l.i l.checks)))
-    ≡ l.fn.all.items ++ compared_at l.place (compared_checks [] (map check_of l.checks))
+    map compared_of l.all.items ++ compared_checks (map check_of (take l.i l.checks)) (map check_of (drop l.i l.checks))
+    ≡ map compared_of l.fn.all.items ++ compared_checks [] (map check_of l.checks)
