@@ -3,12 +3,11 @@ use Rattle.std.proofs.Common.{◌≡◌, ◌≢◌, ◌∙◌, ◌↔◌, ℕ, L
 use Rattle.std.proofs.lemmas.Bool.{cases_eq}
 use Rattle.std.proofs.Math.ListN.{get_or-map}
 use Rattle.std.proofs.lemmas.Map.Keys.{IsDistinct-from_apart}
-use Rattle.std.specs.BTreeMap.{BTreeMap}
 use Rattle.std.specs.List.{Contains}
-use Rattle.cb_alpha.proofs.Numbers.{one_number}
-use Rattle.cb_alpha.proofs.ValuesOrder.{values_exact, values_level}
-use Rattle.cb_alpha.specs.Buckets.{AreSameFilings, AreWithValues, Filing, Refiles, values_at, values_cmp}
+use Rattle.cb_alpha.proofs.NumberedBuckets.{one_bucket}
+use Rattle.cb_alpha.specs.Buckets.{AreSameFilings, AreWithValues, Filing, Refiles, values_at}
 use Rattle.cb_alpha.specs.Internal.Numbered.{AreBuckets, AreNumbered, HaveValues, KeepsValues, filing, values_in_bucket}
+use Rattle.cb_alpha.specs.declared.numbering.Numbers.{Numbers}
 use Rattle.cb_facts.specs.declared.value.Value.{Value}
 use Rattle.cb_groups.specs.Groups.{AreMembers, AreSameGroups, HasMember, Membership, Updates, group_of}
 
@@ -50,8 +49,18 @@ same_filing vs vs' ms kept m = by_option (group_of ms m)
 pub same_groups : (vs : Filing) (ms ms' : Membership) → AreSameGroups ms ms' → AreSameFilings (filing vs ms) (filing vs ms')
 same_groups vs ms ms' same m = filed vs ms' m ∙ (ap (values_in_bucket vs) (same m) ∙ sym (filed vs ms m))
 
+-- no bucket
+pub no_buckets : (m : Numbers) (vs : Filing) (ms : Membership) → vs ≡ [] → ((bs : Filing) → ((n : ℕ) → values_at bs n ≡ None) → AreNumbered m bs) → ((i : ℕ) → group_of ms i ≡ None) → AreBuckets m vs ms
+no_buckets m vs ms empty numbered nowhere =
+    let none : (n : ℕ) → values_at vs n ≡ None = λ n. ap (λ it. values_at it n) empty in
+    record {
+      numbered = numbered vs none;
+      have = λ i k g h. some_none (group_of ms i) g (nowhere i);
+      used = λ n some. absurd (some (none n));
+    }
+
 -- buckets that nobody stood in before, with a member more
-module _ (m m' : BTreeMap (List Value) ℕ) (vs vs' : Filing) (ms ms' : Membership) (was : AreBuckets m vs ms) (member n : ℕ) (free : values_at (filing vs ms) member ≡ None)
+module _ (m m' : Numbers) (vs vs' : Filing) (ms ms' : Membership) (was : AreBuckets m vs ms) (member n : ℕ) (free : values_at (filing vs ms) member ≡ None)
     (others : (k : ℕ) → k ≢ n → values_at vs' k ≡ values_at vs k) where
   pub stood_nowhere : group_of ms member ≡ None
   stood_nowhere = by_option (group_of ms member) (λ none. none) (λ k g. absurd (was.have member k g (sym (filed_in vs ms member k g) ∙ free)))
@@ -104,14 +113,14 @@ none_contained : (m : ℕ) → Contains [] m → ⊥
 none_contained m h = let l = h.1 in absurd (omega (arith, l))
 
 -- who stands in the bucket of some values, if there is one
-module _ (m : BTreeMap (List Value) ℕ) (vs : Filing) (is : AreNumbered m vs) (ms : Membership) (result : List ℕ) where
+module _ (m : Numbers) (vs : Filing) (is : AreNumbered m vs) (ms : Membership) (result : List ℕ) where
   pub with_these : (n : ℕ) (ws : List Value) → values_at vs n ≡ Some ws → AreMembers ms n result → AreWithValues (filing vs ms) ws result
   with_these n ws there members = record {
     are = λ i. (
       λ h. filed_in vs ms i n ((members.are i).0 h) ∙ there,
       λ e.
           let b = bucket_of vs ms i ws e in
-          (members.are i).1 (b.1 ∙ ap Some (one_number values_cmp values_exact values_level m (values_at vs) is ws b.0 n b.2 there)),
+          (members.are i).1 (b.1 ∙ ap Some (one_bucket m vs is ws b.0 n b.2 there)),
     );
     once = members.once;
   }

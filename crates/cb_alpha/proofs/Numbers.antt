@@ -76,7 +76,3 @@ module _ {K : Type 0} (cmp : K → K → Ordering) (exact : (a b : K) → cmp a 
             | inr d ↦ now ∙ (was q i).1 (sym (others i d) ∙ h)
           ],
         ))
-
-  -- two numbers don't have the same key
-  pub one_number : (m : BTreeMap K ℕ) (key : ℕ → Option K) → AreNumbers cmp m key → (k : K) (i j : ℕ) → key i ≡ Some k → key j ≡ Some k → i ≡ j
-  one_number m key is k i j e f = same_some (tree.get cmp m k) ((is k i).1 e) ((is k j).1 f)

@@ -17,7 +17,7 @@ use Rattle.std.specs.declared.ops.Bound.TheVariants.{Excluded, Included}
 use Rattle.cb_alpha.proofs.Filings.{bucket_of, filed_in}
 use Rattle.cb_alpha.proofs.ValuesOrder.{values_exact, values_level}
 use Rattle.cb_alpha.specs.Buckets.{AreFirst, AreLast, AreWithin, Filing, IsFiledWith, IsWithin, values_at, values_cmp}
-use Rattle.cb_alpha.specs.Internal.Numbered.{AreNumbered, AreUsed, filing}
+use Rattle.cb_alpha.specs.Internal.Numbered.{AreInOrder, AreUsed, filing}
 use Rattle.cb_facts.specs.contracts.value.ValueOrd.TheImpl.Laws as value_laws
 use Rattle.cb_facts.specs.declared.value.Value.{Value}
 use Rattle.cb_groups.specs.Groups.{AreMembers, Membership, group_of}
@@ -61,7 +61,7 @@ over_back Less h = cc
 over_back Equal h = cc
 over_back Greater h = refl
 
-values_total : IsTotalOrder values_cmp
+pub values_total : IsTotalOrder values_cmp
 values_total = lists_total value_laws.total-law
 
 -- the first isn't above the second, seen from the second
@@ -118,7 +118,7 @@ module _ (There : List Value → Type 0) (low high : List Value) where
 
 -- ---- in a map
 
-module _ (m : BTreeMap (List Value) ℕ) (vs : Filing) (is : AreNumbered m vs) (low high : List Value) where
+module _ (m : BTreeMap (List Value) ℕ) (vs : Filing) (is : AreInOrder m vs) (low high : List Value) where
   abbrev InRange : Entry → Type 0
   InRange e = IsEntryInRange values_cmp (Included low) (Excluded high) m e
 
@@ -190,7 +190,7 @@ pub record AreGathered (ms : Membership) (buckets left : List Entry) (found : Li
   pub others : Chain AreApart left
   pub once : Chain AreOther found
 
-once_in : (ns : List ℕ) → IsDistinct nat_eq ns → Chain AreOther ns
+pub once_in : (ns : List ℕ) → IsDistinct nat_eq ns → Chain AreOther ns
 once_in ns once = chain_from_pairs AreOther ns (λ i j d l w same. not_both (eq-eqb _ _ same) (apart_from_distinct nat_eq ns i j d once l w))
   where
     not_both : {b : Bool} → b ≡ true → b ≡ false → ⊥
@@ -241,7 +241,7 @@ entries_apart vs (e ∷ es) sorted at = (
     clash : Less ≡ Equal → ⊥
     clash h = cc
 
-module _ (m : BTreeMap (List Value) ℕ) (sorted : tree.IsOrdered values_cmp m) (vs : Filing) (is : AreNumbered m vs) (ms : Membership) (low high : List Value) where
+module _ (m : BTreeMap (List Value) ℕ) (sorted : tree.IsOrdered values_cmp m) (vs : Filing) (is : AreInOrder m vs) (ms : Membership) (low high : List Value) where
   abbrev test : Entry → Bool
   test e = range_contains values_cmp (Included low) (Excluded high) e.0
 

@@ -8,7 +8,7 @@ use Rattle.cb_alpha.specs.Turning.{AlphaTurns, AreCandidates, HasJoin, IsAlphaOv
 use Rattle.cb_constraints.specs.PatternValues.{PatternValue}
 use Rattle.cb_facts.specs.FactLists.{IndexedFacts, fact_at, with_fact, without_fact}
 use Rattle.cb_facts.specs.Facts.{FactValue}
-use Rattle.cb_fit.specs.Shapes.{has_shape}
+use Rattle.cb_fit.specs.Shapes.{is_selected}
 use Rattle.cb_fit.specs.declared.join_fields.JoinField.{JoinField}
 use Rattle.cb_matches.proofs.Indices.{in_looked}
 use Rattle.cb_matches.specs.Chains.{In}
@@ -33,7 +33,7 @@ module _ (p : PatternValue) (m : AlphaMemoryValue) (fs : IndexedFacts) (over : I
   stays = record { was = were_candidates; is = over.has; one = over.one; apart = apart; single = inl over.none_gone }
 
   -- a fact without the shape comes
-  pub shapeless_comes : (ix : ℕ) (f : FactValue) → fact_at fs ix ≡ None → has_shape p f ≡ false → AlphaTurns p m fs (with_fact fs ix f)
+  pub shapeless_comes : (ix : ℕ) (f : FactValue) → fact_at fs ix ≡ None → is_selected p f ≡ false → AlphaTurns p m fs (with_fact fs ix f)
   shapeless_comes ix f free shape =
       let more = one_more fs ix f free in
       record {
@@ -42,7 +42,7 @@ module _ (p : PatternValue) (m : AlphaMemoryValue) (fs : IndexedFacts) (over : I
           are = λ n g h. let a = over.has.are n g h in (more.was g a.0, a.1);
           all = λ g h t. elim (more.is g h) as (λ _. (n : ℕ) × (live m n ≡ Some g)) [
             | inl i ↦ over.has.all g i t
-            | inr e ↦ not_both (has_shape p g.1) t (ap (λ (it : Fact). has_shape p it.1) e ∙ shape)
+            | inr e ↦ not_both (is_selected p g.1) t (ap (λ (it : Fact). is_selected p it.1) e ∙ shape)
           ];
         };
         one = over.one;
@@ -64,18 +64,18 @@ module _ (p : PatternValue) (m : AlphaMemoryValue) (fs : IndexedFacts) (over : I
   }
 
   -- one without the shape is such
-  pub shapeless_goes : (ix : ℕ) (f : FactValue) → IsRising fs → fact_at fs ix ≡ Some f → has_shape p f ≡ false → AlphaTurns p m fs (without_fact fs ix)
+  pub shapeless_goes : (ix : ℕ) (f : FactValue) → IsRising fs → fact_at fs ix ≡ Some f → is_selected p f ≡ false → AlphaTurns p m fs (without_fact fs ix)
   shapeless_goes ix f rising there shape =
       absent_goes ix (λ n e.
       let g = with_index (live m n) ix e in
       let a = over.has.are n g.0 g.1 in
       let looked : fact_at fs ix ≡ Some g.0.1 = ap (fact_at fs) (sym g.2) ∙ in_looked fs rising g.0 a.0 in
       let same : f ≡ g.0.1 = same_some (fact_at fs ix) there looked in
-      not_both (has_shape p g.0.1) a.1 (ap (has_shape p) (sym same) ∙ shape))
+      not_both (is_selected p g.0.1) a.1 (ap (is_selected p) (sym same) ∙ shape))
 
   module _ (m' : AlphaMemoryValue) (number ix : ℕ) where
     -- a fact with the shape comes
-    module _ (f : FactValue) (is : GainsFact m m' number (ix, f)) (free : fact_at fs ix ≡ None) (shape : has_shape p f ≡ true) where
+    module _ (f : FactValue) (is : GainsFact m m' number (ix, f)) (free : fact_at fs ix ≡ None) (shape : is_selected p f ≡ true) where
       none_gone' : m'.gone ≡ None
       none_gone' = is.gone ∙ over.none_gone
 
@@ -105,10 +105,10 @@ module _ (p : PatternValue) (m : AlphaMemoryValue) (fs : IndexedFacts) (over : I
             is = record {
               are = λ n g h.
                   let read : candidate_in m'.candidates n ≡ Some g = sym (all_live m' n none_gone') ∙ h in
-                  elim (cases_eq n number) as (λ _. In g (with_fact fs ix f) × (has_shape p g.1 ≡ true)) [
+                  elim (cases_eq n number) as (λ _. In g (with_fact fs ix f) × (is_selected p g.1 ≡ true)) [
                     | inl e ↦
                         let same : (ix, f) ≡ g = same_some (candidate_in m'.candidates number) is.there (ap (candidate_in m'.candidates) (sym e) ∙ read) in
-                        (subst (λ it. In it (with_fact fs ix f)) same more.there, ap (λ (it : Fact). has_shape p it.1) (sym same) ∙ shape)
+                        (subst (λ it. In it (with_fact fs ix f)) same more.there, ap (λ (it : Fact). is_selected p it.1) (sym same) ∙ shape)
                     | inr d ↦ let a = over.has.are n g (sym (others_are n d) ∙ read) in (more.was g a.0, a.1)
                   ];
               all = λ g h t. elim (more.is g h) as (λ _. (n : ℕ) × (live m' n ≡ Some g)) [

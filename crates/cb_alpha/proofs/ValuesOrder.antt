@@ -15,8 +15,11 @@ are_same vs ws = (pointwise_decides value-Decides vs ws).0
 pub same_are : (vs ws : List Value) → vs ≡ ws → pointwise same vs ws ≡ true
 same_are vs ws = (pointwise_decides value-Decides vs ws).1
 
+pub tied_same : (vs ws : List Value) → pointwise same vs ws ≡ is_eq (values_cmp vs ws)
+tied_same vs ws = lists_ties value_ord.ghosts.cmp value_laws.matches_eq-law vs ws
+
 pub values_exact : (vs ws : List Value) → values_cmp vs ws ≡ Equal → vs ≡ ws
-values_exact vs ws h = are_same vs ws (lists_ties value_ord.ghosts.cmp value_laws.matches_eq-law vs ws ∙ ap is_eq h)
+values_exact vs ws h = are_same vs ws (tied_same vs ws ∙ ap is_eq h)
 
 pub values_level : (vs ws : List Value) → vs ≡ ws → values_cmp vs ws ≡ Equal
 values_level vs ws e = subst (λ it. values_cmp vs it ≡ Equal) e (tied_itself (lists_total value_laws.total-law) vs)

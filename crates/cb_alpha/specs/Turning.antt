@@ -4,7 +4,7 @@ use Rattle.cb_alpha.specs.AlphaMemories.{AlphaMemoryValue, AreSameFields, candid
 use Rattle.cb_constraints.specs.PatternValues.{PatternValue}
 use Rattle.cb_facts.specs.FactLists.{IndexedFacts}
 use Rattle.cb_facts.specs.Facts.{FactValue}
-use Rattle.cb_fit.specs.Shapes.{has_shape}
+use Rattle.cb_fit.specs.Shapes.{is_selected}
 use Rattle.cb_fit.specs.declared.join_fields.JoinField.{JoinField}
 use Rattle.cb_matches.specs.Chains.{In}
 
@@ -23,10 +23,10 @@ were_in m n = if is_number m.come n then None else candidate_in m.candidates n
 abbrev pub stay_in : AlphaMemoryValue → ℕ → Option (ℕ × FactValue)
 stay_in m n = if is_number m.come n then None else live m n
 
--- these are just those facts of a list that have the shape of the pattern
+-- these are just those facts of a list that are selected for the pattern
 pub record AreCandidates (p : PatternValue) (fs : IndexedFacts) (facts : ℕ → Option (ℕ × FactValue)) : Type 0 where
-  pub are : (n : ℕ) (f : ℕ × FactValue) → facts n ≡ Some f → In f fs × (has_shape p f.1 ≡ true)
-  pub all : (f : ℕ × FactValue) → In f fs → has_shape p f.1 ≡ true → (n : ℕ) × (facts n ≡ Some f)
+  pub are : (n : ℕ) (f : ℕ × FactValue) → facts n ≡ Some f → In f fs × (is_selected p f.1 ≡ true)
+  pub all : (f : ℕ × FactValue) → In f fs → is_selected p f.1 ≡ true → (n : ℕ) × (facts n ≡ Some f)
 
 -- no two of the facts that can be read have the same index
 abbrev pub IsOncePerIndex : AlphaMemoryValue → Type 0

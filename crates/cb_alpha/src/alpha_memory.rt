@@ -127,7 +127,7 @@ impl AlphaMemory {
     }
 
     /// The least values from the first on, before the second, that a fact has in the fields of a join, if one has such. It takes a
-    /// logarithmic number of comparisons.
+    /// logarithmic number of comparisons if the join is in order, and else as many as there are values.
     pub fn first_within(
         &self,
         join: usize,
@@ -159,17 +159,17 @@ impl AlphaMemory {
         }
     }
 
-    /// Finds the facts by the values of these fields too. The answer is the number of the join, which may have been there. Growth is
-    /// refused as `NoMemory`, and then nothing has changed.
-    pub fn add_join(&mut self, fields: Vec<JoinField>) -> Result<usize, NoMemory>
+    /// Finds the facts by the values of these fields too, and if `is_ordered` the least and the greatest values of a range as quickly. The
+    /// answer is the number of the join, which may have been there. Growth is refused as `NoMemory`, and then nothing has changed.
+    pub fn add_join(&mut self, fields: Vec<JoinField>, is_ordered: bool) -> Result<usize, NoMemory>
         requires { self.old.gone ≡ None }
         ensures ok { IfOk result (λ join. GainsJoin self.old self.new join fields.items) }
         ensures err { OnErr result (self.new ≡ self.old) }
     {
-        if let Some(join) = find_join(self.joins.as_slice(), fields.as_slice()) {
+        if let Some(join) = find_join(self.joins.as_slice(), fields.as_slice(), is_ordered) {
             return Ok(join);
         }
-        let mut join = JoinIndex::new(self.alloc, fields);
+        let mut join = JoinIndex::new(self.alloc, fields, is_ordered);
         fill(&self.candidates, &mut join)?;
         let number = self.joins.len();
         self.joins.push(join)?;

@@ -2,26 +2,28 @@
 ghost use Rattle.std.specs.Prelude.{◌≡◌, ℕ, [], IfOk, List, None, OnErr, OnOk, Some, option_copied};
 ghost use Rattle.cb_alpha.specs.Buckets.{AreFirstWithin, AreLastWithin, AreSameFilings, AreWithValues, AreWithin, Refiles, values_at};
 
+use crate::all_buckets::{best_of_all, members_of_all};
 use crate::join_values::JoinValues;
-use crate::numbering::{drop_empty, find, find_or_add, members_in};
+use crate::numbering::{Numbers, drop_empty, members_in};
 use crate::value_ranges::{first_between, last_between, members_between};
 use cb_forms::NoMemory;
 use cb_groups::Groups;
 use slab::Slab;
 use std::alloc::Global;
-use std::collections::BTreeMap;
+use std::cmp::Ordering;
 use std::marker::Model;
 
 /// Members by the values that they are joined on: those with the same values stand in one bucket. The members are numbers, of facts
 /// or of partial matches.
 ///
-/// A bucket is found in an ordered map of values, in a logarithmic number of comparisons whatever the values are, and so are the least
-/// and the greatest values of a range. A bucket in which nobody stands takes no memory.
+/// A bucket is found by a number that is mixed from its values, or in the order of values where another bucket has this number. So it
+/// takes logarithmic time whatever the values are. Where all buckets are kept in order, the least and the greatest values of a range are
+/// found in such time too, and else by going through all buckets. A bucket in which nobody stands takes no memory.
 #[derive(Drop)]
 pub struct Buckets {
     alloc: Global,
-    /// The number of each bucket, by its values.
-    numbers: BTreeMap<JoinValues, u32>,
+    /// How buckets are found.
+    numbers: Numbers,
     /// The values of each bucket.
     buckets: Slab<JoinValues>,
     /// The members of each bucket.
@@ -44,9 +46,23 @@ impl Buckets {
     pub fn new(alloc: Global) -> Buckets
         ensures { (member : ℕ) → values_at result member ≡ None }
     {
+        Buckets::with_order(alloc, false)
+    }
+
+    /// Nothing is filed, and buckets are kept in order, for who asks for ranges of values. It takes no memory.
+    pub fn in_order(alloc: Global) -> Buckets
+        ensures { (member : ℕ) → values_at result member ≡ None }
+    {
+        Buckets::with_order(alloc, true)
+    }
+
+    /// Nothing is filed, and buckets are kept in order or not. It takes no memory.
+    pub(crate) fn with_order(alloc: Global, is_ordered: bool) -> Buckets
+        ensures { (member : ℕ) → values_at result member ≡ None }
+    {
         Buckets {
             alloc,
-            numbers: BTreeMap::new(alloc),
+            numbers: Numbers::new(alloc, is_ordered),
             buckets: Slab::new(alloc),
             members: Groups::new(alloc),
         }
@@ -58,7 +74,9 @@ impl Buckets {
         ensures ok { OnOk result (Refiles self.old self.new member (Some values)) }
         ensures err { OnErr result (AreSameFilings self.old self.new) }
     {
-        let bucket = find_or_add(self.alloc, &mut self.numbers, &mut self.buckets, values)?;
+        let bucket = self
+            .numbers
+            .find_or_add(self.alloc, &mut self.buckets, values)?;
         match self.members.add(bucket, member) {
             Ok(()) => Ok(()),
             Err(NoMemory) => {
@@ -83,7 +101,7 @@ impl Buckets {
     pub fn members_with(&self, values: &JoinValues) -> &[u32]
         ensures { AreWithValues self.now values.now result.now }
     {
-        members_in(&self.members, find(&self.numbers, values))
+        members_in(&self.members, self.numbers.find(&self.buckets, values))
     }
 
     /// The members with values from the first on, before the second, in any order. Growth is refused as `NoMemory`.
@@ -95,20 +113,32 @@ impl Buckets {
     ) -> Result<Vec<u32>, NoMemory>
         ensures { IfOk result (λ all. AreWithin self.now low.now high.now all.items) }
     {
-        members_between(alloc, &self.numbers, &self.members, low, high)
+        if self.numbers.is_ordered {
+            members_between(alloc, &self.numbers.aside, &self.members, low, high)
+        } else {
+            members_of_all(alloc, &self.buckets, &self.members, low, high)
+        }
     }
 
     /// The least values from the first on, before the second, that a member has, if one has such.
     pub fn first_within(&self, low: &JoinValues, high: &JoinValues) -> Option<&JoinValues>
         ensures { AreFirstWithin self.now low.now high.now (option_copied result) }
     {
-        first_between(&self.numbers, low, high)
+        if self.numbers.is_ordered {
+            first_between(&self.numbers.aside, low, high)
+        } else {
+            best_of_all(&self.buckets, low, high, Ordering::Less)
+        }
     }
 
     /// The greatest of them.
     pub fn last_within(&self, low: &JoinValues, high: &JoinValues) -> Option<&JoinValues>
         ensures { AreLastWithin self.now low.now high.now (option_copied result) }
     {
-        last_between(&self.numbers, low, high)
+        if self.numbers.is_ordered {
+            last_between(&self.numbers.aside, low, high)
+        } else {
+            best_of_all(&self.buckets, low, high, Ordering::Greater)
+        }
     }
 }

@@ -23,6 +23,8 @@ use std::marker::Model;
 pub(crate) struct JoinIndex {
     alloc: Global,
     fields: Vec<JoinField>,
+    /// Whether facts are kept in the order of values.
+    is_ordered: bool,
     facts: Buckets,
 }
 
@@ -35,15 +37,16 @@ impl Model for JoinIndex {
 }
 
 impl JoinIndex {
-    /// No fact is filed. It takes no memory besides that of the fields.
-    pub(crate) fn new(alloc: Global, fields: Vec<JoinField>) -> JoinIndex
+    /// No fact is filed, and facts are kept in the order of values or not. It takes no memory besides that of the fields.
+    pub(crate) fn new(alloc: Global, fields: Vec<JoinField>, is_ordered: bool) -> JoinIndex
         ensures fields { result.fields ≡ fields.items }
         ensures none { (n : ℕ) → values_at result.facts n ≡ None }
     {
         JoinIndex {
             alloc,
             fields,
-            facts: Buckets::new(alloc),
+            is_ordered,
+            facts: Buckets::with_order(alloc, is_ordered),
         }
     }
 
@@ -52,6 +55,11 @@ impl JoinIndex {
         ensures { result.now ≡ self.now.fields }
     {
         self.fields.as_slice()
+    }
+
+    /// Whether facts are kept in order, if that is asked for.
+    fn serves(&self, is_ordered: bool) -> bool {
+        self.is_ordered || !is_ordered
     }
 
     /// Files a fact that isn't filed, if it has the fields. Growth is refused as `NoMemory`, and then nothing has changed.
@@ -80,7 +88,7 @@ impl JoinIndex {
         ensures fields { self.new.fields ≡ self.old.fields }
         ensures none { (n : ℕ) → values_at self.new.facts n ≡ None }
     {
-        self.facts = Buckets::new(self.alloc);
+        self.facts = Buckets::with_order(self.alloc, self.is_ordered);
     }
 
     /// The numbers of the facts with these values.
@@ -156,14 +164,19 @@ pub(crate) fn fill(candidates: &Slab<Candidate>, join: &mut JoinIndex) -> Result
     Ok(())
 }
 
-/// The place of one of these by fields with the same values in every fact, if there is one.
-pub(crate) fn find_join(joins: &[JoinIndex], fields: &[JoinField]) -> Option<usize>
+/// The place of one of these by fields with the same values in every fact, if there is one: of one that keeps facts in order, if that is
+/// asked for.
+pub(crate) fn find_join(
+    joins: &[JoinIndex],
+    fields: &[JoinField],
+    is_ordered: bool,
+) -> Option<usize>
     ensures within { IfSome result (λ k. k < length joins.now) }
     ensures fields { (k : ℕ) (fs : List Field) → result ≡ Some k → slice_get (map fields_of joins.now) k ≡ Some fs → AreSameFields fs fields.now }
 {
     let mut at = 0;
     for join in joins {
-        if are_at_same_places(join.fields(), fields) {
+        if join.serves(is_ordered) && are_at_same_places(join.fields(), fields) {
             return Some(at);
         }
         at += 1;

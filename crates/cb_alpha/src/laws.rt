@@ -7,7 +7,7 @@ ghost use Rattle.cb_alpha.specs.Turning.{AlphaTurns, HasJoin, IsAlphaOver};
 ghost use Rattle.cb_constraints.specs.PatternValues.{PatternValue};
 ghost use Rattle.cb_facts.specs.FactLists.{IndexedFacts, fact_at, with_fact, without_fact};
 ghost use Rattle.cb_facts.specs.Facts.{FactValue};
-ghost use Rattle.cb_fit.specs.Shapes.{has_shape};
+ghost use Rattle.cb_fit.specs.Shapes.{is_selected};
 ghost use Rattle.cb_fit.specs.declared.join_fields.JoinField.{JoinField};
 ghost use Rattle.cb_matches.specs.Order.{IsRising};
 
@@ -17,17 +17,17 @@ pub fn an_alpha_memory_begins_over_no_facts()
         → IsAlphaOver p [] (record { candidates = []; gone = None; come = None; joins = joins }) }
 {}
 
-/// A memory to which a fact with the shape of the pattern comes turns to the facts with that one.
+/// A memory to which a fact that the pattern selects comes turns to the facts with that one.
 pub fn a_fact_that_comes_turns_an_alpha_memory()
     ensures { (p : PatternValue) (m m' : AlphaMemoryValue) (number ix : ℕ) (f : FactValue) (fs : IndexedFacts)
-        → IsAlphaOver p fs m → GainsFact m m' number (ix, f) → fact_at fs ix ≡ None → has_shape p f ≡ true
+        → IsAlphaOver p fs m → GainsFact m m' number (ix, f) → fact_at fs ix ≡ None → is_selected p f ≡ true
         → AlphaTurns p m' fs (with_fact fs ix f) }
 {}
 
-/// A fact that has not the shape of the pattern comes to working memory and leaves the memory as it is.
-pub fn a_fact_without_the_shape_comes()
+/// A fact that is not selected for the pattern comes to working memory and leaves the memory as it is.
+pub fn a_fact_that_is_not_selected_comes()
     ensures { (p : PatternValue) (m : AlphaMemoryValue) (ix : ℕ) (f : FactValue) (fs : IndexedFacts)
-        → IsAlphaOver p fs m → fact_at fs ix ≡ None → has_shape p f ≡ false
+        → IsAlphaOver p fs m → fact_at fs ix ≡ None → is_selected p f ≡ false
         → AlphaTurns p m fs (with_fact fs ix f) }
 {}
 
@@ -45,10 +45,10 @@ pub fn a_fact_that_is_absent_goes()
         → AlphaTurns p m fs (without_fact fs ix) }
 {}
 
-/// So does one that has not the shape of the pattern.
-pub fn a_fact_without_the_shape_goes()
+/// So does one that is not selected for the pattern.
+pub fn a_fact_that_is_not_selected_goes()
     ensures { (p : PatternValue) (m : AlphaMemoryValue) (ix : ℕ) (f : FactValue) (fs : IndexedFacts)
-        → IsAlphaOver p fs m → IsRising fs → fact_at fs ix ≡ Some f → has_shape p f ≡ false
+        → IsAlphaOver p fs m → IsRising fs → fact_at fs ix ≡ Some f → is_selected p f ≡ false
         → AlphaTurns p m fs (without_fact fs ix) }
 {}
 

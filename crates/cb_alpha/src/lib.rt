@@ -3,12 +3,13 @@
 //! Patterns that are equal but for their variables share one alpha memory. What stands before a pattern is found by the same values,
 //! in `Buckets` of the pattern's own.
 //!
-//! Values are kept in their order. So the least and the greatest values are found too that a member, or a fact in the fields of a join,
-//! has from some values on and before others; and the members with values between.
+//! Where values are kept in their order, the least and the greatest values are found quickly too that a member, or a fact in the fields
+//! of a join, has from some values on and before others; and the members with values between.
 //!
 //! `docs/ARCHITECTURE.md` says where it belongs.
 #![tactic(auto)]
 
+mod all_buckets; // what stands from one list of values on, before another, by going through all buckets
 mod alpha_memory; // the facts that could fit a pattern
 mod buckets; // members by the values that they are joined on
 mod candidate; // a fact with its index
@@ -18,7 +19,7 @@ mod join_index; // the facts of an alpha memory by the values of join fields
 mod join_values; // values that facts and partial matches are joined on
 pub mod laws; // laws of what a change does to an alpha memory
 mod numbering; // the numbers of buckets
-mod value_ranges; // what stands from one list of values on, before another
+mod value_ranges; // what stands from one list of values on, before another, where they are kept in order
 mod variable_values; // the values of the variables of join fields
 
 pub use alpha_memory::AlphaMemory;

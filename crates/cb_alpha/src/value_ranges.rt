@@ -1,7 +1,7 @@
-//! What stands from one list of values on, before another, in their order.
+//! What stands from one list of values on, before another, where values are kept in their order.
 ghost use Rattle.std.specs.Prelude.{◌≡◌, ℕ, IfOk, List, Option, option_copied};
 ghost use Rattle.cb_alpha.specs.Buckets.{AreFirstWithin, AreLastWithin, AreWithin};
-ghost use Rattle.cb_alpha.specs.Internal.Numbered.{AreNumbered, filing};
+ghost use Rattle.cb_alpha.specs.Internal.Numbered.{AreInOrder, filing};
 ghost use Rattle.cb_facts.specs.declared.value.Value.{Value as Joined};
 
 use crate::join_values::JoinValues;
@@ -17,7 +17,7 @@ pub(crate) fn first_between<'a>(
     low: &JoinValues,
     high: &JoinValues,
 ) -> Option<&'a JoinValues>
-    ensures { (buckets : List (Option (List Joined))) → AreNumbered numbers.now buckets
+    ensures { (buckets : List (Option (List Joined))) → AreInOrder numbers.now buckets
         → AreFirstWithin buckets low.now high.now (option_copied result) }
 {
     if low.cmp(high).is_gt() {
@@ -38,7 +38,7 @@ pub(crate) fn last_between<'a>(
     low: &JoinValues,
     high: &JoinValues,
 ) -> Option<&'a JoinValues>
-    ensures { (buckets : List (Option (List Joined))) → AreNumbered numbers.now buckets
+    ensures { (buckets : List (Option (List Joined))) → AreInOrder numbers.now buckets
         → AreLastWithin buckets low.now high.now (option_copied result) }
 {
     if low.cmp(high).is_gt() {
@@ -61,7 +61,7 @@ pub(crate) fn members_between(
     low: &JoinValues,
     high: &JoinValues,
 ) -> Result<Vec<u32>, NoMemory>
-    ensures { IfOk result (λ all. (buckets : List (Option (List Joined))) → AreNumbered numbers.now buckets
+    ensures { IfOk result (λ all. (buckets : List (Option (List Joined))) → AreInOrder numbers.now buckets
         → AreWithin (filing buckets members.now) low.now high.now all.items) }
 {
     let mut all = Vec::new(alloc);

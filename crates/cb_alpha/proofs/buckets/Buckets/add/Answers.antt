@@ -8,7 +8,7 @@ pub invariant_of-self-in-Ok : goal.invariant_of-self-in-Ok
 invariant_of-self-in-Ok c =
     let b = c.self.inside in
     let vs' = c.find_or_add.new.buckets.slots in
-    buckets_more b.numbers c.find_or_add.new.numbers b.buckets.slots vs' b.members c.add.new.self c.self.invariant c.args.member c.in_ok-bucket.bucket
+    buckets_more b.numbers c.find_or_add.new.self b.buckets.slots vs' b.members c.add.new.self c.self.invariant c.args.member c.in_ok-bucket.bucket
     (ap (λ it. values_at it c.args.member) c.self.view_is ∙ c.requires) c.in_ok-bucket.ensures.others c.find_or_add.ensures.is c.args.values c.in_ok-bucket.ensures.ok c.find_or_add.ensures.kept c.in-Ok.ensures.ok
 
 pub returns-in_err-bucket-clause-err : goal.returns-in_err-bucket-clause-err

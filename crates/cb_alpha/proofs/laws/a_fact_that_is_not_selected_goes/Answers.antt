@@ -1,5 +1,5 @@
 use Rattle.cb_alpha.proofs.Turned.{shapeless_goes}
-use Rattle.cb_alpha.proofs.laws.a_fact_without_the_shape_goes.Goals as goal
+use Rattle.cb_alpha.proofs.laws.a_fact_that_is_not_selected_goes.Goals as goal
 
 pub returns : goal.returns
 returns c = λ p m ix f fs over. shapeless_goes p m fs over ix f
