@@ -5,18 +5,17 @@ use Rattle.cb_alpha.specs.AlphaMemories.{AlphaMemoryValue, live}
 use Rattle.cb_alpha_network.proofs.Filled.{has_index}
 use Rattle.cb_alpha_network.proofs.Rest.{live_at_rest, were_without}
 use Rattle.cb_alpha_network.specs.Networks.{AlphaNetworkValue, AreAlphas, ChangesFrom, HasNoFact, IsAtRest, memory_at}
-use Rattle.cb_constraints.specs.PatternValues.{PatternValue}
 use Rattle.cb_facts.specs.FactLists.{IndexedFacts, fact_at}
-use Rattle.cb_fit.specs.Shapes.{loose}
+use Rattle.cb_fit.specs.Shapes.{SelectionValue, selection}
 
 -- where there are no shapes, each list of facts is theirs
 pub no_shapes : (fs : IndexedFacts) → AreAlphas (record { shapes = []; users = []; memories = [] }) fs
 no_shapes fs = record {
-  over = λ n p at. absurd (not_there (loose p) at);
+  over = λ n p at. absurd (not_there (selection p) at);
   rest = λ n. record { none_gone = refl; none_come = refl };
 }
   where
-    not_there : (q : PatternValue) → None ≡ Some q → ⊥
+    not_there : (q : SelectionValue) → None ≡ Some q → ⊥
     not_there q e = cc
 
 -- an index that no fact has is free

@@ -6,13 +6,13 @@ use Rattle.cb_alpha.specs.Turning.{AlphaTurns, IsAlphaOver}
 use Rattle.cb_alpha_network.proofs.OneByOne.{in_or_not}
 use Rattle.cb_alpha_network.proofs.Rest.{asserted_from, from_rest, retracted_from}
 use Rattle.cb_alpha_network.specs.Asked.{IsEntered}
-use Rattle.cb_alpha_network.specs.Internal.{ChangesThose, IsAsserted, IsNetwork, IsRetracted, fits}
+use Rattle.cb_alpha_network.specs.Internal.{ChangesThose, IsAsserted, IsNetwork, IsRetracted}
 use Rattle.cb_alpha_network.specs.Networks.{AlphaNetworkValue, AlphasTurn, AreAlphas, AreAtRest, ChangesFrom, HasNoFact, IsShapeAt, MemoryValues, NetworkChangesFrom, memory_at, memory_in, shape_at}
 use Rattle.cb_alpha_network.specs.declared.asked.Asked.{Asked}
 use Rattle.cb_constraints.specs.PatternValues.{PatternValue}
 use Rattle.cb_facts.specs.FactLists.{IndexedFacts, fact_at, with_fact, without_fact}
 use Rattle.cb_facts.specs.Facts.{FactValue}
-use Rattle.cb_fit.specs.Shapes.{has_shape, loose}
+use Rattle.cb_fit.specs.Shapes.{SelectionValue, is_selected, selection, selects}
 use Rattle.cb_fit.specs.declared.shape.Shape.{Shape}
 use Rattle.cb_matches.proofs.Lists.{by_test}
 use Rattle.cb_matches.specs.Chains.{In}
@@ -30,11 +30,11 @@ on_any (Err e) p = tt
 -- the laws of an alpha memory that are used here
 abbrev pub Comes : Type 0
 Comes = (p : PatternValue) (m m' : AlphaMemoryValue) (number ix : ℕ) (f : FactValue) (fs : IndexedFacts)
-    → IsAlphaOver p fs m → GainsFact m m' number (ix, f) → fact_at fs ix ≡ None → has_shape p f ≡ true → AlphaTurns p m' fs (with_fact fs ix f)
+    → IsAlphaOver p fs m → GainsFact m m' number (ix, f) → fact_at fs ix ≡ None → is_selected p f ≡ true → AlphaTurns p m' fs (with_fact fs ix f)
 
 abbrev pub ComesWithout : Type 0
 ComesWithout = (p : PatternValue) (m : AlphaMemoryValue) (ix : ℕ) (f : FactValue) (fs : IndexedFacts)
-    → IsAlphaOver p fs m → fact_at fs ix ≡ None → has_shape p f ≡ false → AlphaTurns p m fs (with_fact fs ix f)
+    → IsAlphaOver p fs m → fact_at fs ix ≡ None → is_selected p f ≡ false → AlphaTurns p m fs (with_fact fs ix f)
 
 abbrev pub Goes : Type 0
 Goes = (p : PatternValue) (m m' : AlphaMemoryValue) (number ix : ℕ) (fs : IndexedFacts)
@@ -46,21 +46,21 @@ GoesAbsent = (p : PatternValue) (m : AlphaMemoryValue) (ix : ℕ) (fs : IndexedF
 
 abbrev pub GoesWithout : Type 0
 GoesWithout = (p : PatternValue) (m : AlphaMemoryValue) (ix : ℕ) (f : FactValue) (fs : IndexedFacts)
-    → IsAlphaOver p fs m → IsRising fs → fact_at fs ix ≡ Some f → has_shape p f ≡ false → AlphaTurns p m fs (without_fact fs ix)
+    → IsAlphaOver p fs m → IsRising fs → fact_at fs ix ≡ Some f → is_selected p f ≡ false → AlphaTurns p m fs (without_fact fs ix)
 
--- the numbers of all shapes that a fact has are found
+-- the numbers of all that select a fact are found
 abbrev pub AreFound : AlphaNetworkValue → FactValue → List ℕ → Type 0
-AreFound v f found = (n : ℕ) (p : PatternValue) → IsShapeAt v n p → has_shape p f ≡ true → In n found
+AreFound v f found = (n : ℕ) (p : PatternValue) → IsShapeAt v n p → is_selected p f ≡ true → In n found
 
 module _ (asked : Asked) (numbers : BTreeMap Shape ℕ) (v : AlphaNetworkValue) (count : ℕ) (is : IsNetwork asked numbers v.shapes v.users count) where
   -- what is entered under its number is found
-  pub are_found : (f : FactValue) (found : List ℕ) → ((p : PatternValue) (n : ℕ) → IsEntered asked p n → has_shape p f ≡ true → In n found) → AreFound v f found
+  pub are_found : (f : FactValue) (found : List ℕ) → ((p : PatternValue) (n : ℕ) → IsEntered asked p n → is_selected p f ≡ true → In n found) → AreFound v f found
   are_found f found all n p at t =
-      let entered = is.entered n (loose p) at in
-      all entered.0 n entered.2 (ap (λ q. fits q f) entered.1 ∙ t)
+      let entered = is.entered n (selection p) at in
+      all entered.0 n entered.2 (ap (λ s. selects s f) entered.1 ∙ t)
 
   -- the memory of each shape has no fact with an index that none has
-  pub none_with : (ix : ℕ) → HasNoFact v ix → (n : ℕ) (q : PatternValue) → shape_at v n ≡ Some q → (i : ℕ) → index_of (live (memory_at v n) i) ≢ Some ix
+  pub none_with : (ix : ℕ) → HasNoFact v ix → (n : ℕ) (q : SelectionValue) → shape_at v n ≡ Some q → (i : ℕ) → index_of (live (memory_at v n) i) ≢ Some ix
   none_with ix free n q at =
       let entered = is.entered n q at in
       free n entered.0 (at ∙ ap Some (sym entered.1))
@@ -82,7 +82,7 @@ module _ (v : AlphaNetworkValue) (ms' : MemoryValues) (ix : ℕ) (f : FactValue)
     }
 
     pub asserted_turns : Comes → ComesWithout → AreFound v f found → (fs : IndexedFacts) → AreAlphas v fs → fact_at fs ix ≡ None → AlphasTurn changed fs (with_fact fs ix f)
-    asserted_turns comes without all fs was free n p at = by_test (has_shape p f)
+    asserted_turns comes without all fs was free n p at = by_test (is_selected p f)
         (λ t. let gains = (is_asserted (all n p at t)).0 t in comes p (memory_at v n) (memory_in ms' n) gains.0 ix f fs over gains.1 free t)
         (λ t. let same : memory_in ms' n ≡ memory_at v n = elim (in_or_not n found) as (λ _. memory_in ms' n ≡ memory_at v n) [
           | inl i ↦ (is_asserted i).1 t
@@ -93,7 +93,7 @@ module _ (v : AlphaNetworkValue) (ms' : MemoryValues) (ix : ℕ) (f : FactValue)
         over : IsAlphaOver p fs (memory_at v n)
         over = was.over n p at
 
-        is_asserted : In n found → IsAsserted (Some (loose p)) ix f (memory_at v n) (memory_in ms' n)
+        is_asserted : In n found → IsAsserted (Some (selection p)) ix f (memory_at v n) (memory_in ms' n)
         is_asserted i = subst (λ o. IsAsserted o ix f (memory_at v n) (memory_in ms' n)) at (done.changed n i)
 
   -- a fact goes
@@ -112,7 +112,7 @@ module _ (v : AlphaNetworkValue) (ms' : MemoryValues) (ix : ℕ) (f : FactValue)
         → AlphasTurn changed fs (without_fact fs ix)
     retracted_turns goes absent without all fs was rising there n p at = elim (in_or_not n found) as (λ _. AlphaTurns p (memory_in ms' n) fs (without_fact fs ix)) [
       | inl i ↦ by_retracted (done.changed n i)
-      | inr out ↦ by_test (has_shape p f)
+      | inr out ↦ by_test (is_selected p f)
           (λ t. absurd (out (all n p at t)))
           (λ t. stays (done.others n out) (without p (memory_at v n) ix f fs over rising there t))
     ]

@@ -1,10 +1,12 @@
--- The shape of a pattern without its variables and expressions is that of the pattern.
+-- The key of what a pattern asks of a fact alone is the shape of the pattern.
 use Rattle.std.proofs.Common.{◌≡◌, ◌++◌, ℕ, Bool, List, [], ◌∷◌, ap, ap₂, flat_map, map, refl}
 use Rattle.cb_constraints.specs.Constraints.{Test, constant, variable, predicate, return_value, Check, Demand, nothing, each, either, Constraint}
 use Rattle.cb_constraints.specs.PatternValues.{PatternParts, PatternValue, SlotValue}
 use Rattle.cb_constraints.specs.PatternValues as pattern
-use Rattle.cb_fit.specs.ShapeKeys.{alternative_pieces, checks_pieces, demand_pieces, pieces_of, row_pieces, shape_of, slot_pieces}
-use Rattle.cb_fit.specs.Shapes.{constants_in, loose, loose_demand, loose_parts, loose_row, loose_slot}
+use Rattle.cb_fit.specs.Comparisons.{own_fields}
+use Rattle.cb_fit.specs.ShapeKeys.{alternative_pieces, checks_pieces, demand_pieces, key_of, own_pieces, pieces_of, row_pieces, shape_of, slot_pieces}
+use Rattle.cb_fit.specs.Shapes.{constants_in, loose_demand, loose_parts, loose_row, loose_slot, selection}
+use Rattle.cb_fit.specs.declared.own_field.OwnField.{OwnField}
 use Rattle.cb_fit.specs.declared.pieces.Piece.{Piece}
 use Rattle.cb_fit.specs.declared.pieces.Piece.TheVariants as piece
 use Rattle.cb_fit.specs.declared.shape.Shape.{Shape}
@@ -42,9 +44,9 @@ parts_kept : (p : PatternParts) → pieces_of (loose_parts p) ≡ pieces_of p
 parts_kept (pattern.fields row) = ap (λ (ps : List Piece). piece.Ordered ∷ ps) (row_kept row)
 parts_kept (pattern.slots rows) = slots_kept rows
 
-shape_with : List ℕ → List Piece → Shape
-shape_with r ps = record { relation = r; pieces = ps }
+shape_with : List ℕ → List OwnField → List Piece → Shape
+shape_with r os ps = record { relation = r; pieces = own_pieces os ++ ps }
 
-pub loose_shape : (p : PatternValue) → shape_of (loose p) ≡ shape_of p
+pub selection_key : (p : PatternValue) → key_of (selection p) ≡ shape_of p
 unfolding shape_with
-loose_shape p = ap (shape_with p.relation) (parts_kept p.parts)
+selection_key p = ap (shape_with p.relation (own_fields p.parts)) (parts_kept p.parts)

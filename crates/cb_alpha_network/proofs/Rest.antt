@@ -3,9 +3,9 @@ use Rattle.std.proofs.Common.{◌≡◌, ◌⊎◌, ◌∙◌, ◌++◌, ◌∷�
 use Rattle.std.proofs.lemmas.Bool.{cases_eq}
 use Rattle.cb_alpha.specs.AlphaMemories.{AlphaMemoryValue, GainsFact, IsEnded, LosesFact, candidate_in, live, live_in}
 use Rattle.cb_alpha.specs.Turning.{is_number, were_in}
-use Rattle.cb_alpha_network.specs.Internal.{AreNoted, IsAsserted, IsRetracted, KeepsOtherMemories, fits}
+use Rattle.cb_alpha_network.specs.Internal.{AreNoted, IsAsserted, IsRetracted, KeepsOtherMemories}
 use Rattle.cb_alpha_network.specs.Networks.{ChangesFrom, IsAtRest, MemoryValues, memory_in}
-use Rattle.cb_constraints.specs.PatternValues.{PatternValue}
+use Rattle.cb_fit.specs.Shapes.{SelectionValue, selects}
 use Rattle.cb_facts.specs.Facts.{FactValue}
 use Rattle.cb_matches.proofs.Lists.{by_test, in_left, in_right}
 use Rattle.cb_matches.specs.Chains.{In}
@@ -64,9 +64,9 @@ loses_from m m' number ix rest loses = record {
   were = λ i. were_without m' (loses.come ∙ rest.none_come) i ∙ (ap (λ cs. candidate_in cs i) loses.candidates ∙ sym (live_at_rest m rest.none_gone i));
 }
 
-pub asserted_from : (o : Option PatternValue) (ix : ℕ) (f : FactValue) (m m' : AlphaMemoryValue) → IsAtRest m → IsAsserted o ix f m m' → ChangesFrom m m'
+pub asserted_from : (o : Option SelectionValue) (ix : ℕ) (f : FactValue) (m m' : AlphaMemoryValue) → IsAtRest m → IsAsserted o ix f m m' → ChangesFrom m m'
 asserted_from None ix f m m' rest same = subst (ChangesFrom m) (sym same) (from_rest m rest)
-asserted_from (Some p) ix f m m' rest is = by_test (fits p f)
+asserted_from (Some p) ix f m m' rest is = by_test (selects p f)
     (λ t. let gains = is.0 t in gains_from m m' gains.0 (ix, f) rest gains.1)
     (λ t. subst (ChangesFrom m) (sym (is.1 t)) (from_rest m rest))
 

@@ -5,19 +5,19 @@ use Rattle.cb_alpha.specs.AlphaMemories.{AlphaMemoryValue, GainsJoin}
 use Rattle.cb_alpha.specs.Turning.{HasJoin, IsAlphaOver}
 use Rattle.cb_alpha_network.proofs.Numbered.{not_there, same_shape}
 use Rattle.cb_alpha_network.proofs.Users.{user_at}
-use Rattle.cb_alpha_network.specs.Internal.{KeepsOtherMemories, fits}
+use Rattle.cb_alpha_network.specs.Internal.{KeepsOtherMemories}
 use Rattle.cb_alpha_network.specs.Networks.{AlphaNetworkValue, AreAlphas, AreAtRest, IsAtRest, IsShapeAt, KeepsFacts, KeepsShapes, KeepsShapesBut, MemoryValues, ShapeValues, memory_at, memory_in, shape_at}
 use Rattle.cb_alpha_network.specs.declared.node_place.NodePlace.{NodePlace}
 use Rattle.cb_alpha_network.specs.declared.user.User.{User}
 use Rattle.cb_constraints.specs.PatternValues.{PatternValue}
 use Rattle.cb_facts.specs.FactLists.{IndexedFacts}
 use Rattle.cb_facts.specs.Facts.{FactValue}
-use Rattle.cb_fit.specs.Shapes.{has_shape, loose}
+use Rattle.cb_fit.specs.Shapes.{is_selected, selection, selects}
 use Rattle.cb_fit.specs.declared.join_fields.JoinField.{JoinField}
 use Rattle.cb_matches.specs.Chains.{In}
 
--- patterns with the same shape have the same facts
-pub over_alike : (p q : PatternValue) (fs : IndexedFacts) (m : AlphaMemoryValue) → loose p ≡ loose q → IsAlphaOver p fs m → IsAlphaOver q fs m
+-- patterns that ask the same of a fact alone have the same facts
+pub over_alike : (p q : PatternValue) (fs : IndexedFacts) (m : AlphaMemoryValue) → selection p ≡ selection q → IsAlphaOver p fs m → IsAlphaOver q fs m
 over_alike p q fs m e is = record {
   has = record {
     are = λ n f there. let found = is.has.are n f there in (found.0, sym (alike f.1) ∙ found.1);
@@ -28,8 +28,8 @@ over_alike p q fs m e is = record {
   none_come = is.none_come;
 }
   where
-    alike : (f : FactValue) → has_shape p f ≡ has_shape q f
-    alike f = ap (λ it. fits it f) e
+    alike : (f : FactValue) → is_selected p f ≡ is_selected q f
+    alike f = ap (λ it. selects it f) e
 
 pub facts_stay : (m : AlphaMemoryValue) → KeepsFacts m m
 facts_stay m = record { candidates = refl; gone = refl; come = refl; joins = λ join fields has. has }
@@ -52,7 +52,7 @@ module _ (v v' : AlphaNetworkValue) (number : ℕ) (keeps : KeepsOthers number v
   -- a shape more
   pub others_kept : shape_at v number ≡ None → ((u : User) → In u v.users → In u v'.users) → KeepsShapes v v'
   others_kept none users n p place is =
-      let d : n ≢ number = λ e. not_there (shape_at v number) (loose p) none (ap (shape_at v) (sym e) ∙ is.shape) in
+      let d : n ≢ number = λ e. not_there (shape_at v number) (selection p) none (ap (shape_at v) (sym e) ∙ is.shape) in
       (record { shape = keeps.shapes n d ∙ is.shape; used = users (user_at n place) is.used }, subst (KeepsFacts (memory_at v n)) (sym (keeps.memories n d)) (facts_stay (memory_at v n)))
 
   -- one less, which no node uses any more
@@ -76,7 +76,7 @@ module _ (v v' : AlphaNetworkValue) (number : ℕ) (keeps : KeepsOthers number v
     shape_more p at over = record {
       over = λ n q is. elim (cases_eq n number) as (λ _. IsAlphaOver q fs (memory_at v' n)) [
         | inl e ↦
-            let same : loose p ≡ loose q = same_shape (loose p) (loose q) (sym at ∙ (ap (shape_at v') (sym e) ∙ is)) in
+            let same : selection p ≡ selection q = same_shape (selection p) (selection q) (sym at ∙ (ap (shape_at v') (sym e) ∙ is)) in
             subst (λ i. IsAlphaOver q fs (memory_at v' i)) (sym e) (over_alike p q fs (memory_at v' number) same over)
         | inr d ↦ over_others n q d is
       ];
@@ -86,7 +86,7 @@ module _ (v v' : AlphaNetworkValue) (number : ℕ) (keeps : KeepsOthers number v
     pub shape_less : shape_at v' number ≡ None → IsAtRest (memory_at v' number) → AreAlphas v' fs
     shape_less none rest = record {
       over = λ n p is. elim (cases_eq n number) as (λ _. IsAlphaOver p fs (memory_at v' n)) [
-        | inl e ↦ absurd (not_there (shape_at v' number) (loose p) none (ap (shape_at v') (sym e) ∙ is))
+        | inl e ↦ absurd (not_there (shape_at v' number) (selection p) none (ap (shape_at v') (sym e) ∙ is))
         | inr d ↦ over_others n p d is
       ];
       rest = rest_all rest;

@@ -9,11 +9,9 @@ use Rattle.cb_alpha_network.specs.declared.asked.Asked.{Asked}
 use Rattle.cb_alpha_network.specs.declared.node_place.NodePlace.{NodePlace}
 use Rattle.cb_alpha_network.specs.declared.user.User.{User}
 use Rattle.cb_constraints.specs.PatternValues.{PatternValue}
-use Rattle.cb_exprs.specs.Bindings.{no_bindings}
 use Rattle.cb_facts.specs.Facts.{FactValue}
-use Rattle.cb_fit.specs.ShapeKeys.{shape_of}
-use Rattle.cb_fit.specs.Shapes.{has_way, loose}
-use Rattle.cb_fit.specs.Ways.{ways}
+use Rattle.cb_fit.specs.ShapeKeys.{key_of, shape_of}
+use Rattle.cb_fit.specs.Shapes.{SelectionValue, selection, selects}
 use Rattle.cb_fit.specs.contracts.shape.ShapeOrd.TheImpl as shape_ord
 use Rattle.cb_fit.specs.declared.shape.Shape.{Shape}
 use Rattle.cb_matches.specs.Chains.{In}
@@ -28,24 +26,20 @@ shape_cmp = shape_ord.ghosts.cmp
 
 -- each shape has a memory, what it asks for is entered under its number, its number is found by it, and by no other, and a node uses it
 pub record IsNetwork (asked : Asked) (numbers : BTreeMap Shape ℕ) (shapes : ShapeValues) (users : List User) (count : ℕ) : Type 0 where
-  pub entered : (n : ℕ) (q : PatternValue) → shape_in shapes n ≡ Some q → (p : PatternValue) × (loose p ≡ q) × IsEntered asked p n
-  pub within : (n : ℕ) (q : PatternValue) → shape_in shapes n ≡ Some q → n < count
-  pub numbered : (n : ℕ) (q : PatternValue) → shape_in shapes n ≡ Some q → get shape_cmp numbers (shape_of q) ≡ Some n
-  pub found : (k : Shape) (n : ℕ) → get shape_cmp numbers k ≡ Some n → (p : PatternValue) × (shape_of p ≡ k) × (shape_in shapes n ≡ Some (loose p))
-  pub used : (n : ℕ) (q : PatternValue) → shape_in shapes n ≡ Some q → (place : NodePlace) × In (record { alpha = n; place = place }) users
+  pub entered : (n : ℕ) (q : SelectionValue) → shape_in shapes n ≡ Some q → (p : PatternValue) × (selection p ≡ q) × IsEntered asked p n
+  pub within : (n : ℕ) (q : SelectionValue) → shape_in shapes n ≡ Some q → n < count
+  pub numbered : (n : ℕ) (q : SelectionValue) → shape_in shapes n ≡ Some q → get shape_cmp numbers (key_of q) ≡ Some n
+  pub found : (k : Shape) (n : ℕ) → get shape_cmp numbers k ≡ Some n → (p : PatternValue) × (shape_of p ≡ k) × (shape_in shapes n ≡ Some (selection p))
+  pub used : (n : ℕ) (q : SelectionValue) → shape_in shapes n ≡ Some q → (place : NodePlace) × In (record { alpha = n; place = place }) users
 
 -- all but one memory stay
 abbrev pub KeepsOtherMemories : ℕ → MemoryValues → MemoryValues → Type 0
 KeepsOtherMemories number old new = (n : ℕ) → n ≢ number → memory_in new n ≡ memory_in old n
 
--- the pattern without variables fits
-abbrev pub fits : PatternValue → FactValue → Bool
-fits p f = has_way (ways p f no_bindings)
-
--- a fact comes to a memory if it has the shape that stands there, if one does
-abbrev pub IsAsserted : Option PatternValue → ℕ → FactValue → AlphaMemoryValue → AlphaMemoryValue → Type 0
+-- a fact comes to a memory if it is selected by what stands there, if something does
+abbrev pub IsAsserted : Option SelectionValue → ℕ → FactValue → AlphaMemoryValue → AlphaMemoryValue → Type 0
 IsAsserted None ix f old new = new ≡ old
-IsAsserted (Some p) ix f old new = (fits p f ≡ true → (i : ℕ) × GainsFact old new i (ix, f)) × (fits p f ≡ false → new ≡ old)
+IsAsserted (Some s) ix f old new = (selects s f ≡ true → (i : ℕ) × GainsFact old new i (ix, f)) × (selects s f ≡ false → new ≡ old)
 
 -- the fact with an index goes from a memory, if it is there
 abbrev pub IsRetracted : ℕ → AlphaMemoryValue → AlphaMemoryValue → Type 0

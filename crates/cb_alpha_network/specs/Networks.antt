@@ -6,15 +6,15 @@ use Rattle.cb_alpha_network.specs.declared.node_place.NodePlace.{NodePlace}
 use Rattle.cb_alpha_network.specs.declared.user.User.{User}
 use Rattle.cb_constraints.specs.PatternValues.{PatternValue}
 use Rattle.cb_facts.specs.FactLists.{IndexedFacts}
-use Rattle.cb_fit.specs.Shapes.{loose}
+use Rattle.cb_fit.specs.Shapes.{SelectionValue, selection}
 use Rattle.cb_fit.specs.declared.join_fields.JoinField.{JoinField}
 use Rattle.cb_matches.specs.Chains.{In}
 
--- shapes by number: patterns without their variables and expressions
+-- what patterns ask of a fact alone, by number
 abbrev pub ShapeValues : Type 0
-ShapeValues = List (Option PatternValue)
+ShapeValues = List (Option SelectionValue)
 
-abbrev pub shape_in : ShapeValues → ℕ → Option PatternValue
+abbrev pub shape_in : ShapeValues → ℕ → Option SelectionValue
 shape_in ss n = slice_index_or ss n None
 
 -- no facts, and no join
@@ -34,7 +34,7 @@ pub record AlphaNetworkValue : Type 0 where
   pub users : List User
   pub memories : MemoryValues
 
-abbrev pub shape_at : AlphaNetworkValue → ℕ → Option PatternValue
+abbrev pub shape_at : AlphaNetworkValue → ℕ → Option SelectionValue
 shape_at v n = shape_in v.shapes n
 
 abbrev pub memory_at : AlphaNetworkValue → ℕ → AlphaMemoryValue
@@ -46,7 +46,7 @@ use_count v = length v.users
 
 -- the shape of this pattern stands under a number
 abbrev pub IsShapeAt : AlphaNetworkValue → ℕ → PatternValue → Type 0
-IsShapeAt v n p = shape_at v n ≡ Some (loose p)
+IsShapeAt v n p = shape_at v n ≡ Some (selection p)
 
 -- and the node at this place uses it
 pub record IsShapeOf (v : AlphaNetworkValue) (n : ℕ) (p : PatternValue) (place : NodePlace) : Type 0 where

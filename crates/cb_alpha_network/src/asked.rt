@@ -6,7 +6,7 @@ ghost use Rattle.cb_alpha_network.specs.Asked.{AddsNumbers, IsEntered, KeepsEnte
 ghost use Rattle.cb_alpha_network.specs.Wanted.{Wants};
 ghost use Rattle.cb_alpha_network.specs.declared.wanted.Entry.{Entry};
 ghost use Rattle.cb_constraints.specs.PatternValues.{PatternValue};
-ghost use Rattle.cb_fit.specs.Shapes.{has_shape};
+ghost use Rattle.cb_fit.specs.Shapes.{is_selected};
 ghost use Rattle.cb_matches.specs.Chains.{In};
 
 use crate::field_places::FieldPlaces;
@@ -14,7 +14,9 @@ use crate::wanted::{Entry, Spot, Wanted, wanted_of};
 use cb_alpha::JoinValues;
 use cb_facts::Fact;
 use cb_fit::Pattern;
-use cb_fit::laws::a_fact_with_the_shape_has_the_constants;
+use cb_fit::laws::{
+    a_fact_that_is_selected_has_the_shape, a_fact_with_the_shape_has_the_constants,
+};
 use cb_forms::NoMemory;
 use std::alloc::Global;
 use std::collections::BTreeSet;
@@ -102,7 +104,7 @@ impl Asked {
     }
 
     /// Finds the numbers of the patterns that a fact could fit, in their order, in place of what was found before: among them are those
-    /// of all patterns of which the fact has the shape.
+    /// of all patterns that the fact is selected for.
     pub(crate) fn numbers_for(
         &self,
         alloc: Global,
@@ -110,10 +112,11 @@ impl Asked {
         found: &mut Vec<u32>,
     ) -> Result<(), NoMemory>
         ensures found { OnOk result ((pattern : PatternValue) (number : ℕ)
-            → IsEntered self.now pattern number → has_shape pattern fact.now ≡ true
+            → IsEntered self.now pattern number → is_selected pattern fact.now ≡ true
             → In number found.new.items) }
         ensures ordered { OnOk result (IsStrictlySortedBy nat_cmp found.new.items) }
     {
+        a_fact_that_is_selected_has_the_shape();
         a_fact_with_the_shape_has_the_constants();
         found.clear();
         self.add_numbers(alloc, fact, found)?;

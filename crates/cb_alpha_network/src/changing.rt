@@ -6,16 +6,15 @@ ghost use Rattle.cb_alpha.specs.AlphaMemories.{index_of, live};
 ghost use Rattle.cb_alpha_network.specs.Internal.{ChangesThose, IsAsserted, IsRetracted, KeepsOtherMemories};
 ghost use Rattle.cb_alpha_network.specs.Networks.{AreAtRest, memory_in, shape_in};
 ghost use Rattle.cb_alpha_network.specs.declared.node_place.NodePlace.{NodePlace as Place};
-ghost use Rattle.cb_constraints.specs.PatternValues.{PatternValue};
+ghost use Rattle.cb_fit.specs.Shapes.{SelectionValue};
 ghost use Rattle.cb_matches.specs.Chains.{In};
 
-use crate::filling::fits_alone;
 use crate::memories::Memories;
 use crate::node_place::NodePlace;
 use crate::user::{User, first_user};
 use cb_alpha::Candidate;
 use cb_facts::Fact;
-use cb_fit::{Meter, Pattern};
+use cb_fit::{Meter, Selection};
 use cb_forms::NoMemory;
 use cb_functions::Constants;
 use slab::Slab;
@@ -23,11 +22,11 @@ use std::alloc::Global;
 use std::collections::BTreeSet;
 use std::ops::Bound;
 
-/// Adds a fact to the memories with these numbers of which it has the shape. Growth is refused as `NoMemory`.
+/// Adds a fact to the memories with these numbers that select it. Growth is refused as `NoMemory`.
 pub(crate) fn assert_found<T>(
     alloc: Global,
     constants: &Constants,
-    shapes: &Slab<Pattern<T>>,
+    shapes: &Slab<Selection<T>>,
     memories: &mut Memories,
     found: &[u32],
     index: u64,
@@ -35,9 +34,9 @@ pub(crate) fn assert_found<T>(
     meter: &mut Meter<T>,
 ) -> Result<(), NoMemory>
     requires sorted { IsStrictlySortedBy nat_cmp found.now }
-    requires within { (n : ℕ) (s : PatternValue) → shape_in shapes.now.slots n ≡ Some s → n < length memories.old }
+    requires within { (n : ℕ) (s : SelectionValue) → shape_in shapes.now.slots n ≡ Some s → n < length memories.old }
     requires rest { AreAtRest memories.old }
-    requires absent { (n : ℕ) (s : PatternValue) → shape_in shapes.now.slots n ≡ Some s
+    requires absent { (n : ℕ) (s : SelectionValue) → shape_in shapes.now.slots n ≡ Some s
         → (i : ℕ) → index_of (live (memory_in memories.old n) i) ≢ Some index }
     ensures changed { OnOk result (ChangesThose (λ n. IsAsserted (shape_in shapes.now.slots n) index fact.now)
         found.now memories.old memories.new) }
@@ -52,20 +51,20 @@ pub(crate) fn assert_found<T>(
     Ok(())
 }
 
-/// Adds a fact to the memory with a number, if it has the shape that stands there. Growth is refused as `NoMemory`.
+/// Adds a fact to the memory with a number, if what stands there selects it. Growth is refused as `NoMemory`.
 fn assert_at<T>(
     alloc: Global,
     constants: &Constants,
-    shapes: &Slab<Pattern<T>>,
+    shapes: &Slab<Selection<T>>,
     memories: &mut Memories,
     number: u32,
     index: u64,
     fact: &Fact,
     meter: &mut Meter<T>,
 ) -> Result<(), NoMemory>
-    requires within { (s : PatternValue) → shape_in shapes.now.slots number ≡ Some s → number < length memories.old }
+    requires within { (s : SelectionValue) → shape_in shapes.now.slots number ≡ Some s → number < length memories.old }
     requires none_come { (memory_in memories.old number).come ≡ None }
-    requires absent { (s : PatternValue) → shape_in shapes.now.slots number ≡ Some s
+    requires absent { (s : SelectionValue) → shape_in shapes.now.slots number ≡ Some s
         → (i : ℕ) → index_of (live (memory_in memories.old number) i) ≢ Some index }
     ensures at { OnOk result (IsAsserted (shape_in shapes.now.slots number) index fact.now
         (memory_in memories.old number) (memory_in memories.new number)) }
@@ -76,7 +75,7 @@ fn assert_at<T>(
     let Some(shape) = shapes.get(number as usize) else {
         return Ok(());
     };
-    if !fits_alone(alloc, constants, shape, fact, meter)? {
+    if !shape.selects(alloc, constants, fact, meter)? {
         return Ok(());
     }
     let fact = fact.clone()?;

@@ -82,11 +82,13 @@ impl Memories {
         replace(&mut self.all, number, memory);
     }
 
-    /// Finds the facts of a memory by the values of these fields too. The answer is the number of the join.
+    /// Finds the facts of a memory by the values of these fields too, and keeps them in order if `is_ordered`. The answer is the number of
+    /// the join.
     pub(crate) fn add_join(
         &mut self,
         number: u32,
         fields: Vec<JoinField>,
+        is_ordered: bool,
     ) -> Result<usize, NoMemory>
         requires within { number < length self.old }
         requires rest { IsAtRest (memory_in self.old number) }
@@ -94,7 +96,7 @@ impl Memories {
         ensures others { KeepsOtherMemories number self.old self.new }
         ensures long { length self.new ≡ length self.old }
     {
-        join_at(&mut self.all, number, fields)
+        join_at(&mut self.all, number, fields, is_ordered)
     }
 
     /// Adds a fact to a memory to which none came in this change, and which has none with its index. The answer is its number there.
@@ -168,11 +170,12 @@ fn replace(all: &mut Vec<AlphaMemory>, number: u32, memory: AlphaMemory)
     }
 }
 
-/// Finds the facts of the memory with a number by the values of these fields too.
+/// Finds the facts of the memory with a number by the values of these fields too, and keeps them in order if `is_ordered`.
 fn join_at(
     all: &mut Vec<AlphaMemory>,
     number: u32,
     fields: Vec<JoinField>,
+    is_ordered: bool,
 ) -> Result<usize, NoMemory>
     requires within { number < length all.old.items }
     requires rest { IsAtRest (memory_in all.old.items number) }
@@ -182,7 +185,7 @@ fn join_at(
     ensures long { length all.new.items ≡ length all.old.items }
 {
     let memory = &mut all[number as usize];
-    memory.add_join(fields)
+    memory.add_join(fields, is_ordered)
 }
 
 /// Adds a fact to the memory with a number.

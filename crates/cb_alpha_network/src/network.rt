@@ -7,7 +7,8 @@ ghost use Rattle.cb_alpha_network.specs.Networks.{AlphasTurn, AreAlphas, AreAtRe
 ghost use Rattle.cb_alpha_network.specs.Places.{place_cmp};
 ghost use Rattle.cb_constraints.specs.PatternValues.{PatternValue};
 ghost use Rattle.cb_facts.specs.FactLists.{IndexedFacts, fact_at, with_fact, without_fact};
-ghost use Rattle.cb_fit.specs.ShapeKeys.{shape_of};
+ghost use Rattle.cb_fit.specs.ShapeKeys.{key_of, shape_of};
+ghost use Rattle.cb_fit.specs.Shapes.{SelectionValue};
 ghost use Rattle.cb_matches.specs.Order.{IsRising};
 
 use crate::asked::Asked;
@@ -20,12 +21,12 @@ use cb_alpha::AlphaMemory;
 use cb_alpha::laws::{
     a_change_of_an_alpha_memory_ends, a_fact_that_comes_turns_an_alpha_memory,
     a_fact_that_goes_turns_an_alpha_memory, a_fact_that_is_absent_goes,
-    a_fact_without_the_shape_comes, a_fact_without_the_shape_goes, a_join_more_leaves_the_facts,
-    an_alpha_memory_begins_over_no_facts,
+    a_fact_that_is_not_selected_comes, a_fact_that_is_not_selected_goes,
+    a_join_more_leaves_the_facts, an_alpha_memory_begins_over_no_facts,
 };
 use cb_facts::{Fact, FactList};
 use cb_fit::laws::patterns_of_one_shape_are_equal_without_variables;
-use cb_fit::{JoinField, Meter, Pattern, Shape};
+use cb_fit::{JoinField, Meter, Pattern, Selection, Shape};
 use cb_forms::NoMemory;
 use cb_functions::Constants;
 use slab::Slab;
@@ -35,8 +36,8 @@ use std::marker::Model;
 
 /// The alpha memories of the patterns of all rules, each by its number.
 ///
-/// A pattern's shape, which is the pattern without its variables and expressions, has a number, and the memory with that number has
-/// the facts that have the shape. All nodes whose patterns have one shape use the same; it goes with the last of them. A change asserts
+/// What a pattern asks of a fact alone, its shape and the fields that it compares with one another, has a number, and the memory with
+/// that number has the facts that it selects. All nodes whose patterns have one shape use the same; it goes with the last of them. A change asserts
 /// one fact or retracts one, and ends by `end_change`. A call that grows is refused as `NoMemory` where memory is short, or where a count
 /// of sharers is full; then the memories may have changed in part.
 #[derive(Drop)]
@@ -44,7 +45,7 @@ pub struct AlphaNetwork<T> {
     /// What the shapes ask for.
     asked: Asked,
     /// The shapes by number.
-    shapes: Slab<Pattern<T>>,
+    shapes: Slab<Selection<T>>,
     /// Their numbers.
     numbers: BTreeMap<Shape, u32>,
     /// The nodes that use them.
@@ -62,10 +63,11 @@ impl<T> Model for AlphaNetwork<T> {
     ghost use Rattle.cb_alpha_network.specs.Internal.{IsNetwork};
     ghost use Rattle.cb_alpha_network.specs.Networks.{AlphaNetworkValue};
     ghost use Rattle.cb_constraints.specs.Internal.Codes.{pattern_code};
+    ghost use Rattle.cb_fit.specs.Internal.Codes.{selection_code};
 
     ghost Value = { AlphaNetworkValue };
 
-    ghost coded = { network_code (pattern_code (Prim.hlevel codes) (Prim.hlevel codes) (Prim.hlevel codes)) (Prim.hlevel codes) (Prim.hlevel codes) };
+    ghost coded = { network_code (selection_code (pattern_code (Prim.hlevel codes) (Prim.hlevel codes) (Prim.hlevel codes)) (Prim.hlevel codes)) (Prim.hlevel codes) (Prim.hlevel codes) };
 
     ghost view = { λ n. record { shapes = n.shapes.slots; users = n.users.keys; memories = n.memories } };
 
@@ -140,7 +142,7 @@ impl<T> AlphaNetwork<T> {
     ) -> Result<u32, NoMemory>
         requires rest { AreAtRest self.old.memories }
         requires shape { shape ≡ shape_of pattern.now }
-        requires first { (n : ℕ) (p : PatternValue) → shape_at self.old n ≡ Some p → shape_of p ≢ shape }
+        requires first { (n : ℕ) (s : SelectionValue) → shape_at self.old n ≡ Some s → key_of s ≢ shape }
         ensures entered { IfOk result (λ n. IsShapeOf self.new n pattern.now place) }
         ensures within { IfOk result (λ n. n < length self.new.memories) }
         ensures stay { OnOk result (KeepsShapes self.old self.new) }
@@ -148,7 +150,7 @@ impl<T> AlphaNetwork<T> {
         ensures alphas { OnOk result (AreAlphas self.old facts.now → AreAlphas self.new facts.now) }
         ensures count { OnOk result (use_count self.new ≤ use_count self.old + 1) }
     {
-        let (loose, memory) = fill(alloc, constants, facts, pattern, meter)?;
+        let (selection, memory) = fill(alloc, constants, facts, pattern, meter)?;
         self.shapes.reserve(1)?;
         let Ok(number) = u32::try_from(self.shapes.vacant_key()) else {
             return Err(NoMemory);
@@ -160,13 +162,18 @@ impl<T> AlphaNetwork<T> {
         self.asked.add(alloc, pattern, number)?;
         self.memories.put(number, memory)?;
         self.numbers.insert(shape, number)?;
-        self.shapes.insert_reserved(loose);
+        self.shapes.insert_reserved(selection);
         Ok(number)
     }
 
-    /// Finds the facts of a shape by the values of these fields too. The answer is the number of the join in its memory; it is one that was
-    /// there where that finds them by the same values.
-    pub fn join(&mut self, number: u32, fields: Vec<JoinField>) -> Result<usize, NoMemory>
+    /// Finds the facts of a shape by the values of these fields too, and if `is_ordered` the least and the greatest values of a range as
+    /// quickly. The answer is the number of the join in its memory; it may be one that was there, which finds them by the same values.
+    pub fn join(
+        &mut self,
+        number: u32,
+        fields: Vec<JoinField>,
+        is_ordered: bool,
+    ) -> Result<usize, NoMemory>
         requires there { shape_at self.old number ≢ None }
         requires rest { AreAtRest self.old.memories }
         ensures joined { IfOk result (λ join. HasJoin (memory_at self.new number) join fields.items) }
@@ -177,7 +184,7 @@ impl<T> AlphaNetwork<T> {
         ensures alphas { OnOk result ((fs : IndexedFacts) → AreAlphas self.old fs → AreAlphas self.new fs) }
     {
         a_join_more_leaves_the_facts();
-        self.memories.add_join(number, fields)
+        self.memories.add_join(number, fields, is_ordered)
     }
 
     /// The node at a place no longer uses a shape. Where it was the last that did, the shape goes, and its memory.
@@ -191,11 +198,11 @@ impl<T> AlphaNetwork<T> {
             alpha: number,
             place,
         };
-        let Some(loose) = self.shapes.get(number as usize) else {
+        let Some(selection) = self.shapes.get(number as usize) else {
             self.users.remove(&user);
             return Ok(());
         };
-        let shape = loose.shape(alloc)?;
+        let shape = selection.key(alloc)?;
         self.users.remove(&user);
         if is_used(&self.users, number) {
             return Ok(());
@@ -203,7 +210,7 @@ impl<T> AlphaNetwork<T> {
         self.numbers.remove(&shape);
         self.memories.reset(number);
         match self.shapes.try_remove(number as usize) {
-            Some(loose) => self.asked.remove(alloc, &loose, number),
+            Some(selection) => self.asked.remove(alloc, selection.shape(), number),
             None => Ok(()),
         }
     }
@@ -225,7 +232,7 @@ impl<T> AlphaNetwork<T> {
         ensures probes { meter.new ≤ meter.old + use_count self.old }
     {
         a_fact_that_comes_turns_an_alpha_memory();
-        a_fact_without_the_shape_comes();
+        a_fact_that_is_not_selected_comes();
         self.asked.numbers_for(alloc, fact, &mut self.found)?;
         assert_found(
             alloc,
@@ -248,7 +255,7 @@ impl<T> AlphaNetwork<T> {
     {
         a_fact_that_goes_turns_an_alpha_memory();
         a_fact_that_is_absent_goes();
-        a_fact_without_the_shape_goes();
+        a_fact_that_is_not_selected_goes();
         self.asked.numbers_for(alloc, fact, &mut self.found)?;
         retract_found(&mut self.memories, self.found.as_slice(), index)
     }

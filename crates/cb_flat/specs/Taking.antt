@@ -2,14 +2,14 @@
 use Rattle.std.specs.Prelude.{◌≡◌, ◌+◌, ℕ, Bool, false, List, [], ◌∷◌, All}
 use Rattle.cb_facts.specs.Facts.{FactValue}
 use Rattle.cb_nodes.specs.Flat.{FlatNode, alone, grouping, joining, testing}
-use Rattle.cb_partials.specs.Probes.{is_candidate}
+use Rattle.cb_fit.specs.Shapes.{is_selected}
 
--- the node is a pattern whose shape the fact has
+-- the node is a pattern that the fact is selected for
 abbrev pub takes : ℕ × FactValue → FlatNode → Bool
-takes f (joining from x p ts) = is_candidate p f
+takes f (joining from x p ts) = is_selected p f.1
 takes f (testing from t) = false
 takes f (grouping from inner positive width) = false
-takes f (alone from p positive) = is_candidate p f
+takes f (alone from p positive) = is_selected p f.1
 
 -- none of several is
 abbrev pub NoneTakes : ℕ × FactValue → List FlatNode → Type 0

@@ -14,7 +14,7 @@ ghost use Rattle.cb_partials.specs.Probes.{branch_probes};
 ghost use Rattle.cb_rules.specs.Elements.{Elements};
 ghost use Rattle.cb_token_lists.specs.Partials.{AreBelow, LeadsTo};
 
-use cb_fit::laws::{no_shape_gives_no_ways, the_ways_rise_by_their_cuts};
+use cb_fit::laws::{a_fact_that_fits_is_selected, the_ways_rise_by_their_cuts};
 
 /// The last list that the nodes of a branch make is the matches of the branch, and there is such a list.
 pub fn the_last_list_is_the_matches()
@@ -73,5 +73,5 @@ pub fn a_fact_that_none_takes_changes_nothing()
         → fact_at fs ix ≡ Some f → (k : ℕ)
         → branch_lists ns (without_fact fs ix) k ≡ branch_lists ns fs k }
 {
-    no_shape_gives_no_ways();
+    a_fact_that_fits_is_selected();
 }

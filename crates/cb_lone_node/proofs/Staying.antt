@@ -17,7 +17,7 @@ module _ {T : Type 0} (node : LoneNode T) (There There' : ℕ → Type 0) (facts
   pub lone_stays : (at at' : ℕ → Partial) → IsLoneReady node There facts own → AreAlike at at' There There' → ((n : ℕ) → facts n ≡ facts' n) → HasSameTokens own own'
       → IsLoneReady node There' facts' own'
   lone_stays at at' is alike same_facts same = record {
-    is_loose = is.is_loose;
+    stands = is.stands;
     parents = record { are = λ n e. alike.to n (is.parents.are n e); all = λ n h. is.parents.all n (alike.from n h) };
     tokens = tokens_stay own own' (ArePassedAlone node.positive facts There) (ArePassedAlone node.positive facts' There')
         (λ t h. (h.0, alike.to h.0 h.1, passes_so node.positive facts facts' same_facts h.2, h.3))

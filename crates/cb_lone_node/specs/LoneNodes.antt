@@ -6,7 +6,7 @@ use Rattle.cb_beta.specs.BetaMemories.{BetaMemoryValue}
 use Rattle.cb_beta.specs.Tokens.{TokenValue, partial_after}
 use Rattle.cb_facts.specs.FactLists.{IndexedFacts}
 use Rattle.cb_facts.specs.Facts.{FactValue}
-use Rattle.cb_fit.specs.Shapes.{loose}
+use Rattle.cb_fit.specs.StandsAlone.{stands_alone}
 use Rattle.cb_groups.specs.Groups.{Membership, group_of}
 use Rattle.cb_lone_node.specs.declared.node.LoneNode.{LoneNode}
 use Rattle.cb_matches.specs.Matches.{Partial}
@@ -39,7 +39,7 @@ pub record AreParents (There : ℕ → Type 0) (parents : Membership) : Type 0 w
 module _ {T : Type 0} where
   -- the pattern stands alone, the node knows what is before it, and the tokens behind it are those that it passes on over these facts
   pub record IsLoneReady (node : LoneNode T) (There : ℕ → Type 0) (facts : ℕ → Option (ℕ × FactValue)) (own : BetaMemoryValue) : Type 0 where
-    pub is_loose : loose node.pattern ≡ node.pattern
+    pub stands : stands_alone node.pattern ≡ true
     pub parents : AreParents There node.parents
     pub tokens : AreTokens own (ArePassedAlone node.positive facts There)
 

@@ -3,7 +3,7 @@ ghost use Rattle.std.specs.Prelude.{◌≡◌, ◌↔◌, ℕ, [], List, OnOk, O
 ghost use Rattle.cb_beta.specs.BetaMemories.{BetaMemoryValue};
 ghost use Rattle.cb_facts.specs.FactLists.{IndexedFacts};
 ghost use Rattle.cb_facts.specs.Facts.{FactValue};
-ghost use Rattle.cb_fit.specs.Shapes.{loose};
+ghost use Rattle.cb_fit.specs.StandsAlone.{stands_alone};
 ghost use Rattle.cb_lone_node.specs.LoneNodes.{HasNone, IsAfterLone, IsBeforeLone, IsLoneReady, PassesAll};
 ghost use Rattle.cb_matches.specs.Matches.{Partial};
 ghost use Rattle.cb_token_lists.specs.Keeping.{KeepsTokens};
@@ -13,7 +13,9 @@ use crate::passing::{arriving, leaving, pass_all};
 use cb_alpha::AlphaMemory;
 use cb_beta::BetaMemory;
 use cb_fit::Pattern;
-use cb_fit::laws::no_shape_gives_no_ways;
+use cb_fit::laws::{
+    a_fact_that_fits_is_selected, a_pattern_that_stands_alone_fits_what_is_selected,
+};
 use cb_forms::NoMemory;
 use cb_group_node::{put_all, remove_all};
 use cb_groups::Groups;
@@ -42,7 +44,7 @@ impl<T> LoneNode<T> {
         ensures from { result.from ≡ from }
         ensures positive { result.positive ≡ positive }
         ensures pattern { result.pattern ≡ pattern }
-        ensures ready { (facts : ℕ → Option (ℕ × FactValue)) → loose pattern ≡ pattern
+        ensures ready { (facts : ℕ → Option (ℕ × FactValue)) → stands_alone pattern ≡ true
             → IsLoneReady result (λ number. ⊥) facts (record { tokens = []; gone = []; come = [] }) }
     {
         LoneNode {
@@ -59,7 +61,7 @@ impl<T> LoneNode<T> {
         ensures from { self.new.from ≡ self.old.from }
         ensures positive { self.new.positive ≡ self.old.positive }
         ensures pattern { self.new.pattern ≡ self.old.pattern }
-        ensures ready { (facts : ℕ → Option (ℕ × FactValue)) → loose self.old.pattern ≡ self.old.pattern
+        ensures ready { (facts : ℕ → Option (ℕ × FactValue)) → stands_alone self.old.pattern ≡ true
             → IsLoneReady self.new (λ number. ⊥) facts (record { tokens = []; gone = []; come = [] }) }
     {
         self.parents = Groups::new(self.alloc);
@@ -84,7 +86,8 @@ impl<T> LoneNode<T> {
             before alpha.now own.new fs fs' old new) }
         ensures keeps { OnOk result (KeepsTokens own.old own.new) }
     {
-        no_shape_gives_no_ways();
+        a_fact_that_fits_is_selected();
+        a_pattern_that_stands_alone_fits_what_is_selected();
         let Some(before) = lists.lists.get(self.from) else {
             return Ok(());
         };

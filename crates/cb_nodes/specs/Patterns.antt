@@ -1,21 +1,21 @@
 -- What is known of a pattern, of a fact that it fits, and of how often it is tested.
-use Rattle.std.specs.Prelude.{◌≡◌, ◌≢◌, ◌+◌, ℕ, Contains, List, [], Option, Some, filter, length, ◌*◌}
+use Rattle.std.specs.Prelude.{◌≡◌, ◌≢◌, ◌+◌, ℕ, Contains, false, List, [], Option, Some, filter, length, ◌*◌}
 use Rattle.cb_constraints.specs.PatternValues.{PatternValue}
 use Rattle.cb_exprs.specs.Bindings.{Bindings, value_at}
 use Rattle.cb_facts.specs.FactLists.{IndexedFacts}
 use Rattle.cb_facts.specs.Facts.{FactValue}
 use Rattle.cb_facts.specs.declared.value.Value.{Value}
 use Rattle.cb_fit.specs.JoinFields.{join_fields, value_in}
-use Rattle.cb_fit.specs.Shapes.{loose}
+use Rattle.cb_fit.specs.Shapes.{is_selected}
 use Rattle.cb_fit.specs.Ways.{WayValue, ways}
 use Rattle.cb_fit.specs.declared.join_fields.JoinField.{JoinField}
 use Rattle.cb_matches.specs.Chains.{Chain, In}
 use Rattle.cb_matches.specs.Matches.{Partial}
 use Rattle.cb_partials.specs.Probes.{is_candidate, added_probes, partials_come, partials_kept}
 
--- a pattern whose shape a fact doesn't have fits it in no way
-abbrev pub Shapeless : Type 0
-Shapeless = (p : PatternValue) (f : FactValue) (before any : Bindings) → ways (loose p) f any ≡ [] → ways p f before ≡ []
+-- a pattern fits a fact that isn't selected for it in no way
+abbrev pub Unselected : Type 0
+Unselected = (p : PatternValue) (f : FactValue) (before : Bindings) → is_selected p f ≡ false → ways p f before ≡ []
 
 -- where a pattern fits a fact, the fields that have to be equal to variables are
 abbrev pub FieldsAgree : Type 0

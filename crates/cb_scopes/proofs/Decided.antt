@@ -12,7 +12,7 @@ use Rattle.cb_facts.specs.FactLists.{IndexedFacts}
 use Rattle.cb_facts.specs.Facts.{FactContent, FactValue}
 use Rattle.cb_facts.specs.declared.value.Value.{Value}
 use Rattle.cb_fit.specs.JoinFields.{value_in}
-use Rattle.cb_fit.specs.Shapes.{has_shape}
+use Rattle.cb_fit.specs.Shapes.{is_selected}
 use Rattle.cb_fit.specs.Ways.{ways}
 use Rattle.cb_fit.specs.declared.join_fields.JoinField.{JoinField}
 use Rattle.cb_matches.proofs.Lists.{flat_in, in_flat, in_map, map_in}
@@ -102,7 +102,7 @@ module _ (env : Bindings) (content : FactContent) (names : Scope) (scope : (x : 
 
 -- a group of one pattern
 abbrev pub DecidedByValues : Type 0
-DecidedByValues = (p : PatternValue) (f : FactValue) (before : Bindings) → is_decided p ≡ true → (ways p f before ≢ []) ↔ ((has_shape p f ≡ true) × ValuesDecide p before f.content)
+DecidedByValues = (p : PatternValue) (f : FactValue) (before : Bindings) → is_decided p ≡ true → (ways p f before ≢ []) ↔ ((is_selected p f ≡ true) × ValuesDecide p before f.content)
 
 some_member : {A : Type 0} (x : A) (xs : List A) → In x xs → xs ≢ []
 some_member x [] h e = absurd h

@@ -9,7 +9,7 @@ use Rattle.cb_facts.specs.FactLists.{IndexedFacts}
 use Rattle.cb_facts.specs.Facts.{FactContent, FactValue}
 use Rattle.cb_facts.specs.declared.value.Value.{Value}
 use Rattle.cb_fit.specs.JoinFields.{value_in}
-use Rattle.cb_fit.specs.Shapes.{has_shape}
+use Rattle.cb_fit.specs.Shapes.{is_selected}
 use Rattle.cb_fit.specs.declared.join_fields.JoinField.{JoinField}
 use Rattle.cb_matches.specs.Chains.{In}
 use Rattle.cb_matches.specs.Matches.{Partial}
@@ -33,4 +33,4 @@ field_values js content = map (λ j. value_in j content) js
 
 -- among these facts there is one with the shape of the pattern and values that decide
 abbrev pub Sees : PatternValue → IndexedFacts → Partial → Type 0
-Sees p fs m = (f : ℕ × FactValue) × In f fs × (has_shape p f.1 ≡ true) × ValuesDecide p m.env f.1.content
+Sees p fs m = (f : ℕ × FactValue) × In f fs × (is_selected p f.1 ≡ true) × ValuesDecide p m.env f.1.content

@@ -18,7 +18,7 @@ returns-clause-found c =
     let entry : Entry = record { wanted = wanted_of pattern; number = n } in
     let added : List ℕ = c.add_numbers.new.found.items in
     let sorted : List ℕ = c.sort_unstable.new.self.items in
-    let there : In n added = c.in_ok-add_numbers.ensures entry entered (is_wanted c.a_fact_with_the_shape_has_the_constants.ensures pattern c.args.fact.now t) in
+    let there : In n added = c.in_ok-add_numbers.ensures entry entered (is_wanted c.a_fact_with_the_shape_has_the_constants.ensures pattern c.args.fact.now (c.a_fact_that_is_selected_has_the_shape.ensures pattern c.args.fact.now t)) in
     let moved = Contains-permutation added sorted n c.sort_unstable.ensures.permutation (in_contains n added there) in
     subst (In n) (sym (dedup_is nat_eq sorted c.dedup.new.self.items c.dedup.ensures.filtered))
     (contains_in n (dedup nat_eq sorted) (Contains-dedup_nat sorted n moved))

@@ -38,7 +38,7 @@ returns-clause-turn g c =
     on_ok_weaker c.assert_found.result
     (λ done fs was free.
     asserted_turns v ms' ix f found (subst (λ it. ChangesThose (λ n. IsAsserted (shape_at v n) ix f) it old.memories ms') c.as_slice.ensures.value done)
-    c.a_fact_that_comes_turns_an_alpha_memory.ensures c.a_fact_without_the_shape_comes.ensures all fs (subst (λ it. AreAlphas it fs) (sym c.self.view_is) was) free)
+    c.a_fact_that_comes_turns_an_alpha_memory.ensures c.a_fact_that_is_not_selected_comes.ensures all fs (subst (λ it. AreAlphas it fs) (sym c.self.view_is) was) free)
     c.assert_found.ensures.changed
 
 pub returns-clause-probes : goal.returns-clause-probes

@@ -8,7 +8,7 @@ use Rattle.cb_alpha_network.proofs.network.AlphaNetwork.enter.Goals as goal
 use Rattle.cb_alpha_network.specs.Internal.{shape_cmp}
 use Rattle.cb_alpha_network.specs.Networks.{AlphaNetworkValue, AreAlphas, KeepsShapes}
 use Rattle.cb_constraints.specs.PatternValues.{PatternValue}
-use Rattle.cb_fit.specs.Shapes.{loose}
+use Rattle.cb_fit.specs.Shapes.{selection}
 use Rattle.cb_matches.specs.Chains.{In}
 
 pub invariant_of-self-in-Some : goal.invariant_of-self-in-Some
@@ -24,7 +24,7 @@ returns-in-Some-clause-entered g c =
     let p : PatternValue = c.args.pattern.now in
     let at : get shape_cmp old.numbers c.in_ok-shape.shape ≡ Some number = search rules in
     let found = c.self.invariant.found c.in_ok-shape.shape number at in
-    let same : loose found.0 ≡ loose p = c.patterns_of_one_shape_are_equal_without_variables.ensures found.0 p (found.1 ∙ c.in_ok-shape.ensures) in
+    let same : selection found.0 ≡ selection p = c.patterns_of_one_shape_are_equal_without_variables.ensures found.0 p (found.1 ∙ c.in_ok-shape.ensures) in
     record {
       shape = found.2 ∙ ap Some same;
       used = subst (In (user_at number c.args.place)) (sym c.in_ok-insert.ensures.keys) (key_there user_cmp (user_at number c.args.place) user_exact old.users.keys);

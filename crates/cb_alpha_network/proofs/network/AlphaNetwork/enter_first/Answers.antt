@@ -11,15 +11,15 @@ use Rattle.cb_alpha_network.proofs.network.AlphaNetwork.enter_first.Goals as goa
 use Rattle.cb_alpha_network.specs.Internal.{IsNetwork, shape_cmp}
 use Rattle.cb_alpha_network.specs.Networks.{AlphaNetworkValue, AreAlphas, AreAtRest, IsAtRest, IsShapeAt, KeepsShapes, ShapeValues, shape_at, shape_in}
 use Rattle.cb_constraints.specs.PatternValues.{PatternValue}
-use Rattle.cb_fit.specs.ShapeKeys.{shape_of}
-use Rattle.cb_fit.specs.Shapes.{loose}
+use Rattle.cb_fit.specs.ShapeKeys.{key_of, shape_of}
+use Rattle.cb_fit.specs.Shapes.{SelectionValue, selection}
 use Rattle.cb_matches.specs.Chains.{In}
 use Rattle.slab.specs.Slab.{Slab}
 
 pub invariant_of-self-in_err-add : goal.invariant_of-self-in_err-add
 invariant_of-self-in_err-add g c =
     let old = c.self.inside in
-    let slots = ap (λ (it : Slab PatternValue). it.slots) c.in_ok-reserve.ensures.rest_kept in
+    let slots = ap (λ (it : Slab SelectionValue). it.slots) c.in_ok-reserve.ensures.rest_kept in
     subst (λ (ss : ShapeValues). IsNetwork c.add.new.self old.numbers ss c.insert.new.self.keys (length old.memories)) (sym slots)
     (network_stays old.asked c.add.new.self old.numbers old.numbers old.shapes.slots old.shapes.slots old.users.keys c.insert.new.self.keys (length old.memories) (length old.memories) c.self.invariant
     c.in_err-add.ensures.stay (λ k. refl) (λ u i. subst (In u) (sym c.in_ok-insert.ensures.keys) (key_kept user_cmp (user_at c.in-Ok.number c.args.place) old.users.keys u i)) (omega arith))
@@ -27,7 +27,7 @@ invariant_of-self-in_err-add g c =
 pub invariant_of-self-in_err-put : goal.invariant_of-self-in_err-put
 invariant_of-self-in_err-put g c =
     let old = c.self.inside in
-    let slots = ap (λ (it : Slab PatternValue). it.slots) c.in_ok-reserve.ensures.rest_kept in
+    let slots = ap (λ (it : Slab SelectionValue). it.slots) c.in_ok-reserve.ensures.rest_kept in
     subst (λ (ss : ShapeValues). IsNetwork c.add.new.self old.numbers ss c.insert.new.self.keys (length c.put.new.self)) (sym slots)
     (network_stays old.asked c.add.new.self old.numbers old.numbers old.shapes.slots old.shapes.slots old.users.keys c.insert.new.self.keys (length old.memories) (length c.put.new.self) c.self.invariant
     c.in_ok-add.ensures.stay (λ k. refl) (λ u i. subst (In u) (sym c.in_ok-insert.ensures.keys) (key_kept user_cmp (user_at c.in-Ok.number c.args.place) old.users.keys u i)) c.in_err-put.ensures.long)
@@ -35,7 +35,7 @@ invariant_of-self-in_err-put g c =
 pub invariant_of-self-in_err-insert-2 : goal.invariant_of-self-in_err-insert-2
 invariant_of-self-in_err-insert-2 g c =
     let old = c.self.inside in
-    let slots = ap (λ (it : Slab PatternValue). it.slots) c.in_ok-reserve.ensures.rest_kept in
+    let slots = ap (λ (it : Slab SelectionValue). it.slots) c.in_ok-reserve.ensures.rest_kept in
     subst (λ (ss : ShapeValues). IsNetwork c.add.new.self c.insert-2.new.self ss c.insert.new.self.keys (length c.put.new.self)) (sym slots)
     (network_stays old.asked c.add.new.self old.numbers c.insert-2.new.self old.shapes.slots old.shapes.slots old.users.keys c.insert.new.self.keys (length old.memories) (length c.put.new.self) c.self.invariant
     c.in_ok-add.ensures.stay (λ k. ap (λ es. lookup (is_at (shape_cmp k)) es) c.in_err-insert-2.ensures.err)
@@ -49,12 +49,12 @@ invariant_of-self-2 g c =
     let reserved : ShapeValues = c.reserve.new.self.slots in
     let new : ShapeValues = c.insert_reserved.new.self.slots in
     let same : c.insert_reserved.result ≡ number = search rules in
-    let slots = ap (λ (it : Slab PatternValue). it.slots) c.in_ok-reserve.ensures.rest_kept in
+    let slots = ap (λ (it : Slab SelectionValue). it.slots) c.in_ok-reserve.ensures.rest_kept in
     let free : shape_in old.shapes.slots number ≡ None = ap (λ (ss : ShapeValues). shape_in ss number) (sym slots) ∙ (ap (shape_in reserved) (sym same) ∙ c.insert_reserved.ensures.was_vacant) in
-    let there : shape_in new number ≡ Some (loose p) = ap (shape_in new) (sym same) ∙ (c.insert_reserved.ensures.updates.changed ∙ ap Some c.in_ok-loose.ensures.shape) in
+    let there : shape_in new number ≡ Some (selection p) = ap (shape_in new) (sym same) ∙ (c.insert_reserved.ensures.updates.changed ∙ ap Some c.in_ok-selection.ensures.shape) in
     let others : (n : ℕ) → n ≢ number → shape_in new n ≡ shape_in old.shapes.slots n =
     λ n d. c.insert_reserved.ensures.updates.others n (λ e. d (e ∙ same)) ∙ ap (λ (ss : ShapeValues). shape_in ss n) slots in
-    let first : (n : ℕ) (q : PatternValue) → shape_in old.shapes.slots n ≡ Some q → shape_of q ≢ shape_of p =
+    let first : (n : ℕ) (q : SelectionValue) → shape_in old.shapes.slots n ≡ Some q → key_of q ≢ shape_of p =
     λ n q at e. c.requires.first n q (ap (λ it. shape_at it n) (sym c.self.view_is) ∙ at) (e ∙ sym c.requires.shape) in
     let updates : tree.Updates shape_cmp old.numbers c.insert-2.new.self (shape_of p) (Some number) =
     subst (λ k. tree.Updates shape_cmp old.numbers c.insert-2.new.self k (Some number)) c.requires.shape c.in_ok-insert-2.ensures.updates in
@@ -70,7 +70,7 @@ returns-clause-entered g c =
     let new : ShapeValues = c.insert_reserved.new.self.slots in
     let same : c.insert_reserved.result ≡ number = search rules in
     record {
-      shape = ap (shape_in new) (sym same) ∙ (c.insert_reserved.ensures.updates.changed ∙ ap Some c.in_ok-loose.ensures.shape);
+      shape = ap (shape_in new) (sym same) ∙ (c.insert_reserved.ensures.updates.changed ∙ ap Some c.in_ok-selection.ensures.shape);
       used = subst (In (user_at number c.args.place)) (sym c.in_ok-insert.ensures.keys) (key_there user_cmp (user_at number c.args.place) user_exact old.users.keys);
     }
 
@@ -81,7 +81,7 @@ returns-clause-stay g c =
     let reserved : ShapeValues = c.reserve.new.self.slots in
     let new : ShapeValues = c.insert_reserved.new.self.slots in
     let same : c.insert_reserved.result ≡ number = search rules in
-    let slots = ap (λ (it : Slab PatternValue). it.slots) c.in_ok-reserve.ensures.rest_kept in
+    let slots = ap (λ (it : Slab SelectionValue). it.slots) c.in_ok-reserve.ensures.rest_kept in
     let v : AlphaNetworkValue = record { shapes = old.shapes.slots; users = old.users.keys; memories = old.memories } in
     let v' : AlphaNetworkValue = record { shapes = new; users = c.insert.new.self.keys; memories = c.put.new.self } in
     let free : shape_at v number ≡ None = ap (λ (ss : ShapeValues). shape_in ss number) (sym slots) ∙ (ap (shape_in reserved) (sym same) ∙ c.insert_reserved.ensures.was_vacant) in
@@ -95,7 +95,7 @@ returns-clause-stay g c =
 pub returns-clause-rest : goal.returns-clause-rest
 returns-clause-rest g c =
     let old = c.self.inside in
-    let over = c.in_ok-loose.ensures.over in
+    let over = c.in_ok-selection.ensures.over in
     rest_put old.memories c.put.new.self c.in-Ok.number (subst (λ (it : AlphaNetworkValue). AreAtRest it.memories) (sym c.self.view_is) c.requires.rest) c.in_ok-put.ensures.others
     (subst IsAtRest (sym c.in_ok-put.ensures.at) (record { none_gone = over.none_gone; none_come = over.none_come }))
 
@@ -108,12 +108,12 @@ returns-clause-alphas g c =
     let p : PatternValue = c.args.pattern.now in
     let new : ShapeValues = c.insert_reserved.new.self.slots in
     let same : c.insert_reserved.result ≡ number = search rules in
-    let slots = ap (λ (it : Slab PatternValue). it.slots) c.in_ok-reserve.ensures.rest_kept in
+    let slots = ap (λ (it : Slab SelectionValue). it.slots) c.in_ok-reserve.ensures.rest_kept in
     let v : AlphaNetworkValue = record { shapes = old.shapes.slots; users = old.users.keys; memories = old.memories } in
     let v' : AlphaNetworkValue = record { shapes = new; users = c.insert.new.self.keys; memories = c.put.new.self } in
-    let there : IsShapeAt v' number p = ap (shape_in new) (sym same) ∙ (c.insert_reserved.ensures.updates.changed ∙ ap Some c.in_ok-loose.ensures.shape) in
+    let there : IsShapeAt v' number p = ap (shape_in new) (sym same) ∙ (c.insert_reserved.ensures.updates.changed ∙ ap Some c.in_ok-selection.ensures.shape) in
     let keeps : KeepsOthers number v v' = record {
       shapes = λ n d. c.insert_reserved.ensures.updates.others n (λ e. d (e ∙ same)) ∙ ap (λ (ss : ShapeValues). shape_in ss n) slots;
       memories = c.in_ok-put.ensures.others;
     } in
-    shape_more v v' number keeps fs (subst (λ it. AreAlphas it fs) (sym c.self.view_is) was) p there (subst (IsAlphaOver p fs) (sym c.in_ok-put.ensures.at) c.in_ok-loose.ensures.over)
+    shape_more v v' number keeps fs (subst (λ it. AreAlphas it fs) (sym c.self.view_is) was) p there (subst (IsAlphaOver p fs) (sym c.in_ok-put.ensures.at) c.in_ok-selection.ensures.over)

@@ -8,8 +8,8 @@ use Rattle.cb_alpha_network.proofs.network.AlphaNetwork.leave.Goals as goal
 use Rattle.cb_alpha_network.specs.Internal.{shape_cmp}
 use Rattle.cb_alpha_network.specs.Networks.{AlphaNetworkValue, AreAlphas, IsAtRest, IsShapeOf, KeepsShapesBut, shape_in, use_count}
 use Rattle.cb_alpha_network.specs.declared.user.User.{User}
-use Rattle.cb_constraints.specs.PatternValues.{PatternValue}
-use Rattle.cb_fit.specs.ShapeKeys.{shape_of}
+use Rattle.cb_fit.specs.ShapeKeys.{key_of}
+use Rattle.cb_fit.specs.Shapes.{SelectionValue}
 use Rattle.cb_matches.specs.Chains.{In}
 
 pub invariant_of-self : goal.invariant_of-self
@@ -72,9 +72,9 @@ invariant_of-self-in-Some-try_remove g c =
     let old = c.self.inside in
     let number = c.args.number in
     let us' : List User = c.remove-2.new.self.keys in
-    let lost : PatternValue = c.in-Some.loose.now in
+    let lost : SelectionValue = c.in-Some.selection.now in
     let there : shape_in old.shapes.slots number ≡ Some lost = search rules in
-    let updates : tree.Updates shape_cmp old.numbers c.remove-3.new.self (shape_of lost) None =
+    let updates : tree.Updates shape_cmp old.numbers c.remove-3.new.self (key_of lost) None =
     subst (λ k. tree.Updates shape_cmp old.numbers c.remove-3.new.self k None) c.in_ok-shape.ensures c.remove-3.ensures.updates in
     network_less old.asked c.remove-in-Some-try_remove.new.self old.numbers c.remove-3.new.self old.shapes.slots c.try_remove.new.self.slots old.users.keys us' (length old.memories) (length c.reset.new.self)
     c.self.invariant number c.in-Some-try_remove.ensures.updates.others lost there c.in-Some-try_remove.ensures.updates.changed updates

@@ -31,6 +31,6 @@ returns-clause-turn g c =
     on_ok_weaker c.retract_found.result
     (λ done fs was rising there.
     retracted_turns v ms' ix f found (subst (λ it. ChangesThose (λ n. IsRetracted ix) it old.memories ms') c.as_slice.ensures.value done)
-    c.a_fact_that_goes_turns_an_alpha_memory.ensures c.a_fact_that_is_absent_goes.ensures c.a_fact_without_the_shape_goes.ensures all fs
+    c.a_fact_that_goes_turns_an_alpha_memory.ensures c.a_fact_that_is_absent_goes.ensures c.a_fact_that_is_not_selected_goes.ensures all fs
     (subst (λ it. AreAlphas it fs) (sym c.self.view_is) was) rising there)
     c.retract_found.ensures.changed

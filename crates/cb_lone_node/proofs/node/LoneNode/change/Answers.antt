@@ -55,15 +55,16 @@ returns-clause-after g c =
     subst (λ (it : List ℕ). (n : ℕ) → In n arrive ↔ Arrives held holds it p₂ n) c.come-2.ensures c.arriving.ensures.are in
     let once = c.arriving.ensures.once (subst (Chain (λ (i : ℕ) (j : ℕ). i ≡ j → ⊥)) (sym c.come-2.ensures) b.turns.come_once) in
     let come : Comes own₂ own (AreOf (λ n. In n arrive)) = comes once in
-    let shapeless = c.no_shape_gives_no_ways.ensures in
-    let held_so = holds_so shapeless me.pattern b.ready.is_loose fs (were_in alpha) b.facts.was me.positive in
-    let now_so = holds_so shapeless me.pattern b.ready.is_loose fs' (live alpha) b.facts.is me.positive in
+    let unselected = c.a_fact_that_fits_is_selected.ensures in
+    let fits = c.a_pattern_that_stands_alone_fits_what_is_selected.ensures in
+    let held_so = holds_so unselected fits me.pattern b.ready.stands fs (were_in alpha) b.facts.was me.positive in
+    let now_so = holds_so unselected fits me.pattern b.ready.stands fs' (live alpha) b.facts.is me.positive in
     let q = holds_alone me.positive me.pattern fs in
     let q' = holds_alone me.positive me.pattern fs' in
     let node = record me { parents = p₂ } in
     let after : IsAfterLone node at m alpha own fs fs' old new = record {
       ready = record {
-        is_loose = b.ready.is_loose;
+        stands = b.ready.stands;
         parents = kept;
         tokens = tokens_after me.positive (were_in alpha) (live alpha) at m old new b.turns q q' held_so now_so held holds held_is holds_is p₂ kept leave arrive c.leaving.ensures arriving own₀ own₁ own₂ own
             b.ready.tokens b.none_gone b.none_come lost₁ lost₂ come;
