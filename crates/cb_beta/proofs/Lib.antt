@@ -3,3 +3,4 @@ pub mod Live
 mod LiveNumbers
 pub mod Losses
 pub mod Members
+pub mod Values

@@ -1,3 +1,4 @@
 pub mod BetaMemories
+pub mod GivenValues
 pub mod Internal
 pub mod Tokens

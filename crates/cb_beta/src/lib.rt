@@ -7,8 +7,10 @@
 #![tactic(auto)]
 
 mod filing; // tokens among those that they are found by
+mod given; // what a token gives variables
 mod memory; // the tokens of a list of partial matches
 mod token; // a token
 
+pub use given::{Given, TakenFields};
 pub use memory::BetaMemory;
 pub use token::{Taken, Token};

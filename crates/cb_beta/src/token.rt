@@ -2,7 +2,7 @@
 ghost use Rattle.std.specs.Prelude.{◌≡◌};
 ghost use Rattle.cb_beta.specs.Tokens.{candidate_of};
 
-use cb_fit::Way;
+use crate::given::Given;
 use std::marker::Model;
 
 /// What a pattern took.
@@ -12,17 +12,16 @@ pub struct Taken {
     pub candidate: u32,
     /// The index of the fact.
     pub index: u64,
-    /// The way in which the pattern fits the fact.
-    pub way: Way,
+    /// What it gives variables: the way in which the pattern fits the fact.
+    pub given: Given,
 }
 
 impl Model for Taken {
     ghost use Rattle.cb_beta.specs.Tokens.{TakenValue};
-    ghost use Rattle.cb_fit.specs.WayValues.{way_of};
 
     ghost Value = { TakenValue };
 
-    ghost view = { λ t. record { candidate = t.candidate; index = t.index; way = way_of t.way } };
+    ghost view = { λ t. record { candidate = t.candidate; index = t.index; way = t.given } };
 }
 
 /// What a partial match adds to the one that it goes on from.

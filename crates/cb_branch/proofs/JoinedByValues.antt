@@ -13,7 +13,7 @@ use Rattle.cb_constraints.specs.PatternValues.{PatternParts, PatternValue, SlotV
 use Rattle.cb_constraints.specs.PatternValues as pattern
 use Rattle.cb_fit.specs.Comparisons.{compared_fields}
 use Rattle.cb_fit.specs.FieldPlaces.{PlacedDemand, placed_at, placed_demands, row_demands, slot_demands}
-use Rattle.cb_fit.specs.JoinFields.{demand_join_fields, join_fields}
+use Rattle.cb_fit.specs.JoinFields.{demand_join_fields, giving_fields, join_fields}
 use Rattle.cb_fit.specs.Plain.{bound_names, is_named}
 use Rattle.cb_fit.specs.declared.comparison.ComparedField.{ComparedField}
 use Rattle.cb_fit.specs.declared.join_fields.JoinField.{JoinField}
@@ -41,7 +41,7 @@ module _ {T : Type 0} where
     decided = is.decided;
     unchosen = is.unchosen;
     fields = is.fields ∙ known_same (join_fields asked.pattern.parts) us bs same;
-    taken = is.taken ∙ unknown_same (join_fields asked.pattern.parts) us bs same;
+    taken = is.taken ∙ unknown_same (giving_fields asked.pattern.parts) us bs same;
     compared = is.compared;
     cuts = is.cuts;
     address = is.address;

@@ -10,7 +10,7 @@ use Rattle.cb_branch.proofs.Fills.{facts_stay}
 use Rattle.cb_branch.specs.Alphas.{AlphaUse, Facts, HasUse, alpha_use}
 use Rattle.cb_facts.specs.FactLists.{IndexedFacts}
 use Rattle.cb_facts.specs.Facts.{FactValue}
-use Rattle.cb_fit.specs.Shapes.{has_shape}
+use Rattle.cb_fit.specs.Shapes.{is_selected}
 use Rattle.cb_flat.proofs.Joins.{joins_within}
 use Rattle.cb_flat.proofs.Untaken.{matches_stay}
 use Rattle.cb_flat.specs.Taking.{NoneTakes, takes}
@@ -19,7 +19,7 @@ use Rattle.cb_matches.specs.Order.{IsRising, WaysRise}
 use Rattle.cb_nodes.proofs.Facts.{indices_of}
 use Rattle.cb_nodes.specs.Flat.{branch_nodes, widths_of}
 use Rattle.cb_nodes.specs.Lists.{branch_lists}
-use Rattle.cb_nodes.specs.Patterns.{Shapeless}
+use Rattle.cb_nodes.specs.Patterns.{Unselected}
 use Rattle.cb_partials.specs.Probes.{branch_probes}
 use Rattle.cb_branch.specs.Nodes.{flat_node, flat_nodes}
 use Rattle.cb_branch.specs.declared.node.Node.{Node}
@@ -41,23 +41,23 @@ facts_over facts facts' fs b over same =
     }
 
 module _ {T : Type 0} (f : ℕ × FactValue) where
-  one_takes : (n : Node T) → ((u : AlphaUse) → alpha_use n ≡ Some u → has_shape u.pattern f.1 ≡ false) → takes f (flat_node n) ≡ false
+  one_takes : (n : Node T) → ((u : AlphaUse) → alpha_use n ≡ Some u → is_selected u.pattern f.1 ≡ false) → takes f (flat_node n) ≡ false
   one_takes (kept.Join alpha node) none = none (record { pattern = node.asked.pattern; alpha = alpha; join = Some (node.join, node.asked.fields.items) }) refl
   one_takes (kept.Test from test) none = refl
   one_takes (kept.Group width node) none = refl
   one_takes (kept.Lone alpha node) none = none (record { pattern = node.pattern; alpha = alpha; join = None }) refl
   one_takes (kept.Lookup alpha node) none = none (record { pattern = node.pattern; alpha = alpha; join = Some (node.join, node.fields.items) }) refl
 
-  pub none_takes : (nodes : List (Node T)) → ((k : ℕ) (u : AlphaUse) → HasUse nodes k u → has_shape u.pattern f.1 ≡ false) → NoneTakes f (flat_nodes nodes)
+  pub none_takes : (nodes : List (Node T)) → ((k : ℕ) (u : AlphaUse) → HasUse nodes k u → is_selected u.pattern f.1 ≡ false) → NoneTakes f (flat_nodes nodes)
   none_takes [] none = λ k d l. absurd (omega (arith, l))
   none_takes (n ∷ nodes) none =
       All-cons (λ m. takes f m ≡ false) (flat_node n) (flat_nodes nodes) (one_takes n (λ u e. none 0 u e)) (none_takes nodes (λ k u e. none (suc k) u e))
 
 -- facts more or fewer that no pattern takes
-module _ {T : Type 0} (shapeless : Shapeless) (facts : Facts) (fs fs' : IndexedFacts) (f : ℕ × FactValue) (b : Branch T) (differ : DifferBy f fs fs')
-    (none : (k : ℕ) (u : AlphaUse) → HasAlpha b k u → has_shape u.pattern f.1 ≡ false) (over : IsBranchOver facts fs b) where
+module _ {T : Type 0} (unselected : Unselected) (facts : Facts) (fs fs' : IndexedFacts) (f : ℕ × FactValue) (b : Branch T) (differ : DifferBy f fs fs')
+    (none : (k : ℕ) (u : AlphaUse) → HasAlpha b k u → is_selected u.pattern f.1 ≡ false) (over : IsBranchOver facts fs b) where
   same_lists : (k : ℕ) → branch_lists (flat_nodes b.nodes.items) fs k ≡ branch_lists (flat_nodes b.nodes.items) fs' k
-  same_lists k = lists_stay shapeless f fs fs' (flat_nodes b.nodes.items) (none_takes f b.nodes.items none) differ k
+  same_lists k = lists_stay unselected f fs fs' (flat_nodes b.nodes.items) (none_takes f b.nodes.items none) differ k
 
   pub untaken_over : IsBranchOver facts fs' b
   untaken_over = record {

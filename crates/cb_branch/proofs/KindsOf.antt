@@ -8,7 +8,6 @@ use Rattle.cb_branch.specs.declared.kinds.Kind.TheVariants as kind
 use Rattle.cb_constraints.specs.PatternValues.{PatternParts, PatternValue}
 use Rattle.cb_fit.specs.Comparisons.{ChoiceFieldValue, DecisionValue, are_decided_parts, choice_fields, compared_fields, decision}
 use Rattle.cb_fit.specs.Decisions.{choice_field_of, decision_of}
-use Rattle.cb_fit.specs.Shapes.{loose}
 use Rattle.cb_fit.specs.StandsAlone.{stands_alone}
 use Rattle.cb_fit.specs.declared.comparison.ComparedField.{ComparedField}
 use Rattle.cb_fit.specs.declared.decision.Decision.{Decision}
@@ -23,10 +22,10 @@ one_pattern p q e = cc
 pub alone_some : (k : Kind) (lone : Option PatternValue) → k ≡ kind.Alone → IsKind k lone → is_some lone ≡ true
 alone_some k lone is found = let it : IsKind kind.Alone lone = subst (λ (j : Kind). IsKind j lone) is found in ap is_some it.1
 
-pub alone_loose : (k : Kind) (lone : Option PatternValue) (q : PatternValue) → k ≡ kind.Alone → IsKind k lone → lone ≡ Some q → loose q ≡ q
-alone_loose k lone q is found e =
+pub alone_stands : (k : Kind) (lone : Option PatternValue) (q : PatternValue) → k ≡ kind.Alone → IsKind k lone → lone ≡ Some q → stands_alone q ≡ true
+alone_stands k lone q is found e =
     let it : IsKind kind.Alone lone = subst (λ (j : Kind). IsKind j lone) is found in
-    subst (λ (p : PatternValue). loose p ≡ p) (one_pattern it.0 q (sym it.1 ∙ e)) it.2
+    subst (λ (p : PatternValue). stands_alone p ≡ true) (one_pattern it.0 q (sym it.1 ∙ e)) it.2
 
 -- one that is looked up
 pub looked_some : (k : Kind) (compared : Vec ComparedField Global) (lone : Option PatternValue) → k ≡ kind.LookedUp compared → IsKind k lone → is_some lone ≡ true
@@ -62,8 +61,8 @@ decided_is p d is none =
     record { decided = found.0; unchosen = sym found.2 ∙ none; compared = found.1 }
 
 -- how a group of one pattern is kept
-pub alone_kind : (p : PatternValue) → stands_alone p ≡ true → loose p ≡ p → IsKind kind.Alone (lone_pattern (element (pattern None p) no_elements))
-alone_kind p alone is = (p, ap (λ b. cond (b || is_looked_up (decision p.parts)) (Some p) None) alone, is)
+pub alone_kind : (p : PatternValue) → stands_alone p ≡ true → IsKind kind.Alone (lone_pattern (element (pattern None p) no_elements))
+alone_kind p alone = (p, ap (λ b. cond (b || is_looked_up (decision p.parts)) (Some p) None) alone, alone)
 
 none_chosen : (cs : List ChoiceFieldValue) → are_none_chosen cs ≡ true → cs ≡ []
 none_chosen [] e = refl

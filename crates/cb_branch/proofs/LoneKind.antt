@@ -1,5 +1,5 @@
 -- A change of a group of one pattern that stands alone.
-use Rattle.std.proofs.Common.{◌≡◌, ◌∙◌, ◌≤◌, ◌<◌, ℕ, suc, Bool, List, None, Some, ap, arith, filter, refl, slice_get, subst, sym}
+use Rattle.std.proofs.Common.{◌≡◌, ◌∙◌, ◌≤◌, ◌<◌, ℕ, suc, Bool, true, List, None, Some, ap, arith, filter, refl, slice_get, subst, sym}
 use Rattle.std.proofs.lemmas.Option.{get_or_from_slice_get}
 use Rattle.cb_alpha.specs.AlphaMemories.{AlphaMemoryValue, live}
 use Rattle.cb_alpha.specs.Turning.{AlphaTurns, were_in}
@@ -11,7 +11,7 @@ use Rattle.cb_branch.specs.Alphas.{AlphaUse, HasTurned}
 use Rattle.cb_branch.specs.Turning.{IsNodeAfter, IsNodeBefore, IsSameNode}
 use Rattle.cb_constraints.specs.PatternValues.{PatternValue}
 use Rattle.cb_facts.specs.FactLists.{IndexedFacts}
-use Rattle.cb_fit.specs.Shapes.{loose}
+use Rattle.cb_fit.specs.StandsAlone.{stands_alone}
 use Rattle.cb_list_changes.proofs.Places.{one_at}
 use Rattle.cb_list_changes.specs.Halfway.{IsStepped}
 use Rattle.cb_lone_node.proofs.Staying.{parent_there}
@@ -34,7 +34,7 @@ lone_same alpha node node' same_from same_positive same_pattern = record {
   flat = ap (λ n. alone n node'.pattern node'.positive) same_from
       ∙ (ap (λ (it : Bool). alone node.from node'.pattern it) same_positive ∙ ap (λ (p : PatternValue). alone node.from p node.positive) same_pattern);
   uses = ap (λ (p : PatternValue). Some (use_of alpha p)) same_pattern;
-  prepared = λ scopes h. subst (λ (p : PatternValue). loose p ≡ p) (sym same_pattern) h;
+  prepared = λ scopes h. subst (λ (p : PatternValue). stands_alone p ≡ true) (sym same_pattern) h;
 }
 
 module _ {T : Type 0} (alphas : List AlphaMemoryValue) (sources : List SourceValue) (before now read : List BetaMemoryValue) (fs fs' : IndexedFacts) (old new : Lists) (k : ℕ) (alpha : ℕ)

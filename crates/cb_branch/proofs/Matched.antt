@@ -14,7 +14,7 @@ use Rattle.cb_matches.specs.Order.{IsRising, IsSorted, WaysRise}
 use Rattle.cb_nodes.proofs.Facts.{indices_of}
 use Rattle.cb_nodes.specs.Flat.{FlatNode}
 use Rattle.cb_nodes.specs.Lists.{branch_lists}
-use Rattle.cb_nodes.specs.Patterns.{Shapeless}
+use Rattle.cb_nodes.specs.Patterns.{Unselected}
 use Rattle.cb_branch.specs.Nodes.{flat_node, flat_nodes}
 use Rattle.cb_rules.specs.Elements.{Elements}
 
@@ -36,6 +36,6 @@ module _ {T : Type 0} (b : Branch T) (planned : CanBeFilled b) where
   last_sorted rise fs rising = subst IsSorted (sym (last_is_matches rise fs rising)) (sorted_matches rise (branch_elements b) fs rising)
 
 -- where no pattern takes the fact by which two lists of facts differ, the lists of partial matches are the same
-pub lists_stay : Shapeless → (f : ℕ × FactValue) (fs fs' : IndexedFacts) (ns : List FlatNode) → NoneTakes f ns → DifferBy f fs fs' → (k : ℕ) → branch_lists ns fs k ≡ branch_lists ns fs' k
-lists_stay shapeless f fs fs' ns none (inl d) k = sym (ap (λ it. branch_lists ns it k) d.1 ∙ lists_with shapeless f.0 f.1 fs ns none d.0 k)
-lists_stay shapeless f fs fs' ns none (inr d) k = ap (λ it. branch_lists ns it k) d.1 ∙ lists_with shapeless f.0 f.1 fs' ns none d.0 k
+pub lists_stay : Unselected → (f : ℕ × FactValue) (fs fs' : IndexedFacts) (ns : List FlatNode) → NoneTakes f ns → DifferBy f fs fs' → (k : ℕ) → branch_lists ns fs k ≡ branch_lists ns fs' k
+lists_stay unselected f fs fs' ns none (inl d) k = sym (ap (λ it. branch_lists ns it k) d.1 ∙ lists_with unselected f.0 f.1 fs ns none d.0 k)
+lists_stay unselected f fs fs' ns none (inr d) k = ap (λ it. branch_lists ns it k) d.1 ∙ lists_with unselected f.0 f.1 fs' ns none d.0 k

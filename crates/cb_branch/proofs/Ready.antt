@@ -1,5 +1,5 @@
 -- Nodes that are planned: they are ready for nothing.
-use Rattle.std.proofs.Common.{◌≡◌, ◌∙◌, ◌≤◌, ◌<◌, ◌+◌, ℕ, suc, Bool, [], ◌∷◌, ◌++◌, List, None, Some, Global, Vec, Option, ap, arith, false, get_or, length, map, refl, set, subst, sym, true}
+use Rattle.std.proofs.Common.{◌≡◌, ◌∙◌, ◌≤◌, ◌<◌, ◌+◌, ℕ, suc, Bool, [], ◌∷◌, ◌++◌, List, None, Some, Global, Vec, Option, ap, arith, false, get_or, length, refl, set, subst, sym, true}
 use Rattle.std.proofs.lemmas.List.{length-append, length-map, length-set, map-append}
 use Rattle.std.proofs.lemmas.List.Elements.{All-get_or, All-nil, All-push, All-set, All-weaker}
 use Rattle.std.specs.List.{All}

@@ -1,9 +1,9 @@
 -- The nodes that are kept for a branch, as nodes of the definitions, and what holds of them before anything is kept.
-use Rattle.std.specs.Prelude.{◌≡◌, ℕ, List, [], Option, Some, map}
+use Rattle.std.specs.Prelude.{◌≡◌, ℕ, true, List, [], Option, Some, map}
 use Rattle.cb_beta.specs.BetaMemories.{BetaMemoryValue}
 use Rattle.cb_exprs.specs.Terms.{term_of}
 use Rattle.cb_facts.specs.Facts.{FactValue}
-use Rattle.cb_fit.specs.Shapes.{loose}
+use Rattle.cb_fit.specs.StandsAlone.{stands_alone}
 use Rattle.cb_group_node.specs.Nodes.{IsGroupReady}
 use Rattle.cb_join_node.specs.Nodes.{IsByValues, IsReady, tests_of}
 use Rattle.cb_join_node.specs.declared.by_values.ByValues.{ByValues}
@@ -40,7 +40,7 @@ module _ {T : Type 0} where
       × ((by : ByValues) → node.asked.by_values ≡ Some by → IsByValues (scopes node.from) node.asked by)
   IsPrepared scopes (kept.Test from test) = Unit {0}
   IsPrepared scopes (kept.Group width node) = Unit {0}
-  IsPrepared scopes (kept.Lone alpha node) = loose node.pattern ≡ node.pattern
+  IsPrepared scopes (kept.Lone alpha node) = stands_alone node.pattern ≡ true
   IsPrepared scopes (kept.Lookup alpha node) = IsLookup (scopes node.from) node
 
   -- the node is ready where nothing is before it, and nothing inside a group, and no token behind it

@@ -3,27 +3,20 @@ ghost use Rattle.std.specs.Prelude.{◌≡◌, ◌≢◌, ℕ, [], false, IfOk, 
 ghost use Rattle.std.specs.List.{list_any};
 ghost use Rattle.std.specs.Str.{bytes_eq};
 ghost use Rattle.cb_branch.specs.Internal.ByValues.{IsDecidedBy, IsElsewhere, is_own};
-ghost use Rattle.cb_fit.specs.JoinFields.{join_fields};
+ghost use Rattle.cb_fit.specs.JoinFields.{giving_fields, join_fields};
 ghost use Rattle.cb_fit.specs.Plain.{is_named};
 ghost use Rattle.cb_join_node.specs.Nodes.{IsByValues};
 ghost use Rattle.cb_nodes.specs.Patterns.{AreJoinFields};
 ghost use Rattle.cb_scopes.specs.Decided.{known_fields, unknown_fields};
 
 use crate::bound::Bound;
+use cb_beta::TakenFields;
 use cb_facts::Name;
 use cb_fit::{ComparedField, JoinField, Pattern};
 use cb_forms::NoMemory;
 use cb_join_node::{ByValues, Joining};
 use std::alloc::Global;
-
-/// The fields of a pattern that have to be equal to variables.
-#[derive(Drop)]
-pub(crate) struct Fields {
-    /// Those with variables that have values before it.
-    pub known: Vec<JoinField>,
-    /// The others.
-    pub unknown: Vec<JoinField>,
-}
+use std::rc::Rc;
 
 /// What is asked of a fact by a pattern without tests, where these variables have values before it. Growth is refused as `NoMemory`, and
 /// so is a count of sharers that is full.
@@ -41,13 +34,16 @@ pub(crate) fn asked_by<T>(
     ensures by_values { IfOk result
         (λ asked. IfSome asked.by_values (λ by. IsByValues bound.now asked by)) }
 {
-    let Fields { known, unknown } = fields_of(alloc, &pattern, bound)?;
+    let known = known_fields_of(alloc, &pattern, bound)?;
     match decided_by(alloc, &address, &pattern)? {
         Some(compared) => {
-            let by_values = ByValues {
-                taken: unknown,
-                compared,
+            let taken = TakenFields {
+                fields: unknown_fields_of(alloc, &pattern, bound)?,
                 cuts: pattern.ones(alloc)?,
+            };
+            let by_values = ByValues {
+                taken: Rc::new(alloc, taken)?,
+                compared,
             };
             Ok(Joining {
                 address,
@@ -67,28 +63,42 @@ pub(crate) fn asked_by<T>(
     }
 }
 
-/// The fields of a pattern that have to be equal to variables, by whether these have values before it. Growth is refused as `NoMemory`,
-/// and so is a count of sharers that is full.
-pub(crate) fn fields_of<T>(
+/// The fields of a pattern that have to be equal to variables that have values before it. Growth is refused as `NoMemory`, and so is a
+/// count of sharers that is full.
+pub(crate) fn known_fields_of<T>(
     alloc: Global,
     pattern: &Pattern<T>,
     bound: &Bound,
-) -> Result<Fields, NoMemory>
-    ensures known { IfOk result (λ fields. fields.known.items
-        ≡ known_fields (join_fields pattern.now.parts) bound.now) }
-    ensures unknown { IfOk result (λ fields. fields.unknown.items
-        ≡ unknown_fields (join_fields pattern.now.parts) bound.now) }
+) -> Result<Vec<JoinField>, NoMemory>
+    ensures { IfOk result
+        (λ known. known.items ≡ known_fields (join_fields pattern.now.parts) bound.now) }
 {
     let mut known = Vec::new(alloc);
-    let mut unknown = Vec::new(alloc);
     for field in pattern.join_fields(alloc)? {
         if bound.contains(&field.variable) {
             known.push(field)?;
-        } else {
+        }
+    }
+    Ok(known)
+}
+
+/// The fields that give variables their values, where these have none before it. Growth is refused as `NoMemory`, and so is a count of
+/// sharers that is full.
+fn unknown_fields_of<T>(
+    alloc: Global,
+    pattern: &Pattern<T>,
+    bound: &Bound,
+) -> Result<Vec<JoinField>, NoMemory>
+    ensures { IfOk result
+        (λ unknown. unknown.items ≡ unknown_fields (giving_fields pattern.now.parts) bound.now) }
+{
+    let mut unknown = Vec::new(alloc);
+    for field in pattern.giving_fields(alloc)? {
+        if !bound.contains(&field.variable) {
             unknown.push(field)?;
         }
     }
-    Ok(Fields { known, unknown })
+    Ok(unknown)
 }
 
 /// These fields, but for those with the variable of the pattern's own address.

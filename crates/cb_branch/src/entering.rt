@@ -97,7 +97,7 @@ fn enter_lookup<T>(
 {
     let alpha = network.enter(alloc, constants, facts, place, &node.pattern, meter)?;
     let looked_up = copied(alloc, node.fields.as_slice())?;
-    node.join = network.join(alpha, looked_up)?;
+    node.join = network.join(alpha, looked_up, node.takes_ranges())?;
     Ok(alpha)
 }
 
@@ -119,7 +119,7 @@ fn enter_join<T>(
 {
     let alpha = network.enter(alloc, constants, facts, place, &node.asked.pattern, meter)?;
     let fields = copied(alloc, node.asked.fields.as_slice())?;
-    node.join = network.join(alpha, fields)?;
+    node.join = network.join(alpha, fields, false)?;
     Ok(alpha)
 }
 

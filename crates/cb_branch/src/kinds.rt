@@ -5,15 +5,14 @@ ghost use Rattle.cb_branch.specs.Internal.ByValues.{IsDecidedBy, IsKind};
 ghost use Rattle.cb_branch.specs.Nodes.{IsPlannedNode, flat_node};
 ghost use Rattle.cb_fit.specs.Comparisons.{decision};
 ghost use Rattle.cb_fit.specs.Decisions.{decision_of};
-ghost use Rattle.cb_fit.specs.Shapes.{loose};
+ghost use Rattle.cb_fit.specs.StandsAlone.{stands_alone};
 ghost use Rattle.cb_nodes.specs.Flat.{alone, is_looked_up, lone_pattern};
 ghost use Rattle.cb_rules.specs.Elements.{element, element_of, elements, no_elements, pattern};
 ghost use Rattle.cb_scopes.specs.Scopes.{Scope};
 
 use crate::bound::Bound;
-use crate::by_values::{Fields, fields_of};
+use crate::by_values::known_fields_of;
 use crate::node::Node;
-use cb_fit::laws::a_pattern_that_stands_alone_is_its_shape;
 use cb_fit::{ComparedField, Decision, Pattern};
 use cb_forms::NoMemory;
 use cb_lone_node::LoneNode;
@@ -54,7 +53,6 @@ fn kind_by<T>(alloc: Global, only: &Pattern<T>) -> Result<Kind, NoMemory>
     ensures { IfOk result
         (λ kind. IsKind kind (lone_pattern (element (pattern None only.now) no_elements))) }
 {
-    a_pattern_that_stands_alone_is_its_shape();
     if only.stands_alone() {
         return Ok(Kind::Alone);
     }
@@ -89,7 +87,7 @@ pub(crate) fn lone_node<T>(
     positive: bool,
     pattern: Pattern<T>,
 ) -> Node<T>
-    requires shape { loose pattern ≡ pattern }
+    requires alone { stands_alone pattern ≡ true }
     ensures node { flat_node result ≡ alone from pattern positive }
     ensures planned { (scopes : ℕ → Scope) → IsPlannedNode scopes result }
 {
@@ -114,7 +112,7 @@ pub(crate) fn lookup_node<T>(
     ensures planned { IfOk result (λ node. (scopes : ℕ → Scope)
         → AreSame bound.now (scopes from) → IsPlannedNode scopes node) }
 {
-    let Fields { known, .. } = fields_of(alloc, &pattern, bound)?;
+    let known = known_fields_of(alloc, &pattern, bound)?;
     let node = LookupNode::new(alloc, from, positive, pattern, known, compared)?;
     Ok(Node::Lookup { alpha: 0, node })
 }

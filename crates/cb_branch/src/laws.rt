@@ -6,13 +6,13 @@ ghost use Rattle.cb_branch.specs.Patterns.{shape_tests};
 ghost use Rattle.cb_branch.specs.declared.branch.Branch.{Branch};
 ghost use Rattle.cb_facts.specs.FactLists.{IndexedFacts};
 ghost use Rattle.cb_facts.specs.Facts.{FactValue};
-ghost use Rattle.cb_fit.specs.Shapes.{has_shape};
+ghost use Rattle.cb_fit.specs.Shapes.{is_selected};
 ghost use Rattle.cb_matches.specs.Matches.{matches_of};
 ghost use Rattle.cb_matches.specs.Order.{IsRising};
 ghost use Rattle.cb_partials.specs.Probes.{branch_probes};
 ghost use Rattle.cb_rules.specs.Elements.{Elements};
 
-use cb_fit::laws::{no_shape_gives_no_ways, the_ways_rise_by_their_cuts};
+use cb_fit::laws::{a_fact_that_fits_is_selected, the_ways_rise_by_their_cuts};
 
 /// What is kept for a branch can be found anew.
 pub fn what_is_kept_can_be_filled<T>()
@@ -32,15 +32,15 @@ pub fn what_is_kept_stays<T>()
 pub fn what_no_pattern_takes_changes_nothing<T>()
     ensures over { (facts : Facts) (fs fs' : IndexedFacts) (f : ℕ × FactValue) (b : Branch T)
         → IsRising fs → IsRising fs' → DifferBy f fs fs'
-        → ((k : ℕ) (u : AlphaUse) → HasAlpha b k u → has_shape u.pattern f.1 ≡ false)
+        → ((k : ℕ) (u : AlphaUse) → HasAlpha b k u → is_selected u.pattern f.1 ≡ false)
         → IsBranchOver facts fs b → IsBranchOver facts fs' b }
     ensures matches { (facts : Facts) (fs fs' : IndexedFacts) (f : ℕ × FactValue) (b : Branch T)
         → IsRising fs → IsRising fs' → DifferBy f fs fs'
-        → ((k : ℕ) (u : AlphaUse) → HasAlpha b k u → has_shape u.pattern f.1 ≡ false)
+        → ((k : ℕ) (u : AlphaUse) → HasAlpha b k u → is_selected u.pattern f.1 ≡ false)
         → IsBranchOver facts fs b
         → matches_of (branch_elements b) fs ≡ matches_of (branch_elements b) fs' }
 {
-    no_shape_gives_no_ways();
+    a_fact_that_fits_is_selected();
     the_ways_rise_by_their_cuts();
 }
 

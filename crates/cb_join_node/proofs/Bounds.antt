@@ -1,5 +1,6 @@
 -- How often the pattern of a join node is tested.
 use Rattle.std.proofs.Common.{◌≡◌, ◌≢◌, ◌≤◌, ◌∙◌, ◌++◌, ◌+◌, ◌*◌, ◌||◌, ℕ, suc, Bool, true, false, List, [], ◌∷◌, Option, Some, None, ap, ap₂, arith, cond, filter, inl, inr, length, nat_eq, not, option_map, refl, subst, sym}
+use Rattle.std.proofs.lemmas.Bool.{and_parts}
 use Rattle.std.proofs.lemmas.Bool.Decides.{Decides-eqb}
 use Rattle.std.proofs.lemmas.List.{length-append}
 use Rattle.std.specs.Bool.{Decides}
@@ -19,7 +20,8 @@ use Rattle.cb_facts.specs.Facts.{FactValue}
 use Rattle.cb_facts.specs.declared.value.Value.{Value}
 use Rattle.cb_fit.specs.declared.join_fields.JoinField.{JoinField}
 use Rattle.cb_groups.specs.Groups.{Membership, group_of}
-use Rattle.cb_fit.specs.Shapes.{has_shape}
+use Rattle.cb_fit.specs.Comparisons.{all_own_hold, own_fields}
+use Rattle.cb_fit.specs.Shapes.{has_shape, is_selected}
 use Rattle.cb_join_node.proofs.Agreement.{by_option, has_fact}
 use Rattle.cb_join_node.specs.Bounds.{IsAdded, kept_probes}
 use Rattle.cb_join_node.specs.Filings.{ArePartialsFiled, stray_group}
@@ -52,13 +54,17 @@ no_more R one (x ∷ xs) ys once has =
     let long : length ys ≡ suc (length rest.0) = rest.1 in
     omega (arith, more, long)
 
+-- a fact that is selected has the shape
+selected_shape : (p : PatternValue) (f : FactValue) → is_selected p f ≡ true → has_shape p f ≡ true
+selected_shape p f e = (and_parts (has_shape p f) (all_own_hold (own_fields p.parts) f.content) e).0
+
 -- the facts that are there
 pub facts_at_most : (p : PatternValue) (alpha : AlphaMemoryValue) (fs fs' : IndexedFacts) → AlphaTurns p alpha fs fs'
     → AreAtMost (IsUnder (live alpha)) (length (filter (is_candidate p) fs'))
 facts_at_most p alpha fs fs' turns xs once has =
     no_more (λ c f. candidate_in alpha.candidates c ≡ Some f) (λ i j f h k. turns.one i j f f h k refl) xs (filter (is_candidate p) fs') once
     (λ c h. let f = has c h in let is = turns.is.are c f.0 f.1 in
-    (f.0, filter_in (is_candidate p) f.0 fs' is.0 is.1, (live_read alpha c f.0 f.1).0))
+    (f.0, filter_in (is_candidate p) f.0 fs' is.0 (selected_shape p f.0.1 is.1), (live_read alpha c f.0 f.1).0))
 
 make_part : ℕ → List ℕ → PartValue
 make_part ix cuts = record { index = ix; cuts = cuts }
@@ -148,17 +154,9 @@ module _ (o : Option (List Value)) (filing : Filing) (xs : List ℕ) (some : (vs
       (λ e. subst (Chain (λ (i : ℕ) (j : ℕ). i ≢ j)) (sym (none e)) tt)
       (λ vs e. apart_of xs (some vs e).once)
 
--- so do facts
-module _ (js : List JoinField) (o : Option (List Value)) (alpha : AlphaMemoryValue) (xs : List ℕ) (some : (vs : List Value) → o ≡ Some vs → AreFactsWith alpha js vs xs) (none : o ≡ None → xs ≡ []) where
-  pub facts_beside : (n : ℕ) → In n xs → IsUnder (live alpha) n
-  facts_beside n h = by_option o
-      (λ e. absurd (subst (In n) (none e) h))
-      (λ vs e. has_fact js (live alpha n) vs (((some vs e).are n).0 (in_contains xs n h)))
-
-  pub facts_once : Chain (λ (i : ℕ) (j : ℕ). i ≢ j) xs
-  facts_once = by_option o
-      (λ e. subst (Chain (λ (i : ℕ) (j : ℕ). i ≢ j)) (sym (none e)) tt)
-      (λ vs e. apart_of xs (some vs e).once)
+-- facts with some values are there
+pub facts_beside : (js : List JoinField) (vs : List Value) (alpha : AlphaMemoryValue) (xs : List ℕ) → AreFactsWith alpha js vs xs → (n : ℕ) → In n xs → IsUnder (live alpha) n
+facts_beside js vs alpha xs these n h = has_fact js (live alpha n) vs ((these.are n).0 (in_contains xs n h))
 
 -- the fact that came
 module _ (p : PatternValue) (alpha : AlphaMemoryValue) (fs fs' : IndexedFacts) (turns : AlphaTurns p alpha fs fs') where
@@ -178,7 +176,7 @@ module _ (p : PatternValue) (alpha : AlphaMemoryValue) (fs fs' : IndexedFacts) (
       let a = turns.is.are n f there in
       record {
         is = a.0;
-        shape = a.1;
+        shape = selected_shape p f.1 a.1;
         was = λ h.
             let k = turns.was.all f h a.1 in
             let r = were_read alpha k.0 f k.1 in

@@ -14,7 +14,7 @@ use Rattle.cb_join_node.specs.declared.node.JoinNode.{JoinNode}
 use Rattle.cb_matches.specs.Chains.{In}
 use Rattle.cb_matches.specs.Matches.{Partial}
 use Rattle.cb_matches.specs.Order.{WaysRise}
-use Rattle.cb_nodes.specs.Patterns.{Shapeless}
+use Rattle.cb_nodes.specs.Patterns.{Unselected}
 use Rattle.cb_token_lists.proofs.Arrivals.{come_then}
 use Rattle.cb_token_lists.proofs.Keeping.{come_keeps, keeps_then, lost_keeps}
 use Rattle.cb_token_lists.specs.Growth.{Comes}
@@ -41,7 +41,7 @@ module _ {T : Type 0} (node : JoinNode T) (at : ℕ → Partial) (before : BetaM
       (come_keeps own₁ own (λ t. AreJoined node.asked at (Stays before) (came_in alpha) t ⊎ AreJoined node.asked at (λ n. In n before.come) (live alpha) t) come)
 
   -- and the node
-  module _ (rise : WaysRise) (shapeless : Shapeless) (partials : Filing) (strays : Membership)
+  module _ (rise : WaysRise) (unselected : Unselected) (partials : Filing) (strays : Membership)
       (filed : ArePartialsFiled node.asked.fields.items partials strays at (λ n. Stays before n ⊎ In n before.come)) where
     pub changed : IsAfter (record node { partials = partials; strays = strays }) at before alpha own fs fs' old new
     changed =
@@ -59,5 +59,5 @@ module _ {T : Type 0} (node : JoinNode T) (at : ℕ → Partial) (before : BetaM
                 (there_kept x p ts at before alpha b.facts.apart b.turns.came own₀ own₁ own b.none_gone b.none_come b.ready.tokens lost) filed;
             tokens = they_are x p ts at before alpha b.facts.apart b.turns.came own₀ own₁ own b.none_gone b.none_come b.ready.tokens lost come;
           };
-          turns = they_turn x p ts at before alpha b.facts.apart b.turns.came own₀ own₁ own b.none_gone b.none_come b.ready.tokens lost come rise shapeless fs fs' old new b.turns b.facts;
+          turns = they_turn x p ts at before alpha b.facts.apart b.turns.came own₀ own₁ own b.none_gone b.none_come b.ready.tokens lost come rise unselected fs fs' old new b.turns b.facts;
         }

@@ -1,6 +1,10 @@
 -- Patterns that are decided by values: what a way gives, and where there is one.
 use Rattle.std.proofs.Common.{◌≡◌, ◌≢◌, ◌∙◌, ◌↔◌, ◌+◌, ◌++◌, ℕ, Bool, true, false, not, List, [], ◌∷◌, Option, Some, None, ap, ap₂, cond, inl, inr, refl, subst, sym}
+use Rattle.std.specs.Rc.{rc_value}
+use Rattle.std.specs.Str.{bytes_eq}
 use Rattle.cb_alpha.specs.JoinValues.{field_values, variable_values, with_first}
+use Rattle.cb_beta.specs.GivenValues.{values_taken}
+use Rattle.cb_beta.specs.declared.given.TakenFields.{TakenFields}
 use Rattle.cb_constraints.specs.Binders.{binders, constraints_in}
 use Rattle.cb_constraints.specs.Bound.{given_if}
 use Rattle.cb_constraints.specs.Constraints.{Constraint}
@@ -12,18 +16,18 @@ use Rattle.cb_facts.specs.declared.value.Value.{Value}
 use Rattle.cb_fit.specs.Comparisons.{choice_fields, compared_fields, is_decided}
 use Rattle.cb_fit.specs.Decided.{AgreeWith, AreOneOf, HoldOf, ValuesDecide, taken_by, taken_by_all, way_by_values}
 use Rattle.cb_fit.specs.FieldPlaces.{PlacedDemand, placed_at, placed_demands, row_demands, slot_demands}
-use Rattle.cb_fit.specs.JoinFields.{demand_join_fields, join_fields, value_in}
+use Rattle.cb_fit.specs.JoinFields.{demand_join_fields, first_fields, giving_fields, join_fields, value_in}
 use Rattle.cb_fit.specs.Plain.{bound_names, is_named}
-use Rattle.cb_fit.specs.Shapes.{has_shape}
+use Rattle.cb_fit.specs.Shapes.{is_selected}
 use Rattle.cb_fit.specs.Ways.{WayValue, ways}
 use Rattle.cb_fit.specs.declared.comparison.ComparedField.{ComparedField}
 use Rattle.cb_fit.specs.declared.field_place.FieldPlace.{FieldPlace}
 use Rattle.cb_fit.specs.declared.join_fields.JoinField.{JoinField}
 use Rattle.cb_join_node.proofs.Agreement.{both_there, past_address}
-use Rattle.cb_join_node.specs.Meetings.{Meet, values_taken}
+use Rattle.cb_join_node.specs.Meetings.{Meet}
 use Rattle.cb_join_node.specs.declared.by_values.ByValues.{ByValues}
 use Rattle.cb_join_node.specs.declared.joining.Joining.{Joining}
-use Rattle.cb_matches.proofs.Lists.{filter_in, flat_in, in_flat, in_map}
+use Rattle.cb_matches.proofs.Lists.{filter_in, flat_in, in_filter, in_flat, in_map}
 use Rattle.cb_matches.proofs.Lists as lists
 use Rattle.cb_matches.specs.Chains.{In}
 use Rattle.cb_matches.specs.Matches.{Partial, with_address}
@@ -108,6 +112,12 @@ all_known names m scope (j ∷ js) = by (is_named j.variable names) refl (all_kn
         (v.0 ∷ vs, ap₂ with_first v.1 is)
     by false e more = more
 
+-- of several fields with one variable the first is one of them
+first_in : (js : List JoinField) (j : JoinField) → In j (first_fields js) → In j js
+first_in [] j h = absurd h
+first_in (i ∷ js) j (inl is) = inl is
+first_in (i ∷ js) j (inr h) = inr (first_in js j (in_filter (λ (k : JoinField). not (bytes_eq i.variable k.variable)) j (first_fields js) h).0)
+
 -- what a way gives is what the unknown fields have
 given_some : (x : List ℕ) (v : Value) (o : Option Value) → given_if x (Some v) o ≡ []
 given_some x v None = refl
@@ -129,8 +139,8 @@ taken_same (j ∷ js) before content names so = by (is_named j.variable names) r
 
 -- the law of patterns that are decided by values
 pub record DecidedByValues : Type 0 where
-  pub fits : (p : PatternValue) (f : FactValue) (before : Bindings) → is_decided p ≡ true → (ways p f before ≢ []) ↔ ((has_shape p f ≡ true) × ValuesDecide p before f.content)
-  pub way : (p : PatternValue) (f : FactValue) (before : Bindings) → is_decided p ≡ true → has_shape p f ≡ true → ValuesDecide p before f.content
+  pub fits : (p : PatternValue) (f : FactValue) (before : Bindings) → is_decided p ≡ true → (ways p f before ≢ []) ↔ ((is_selected p f ≡ true) × ValuesDecide p before f.content)
+  pub way : (p : PatternValue) (f : FactValue) (before : Bindings) → is_decided p ≡ true → is_selected p f ≡ true → ValuesDecide p before f.content
       → ways p f before ≡ way_by_values p before f.content ∷ []
 
 no_ways : (ws : List WayValue) → (ws ≢ [] → ⊥) → ws ≡ []
@@ -193,11 +203,13 @@ module _ {T : Type 0} (law : DecidedByValues) (asked : Joining T) (by : ByValues
       ∙ so_all cs m.env content (λ c h. let is = hs c (lists.in_contains c cs h) in (is.0, is.1, is.2, sym (compared_apart c h) ∙ is.3, is.4))
 
   -- the only way
-  pub the_way : (way : WayValue) → all_compare by.compared.items m.env content ≡ true → way.cuts ≡ by.cuts → way.bound ≡ values_taken by.taken.items content → ways p f.1 before ≡ way ∷ []
+  pub the_way : (way : WayValue) → all_compare by.compared.items m.env content ≡ true → way.cuts ≡ (rc_value {X = TakenFields} by.taken).cuts → way.bound ≡ values_taken (rc_value {X = TakenFields} by.taken).fields.items content
+      → ways p f.1 before ≡ way ∷ []
   the_way way e cuts bound =
-      let given : taken_by_all js before content ≡ values_taken (unknown_fields js meet.names) content =
-      taken_same js before content meet.names (λ j h. subst (λ o. (o ≢ None) ↔ In j.variable meet.names) (sym (join_apart j h)) (meet.scope j.variable)) in
-      law.way p f.1 before meet.is.decided meet.shape (agree, hold e, one_of)
+      let gs = giving_fields p.parts in
+      let given : taken_by_all gs before content ≡ values_taken (unknown_fields gs meet.names) content =
+      taken_same gs before content meet.names (λ j h. subst (λ o. (o ≢ None) ↔ In j.variable meet.names) (sym (join_apart j (first_in js j h))) (meet.scope j.variable)) in
+      law.way p f.1 before meet.is.decided meet.selected (agree, hold e, one_of)
       ∙ ap (λ it. it ∷ [])
       (ap₂ way_with (sym (cuts ∙ meet.is.cuts)) (given ∙ sym (bound ∙ ap (λ it. values_taken it content) meet.is.taken)))
 

@@ -12,12 +12,12 @@ use Rattle.cb_facts.specs.FactLists.{IndexedFacts}
 use Rattle.cb_facts.specs.Facts.{FactValue}
 use Rattle.cb_facts.specs.declared.value.Value.{Value}
 use Rattle.cb_fit.specs.JoinFields.{join_fields}
-use Rattle.cb_fit.specs.Shapes.{has_shape}
+use Rattle.cb_fit.specs.Shapes.{is_selected}
 use Rattle.cb_fit.specs.declared.join_fields.JoinField.{JoinField}
 use Rattle.cb_groups.specs.Groups.{AreMembers, Membership}
 use Rattle.cb_join_node.proofs.Agreement.{by_option, has_fact}
 use Rattle.cb_join_node.proofs.Decided.{all_known}
-use Rattle.cb_join_node.specs.Meetings.{HaveShape, KnowsValues, MayMeet, MayMeetAll}
+use Rattle.cb_join_node.specs.Meetings.{AreSelected, KnowsValues, MayMeet, MayMeetAll}
 use Rattle.cb_join_node.specs.Filings.{ArePartialsFiled, stray_group}
 use Rattle.cb_join_node.specs.Nodes.{FitsValues, Stays}
 use Rattle.cb_join_node.specs.declared.by_values.ByValues.{ByValues}
@@ -29,8 +29,8 @@ use Rattle.cb_matches.specs.Matches.{Partial}
 use Rattle.cb_token_lists.specs.Turns.{Turns}
 
 -- the facts that can be read have the shape of the pattern
-pub have_shape : (p : PatternValue) (alpha : AlphaMemoryValue) (fs fs' : IndexedFacts) → AlphaTurns p alpha fs fs' → HaveShape p alpha.candidates
-have_shape p alpha fs fs' turns n f e =
+pub are_selected : (p : PatternValue) (alpha : AlphaMemoryValue) (fs fs' : IndexedFacts) → AlphaTurns p alpha fs fs' → AreSelected p alpha.candidates
+are_selected p alpha fs fs' turns n f e =
     by_test (is_number alpha.come n)
     (λ a. by_test (is_number alpha.gone n)
     (λ g. absurd (turns.apart n (number_is alpha.come n a) (number_is alpha.gone n g)))
@@ -62,12 +62,12 @@ module _ {T : Type 0} (asked : Joining T) where
       let vs = has_values m knows by e in
       some_none (stray_group (variable_values js m.env)) strays (ap stray_group vs.1)
 
-  meet_by : (m : Partial) (f : ℕ × FactValue) → KnowsValues asked m → has_shape asked.pattern f.1 ≡ true → (vs : List Value) → variable_values js m.env ≡ Some vs → field_values js f.1.content ≡ Some vs
+  meet_by : (m : Partial) (f : ℕ × FactValue) → KnowsValues asked m → is_selected asked.pattern f.1 ≡ true → (vs : List Value) → variable_values js m.env ≡ Some vs → field_values js f.1.content ≡ Some vs
       → MayMeet asked m f
-  meet_by m f knows shape vs asks has by e = let k = knows by e in record { names = k.0; is = k.1; scope = k.2; shape = shape; values = vs; asks = asks; has = has }
+  meet_by m f knows shape vs asks has by e = let k = knows by e in record { names = k.0; is = k.1; scope = k.2; selected = shape; values = vs; asks = asks; has = has }
 
   -- the facts with the values of a partial match meet it
-  pub facts_meet : (m : Partial) (alpha : AlphaMemoryValue) (vs : List Value) (xs : List ℕ) → KnowsValues asked m → HaveShape asked.pattern alpha.candidates → variable_values js m.env ≡ Some vs
+  pub facts_meet : (m : Partial) (alpha : AlphaMemoryValue) (vs : List Value) (xs : List ℕ) → KnowsValues asked m → AreSelected asked.pattern alpha.candidates → variable_values js m.env ≡ Some vs
       → AreFactsWith alpha js vs xs → MayMeetAll asked m alpha.candidates xs
   facts_meet m alpha vs xs knows shape asks these n h f is by e =
       let at : values_in js (live alpha n) ≡ Some vs = (these.are n).0 (in_contains xs n h) in
@@ -78,7 +78,7 @@ module _ {T : Type 0} (asked : Joining T) where
 
   -- partial matches that are filed, and one fact
   module _ (at : ℕ → Partial) (There : ℕ → Type 0) (knows : (n : ℕ) → There n → KnowsValues asked (at n)) (filing : Filing) (strays : Membership)
-      (filed : ArePartialsFiled js filing strays at There) (f : ℕ × FactValue) (shape : has_shape asked.pattern f.1 ≡ true) where
+      (filed : ArePartialsFiled js filing strays at There) (f : ℕ × FactValue) (shape : is_selected asked.pattern f.1 ≡ true) where
     -- those with its values meet it
     pub beside_meet : (xs : List ℕ) → ((vs : List Value) → field_values js f.1.content ≡ Some vs → AreWithValues filing vs xs) → (field_values js f.1.content ≡ None → xs ≡ [])
         → (n : ℕ) → In n xs → MayMeet asked (at n) f

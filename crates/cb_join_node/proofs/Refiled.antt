@@ -1,5 +1,5 @@
 -- Partial matches filed and taken out, one after another.
-use Rattle.std.proofs.Common.{◌≡◌, ◌≢◌, ◌∙◌, ◌+◌, ◌<◌, ◌⊎◌, ℕ, List, None, ap, get_or, inl, inr, length, subst, sym, take}
+use Rattle.std.proofs.Common.{◌≡◌, ◌≢◌, ◌∙◌, ◌+◌, ◌<◌, ◌⊎◌, ℕ, List, None, Some, ap, get_or, inl, inr, length, subst, sym, take}
 use Rattle.std.proofs.lemmas.Bool.{cases_eq}
 use Rattle.cb_alpha.proofs.ReadFacts.{some_none}
 use Rattle.cb_alpha.specs.Buckets.{Filing, Refiles, values_at}
@@ -27,6 +27,11 @@ one_forgotten f₀ f f' s₀ s s' xs i l r u gone others = (
       let was = others n (λ k. no (in_more xs i n l (inl k))) in
       record { values = r.others n d ∙ was.values; stray = u.others n d ∙ was.stray },
 )
+
+-- where one is put among those that have not all values, the others stay
+pub moved_aside : (f f' : Filing) (s s₁ s' : Membership) (n : ℕ) → Refiles f f' n None → Updates s s₁ n None → Updates s₁ s' n (Some 0)
+    → (k : ℕ) → (k ≡ n → ⊥) → IsSamePlace f s f' s' k
+moved_aside f f' s s₁ s' n r u v k d = record { values = r.others k d; stray = v.others k d ∙ u.others k d }
 
 -- the same partial matches by another word
 pub filed_alike : (js : List JoinField) (f : Filing) (s : Membership) (at : ℕ → Partial) (A B : ℕ → Type 0) → ((n : ℕ) → A n → B n) → ((n : ℕ) → B n → A n)

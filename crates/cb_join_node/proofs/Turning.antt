@@ -22,9 +22,9 @@ use Rattle.cb_matches.proofs.PartOrder.{part, same_last}
 use Rattle.cb_matches.specs.Chains.{In}
 use Rattle.cb_matches.specs.Matches.{Partial, grown, next, no_parts, with_address}
 use Rattle.cb_matches.specs.Order.{WaysRise}
-use Rattle.cb_nodes.proofs.Shapes.{shape_of_way}
+use Rattle.cb_nodes.proofs.Shapes.{selected_by_way}
 use Rattle.cb_nodes.specs.Flat.{all_hold, next_where}
-use Rattle.cb_nodes.specs.Patterns.{Shapeless}
+use Rattle.cb_nodes.specs.Patterns.{Unselected}
 use Rattle.cb_token_lists.proofs.After as after
 use Rattle.cb_token_lists.specs.Growth.{AreTokens, Comes}
 use Rattle.cb_token_lists.specs.Turns.{IsReadable, IsThere, StandFor, Turns, WasThere}
@@ -35,7 +35,7 @@ pub stands_for : (x : Option (List ℕ)) (ts : Tokens) (at : ℕ → Partial) (i
 stands_for x ts at i n c ix w e = ap (λ o. option_map_or (λ (t : TokenValue). with_taken x t.taken (at t.parent)) o no_parts) e
 
 -- tokens that are just those by which the partial matches of a list go on with facts stand for what the pattern makes of them
-module _ (rise : WaysRise) (shapeless : Shapeless) (x : Option (List ℕ)) (p : PatternValue) (ts : List Term) (at : ℕ → Partial) (own : Tokens) where
+module _ (rise : WaysRise) (unselected : Unselected) (x : Option (List ℕ)) (p : PatternValue) (ts : List Term) (at : ℕ → Partial) (own : Tokens) where
   abbrev pub own_at : ℕ → Partial
   own_at = partial_after x own at
 
@@ -59,7 +59,7 @@ module _ (rise : WaysRise) (shapeless : Shapeless) (x : Option (List ℕ)) (p : 
           let g = is_grown x p fs ms z k.0 in
           let n = stand.from g.parent g.parent_in in
           let way_in : In g.way (ways p g.fact.1 (with_address x g.fact.0 (at n.0).env)) = subst (λ m. In g.way (ways p g.fact.1 (with_address x g.fact.0 m.env))) n.2 g.way_in in
-          let c = cands.all g.fact g.fact_in (shape_of_way shapeless p g.fact (with_address x g.fact.0 (at n.0).env) g.way way_in) in
+          let c = cands.all g.fact g.fact_in (selected_by_way unselected p g.fact (with_address x g.fact.0 (at n.0).env) g.way way_in) in
           let is : z ≡ grown x g.fact.0 (at n.0) g.way = g.is ∙ ap (λ m. grown x g.fact.0 m g.way) n.2 in
           let holds : all_hold ts (grown x g.fact.0 (at n.0) g.way) ≡ true = ap (all_hold ts) (sym is) ∙ k.1 in
           let t = token_of n.0 c.0 g.fact.0 g.way in
@@ -187,7 +187,7 @@ module _ (x : Option (List ℕ)) (p : PatternValue) (ts : List Term) (at : ℕ �
     they_are = after.they_are own₀ own₁ own Was Lost Came Final none_gone none_come was lost come stays_final new_final split_final old_apart
 
     -- and what they stand for
-    module _ (rise : WaysRise) (shapeless : Shapeless) (fs fs' : IndexedFacts) (old new : List Partial) (turns : Turns at before old new) (facts : AlphaTurns p alpha fs fs') where
+    module _ (rise : WaysRise) (unselected : Unselected) (fs fs' : IndexedFacts) (old new : List Partial) (turns : Turns at before old new) (facts : AlphaTurns p alpha fs fs') where
       known : (t : TokenValue) → Was t ⊎ Final t → Joins x p ts at (IsReadable before) (candidate_in alpha.candidates) t
       known t (inl h) = (h.0, h.1.0, (h.2.0, (h.2.1.0, (were_read alpha h.2.0 h.2.1.0 h.2.1.1).0, h.2.1.2)))
       known t (inr h) = (
@@ -200,11 +200,11 @@ module _ (x : Option (List ℕ)) (p : PatternValue) (ts : List Term) (at : ℕ �
       they_turn =
           after.they_turn own₀ own₁ own Was Lost Came Final none_gone none_come was lost come stays_final new_final split_final old_apart (partial_after x own.tokens at)
           (next_where x p ts fs old) (next_where x p ts fs' new)
-          (they_stand rise shapeless x p ts at own.tokens (WasThere before) (WasThere own) (were_in alpha) fs old turns.was facts.was
+          (they_stand rise unselected x p ts at own.tokens (WasThere before) (WasThere own) (were_in alpha) fs old turns.was facts.was
           (after.was_old own₀ own₁ own Was Lost Came Final none_gone none_come was lost come stays_final new_final split_final old_apart)
           (after.old_was own₀ own₁ own Was Lost Came Final none_gone none_come was lost come stays_final new_final split_final old_apart))
-          (they_stand rise shapeless x p ts at own.tokens (IsThere before) (IsThere own) (live alpha) fs' new turns.is facts.is
+          (they_stand rise unselected x p ts at own.tokens (IsThere before) (IsThere own) (live alpha) fs' new turns.is facts.is
           (after.is_new own₀ own₁ own Was Lost Came Final none_gone none_come was lost come stays_final new_final split_final old_apart)
           (after.new_is own₀ own₁ own Was Lost Came Final none_gone none_come was lost come stays_final new_final split_final old_apart))
           (λ i j t u e d h k parts.
-          one_by_parts rise shapeless x p ts at own.tokens alpha.candidates facts.one (IsReadable before) turns.one i j t u e d (known t h) (known u k) parts)
+          one_by_parts rise unselected x p ts at own.tokens alpha.candidates facts.one (IsReadable before) turns.one i j t u e d (known t h) (known u k) parts)

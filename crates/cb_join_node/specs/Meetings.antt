@@ -3,12 +3,9 @@ use Rattle.std.specs.Prelude.{◌≡◌, ℕ, true, List, Some}
 use Rattle.cb_alpha.specs.AlphaMemories.{Candidates, candidate_in}
 use Rattle.cb_alpha.specs.JoinValues.{field_values, variable_values}
 use Rattle.cb_constraints.specs.PatternValues.{PatternValue}
-use Rattle.cb_exprs.specs.Bindings.{no_bindings}
-use Rattle.cb_facts.specs.Facts.{FactContent, FactValue}
+use Rattle.cb_facts.specs.Facts.{FactValue}
 use Rattle.cb_facts.specs.declared.value.Value.{Value}
-use Rattle.cb_fit.specs.Decided.{taken_by_all}
-use Rattle.cb_fit.specs.Shapes.{has_shape}
-use Rattle.cb_fit.specs.declared.join_fields.JoinField.{JoinField}
+use Rattle.cb_fit.specs.Shapes.{is_selected}
 use Rattle.cb_join_node.specs.Nodes.{IsByValues}
 use Rattle.cb_join_node.specs.declared.by_values.ByValues.{ByValues}
 use Rattle.cb_join_node.specs.declared.joining.Joining.{Joining}
@@ -16,13 +13,9 @@ use Rattle.cb_matches.specs.Chains.{In}
 use Rattle.cb_matches.specs.Matches.{Partial}
 use Rattle.cb_scopes.specs.Scopes.{HasValuesOf, Scope}
 
--- what the variables of these fields get, where none of them has a value
-abbrev pub values_taken : List JoinField → FactContent → List (List ℕ × Value)
-values_taken js content = taken_by_all js no_bindings content
-
--- each fact of these has the shape of the pattern
-abbrev pub HaveShape : PatternValue → Candidates → Type 0
-HaveShape p cs = (candidate : ℕ) (f : ℕ × FactValue) → candidate_in cs candidate ≡ Some f → has_shape p f.1 ≡ true
+-- each fact of these is selected for the pattern
+abbrev pub AreSelected : PatternValue → Candidates → Type 0
+AreSelected p cs = (candidate : ℕ) (f : ℕ × FactValue) → candidate_in cs candidate ≡ Some f → is_selected p f.1 ≡ true
 
 module _ {T : Type 0} where
   -- where the pattern is joined by values, they are those of the variables that have values in this partial match
@@ -34,7 +27,7 @@ module _ {T : Type 0} where
     pub names : Scope
     pub is : IsByValues names asked by
     pub scope : HasValuesOf names m
-    pub shape : has_shape asked.pattern f.1 ≡ true
+    pub selected : is_selected asked.pattern f.1 ≡ true
     pub values : List Value
     pub asks : variable_values asked.fields.items m.env ≡ Some values
     pub has : field_values asked.fields.items f.1.content ≡ Some values

@@ -13,7 +13,7 @@ ghost use Rattle.cb_token_lists.specs.Partials.{partial_at};
 
 use crate::by_values::ByValues;
 use cb_alpha::{AlphaMemory, Candidate};
-use cb_beta::{BetaMemory, Taken, Token};
+use cb_beta::{BetaMemory, Given, Taken, Token};
 use cb_exprs::{Expr, Lookup};
 use cb_facts::Name;
 use cb_fit::laws::{a_pattern_is_decided_by_values, the_ways_rise_by_their_cuts};
@@ -152,8 +152,8 @@ fn join_by_values<T>(
     if !compare_all(by.compared.as_slice(), &known, &one.fact)? {
         return Ok(());
     }
-    let way = by.way(lists.alloc, &one.fact)?;
-    add_way(lists, from, asked, number, candidate, one.index, way, own)
+    let given = Given::of_fields(&by.taken, &one.fact)?;
+    add_given(lists, from, asked, number, candidate, one.index, given, own)
 }
 
 /// Joins a partial match with a fact by a test of the pattern: a token comes for each way in which it goes on with it and the tests hold.
@@ -177,7 +177,7 @@ fn join_by_test<T>(
         before: lists.reading(from, number),
         address: &asked.address,
         index: one.index,
-        bound: &[],
+        given: None,
     };
     let ways = fit(
         lists.alloc,
@@ -206,32 +206,33 @@ fn add_ways<T>(
         (partial_at lists.now.sources.now lists.now.lists.now from number) number candidate index (map way_of ways.items))) }
 {
     for way in ways {
-        add_way(lists, from, asked, number, candidate, index, way, own)?;
+        let given = Given::found(way);
+        add_given(lists, from, asked, number, candidate, index, given, own)?;
     }
     Ok(())
 }
 
-/// Adds a token for a way of a partial match of a list, if the tests hold by it.
-fn add_way<T>(
+/// Adds a token for a partial match of a list and what a fact gives, if the tests hold by it.
+fn add_given<T>(
     lists: &TokenLists<'_>,
     from: usize,
     asked: &Joining<T>,
     number: u32,
     candidate: u32,
     index: u64,
-    way: Way,
+    given: Given,
     own: &mut BetaMemory,
 ) -> Result<(), NoMemory>
     ensures { OnOk result (Comes own.old own.new (IsOfWay asked.now.address (tests_of asked.now)
-        (partial_at lists.now.sources.now lists.now.lists.now from number) number candidate index (way_of way))) }
+        (partial_at lists.now.sources.now lists.now.lists.now from number) number candidate index given)) }
 {
-    if !hold_after(lists, from, asked, number, index, &way)? {
+    if !hold_after(lists, from, asked, number, index, &given)? {
         return Ok(());
     }
     let taken = Taken {
         candidate,
         index,
-        way,
+        given,
     };
     own.add(Token {
         parent: number,
@@ -240,23 +241,23 @@ fn add_way<T>(
     Ok(())
 }
 
-/// Whether all tests hold after a way of a partial match of a list.
+/// Whether all tests hold after a partial match of a list and what a fact gives.
 fn hold_after<T>(
     lists: &TokenLists<'_>,
     from: usize,
     asked: &Joining<T>,
     number: u32,
     index: u64,
-    way: &Way,
+    given: &Given,
 ) -> Result<bool, NoMemory>
     ensures { IfOk result (λ holds. holds ≡ all_hold (tests_of asked.now) (grown asked.now.address index
-        (partial_at lists.now.sources.now lists.now.lists.now from number) (way_of way.now))) }
+        (partial_at lists.now.sources.now lists.now.lists.now from number) given.now)) }
 {
     let after = Grown {
         before: lists.reading(from, number),
         address: &asked.address,
         index,
-        bound: way.bound.as_slice(),
+        given: Some(given),
     };
     hold_all(lists, asked.tests.as_slice(), &after)
 }

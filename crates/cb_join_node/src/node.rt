@@ -1,14 +1,13 @@
 //! A change of a join node.
 ghost use Rattle.std.specs.Prelude.{◌≡◌, ◌≢◌, ◌≤◌, ◌+◌, ◌*◌, ◌⊎◌, ℕ, [], List, None, OnOk, Option, Some, length, slice_get};
 ghost use Rattle.cb_alpha.specs.AlphaMemories.{live};
-ghost use Rattle.cb_alpha.specs.Buckets.{Filing};
 ghost use Rattle.cb_alpha.specs.Turning.{HasJoin, came_in};
 ghost use Rattle.cb_beta.specs.BetaMemories.{BetaMemoryValue};
 ghost use Rattle.cb_facts.specs.FactLists.{IndexedFacts};
 ghost use Rattle.cb_facts.specs.Facts.{FactValue};
 ghost use Rattle.cb_join_node.specs.Bounds.{join_probes};
-ghost use Rattle.cb_join_node.specs.Meetings.{HaveShape, KnowsValues};
-ghost use Rattle.cb_join_node.specs.Filings.{ArePartialsFiled, IsFiled};
+ghost use Rattle.cb_join_node.specs.Meetings.{AreSelected, KnowsValues};
+ghost use Rattle.cb_join_node.specs.Filings.{ArePartialsFiled, IsFiled, IsSamePlace};
 ghost use Rattle.cb_join_node.specs.Joins.{Joins, JoinsOne};
 ghost use Rattle.cb_join_node.specs.Nodes.{AreAtMost, AsksTheSame, IsAfter, IsBefore, IsReady, IsUnder, Stays, added_fact, tests_of};
 ghost use Rattle.cb_matches.specs.Chains.{Chain, In};
@@ -18,13 +17,13 @@ ghost use Rattle.cb_token_lists.specs.Growth.{Comes};
 ghost use Rattle.cb_token_lists.specs.Keeping.{KeepsTokens};
 ghost use Rattle.cb_token_lists.specs.Partials.{partial_at};
 
-use crate::filed::{facts_beside, file_partial, forget_partials, partials_beside};
+use crate::filed::{forget_partials, partials_beside};
 use crate::joining::{Joining, join_facts, join_partials};
-use cb_alpha::{AlphaMemory, Buckets};
+use cb_alpha::{AlphaMemory, Buckets, values_of_variables};
 use cb_beta::BetaMemory;
 use cb_fit::Meter;
 use cb_fit::laws::{
-    a_fact_that_fits_has_the_values_of_variables, no_shape_gives_no_ways,
+    a_fact_that_fits_has_the_values_of_variables, a_fact_that_fits_is_selected,
     the_ways_rise_by_their_cuts,
 };
 use cb_forms::NoMemory;
@@ -96,7 +95,7 @@ impl<T> JoinNode<T> {
             before alpha.now own.old fs fs' old new
             → meter.new ≤ meter.old + join_probes self.old.asked.pattern (added_fact alpha.now) fs' old new) }
     {
-        no_shape_gives_no_ways();
+        a_fact_that_fits_is_selected();
         the_ways_rise_by_their_cuts();
         a_fact_that_fits_has_the_values_of_variables();
         let Some(before) = lists.lists.get(self.from) else {
@@ -156,7 +155,7 @@ fn join_fact<T>(
         (partial_at lists.now.sources.now lists.now.lists.now from) (Stays before)
         → AreJoinFields asked.now.fields.items asked.now.address asked.now.pattern
         → ((n : ℕ) → Stays before n → KnowsValues asked.now (partial_at lists.now.sources.now lists.now.lists.now from n))
-        → HaveShape asked.now.pattern alpha.now.candidates
+        → AreSelected asked.now.pattern alpha.now.candidates
         → Comes own.old own.new (Joins asked.now.address asked.now.pattern (tests_of asked.now)
         (partial_at lists.now.sources.now lists.now.lists.now from) (Stays before) (came_in alpha.now))) }
     ensures probes { OnOk result ((before : BetaMemoryValue) (kept : ℕ)
@@ -187,7 +186,7 @@ fn join_fact<T>(
     )
 }
 
-/// Files these partial matches, which came before the pattern, and joins them with all facts.
+/// Joins these partial matches, which came before the pattern, with all facts, and files them.
 fn join_come<T>(
     lists: &TokenLists<'_>,
     from: usize,
@@ -209,7 +208,7 @@ fn join_come<T>(
         → HasJoin alpha.now join asked.now.fields.items
         → AreJoinFields asked.now.fields.items asked.now.address asked.now.pattern
         → ((n : ℕ) → In n come.now → KnowsValues asked.now (partial_at lists.now.sources.now lists.now.lists.now from n))
-        → HaveShape asked.now.pattern alpha.now.candidates
+        → AreSelected asked.now.pattern alpha.now.candidates
         → Comes own.old own.new (Joins asked.now.address asked.now.pattern (tests_of asked.now)
         (partial_at lists.now.sources.now lists.now.lists.now from) (λ number. In number come.now) (live alpha.now))) }
     ensures probes { OnOk result ((most : ℕ)
@@ -218,37 +217,35 @@ fn join_come<T>(
         → meter.new ≤ meter.old + length come.now * most) }
 {
     for number in come {
-        file_partial(
-            lists.alloc,
-            asked.fields.as_slice(),
-            partials,
-            strays,
-            *number,
-            &lists.reading(from, *number),
+        join_partial(
+            lists, from, join, asked, partials, strays, alpha, *number, own, meter,
         )?;
-        join_partial(lists, from, join, asked, strays, alpha, *number, own, meter)?;
     }
     Ok(())
 }
 
-/// Joins a partial match that stands before the pattern with all facts.
+/// Joins a partial match that came before the pattern with all facts, and files it. Its values are looked for once: by them facts that
+/// agree with it are found, and by them it is filed. Growth is refused as `NoMemory`, and so is a count of sharers that is full.
 fn join_partial<T>(
     lists: &TokenLists<'_>,
     from: usize,
     join: usize,
     asked: &Joining<T>,
-    strays: &Groups,
+    partials: &mut Buckets,
+    strays: &mut Groups,
     alpha: &AlphaMemory,
     number: u32,
     own: &mut BetaMemory,
     meter: &mut Meter<T>,
 ) -> Result<(), NoMemory>
-    ensures come { OnOk result ((filing : Filing)
-        → IsFiled asked.now.fields.items filing strays.now number (partial_at lists.now.sources.now lists.now.lists.now from number)
-        → HasJoin alpha.now join asked.now.fields.items
+    ensures filed { OnOk result (IsFiled asked.now.fields.items partials.new strays.new number
+        (partial_at lists.now.sources.now lists.now.lists.now from number)) }
+    ensures others { OnOk result ((other : ℕ) → (other ≡ number → ⊥)
+        → IsSamePlace partials.old strays.old partials.new strays.new other) }
+    ensures come { OnOk result (HasJoin alpha.now join asked.now.fields.items
         → AreJoinFields asked.now.fields.items asked.now.address asked.now.pattern
         → KnowsValues asked.now (partial_at lists.now.sources.now lists.now.lists.now from number)
-        → HaveShape asked.now.pattern alpha.now.candidates
+        → AreSelected asked.now.pattern alpha.now.candidates
         → Comes own.old own.new (JoinsOne asked.now.address asked.now.pattern (tests_of asked.now)
         (partial_at lists.now.sources.now lists.now.lists.now from number) number (live alpha.now))) }
     ensures probes { OnOk result ((most : ℕ)
@@ -256,20 +253,20 @@ fn join_partial<T>(
         → AreAtMost (IsUnder (live alpha.now)) most → meter.new ≤ meter.old + most) }
 {
     a_fact_that_fits_has_the_values_of_variables();
-    if strays.group(number).is_some() {
-        let all = alpha.numbers(lists.alloc)?;
-        return join_facts(
-            lists,
-            from,
-            asked,
-            alpha,
-            number,
-            all.as_slice(),
-            own,
-            meter,
-        );
-    }
+    partials.remove(number);
+    strays.remove(number);
     let known = lists.reading(from, number);
-    let beside = facts_beside(lists.alloc, asked.fields.as_slice(), alpha, join, &known)?;
-    join_facts(lists, from, asked, alpha, number, beside, own, meter)
+    match values_of_variables(lists.alloc, asked.fields.as_slice(), &known)? {
+        Some(values) => {
+            let beside = alpha.facts_with(join, &values);
+            join_facts(lists, from, asked, alpha, number, beside, own, meter)?;
+            partials.add(number, values)
+        }
+        None => {
+            let numbers = alpha.numbers(lists.alloc)?;
+            let all = numbers.as_slice();
+            join_facts(lists, from, asked, alpha, number, all, own, meter)?;
+            strays.add(0, number)
+        }
+    }
 }

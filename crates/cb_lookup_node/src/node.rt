@@ -80,6 +80,11 @@ impl<T> LookupNode<T> {
         })
     }
 
+    /// Whether facts are looked up by ranges of values, so that the join of the alpha memory should keep them in order.
+    pub fn takes_ranges(&self) -> bool {
+        self.sight.takes_ranges()
+    }
+
     /// No partial matches are before it any more, as in a new one. It takes no memory.
     pub fn clear(&mut self)
         ensures same { AsksTheSame self.old self.new }

@@ -1,5 +1,6 @@
 //! How it is known for which partial matches there is a fact.
-ghost use Rattle.std.specs.Prelude.{◌≡◌, ℕ, IfOk, List, OnOk, Option};
+ghost use Rattle.std.specs.Prelude.{◌≡◌, ℕ, IfOk, List, None, OnOk, Option};
+ghost use Rattle.cb_alpha.specs.Buckets.{values_at};
 ghost use Rattle.cb_facts.specs.Facts.{FactValue};
 ghost use Rattle.cb_fit.specs.declared.join_fields.JoinField.{JoinField as Field};
 ghost use Rattle.cb_lookup_node.specs.Internal.{HasChanged, IsToChange};
@@ -14,7 +15,7 @@ use crate::in_order::InOrder;
 use crate::witnesses::Witnesses;
 use cb_alpha::{AlphaMemory, Buckets};
 use cb_beta::BetaMemory;
-use cb_fit::{ComparedField, JoinField};
+use cb_fit::{ComparedField, Comparison, JoinField};
 use cb_forms::NoMemory;
 use cb_token_lists::TokenLists;
 use std::alloc::Global;
@@ -45,11 +46,19 @@ impl Sight {
             return Ok(Sight::ByWitness(ByWitness { compared, kept }));
         }
         let comparison = add_compared(compared, fields)?;
-        let partials = Buckets::new(alloc);
+        let partials = no_partials(alloc, comparison);
         Ok(Sight::InOrder(InOrder {
             comparison,
             partials,
         }))
+    }
+
+    /// Whether facts are looked up by ranges of values.
+    pub(crate) fn takes_ranges(&self) -> bool {
+        match self {
+            Sight::InOrder(order) => order.comparison.is_some(),
+            Sight::ByWitness(_) => false,
+        }
     }
 
     /// No partial matches are kept any more. It takes no memory.
@@ -59,7 +68,7 @@ impl Sight {
             → AreKept self.new js at (λ number. ⊥) facts }
     {
         match self {
-            Sight::InOrder(order) => order.partials = Buckets::new(alloc),
+            Sight::InOrder(order) => order.partials = no_partials(alloc, order.comparison),
             Sight::ByWitness(witness) => witness.kept = Witnesses::new(alloc),
         }
     }
@@ -92,5 +101,15 @@ impl Sight {
                 witness.change(lists, from, fields, positive, alpha, join, before, own)
             }
         }
+    }
+}
+
+/// No partial matches by values, which are kept in order where the last of them is compared.
+fn no_partials(alloc: Global, comparison: Option<Comparison>) -> Buckets
+    ensures { (n : ℕ) → values_at result n ≡ None }
+{
+    match comparison {
+        Some(_) => Buckets::in_order(alloc),
+        None => Buckets::new(alloc),
     }
 }

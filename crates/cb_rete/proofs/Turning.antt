@@ -15,7 +15,7 @@ use Rattle.cb_branch.specs.declared.branch.Branch.{Branch}
 use Rattle.cb_constraints.specs.PatternValues.{PatternValue}
 use Rattle.cb_facts.specs.FactLists.{IndexedFacts, fact_at}
 use Rattle.cb_facts.specs.Facts.{FactValue}
-use Rattle.cb_fit.specs.Shapes.{has_shape}
+use Rattle.cb_fit.specs.Shapes.{is_selected}
 use Rattle.cb_matches.proofs.Lists.{by_test}
 use Rattle.cb_matches.specs.Chains.{In}
 use Rattle.cb_matches.specs.Matches.{matches_of}
@@ -42,11 +42,11 @@ none_absent : (fs : IndexedFacts) (f : ℕ × FactValue) → fact_at fs f.0 ≡ 
 none_absent fs f none i = (added_fact fs f.0 f.1 none).absent f i refl
 
 -- the fact of the change has not the shape, where nothing came to the memory and nothing went
-untaken : (p : PatternValue) (m : AlphaMemoryValue) (fs fs' : IndexedFacts) (f : ℕ × FactValue) → AlphaTurns p m fs fs' → DifferBy f fs fs' → IsAtRest m → has_shape p f.1 ≡ false
+untaken : (p : PatternValue) (m : AlphaMemoryValue) (fs fs' : IndexedFacts) (f : ℕ × FactValue) → AlphaTurns p m fs fs' → DifferBy f fs fs' → IsAtRest m → is_selected p f.1 ≡ false
 untaken p m fs fs' f turns differ rest =
-    by_test (has_shape p f.1) (λ t. absurd (never t differ)) (λ t. t)
+    by_test (is_selected p f.1) (λ t. absurd (never t differ)) (λ t. t)
   where
-    never : has_shape p f.1 ≡ true → DifferBy f fs fs' → ⊥
+    never : is_selected p f.1 ≡ true → DifferBy f fs fs' → ⊥
     never t (inl d) =
         let there : In f fs' = subst (In f) (sym d.1) (added_fact fs f.0 f.1 d.0).there in
         let at = turns.is.all f there t in
@@ -138,9 +138,9 @@ module _ {T : Type 0} (turn : TurnValue) (given : MemoryValues) (found : List No
   module _ (stays : (facts facts' : Facts) (fs : IndexedFacts) (b : Branch T) → IsBranchOver facts fs b → ((k : ℕ) (u : AlphaUse) → HasAlpha b k u → (n : ℕ) → facts u.alpha n ≡ facts' u.alpha n)
       → IsBranchOver facts' fs b)
       (over : (facts : Facts) (fs fs' : IndexedFacts) (f : ℕ × FactValue) (b : Branch T) → IsRising fs → IsRising fs' → DifferBy f fs fs'
-      → ((k : ℕ) (u : AlphaUse) → HasAlpha b k u → has_shape u.pattern f.1 ≡ false) → IsBranchOver facts fs b → IsBranchOver facts fs' b)
+      → ((k : ℕ) (u : AlphaUse) → HasAlpha b k u → is_selected u.pattern f.1 ≡ false) → IsBranchOver facts fs b → IsBranchOver facts fs' b)
       (matches : (facts : Facts) (fs fs' : IndexedFacts) (f : ℕ × FactValue) (b : Branch T) → IsRising fs → IsRising fs' → DifferBy f fs fs'
-      → ((k : ℕ) (u : AlphaUse) → HasAlpha b k u → has_shape u.pattern f.1 ≡ false) → IsBranchOver facts fs b → matches_of (branch_elements b) fs ≡ matches_of (branch_elements b) fs')
+      → ((k : ℕ) (u : AlphaUse) → HasAlpha b k u → is_selected u.pattern f.1 ≡ false) → IsBranchOver facts fs b → matches_of (branch_elements b) fs ≡ matches_of (branch_elements b) fs')
       (none : (k : ℕ) → In (node_at rule n k) found → ⊥) where
     at_rest : (k : ℕ) (u : AlphaUse) → HasAlpha b k u → IsAtRest (memory_at turn.network u.alpha)
     at_rest k u h = elim (is.changed u.alpha u.pattern (node_at rule n k) (ready.entered k u h).shape) as (λ _. IsAtRest (memory_at turn.network u.alpha)) [
@@ -148,7 +148,7 @@ module _ {T : Type 0} (turn : TurnValue) (given : MemoryValues) (found : List No
       | inr i ↦ absurd (none k i)
     ]
 
-    no_shape : (k : ℕ) (u : AlphaUse) → HasAlpha b k u → has_shape u.pattern turn.fact.1 ≡ false
+    no_shape : (k : ℕ) (u : AlphaUse) → HasAlpha b k u → is_selected u.pattern turn.fact.1 ≡ false
     no_shape k u h = untaken u.pattern (memory_at turn.network u.alpha) turn.before turn.after turn.fact (memory_turns k u h) is.turning.differ (at_rest k u h)
 
     pub unconcerned : IsBranchUnconcerned branch_elements (IsBranchReady turn rule) (IsBranchDone turn rule) turn.before turn.after (join_tests turn) rule n b

@@ -10,7 +10,7 @@ use Rattle.cb_branch.specs.Alphas.{Facts}
 use Rattle.cb_branch.specs.declared.branch.Branch.{Branch}
 use Rattle.cb_facts.specs.FactLists.{IndexedFacts}
 use Rattle.cb_facts.specs.Facts.{FactValue}
-use Rattle.cb_fit.specs.Shapes.{has_shape}
+use Rattle.cb_fit.specs.Shapes.{is_selected}
 use Rattle.cb_matches.proofs.Lists.{place_of}
 use Rattle.cb_matches.specs.Keys.{KeyValue}
 use Rattle.cb_matches.specs.Matches.{matches_of}
@@ -41,9 +41,9 @@ keys_alike {T} fs fs' rule at (b ∷ bs) same =
 module _ {T : Type 0} (stays : (facts facts' : Facts) (fs : IndexedFacts) (b : Branch T) → IsBranchOver facts fs b → ((k : ℕ) (u : AlphaUse) → HasAlpha b k u → (n : ℕ) → facts u.alpha n ≡ facts' u.alpha n)
     → IsBranchOver facts' fs b)
     (over : (facts : Facts) (fs fs' : IndexedFacts) (f : ℕ × FactValue) (b : Branch T) → IsRising fs → IsRising fs' → DifferBy f fs fs'
-    → ((k : ℕ) (u : AlphaUse) → HasAlpha b k u → has_shape u.pattern f.1 ≡ false) → IsBranchOver facts fs b → IsBranchOver facts fs' b)
+    → ((k : ℕ) (u : AlphaUse) → HasAlpha b k u → is_selected u.pattern f.1 ≡ false) → IsBranchOver facts fs b → IsBranchOver facts fs' b)
     (matches : (facts : Facts) (fs fs' : IndexedFacts) (f : ℕ × FactValue) (b : Branch T) → IsRising fs → IsRising fs' → DifferBy f fs fs'
-    → ((k : ℕ) (u : AlphaUse) → HasAlpha b k u → has_shape u.pattern f.1 ≡ false) → IsBranchOver facts fs b → matches_of (branch_elements b) fs ≡ matches_of (branch_elements b) fs')
+    → ((k : ℕ) (u : AlphaUse) → HasAlpha b k u → is_selected u.pattern f.1 ≡ false) → IsBranchOver facts fs b → matches_of (branch_elements b) fs ≡ matches_of (branch_elements b) fs')
     (turn : TurnValue) (given : MemoryValues) (found : List NodePlace) (is : IsTurn turn given found) where
   -- a branch that has none of its rule's places
   pub branch_unconcerned : (rule from end : ℕ) → AreAllOfRule found from end rule → (n : ℕ) (b : Branch T) → IsBranchReady turn rule n b

@@ -1,11 +1,9 @@
 -- What variables have where they are looked for one by one.
-use Rattle.std.proofs.Common.{◌≡◌, ◌∙◌, ◌++◌, ℕ, zero, suc, Bool, true, false, cond, List, [], ◌∷◌, Option, Some, None, ap, refl, slice_get, sym}
-use Rattle.std.specs.List.{IsLastAndRest}
+use Rattle.std.proofs.Common.{◌≡◌, ◌∙◌, ℕ, zero, suc, List, [], ◌∷◌, Option, Some, None, ap, refl, slice_get, sym}
 use Rattle.std.specs.Option.{option_map_or, option_or}
-use Rattle.std.specs.Str.{bytes_eq}
+use Rattle.cb_beta.proofs.Values.{by_one, by_way, three}
 use Rattle.cb_beta.specs.BetaMemories.{BetaMemoryValue}
 use Rattle.cb_beta.specs.Tokens.{TakenValue, TokenValue, token_at, with_taken}
-use Rattle.cb_exprs.proofs.ValueLaws.{value_at-with_value}
 use Rattle.cb_exprs.specs.Bindings.{Bindings, Values, no_bindings, value_at, with_variable, with_variables}
 use Rattle.cb_facts.specs.declared.value.Value.{Value}
 use Rattle.cb_facts.specs.declared.value.Value.TheVariants as value
@@ -13,30 +11,6 @@ use Rattle.cb_matches.specs.Matches.{Partial, no_parts, with_address}
 use Rattle.cb_token_lists.specs.Partials.{SourceValue, partial_at, partial_in, tokens_in}
 
 -- ---- what a variable has
-
-either : (t : Bool) (v : Value) (before : Option Value) → cond t (Some v) before ≡ option_or (cond t (Some v) None) before
-either true v before = refl
-either false v before = refl
-
-three : (a b c : Option Value) → option_or a (option_or b c) ≡ option_or (option_or a b) c
-three None b c = refl
-three (Some v) b c = refl
-
--- by one value that is given over others
-by_one : (q name : List ℕ) (v : Value) (env : Bindings) → value_at q (with_variable name v env).variables ≡ option_or (cond (bytes_eq q name) (Some v) None) (value_at q env.variables)
-by_one q name v env = value_at-with_value env.variables q name v ∙ either (bytes_eq q name) v (value_at q env.variables)
-
--- by several
-by_way : (q : List ℕ) (bound : Values) (env : Bindings)
-    → value_at q (with_variables bound env).variables ≡ option_or (value_at q (with_variables bound no_bindings).variables) (value_at q env.variables)
-by_way q [] env = refl
-by_way q (e ∷ more) env =
-    let rest = value_at q (with_variables more no_bindings).variables in
-    let one = cond (bytes_eq q e.0) (Some e.1) None in
-    by_way q more (with_variable e.0 e.1 env)
-    ∙ (ap (option_or rest) (by_one q e.0 e.1 env)
-    ∙ (three rest one (value_at q env.variables)
-    ∙ ap (λ o. option_or o (value_at q env.variables)) (sym (by_way q more (with_variable e.0 e.1 no_bindings)))))
 
 -- by the address of a fact
 by_address : (q : List ℕ) (x : Option (List ℕ)) (ix : ℕ) (env : Bindings)
@@ -66,27 +40,6 @@ address_gives q bound x ix o none is env =
     by_both q bound x ix env
     ∙ (ap (λ it. option_or (option_or it (value_at q (with_address x ix no_bindings).variables)) (value_at q env.variables)) (sym none)
     ∙ ap (λ it. option_or it (value_at q env.variables)) (sym is))
-
--- the last of some values, and the others
-one_more : (bound : Values) (e : List ℕ × Value) (env : Bindings) → with_variables (bound ++ e ∷ []) env ≡ with_variable e.0 e.1 (with_variables bound env)
-one_more [] e env = refl
-one_more (f ∷ more) e env = one_more more e (with_variable f.0 f.1 env)
-
-by_last : (q : List ℕ) (bound others : Values) (e : List ℕ × Value) (t : Bool) → IsLastAndRest bound e others → bytes_eq q e.0 ≡ t
-    → value_at q (with_variables bound no_bindings).variables ≡ cond t (Some e.1) (value_at q (with_variables others no_bindings).variables)
-by_last q bound others e t is same =
-    ap (λ it. value_at q (with_variables it no_bindings).variables) is.0
-    ∙ (ap (λ (it : Bindings). value_at q it.variables) (one_more others e no_bindings)
-    ∙ (value_at-with_value (with_variables others no_bindings).variables q e.0 e.1
-    ∙ ap (λ it. cond it (Some e.1) (value_at q (with_variables others no_bindings).variables)) same))
-
-pub last_gives : (q : List ℕ) (bound others : Values) (e : List ℕ × Value) → IsLastAndRest bound e others → bytes_eq q e.0 ≡ true
-    → Some e.1 ≡ value_at q (with_variables bound no_bindings).variables
-last_gives q bound others e is here = sym (by_last q bound others e true is here)
-
-pub others_give : (q : List ℕ) (bound others : Values) (e : List ℕ × Value) → IsLastAndRest bound e others → bytes_eq q e.0 ≡ false
-    → value_at q (with_variables others no_bindings).variables ≡ value_at q (with_variables bound no_bindings).variables
-others_give q bound others e is other = sym (by_last q bound others e false is other)
 
 -- by a token, and then further down
 pub value_further : (sources : List SourceValue) (lists : List BetaMemoryValue) (q : List ℕ) (start : Option Value) (n list i : ℕ) (s : SourceValue) (t : TokenValue) (found : Option Value)

@@ -1,6 +1,5 @@
 //! What variables have after a way.
 ghost use Rattle.std.specs.Prelude.{◌≡◌, IfOk, OnOk};
-ghost use Rattle.cb_exprs.specs.Bindings.{with_variables};
 ghost use Rattle.cb_matches.specs.Matches.{Partial, no_parts, with_address};
 ghost use Rattle.cb_token_lists.specs.Internal.{with_path, with_step};
 
@@ -11,23 +10,13 @@ use cb_forms::NoMemory;
 use std::alloc::Global;
 
 /// Gives a variable the address of the fact with an index, if there is such a variable. Growth is refused as `NoMemory`.
-pub fn bind_address(env: &mut Env, address: &Option<Name>, index: u64) -> Result<(), NoMemory>
+fn bind_address(env: &mut Env, address: &Option<Name>, index: u64) -> Result<(), NoMemory>
     ensures { OnOk result (env.new ≡ with_address address.now index env.old) }
 {
     match address {
         Some(name) => env.set(name, Value::Fact(index)),
         None => Ok(()),
     }
-}
-
-/// Gives variables these values, one after another. Growth is refused as `NoMemory`, and so is a count of sharers that is full.
-pub fn bind_all(env: &mut Env, bound: &[(Name, Value)]) -> Result<(), NoMemory>
-    ensures { OnOk result (env.new ≡ with_variables bound.now env.old) }
-{
-    for (name, value) in bound.iter() {
-        env.set(name, value.clone()?)?;
-    }
-    Ok(())
 }
 
 /// What variables have by the steps of a path. Growth is refused as `NoMemory`, and so is a count of sharers that is full.
@@ -51,7 +40,7 @@ fn bind_step(env: &mut Env, step: Option<Step<'_>>) -> Result<(), NoMemory>
         Some(step) => {
             let taken = step.taken;
             bind_address(env, step.address, taken.index)?;
-            bind_all(env, taken.way.bound.as_slice())
+            taken.given.bind(env)
         }
         None => Ok(()),
     }

@@ -43,7 +43,7 @@ fn before_taken<'a>(parts: &'a [Part], taken: &Option<Taken>) -> Option<&'a [Par
         return Some(parts);
     };
     let (last, before) = parts.split_last()?;
-    if last.index == taken.index && last.cuts == taken.way.cuts {
+    if last.index == taken.index && last.cuts == *taken.given.cuts() {
         Some(before)
     } else {
         None

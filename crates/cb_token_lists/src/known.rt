@@ -1,6 +1,7 @@
 //! What variables have where a test is, read when it asks for them.
-use crate::giving::given;
+use crate::giving::given_with;
 use crate::reading::TokenLists;
+use cb_beta::Given;
 use cb_exprs::Lookup;
 use cb_facts::{Name, Value};
 use cb_forms::NoMemory;
@@ -32,27 +33,29 @@ impl Lookup for Reading<'_> {
 
 /// A partial match and then a fact in one way, before there is a token of it.
 #[derive(Clone, Copy)]
-pub struct Grown<'a> {
+pub struct Grown<'a, 'b> {
     /// The partial match.
     pub before: Reading<'a>,
     /// The variable of the fact's address, if it has one.
-    pub address: &'a Option<Name>,
+    pub address: &'b Option<Name>,
     /// The index of the fact.
     pub index: u64,
-    /// The values that the way gives variables.
-    pub bound: &'a [(Name, Value)],
+    /// What the way gives variables; nothing yet where the pattern is tested.
+    pub given: Option<&'b Given>,
 }
 
-impl Lookup for Grown<'_> {
+impl Lookup for Grown<'_, '_> {
+    ghost use Rattle.std.specs.Prelude.{option_copied};
+    ghost use Rattle.cb_beta.specs.GivenValues.{values_given};
     ghost use Rattle.cb_exprs.specs.Bindings.{with_variables};
     ghost use Rattle.cb_matches.specs.Matches.{with_address};
     ghost use Rattle.cb_token_lists.specs.Partials.{partial_at};
 
-    ghost bindings = { λ g. with_variables g.bound.now (with_address g.address.now g.index
+    ghost bindings = { λ g. with_variables (values_given (option_copied g.given)) (with_address g.address.now g.index
         (partial_at g.before.lists.sources.now g.before.lists.lists.now g.before.list g.before.number).env) };
 
     fn variable(&self, name: &Name) -> Result<Option<Value>, NoMemory> {
-        match given(self.bound, self.address, self.index, name)? {
+        match given_with(self.given, self.address, self.index, name)? {
             Some(value) => Ok(Some(value)),
             None => self.before.variable(name),
         }

@@ -15,7 +15,6 @@ mod source; // what a list goes on from
 mod testing; // whether a test holds
 mod variables; // what a variable has by a token
 
-pub use binding::{bind_address, bind_all};
 pub use known::{Grown, Reading};
 pub use reading::TokenLists;
 pub use source::Source;

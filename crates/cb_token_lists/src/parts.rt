@@ -82,6 +82,6 @@ fn part_of(taken: &Taken) -> Result<Part, NoMemory>
 {
     Ok(Part {
         index: taken.index,
-        cuts: taken.way.cuts.clone()?,
+        cuts: taken.given.cuts().clone()?,
     })
 }

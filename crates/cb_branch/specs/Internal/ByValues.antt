@@ -7,7 +7,7 @@ use Rattle.cb_branch.specs.declared.kinds.Kind.TheVariants as kind
 use Rattle.cb_constraints.specs.PatternValues.{PatternValue}
 use Rattle.cb_fit.specs.Comparisons.{choice_fields, compared_fields, is_decided}
 use Rattle.cb_fit.specs.Plain.{bound_names, is_named}
-use Rattle.cb_fit.specs.Shapes.{loose}
+use Rattle.cb_fit.specs.StandsAlone.{stands_alone}
 use Rattle.cb_fit.specs.declared.comparison.ComparedField.{ComparedField}
 
 -- a variable is that of an address
@@ -27,6 +27,6 @@ IsElsewhere address p cs = (x : List ℕ) → address ≡ Some x → (is_named x
 
 -- how a group of this pattern is kept, or of other elements
 abbrev pub IsKind : Kind → Option PatternValue → Type 0
-IsKind kind.Alone lone = (p : PatternValue) × (lone ≡ Some p) × (loose p ≡ p)
+IsKind kind.Alone lone = (p : PatternValue) × (lone ≡ Some p) × (stands_alone p ≡ true)
 IsKind (kind.LookedUp compared) lone = (p : PatternValue) × (lone ≡ Some p) × IsDecidedBy p compared.items
 IsKind kind.Nested lone = lone ≡ None

@@ -1,28 +1,29 @@
-use Rattle.std.proofs.Common.{IfSome, subst, sym}
+use Rattle.std.proofs.Common.{◌∙◌, IfSome, ap, subst, sym}
+use Rattle.cb_beta.specs.declared.given.TakenFields.{TakenFields}
 use Rattle.cb_branch.proofs.JoinedByValues.{known_join, not_compared, other_join}
 use Rattle.cb_branch.proofs.by_values.asked_by.Goals as goal
 use Rattle.cb_branch.specs.Internal.ByValues.{IsDecidedBy, IsElsewhere}
 use Rattle.cb_matches.specs.Chains.{In}
 
-pub returns-in_ok-ones-in-Some-clause-fields : goal.returns-in_ok-ones-in-Some-clause-fields
-returns-in_ok-ones-in-Some-clause-fields g c =
+pub returns-in_ok-new-in-Some-clause-fields : goal.returns-in_ok-new-in-Some-clause-fields
+returns-in_ok-new-in-Some-clause-fields g c =
     let elsewhere = subst (λ o. IfSome o (λ it. IsElsewhere c.args.address c.args.pattern it.items)) c.in-Some.is c.in_ok-compared.ensures.address in
-    known_join c.args.address c.args.pattern c.in-Some.compared.items c.args.bound.now c.in_ok-known.field-0.known.items c.in_ok-known.ensures.known elsewhere
+    known_join c.args.address c.args.pattern c.in-Some.compared.items c.args.bound.now c.in_ok-known.known.items c.in_ok-known.ensures elsewhere
 
-pub returns-in_ok-ones-in-Some-clause-by_values : goal.returns-in_ok-ones-in-Some-clause-by_values
-returns-in_ok-ones-in-Some-clause-by_values g c =
+pub returns-in_ok-new-in-Some-clause-by_values : goal.returns-in_ok-new-in-Some-clause-by_values
+returns-in_ok-new-in-Some-clause-by_values g c =
     let elsewhere = subst (λ o. IfSome o (λ it. IsElsewhere c.args.address c.args.pattern it.items)) c.in-Some.is c.in_ok-compared.ensures.address in
     let decided = subst (λ o. IfSome o (λ it. IsDecidedBy c.args.pattern it.items)) c.in-Some.is c.in_ok-compared.ensures.decided in
     record {
       decided = decided.decided;
       unchosen = decided.unchosen;
-      fields = c.in_ok-known.ensures.known;
-      taken = c.in_ok-known.ensures.unknown;
+      fields = c.in_ok-known.ensures;
+      taken = ap (λ (it : TakenFields). it.fields.items) c.in_ok-new-in-Some.ensures.ok ∙ c.in_ok-unknown_fields_of-in-Some.ensures;
       compared = decided.compared;
-      cuts = c.in_ok-ones-in-Some.ensures;
+      cuts = ap (λ (it : TakenFields). it.cuts) c.in_ok-new-in-Some.ensures.ok ∙ c.in_ok-ones-in-Some.ensures;
       address = λ x e. let apart = elsewhere x e in (apart.0, λ d h. not_compared x c.in-Some.compared.items apart.1 d (subst (In d) (sym decided.compared) h));
     }
 
 pub returns-in_ok-others-in-None-clause-fields : goal.returns-in_ok-others-in-None-clause-fields
 returns-in_ok-others-in-None-clause-fields g c =
-    other_join c.args.address c.args.pattern c.args.bound.now c.in_ok-others-in-None.field-0.items c.in_ok-known.field-0.known.items c.in_ok-known.ensures.known c.in_ok-others-in-None.ensures
+    other_join c.args.address c.args.pattern c.args.bound.now c.in_ok-others-in-None.field-0.items c.in_ok-known.known.items c.in_ok-known.ensures c.in_ok-others-in-None.ensures

@@ -4,8 +4,10 @@ use Rattle.cb_fit.specs.WayValues.{way_of}
 use Rattle.cb_fit.specs.Ways.{WayValue}
 use Rattle.cb_join_node.proofs.Tokens.{next_apart, no_ways, ways_more}
 use Rattle.cb_join_node.proofs.joining.add_ways.Goals as goal
+use Rattle.cb_join_node.specs.Joins.{IsOfWay}
 use Rattle.cb_join_node.specs.Nodes.{tests_of}
 use Rattle.cb_matches.specs.Chains.{Chain}
+use Rattle.cb_token_lists.specs.Growth.{Comes}
 use Rattle.cb_token_lists.specs.Partials.{partial_at}
 
 pub loop-way-init : goal.loop-way-init
@@ -31,6 +33,6 @@ loop-way-preserved g c =
       done ++ w ∷ [],
       append_assoc done (w ∷ []) rest ∙ whole,
       λ once.
-          ways_more x ts m c.args.number c.args.candidate c.args.index c.args.own.now c.loop-way.own c.add_way.new.own done w
-          (next_apart done w rest (subst (Chain (λ (u : WayValue) (v : WayValue). u ≢ v)) (sym whole) once)) (inv.2 once) c.in_ok-add_way.ensures,
+          ways_more x ts m c.args.number c.args.candidate c.args.index c.args.own.now c.loop-way.own c.add_given.new.own done w
+          (next_apart done w rest (subst (Chain (λ (u : WayValue) (v : WayValue). u ≢ v)) (sym whole) once)) (inv.2 once) (subst (λ it. Comes c.loop-way.own c.add_given.new.own (IsOfWay x ts m c.args.number c.args.candidate c.args.index it)) c.found-given.ensures c.in_ok-add_given.ensures),
     )

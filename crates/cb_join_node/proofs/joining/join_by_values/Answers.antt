@@ -1,12 +1,13 @@
 use Rattle.std.proofs.Common.{◌≡◌, ◌∙◌, [], ℕ, true, false, ap, subst, sym}
+use Rattle.std.specs.Rc.{rc_value}
 use Rattle.cb_beta.proofs.Losses.{on_ok}
+use Rattle.cb_beta.specs.GivenValues.{way_by_fields}
+use Rattle.cb_beta.specs.declared.given.TakenFields.{TakenFields}
 use Rattle.cb_facts.specs.Facts.{FactValue}
-use Rattle.cb_fit.specs.WayValues.{way_of}
-use Rattle.cb_fit.specs.Ways.{ways}
+use Rattle.cb_fit.specs.Ways.{WayValue, ways}
 use Rattle.cb_join_node.proofs.Decided.{DecidedByValues, no_way, the_way}
 use Rattle.cb_join_node.proofs.Tokens.{one_way_comes}
 use Rattle.cb_join_node.proofs.joining.join_by_values.Goals as goal
-use Rattle.cb_join_node.specs.Meetings.{values_taken}
 use Rattle.cb_join_node.specs.Joins.{IsOfWay, IsPair}
 use Rattle.cb_join_node.specs.Nodes.{tests_of}
 use Rattle.cb_matches.specs.Chains.{In}
@@ -45,7 +46,7 @@ returns g c =
     let m = partial_at c.args.lists.now.sources.now c.args.lists.now.lists.now c.args.from n in
     let f = c.args.one.now in
     let own = c.args.own.now in
-    let own' = c.add_way.new.own in
+    let own' = c.add_given.new.own in
     let law : DecidedByValues = record { fits = c.a_pattern_is_decided_by_values.ensures.fits; way = c.a_pattern_is_decided_by_values.ensures.way } in
     let seen = c.reading-known.result in
     let same : all_compare c.as_slice.result.now (partial_at seen.lists.sources.now seen.lists.lists.now seen.list seen.number).env c.one.inside.fact.content ≡ all_compare by.compared.items m.env f.1.content =
@@ -53,10 +54,12 @@ returns g c =
     ∙ (ap (λ it. all_compare by.compared.items (partial_at it.lists.sources.now it.lists.lists.now it.list it.number).env c.one.inside.fact.content) c.reading-known.ensures
     ∙ ap (λ (it : ℕ × FactValue). all_compare by.compared.items m.env it.1.content) c.one.view_is) in
     let holds : all_compare by.compared.items m.env f.1.content ≡ true = sym same ∙ (sym c.in_ok-compare_all.ensures ∙ c.if-not-branch.false) in
-    let way = way_of c.in_ok-way.way in
-    let bound = c.in_ok-way.ensures.bound ∙ ap (λ (it : ℕ × FactValue). values_taken by.taken.items it.1.content) c.one.view_is in
-    on_ok c.add_way.result
+    let given = c.in_ok-given.given in
+    let way : given ≡ way_by_fields (rc_value {X = TakenFields} by.taken) f.1.content =
+    c.in_ok-given.ensures ∙ ap (λ (it : ℕ × FactValue). way_by_fields (rc_value {X = TakenFields} by.taken) it.1.content) c.one.view_is in
+    on_ok c.add_given.result
     (λ come meet.
-    let is : Comes own own' (IsOfWay x ts m n k f.0 way) = subst (λ (it : ℕ × FactValue). Comes own own' (IsOfWay x ts m n k it.0 way)) c.one.view_is come in
-    one_way_comes x ts m n k f.0 own own' (ways p f.1 (with_address x f.0 m.env)) way (the_way law c.args.asked.now by m f meet way holds c.in_ok-way.ensures.cuts bound) is)
-    c.add_way.ensures
+    let is : Comes own own' (IsOfWay x ts m n k f.0 given) = subst (λ (it : ℕ × FactValue). Comes own own' (IsOfWay x ts m n k it.0 given)) c.one.view_is come in
+    one_way_comes x ts m n k f.0 own own' (ways p f.1 (with_address x f.0 m.env)) given
+    (the_way law c.args.asked.now by m f meet given holds (ap (λ (it : WayValue). it.cuts) way) (ap (λ (it : WayValue). it.bound) way)) is)
+    c.add_given.ensures

@@ -1,10 +1,9 @@
-use Rattle.std.proofs.Common.{◌≡◌, ◌∙◌, ◌≤◌, ◌+◌, ◌*◌, ◌⊎◌, List, ℕ, ap, arith, get_or, inl, inr, length, subst, sym, take}
+use Rattle.std.proofs.Common.{◌≡◌, ◌∙◌, ◌≤◌, ◌+◌, ◌*◌, ◌⊎◌, List, ℕ, ap, arith, get_or, inl, inr, length, subst, take}
 use Rattle.std.proofs.Math.Seq.{take-length}
 use Rattle.cb_alpha.specs.AlphaMemories.{live}
 use Rattle.cb_join_node.proofs.Refiled.{filed_alike, one_filed}
 use Rattle.cb_join_node.proofs.Tokens.{differ_by_number}
 use Rattle.cb_join_node.proofs.node.join_come.Goals as goal
-use Rattle.cb_join_node.specs.Filings.{IsFiled}
 use Rattle.cb_join_node.specs.Joins.{Joins, JoinsOne}
 use Rattle.cb_join_node.specs.Nodes.{Stays, tests_of}
 use Rattle.cb_matches.specs.Chains.{In}
@@ -46,18 +45,14 @@ loop-number-preserved g c =
     let n = get_or xs i 0 in
     let inv = c.loop-number.invariant in
     let b = c.loop-number.partials in
-    let b' = c.file_partial.new.partials in
+    let b' = c.join_partial.new.partials in
     let s = c.loop-number.strays in
-    let s' = c.file_partial.new.strays in
-    let seen = c.reading.result in
-    let read : (at n).env ≡ (partial_at seen.lists.sources.now seen.lists.lists.now seen.list seen.number).env =
-    sym (ap (λ it. (partial_at it.lists.sources.now it.lists.lists.now it.list it.number).env) c.reading.ensures) in
-    let here : IsFiled js b' s' n (at n) = subst (λ it. IsFiled it b' s' n (at n)) c.as_slice.ensures.value (c.in_ok-file_partial.ensures.filed (at n) read) in (
-      λ before filed. one_filed js b b' s s' at (Stays before) xs i (omega arith) here c.in_ok-file_partial.ensures.others (inv.0 before filed),
+    let s' = c.join_partial.new.strays in (
+      λ before filed. one_filed js b b' s s' at (Stays before) xs i (omega arith) c.in_ok-join_partial.ensures.filed c.in_ok-join_partial.ensures.others (inv.0 before filed),
       λ once has fields knows shape.
           one_more_comes c.args.own.now c.loop-number.own c.join_partial.new.own (λ (k : ℕ). JoinsOne x p ts (at k) k (live alpha)) (differ_by_number x p ts at (live alpha)) xs i (omega arith) once
           (inv.1 once has fields knows shape)
-          (c.in_ok-join_partial.ensures.come b' here has fields (knows n (in_at xs i 0 (omega arith))) shape),
+          (c.in_ok-join_partial.ensures.come has fields (knows n (in_at xs i 0 (omega arith))) shape),
       λ most has least.
           let was = inv.2 most has least in
           let more = c.in_ok-join_partial.ensures.probes most has least in

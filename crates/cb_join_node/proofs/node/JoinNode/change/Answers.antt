@@ -6,7 +6,7 @@ use Rattle.cb_beta.proofs.Losses.{on_ok}
 use Rattle.cb_beta.specs.BetaMemories.{BetaMemoryValue, HasFact, Loses}
 use Rattle.cb_join_node.proofs.Bounds.{added_bound, come_at_most, facts_at_most, kept_at_most, whole_bound}
 use Rattle.cb_join_node.proofs.Changing.{changed, kept, on_ok_both}
-use Rattle.cb_join_node.proofs.Meeting.{came_known, have_shape, stays_known}
+use Rattle.cb_join_node.proofs.Meeting.{came_known, are_selected, stays_known}
 use Rattle.cb_join_node.proofs.Refiled.{all_forgotten}
 use Rattle.cb_join_node.proofs.node.JoinNode.change.Goals as goal
 use Rattle.cb_join_node.specs.Bounds.{kept_probes}
@@ -49,14 +49,14 @@ returns-clause-after g c =
     all_forgotten js node.partials b₁ node.strays s₁ at (WasThere m) c.gone-3.result.now c.forget_partials.ensures.gone c.forget_partials.ensures.others b.ready.partials_filed in
     let partials₁ : ArePartialsFiled js b₁ s₁ at (Stays m) = subst (λ (it : List ℕ). ArePartialsFiled js b₁ s₁ at (λ n. WasThere m n × (In n it → ⊥))) c.gone-3.ensures left in
     let partials₂ : ArePartialsFiled js b₂ s₂ at (λ n. Stays m n ⊎ In n m.come) = subst (λ (it : List ℕ). ArePartialsFiled js b₂ s₂ at (λ n. Stays m n ⊎ In n it)) c.come.ensures (filed m partials₁) in
-    let shape = have_shape node.asked.pattern alpha fs fs' b.facts in
+    let shape = are_selected node.asked.pattern alpha fs fs' b.facts in
     let known = subst (λ (it : List ℕ). (n : ℕ) → In n it → KnowsValues node.asked (at n)) (sym c.come.ensures) (came_known node at m old new b.turns b.by_values) in
     let first : Comes own₁ own₂ (AreJoined node.asked at (Stays m) (came_in alpha)) = c.in_ok-join_fact.ensures.come m partials₁ b.ready.fields (stays_known node at m old new b.turns b.by_values) shape in
     let once = subst (Chain (λ (i : ℕ) (j : ℕ). i ≡ j → ⊥)) (sym c.come.ensures) b.turns.come_once in
     let second : Comes own₂ own (AreJoined node.asked at (λ n. In n m.come) (live alpha)) =
     subst (λ (it : List ℕ). Comes own₂ own (AreJoined node.asked at (λ n. In n it) (live alpha))) c.come.ensures (come once b.has_join b.ready.fields known shape) in
     subst (λ it. IsAfter (record node { partials = b₂; strays = s₂ }) at it alpha own fs fs' old new) one
-    (changed node at m alpha own₀ own₁ own₂ own fs fs' old new b lost first second (ways_rise c.the_ways_rise_by_their_cuts.ensures) c.no_shape_gives_no_ways.ensures b₂ s₂ partials₂))
+    (changed node at m alpha own₀ own₁ own₂ own fs fs' old new b lost first second (ways_rise c.the_ways_rise_by_their_cuts.ensures) c.a_fact_that_fits_is_selected.ensures b₂ s₂ partials₂))
     c.join_come.ensures.partials c.join_come.ensures.come
 
 pub returns-clause-keeps : goal.returns-clause-keeps
@@ -84,7 +84,7 @@ returns-clause-keeps g c =
     let left : ArePartialsFiled js b₁ s₁ at (λ n. WasThere m n × (In n c.gone-3.result.now → ⊥)) =
     all_forgotten js node.partials b₁ node.strays s₁ at (WasThere m) c.gone-3.result.now c.forget_partials.ensures.gone c.forget_partials.ensures.others b.ready.partials_filed in
     let partials₁ : ArePartialsFiled js b₁ s₁ at (Stays m) = subst (λ (it : List ℕ). ArePartialsFiled js b₁ s₁ at (λ n. WasThere m n × (In n it → ⊥))) c.gone-3.ensures left in
-    let shape = have_shape node.asked.pattern alpha fs fs' b.facts in
+    let shape = are_selected node.asked.pattern alpha fs fs' b.facts in
     let known = subst (λ (it : List ℕ). (n : ℕ) → In n it → KnowsValues node.asked (at n)) (sym c.come.ensures) (came_known node at m old new b.turns b.by_values) in
     let first : Comes own₁ own₂ (AreJoined node.asked at (Stays m) (came_in alpha)) = c.in_ok-join_fact.ensures.come m partials₁ b.ready.fields (stays_known node at m old new b.turns b.by_values) shape in
     let once = subst (Chain (λ (i : ℕ) (j : ℕ). i ≡ j → ⊥)) (sym c.come.ensures) b.turns.come_once in

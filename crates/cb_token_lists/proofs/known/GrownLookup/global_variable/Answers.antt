@@ -1,4 +1,5 @@
-use Rattle.std.proofs.Common.{◌∙◌, ap, sym}
+use Rattle.std.proofs.Common.{◌∙◌, ap, option_copied, sym}
+use Rattle.cb_beta.specs.GivenValues.{values_given}
 use Rattle.cb_exprs.specs.Bindings.{value_at}
 use Rattle.cb_token_lists.proofs.Values.{grown_globals, no_global}
 use Rattle.cb_token_lists.specs.Partials.{partial_at}
@@ -11,5 +12,5 @@ returns c =
     let ss = before.lists.sources.now in
     let ls = before.lists.lists.now in
     sym
-    (ap (value_at c.args._name.now) (grown_globals self.bound.now self.address.now self.index (partial_at ss ls before.list before.number).env)
+    (ap (value_at c.args._name.now) (grown_globals (values_given (option_copied self.given)) self.address.now self.index (partial_at ss ls before.list before.number).env)
     ∙ no_global ss ls before.list before.number c.args._name.now)

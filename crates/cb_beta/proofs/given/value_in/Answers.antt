@@ -1,6 +1,6 @@
 use Rattle.std.proofs.Common.{◌∙◌, sym}
-use Rattle.cb_token_lists.proofs.Values.{last_gives, others_give}
-use Rattle.cb_token_lists.proofs.giving.given_by_way.Goals as goal
+use Rattle.cb_beta.proofs.Values.{last_gives, others_give}
+use Rattle.cb_beta.proofs.given.value_in.Goals as goal
 
 pub returns-then-eq : goal.returns-then-eq
 returns-then-eq c =

@@ -1,11 +1,10 @@
 use Rattle.std.proofs.Common.{◌∙◌, sym}
-use Rattle.cb_fit.specs.WayValues.{way_of}
 use Rattle.cb_join_node.proofs.Tokens.{no_token}
-use Rattle.cb_join_node.proofs.joining.add_way.Goals as goal
+use Rattle.cb_join_node.proofs.joining.add_given.Goals as goal
 use Rattle.cb_join_node.specs.Nodes.{tests_of}
 use Rattle.cb_token_lists.specs.Partials.{partial_at}
 
 pub returns-then-not-branch : goal.returns-then-not-branch
 returns-then-not-branch g c =
     let m = partial_at c.args.lists.now.sources.now c.args.lists.now.lists.now c.args.from c.args.number in
-    no_token c.args.asked.now.address (tests_of c.args.asked.now) m c.args.number c.args.candidate c.args.index c.args.own.now (way_of c.args.way) (sym c.in_ok-hold_after.ensures ∙ c.if-not-branch.true)
+    no_token c.args.asked.now.address (tests_of c.args.asked.now) m c.args.number c.args.candidate c.args.index c.args.own.now c.args.given (sym c.in_ok-hold_after.ensures ∙ c.if-not-branch.true)

@@ -1,6 +1,6 @@
 use Rattle.std.proofs.Common.{◌≡◌, length}
 use Rattle.cb_exprs.specs.Bindings.{no_bindings, value_at, with_variables}
-use Rattle.cb_token_lists.proofs.giving.given_by_way.Given as goal
+use Rattle.cb_beta.proofs.given.value_in.Given as goal
 
 abbrev pub invariant-loop-last : goal.invariant-loop-last
 invariant-loop-last l =
