@@ -1,21 +1,19 @@
 -- Lanes: the entries of each salience, one lane after the other.
-use Rattle.std.proofs.Common.{◌≡◌, ◌≢◌, ◌+◌, ◌-◌, ◌<◌, ℕ, ℤ, zero, suc, Bool, true, false, List, [], ◌∷◌, ◌++◌, Option, None, Some, Less, Equal, Greater, Ordering, ap, append-nil, append_assoc, arith, cond, filter, int_cmp, is_eq, is_lt, length, nat_cmp, refl, slice_get, subst, sym, ◌∙◌}
+use Rattle.std.proofs.Common.{◌≡◌, ◌≢◌, ◌+◌, ◌-◌, ◌<◌, ℕ, ℤ, zero, suc, Bool, true, false, List, [], ◌∷◌, ◌++◌, Option, None, Some, Less, Equal, Greater, Ordering, ap, append-nil, append_assoc, arith, cond, filter, int_cmp, is_eq, length, nat_cmp, refl, slice_get, subst, sym, ◌∙◌}
 use Rattle.std.specs.BTreeMap.{insert_entry, is_at}
 use Rattle.std.specs.Cmp.{int_cmp_total, nat_cmp_is, signed_Decides}
 use Rattle.std.specs.List.{AllByRecursion}
 use Rattle.std.specs.List.Sorted.{IsStrictlySortedBy}
 use Rattle.std.specs.Map.{keys_of, lookup, remove_entry, set_value}
 use Rattle.std.specs.Ordering.{match_ordering, ordering_reverse}
-use Rattle.cb_agenda.proofs.EntryLaws.{all_append, all_first, all_second, at_itself, filter_all, filter_append, front, not_at, rises_second, skip}
-use Rattle.cb_agenda.proofs.Firing.{breadth_fires, level}
-use Rattle.cb_agenda.proofs.PopLaws.{last_is_top, last_removed}
-use Rattle.cb_agenda.specs.Agendas.{Activation, Entries, first_to_fire, top_of}
-use Rattle.cb_agenda.specs.Internal.{AreFilled, Line, Rises, is_current, laned, left_and_entry, put_back, ranked, ranked_all, stays}
-use Rattle.cb_agenda.specs.Ranks.{fires_before, rank_cmp}
+use Rattle.cb_agenda.proofs.EntryLaws.{all_append, all_first, all_second, filter_all, filter_append, front, skip}
+use Rattle.cb_agenda.proofs.Firing.{level}
+use Rattle.cb_agenda.specs.Internal.{AreFilled, IsNext, Line, Numbered, is_current, laned, put_back, ranked, ranked_all, stays}
+use Rattle.cb_agenda.specs.Ranks.{rank_cmp}
+use Rattle.cb_agenda.specs.declared.activations.Entry.{Entry}
 use Rattle.cb_agenda.specs.declared.rank.Rank.{Rank}
 use Rattle.cb_agenda.specs.declared.strategy.Strategy.{Strategy}
 use Rattle.cb_agenda.specs.declared.strategy.Strategy.TheVariants.{Breadth, Depth}
-use Rattle.cb_matches.specs.Keys.{KeyValue}
 
 abbrev pub Lanes : Type 0
 Lanes = List (ℤ × Line)
@@ -64,33 +62,33 @@ laned_append : (ls ms : Lanes) → laned (ls ++ ms) ≡ laned ls ++ laned ms
 laned_append [] ms = refl
 laned_append (l ∷ ls) ms = ap (λ es. ranked_all l.0 l.1 ++ es) (laned_append ls ms) ∙ sym (append_assoc (ranked_all l.0 l.1) (laned ls) (laned ms))
 
-ranked_over : (t : Rank) (s : ℤ) (xs : Line) → int_cmp t.salience s ≡ Greater → AllByRecursion (λ (e : Activation). rank_cmp t e.0 ≡ Greater) (ranked_all s xs)
+ranked_over : (t : Rank) (s : ℤ) (xs : Line) → int_cmp t.salience s ≡ Greater → AllByRecursion (λ (e : Numbered). rank_cmp t e.0 ≡ Greater) (ranked_all s xs)
 ranked_over t s [] h = tt
 ranked_over t s (x ∷ xs) h = let over : rank_cmp t (ranked s x).0 ≡ Greater = rw (h) refl in (over, ranked_over t s xs h)
 
-ranked_under : (t : Rank) (s : ℤ) (xs : Line) → int_cmp t.salience s ≡ Less → AllByRecursion (λ (e : Activation). rank_cmp t e.0 ≡ Less) (ranked_all s xs)
+ranked_under : (t : Rank) (s : ℤ) (xs : Line) → int_cmp t.salience s ≡ Less → AllByRecursion (λ (e : Numbered). rank_cmp t e.0 ≡ Less) (ranked_all s xs)
 ranked_under t s [] h = tt
 ranked_under t s (x ∷ xs) h = let under : rank_cmp t (ranked s x).0 ≡ Less = rw (h) refl in (under, ranked_under t s xs h)
 
-ranked_older : (t : Rank) (s : ℤ) (xs : Line) → int_cmp t.salience s ≡ Equal → AllByRecursion (λ (e : Activation). e.0.stamp < t.stamp) (ranked_all s xs) → AllByRecursion (λ (e : Activation). rank_cmp t e.0 ≡ Greater) (ranked_all s xs)
+ranked_older : (t : Rank) (s : ℤ) (xs : Line) → int_cmp t.salience s ≡ Equal → AllByRecursion (λ (e : Numbered). e.0.stamp < t.stamp) (ranked_all s xs) → AllByRecursion (λ (e : Numbered). rank_cmp t e.0 ≡ Greater) (ranked_all s xs)
 ranked_older t s [] e h = tt
 ranked_older t s (x ∷ xs) e h =
     let stamps : nat_cmp t.stamp x.0 ≡ Greater = sym (nat_cmp_is t.stamp x.0 Greater h.0) in
     let over : rank_cmp t (ranked s x).0 ≡ Greater = rw (e, stamps) refl in
     (over, ranked_older t s xs e h.1)
 
-laned_under : (t : Rank) (ls : Lanes) → AllByRecursion (λ (m : ℤ × Line). int_cmp t.salience m.0 ≡ Less) ls → AllByRecursion (λ (e : Activation). rank_cmp t e.0 ≡ Less) (laned ls)
+laned_under : (t : Rank) (ls : Lanes) → AllByRecursion (λ (m : ℤ × Line). int_cmp t.salience m.0 ≡ Less) ls → AllByRecursion (λ (e : Numbered). rank_cmp t e.0 ≡ Less) (laned ls)
 laned_under t [] h = tt
-laned_under t (l ∷ ls) h = all_append (λ (e : Activation). rank_cmp t e.0 ≡ Less) (ranked_all l.0 l.1) (laned ls) (ranked_under t l.0 l.1 h.0) (laned_under t ls h.1)
+laned_under t (l ∷ ls) h = all_append (λ (e : Numbered). rank_cmp t e.0 ≡ Less) (ranked_all l.0 l.1) (laned ls) (ranked_under t l.0 l.1 h.0) (laned_under t ls h.1)
 
 abbrev rank_of : ℤ → ℕ → Rank
 rank_of s n = record { salience = s; stamp = n }
 
-abbrev IsOlder : ℕ → Activation → Type 0
+abbrev IsOlder : ℕ → Numbered → Type 0
 IsOlder n e = e.0.stamp < n
 
 -- one more entry at the end of a lane that is there
-push_by : (o : Ordering) (s : ℤ) (n : ℕ) (k : KeyValue) (xs : Line) (l : ℤ × Line) (ls : Lanes) → int_cmp s l.0 ≡ o → AllByRecursion (λ (m : ℤ × Line). int_cmp l.0 m.0 ≡ Less) ls → AllByRecursion (IsOlder n) (laned (l ∷ ls))
+push_by : (o : Ordering) (s : ℤ) (n : ℕ) (k : ℕ) (xs : Line) (l : ℤ × Line) (ls : Lanes) → int_cmp s l.0 ≡ o → AllByRecursion (λ (m : ℤ × Line). int_cmp l.0 m.0 ≡ Less) ls → AllByRecursion (IsOlder n) (laned (l ∷ ls))
     → lookup (is_at (int_cmp s)) (l ∷ ls) ≡ Some xs
     → (lookup (is_at (int_cmp s)) ls ≡ Some xs → laned (set_value (is_at (int_cmp s)) ls (xs ++ (n, k) ∷ [])) ≡ insert_entry rank_cmp (laned ls) (rank_of s n) k)
     → laned (set_value (is_at (int_cmp s)) (l ∷ ls) (xs ++ (n, k) ∷ [])) ≡ insert_entry rank_cmp (laned (l ∷ ls)) (rank_of s n) k
@@ -117,14 +115,14 @@ push_by Greater s n k xs l ls e above older h next =
     let rest : lookup (is_at (int_cmp s)) (l ∷ ls) ≡ lookup (is_at (int_cmp s)) ls = rw (e) refl in
     ap laned put ∙ ap (λ es. ranked_all l.0 l.1 ++ es) (next (sym rest ∙ h)) ∙ sym (skip (rank_of s n) k (ranked_all l.0 l.1) (laned ls) (ranked_over (rank_of s n) l.0 l.1 e))
 
-pub pushed : (s : ℤ) (n : ℕ) (k : KeyValue) (xs : Line) (ls : Lanes) → SaliencesRise ls → AllByRecursion (IsOlder n) (laned ls) → lookup (is_at (int_cmp s)) ls ≡ Some xs
+pub pushed : (s : ℤ) (n : ℕ) (k : ℕ) (xs : Line) (ls : Lanes) → SaliencesRise ls → AllByRecursion (IsOlder n) (laned ls) → lookup (is_at (int_cmp s)) ls ≡ Some xs
     → laned (set_value (is_at (int_cmp s)) ls (xs ++ (n, k) ∷ [])) ≡ insert_entry rank_cmp (laned ls) (rank_of s n) k
 pushed s n k xs [] rise older h = cc
 pushed s n k xs (l ∷ ls) rise older h =
     push_by (int_cmp s l.0) s n k xs l ls refl rise.0 older h (pushed s n k xs ls rise.1 (all_second (IsOlder n) (ranked_all l.0 l.1) (laned ls) older))
 
 -- a lane of its own for an entry
-begun_by : (o : Ordering) (s : ℤ) (n : ℕ) (k : KeyValue) (l : ℤ × Line) (ls : Lanes) → int_cmp s l.0 ≡ o → AllByRecursion (λ (m : ℤ × Line). int_cmp l.0 m.0 ≡ Less) ls → lookup (is_at (int_cmp s)) (l ∷ ls) ≡ None
+begun_by : (o : Ordering) (s : ℤ) (n : ℕ) (k : ℕ) (l : ℤ × Line) (ls : Lanes) → int_cmp s l.0 ≡ o → AllByRecursion (λ (m : ℤ × Line). int_cmp l.0 m.0 ≡ Less) ls → lookup (is_at (int_cmp s)) (l ∷ ls) ≡ None
     → (lookup (is_at (int_cmp s)) ls ≡ None → laned (insert_entry int_cmp ls s ((n, k) ∷ [])) ≡ insert_entry rank_cmp (laned ls) (rank_of s n) k)
     → laned (insert_entry int_cmp (l ∷ ls) s ((n, k) ∷ [])) ≡ insert_entry rank_cmp (laned (l ∷ ls)) (rank_of s n) k
 begun_by Less s n k l ls e above h next =
@@ -138,7 +136,7 @@ begun_by Greater s n k l ls e above h next =
     let rest : lookup (is_at (int_cmp s)) (l ∷ ls) ≡ lookup (is_at (int_cmp s)) ls = rw (e) refl in
     ap laned put ∙ ap (λ es. ranked_all l.0 l.1 ++ es) (next (sym rest ∙ h)) ∙ sym (skip (rank_of s n) k (ranked_all l.0 l.1) (laned ls) (ranked_over (rank_of s n) l.0 l.1 e))
 
-pub begun : (s : ℤ) (n : ℕ) (k : KeyValue) (ls : Lanes) → SaliencesRise ls → lookup (is_at (int_cmp s)) ls ≡ None → laned (insert_entry int_cmp ls s ((n, k) ∷ [])) ≡ insert_entry rank_cmp (laned ls) (rank_of s n) k
+pub begun : (s : ℤ) (n : ℕ) (k : ℕ) (ls : Lanes) → SaliencesRise ls → lookup (is_at (int_cmp s)) ls ≡ None → laned (insert_entry int_cmp ls s ((n, k) ∷ [])) ≡ insert_entry rank_cmp (laned ls) (rank_of s n) k
 begun s n k [] rise h = refl
 begun s n k (l ∷ ls) rise h = begun_by (int_cmp s l.0) s n k l ls refl rise.0 h (begun s n k ls rise.1)
 
@@ -245,66 +243,46 @@ set_last s xs ys (m ∷ ms) h = let apart : is_at (int_cmp s) m.0 ≡ false = ap
 laned_last : (s : ℤ) (xs : Line) (init : Lanes) → laned (init ++ (s, xs) ∷ []) ≡ laned init ++ ranked_all s xs
 laned_last s xs init = laned_append init ((s, xs) ∷ []) ∙ ap (λ es. laned init ++ es) (append-nil (ranked_all s xs))
 
--- of a lane the first is the top under breadth
-lane_top : (s : ℤ) (x : ℕ × KeyValue) (xs : Line) → Rises (ranked_all s (x ∷ xs)) → top_of Breadth (ranked_all s (x ∷ xs)) ≡ Some (ranked s x)
-lane_top s x [] h = refl
-lane_top s x (y ∷ ys) h =
-    let before : fires_before Breadth (ranked s y).0 (ranked s x).0 ≡ false = breadth_fires (ranked s x).0 (ranked s y).0 h.0.0 ∙ ap is_lt (level s s refl) in
-    let is : first_to_fire Breadth (ranked s x) (Some (ranked s y)) ≡ ranked s x = rw (before) refl in
-    ap (λ o. Some (first_to_fire Breadth (ranked s x) o)) (lane_top s y ys h.1) ∙ ap Some is
-
--- and of all where the others have lower saliences
-higher_top : (es fs : Entries) (e : Activation) → AllByRecursion (λ (x : Activation). int_cmp x.0.salience e.0.salience ≡ Less) es → top_of Breadth fs ≡ Some e → top_of Breadth (es ++ fs) ≡ Some e
-higher_top [] fs e h top = top
-higher_top (x ∷ xs) fs e h top =
-    let lower : int_cmp x.0.salience e.0.salience ≡ Less = h.0 in
-    let rank : rank_cmp x.0 e.0 ≡ Less = rw (lower) refl in
-    let before : fires_before Breadth e.0 x.0 ≡ true = breadth_fires x.0 e.0 rank ∙ ap is_lt lower in
-    let is : first_to_fire Breadth x (Some e) ≡ e = rw (before) refl in
-    ap (λ o. Some (first_to_fire Breadth x o)) (higher_top xs fs e h.1 top) ∙ ap Some is
-
-removed_behind : (es : Entries) (e : Activation) (rest : Entries) → AllByRecursion (λ (x : Activation). int_cmp x.0.salience e.0.salience ≡ Less) es → remove_entry (is_at (rank_cmp e.0)) (es ++ e ∷ rest) ≡ es ++ rest
-removed_behind [] e rest h = let own : is_at (rank_cmp e.0) e.0 ≡ true = at_itself e.0 in rw (own) refl
-removed_behind (x ∷ xs) e rest h =
-    let lower : int_cmp x.0.salience e.0.salience ≡ Less = h.0 in
-    let rank : rank_cmp x.0 e.0 ≡ Less = rw (lower) refl in
-    let apart : is_at (rank_cmp e.0) x.0 ≡ false = not_at e.0 x.0 rank in
-    rw (apart, removed_behind xs e rest h.1) refl
-
-lower_ranked : (s u : ℤ) (xs : Line) → int_cmp u s ≡ Less → AllByRecursion (λ (x : Activation). int_cmp x.0.salience s ≡ Less) (ranked_all u xs)
+-- other lanes have lower saliences, and a lane has its own
+lower_ranked : (s u : ℤ) (xs : Line) → int_cmp u s ≡ Less → AllByRecursion (λ (x : Numbered). int_cmp x.0.salience s ≡ Less) (ranked_all u xs)
 lower_ranked s u [] h = tt
 lower_ranked s u (x ∷ xs) h = (h, lower_ranked s u xs h)
 
-lower_laned : (s : ℤ) (ls : Lanes) → AllByRecursion (λ (m : ℤ × Line). int_cmp m.0 s ≡ Less) ls → AllByRecursion (λ (x : Activation). int_cmp x.0.salience s ≡ Less) (laned ls)
+lower_laned : (s : ℤ) (ls : Lanes) → AllByRecursion (λ (m : ℤ × Line). int_cmp m.0 s ≡ Less) ls → AllByRecursion (λ (x : Numbered). int_cmp x.0.salience s ≡ Less) (laned ls)
 lower_laned s [] h = tt
-lower_laned s (l ∷ ls) h = all_append (λ (x : Activation). int_cmp x.0.salience s ≡ Less) (ranked_all l.0 l.1) (laned ls) (lower_ranked s l.0 l.1 h.0) (lower_laned s ls h.1)
+lower_laned s (l ∷ ls) h = all_append (λ (x : Numbered). int_cmp x.0.salience s ≡ Less) (ranked_all l.0 l.1) (laned ls) (lower_ranked s l.0 l.1 h.0) (lower_laned s ls h.1)
 
-popped_by : (st : Strategy) (s : ℤ) (x : ℕ × KeyValue) (ys : Line) (init : Lanes) → AllByRecursion (λ (m : ℤ × Line). int_cmp m.0 s ≡ Less) init → Rises (laned init ++ ranked_all s (put_back st x ys))
-    → left_and_entry (laned init ++ ranked_all s (put_back st x ys)) (top_of st (laned init ++ ranked_all s (put_back st x ys))) ≡ (laned init ++ ranked_all s ys, Some (ranked s x))
-popped_by Depth s x ys init below rise =
-    let all : laned init ++ ranked_all s (ys ++ x ∷ []) ≡ (laned init ++ ranked_all s ys) ++ ranked s x ∷ [] =
-    ap (λ es. laned init ++ es) (ranked_append s ys (x ∷ [])) ∙ sym (append_assoc (laned init) (ranked_all s ys) (ranked s x ∷ [])) in
-    let up : Rises ((laned init ++ ranked_all s ys) ++ ranked s x ∷ []) = subst Rises all rise in
-    subst (λ (es : Entries). left_and_entry es (top_of Depth es) ≡ (laned init ++ ranked_all s ys, Some (ranked s x))) (sym all)
-    (ap (left_and_entry ((laned init ++ ranked_all s ys) ++ ranked s x ∷ [])) (last_is_top (laned init ++ ranked_all s ys) (ranked s x) up)
-    ∙ ap (λ (es : Entries). (es, Some (ranked s x))) (last_removed (laned init ++ ranked_all s ys) (ranked s x) up))
-popped_by Breadth s x ys init below rise =
-    let lower = lower_laned s init below in
-    let top = higher_top (laned init) (ranked_all s (x ∷ ys)) (ranked s x) lower (lane_top s x ys (rises_second (laned init) (ranked_all s (x ∷ ys)) rise)) in
-    ap (left_and_entry (laned init ++ ranked_all s (x ∷ ys))) top ∙ ap (λ (es : Entries). (es, Some (ranked s x))) (removed_behind (laned init) (ranked s x) (ranked_all s ys) lower)
+level_ranked : (s : ℤ) (xs : Line) → AllByRecursion (λ (x : Numbered). x.0.salience ≡ s) (ranked_all s xs)
+level_ranked s [] = tt
+level_ranked s (x ∷ xs) = (refl, level_ranked s xs)
+
+popped_by : (st : Strategy) (s : ℤ) (x : ℕ × ℕ) (ys : Line) (init : Lanes) → AllByRecursion (λ (m : ℤ × Line). int_cmp m.0 s ≡ Less) init → IsNext st (laned init ++ ranked_all s (put_back st x ys)) (ranked s x) (laned init ++ ranked_all s ys)
+popped_by Depth s x ys init below = record {
+  before = laned init ++ ranked_all s ys;
+  behind = [];
+  whole = ap (λ es. laned init ++ es) (ranked_append s ys (x ∷ [])) ∙ sym (append_assoc (laned init) (ranked_all s ys) (ranked s x ∷ []));
+  left = sym (append-nil (laned init ++ ranked_all s ys));
+  first = refl;
+}
+popped_by Breadth s x ys init below = record {
+  before = laned init;
+  behind = ranked_all s ys;
+  whole = refl;
+  left = refl;
+  first = (lower_laned s init below, level_ranked s ys);
+}
 
 -- what the strategy takes out of the last lane
-pub popped_last : (st : Strategy) (s : ℤ) (x : ℕ × KeyValue) (xs ys : Line) (ls : Lanes) → SaliencesRise ls → Rises (laned ls) → slice_get ls (length ls - 1) ≡ Some (s, xs) → xs ≡ put_back st x ys
-    → left_and_entry (laned ls) (top_of st (laned ls)) ≡ (laned (set_value (is_at (int_cmp s)) ls ys), Some (ranked s x))
-popped_last st s x xs ys [] up rise h is = cc
-popped_last st s x xs ys (l ∷ ls) up rise h is =
+pub popped_last : (st : Strategy) (s : ℤ) (x : ℕ × ℕ) (xs ys : Line) (ls : Lanes) → SaliencesRise ls → slice_get ls (length ls - 1) ≡ Some (s, xs) → xs ≡ put_back st x ys → IsNext st (laned ls) (ranked s x) (laned (set_value (is_at (int_cmp s)) ls ys))
+popped_last st s x xs ys [] up h is = cc
+popped_last st s x xs ys (l ∷ ls) up h is =
     let split = last_split (l ∷ ls) (length (l ∷ ls) - 1) (s, xs) (omega arith) h in
     let below = below_last split.0 (s, xs) (subst SaliencesRise split.1 up) in
     let all : laned (l ∷ ls) ≡ laned split.0 ++ ranked_all s (put_back st x ys) = ap laned split.1 ∙ laned_last s xs split.0 ∙ ap (λ zs. laned split.0 ++ ranked_all s zs) is in
     let left : laned (set_value (is_at (int_cmp s)) (l ∷ ls) ys) ≡ laned split.0 ++ ranked_all s ys =
     ap (λ (ms : Lanes). laned (set_value (is_at (int_cmp s)) ms ys)) split.1 ∙ ap laned (set_last s xs ys split.0 below) ∙ laned_last s ys split.0 in
-    subst (λ (es : Entries). left_and_entry es (top_of st es) ≡ (laned (set_value (is_at (int_cmp s)) (l ∷ ls) ys), Some (ranked s x))) (sym all)
-    (popped_by st s x ys split.0 below (subst Rises all rise) ∙ ap (λ (es : Entries). (es, Some (ranked s x))) (sym left))
+    subst (λ (es : List Numbered). IsNext st es (ranked s x) (laned (set_value (is_at (int_cmp s)) (l ∷ ls) ys))) (sym all)
+    (subst (λ (fs : List Numbered). IsNext st (laned split.0 ++ ranked_all s (put_back st x ys)) (ranked s x) fs) (sym left) (popped_by st s x ys split.0 below))
 
 pub last_found : (s : ℤ) (xs : Line) (ls : Lanes) → SaliencesRise ls → slice_get ls (length ls - 1) ≡ Some (s, xs) → lookup (is_at (int_cmp s)) ls ≡ Some xs
 last_found s xs [] up h = cc
@@ -313,57 +291,57 @@ last_found s xs (l ∷ ls) up h =
     subst (λ (ms : Lanes). lookup (is_at (int_cmp s)) ms ≡ Some xs) (sym split.1) (lookup_last s xs split.0 (below_last split.0 (s, xs) (subst SaliencesRise split.1 up)))
 
 -- where the stale entries of a lane are let go, all others stay
-own_by : (b : Bool) (s : ℤ) (x : ℕ × KeyValue) (zs : Line) → ranked_all s (cond b (x ∷ zs) zs) ≡ cond b (ranked s x ∷ ranked_all s zs) (ranked_all s zs)
+own_by : (b : Bool) (s : ℤ) (x : ℕ × ℕ) (zs : Line) → ranked_all s (cond b (x ∷ zs) zs) ≡ cond b (ranked s x ∷ ranked_all s zs) (ranked_all s zs)
 own_by true s x zs = refl
 own_by false s x zs = refl
 
-stays_own : (find : KeyValue → Option Rank) (s u : ℤ) (x : ℕ × KeyValue) → is_at (int_cmp s) u ≡ true → stays find s (ranked u x) ≡ is_current find (ranked u x)
+stays_own : (find : ℕ → Option Entry) (s u : ℤ) (x : ℕ × ℕ) → is_at (int_cmp s) u ≡ true → stays find s (ranked u x) ≡ is_current find (ranked u x)
 stays_own find s u x h = rw (h) refl
 
-stays_other : (find : KeyValue → Option Rank) (s u : ℤ) (x : ℕ × KeyValue) → is_at (int_cmp s) u ≡ false → stays find s (ranked u x) ≡ true
+stays_other : (find : ℕ → Option Entry) (s u : ℤ) (x : ℕ × ℕ) → is_at (int_cmp s) u ≡ false → stays find s (ranked u x) ≡ true
 stays_other find s u x h = rw (h) refl
 
-own_lane : (find : KeyValue → Option Rank) (s u : ℤ) (xs : Line) → is_at (int_cmp s) u ≡ true → ranked_all u (filter (λ (x : ℕ × KeyValue). is_current find (ranked u x)) xs) ≡ filter (stays find s) (ranked_all u xs)
+own_lane : (find : ℕ → Option Entry) (s u : ℤ) (xs : Line) → is_at (int_cmp s) u ≡ true → ranked_all u (filter (λ (x : ℕ × ℕ). is_current find (ranked u x)) xs) ≡ filter (stays find s) (ranked_all u xs)
 own_lane find s u [] h = refl
 own_lane find s u (x ∷ xs) h =
-    own_by (is_current find (ranked u x)) u x (filter (λ (x : ℕ × KeyValue). is_current find (ranked u x)) xs)
-    ∙ ap (λ (es : Entries). cond (is_current find (ranked u x)) (ranked u x ∷ es) es) (own_lane find s u xs h)
+    own_by (is_current find (ranked u x)) u x (filter (λ (x : ℕ × ℕ). is_current find (ranked u x)) xs)
+    ∙ ap (λ (es : List Numbered). cond (is_current find (ranked u x)) (ranked u x ∷ es) es) (own_lane find s u xs h)
     ∙ ap (λ b. cond b (ranked u x ∷ filter (stays find s) (ranked_all u xs)) (filter (stays find s) (ranked_all u xs))) (sym (stays_own find s u x h))
 
-all_stay : (find : KeyValue → Option Rank) (s u : ℤ) (xs : Line) → is_at (int_cmp s) u ≡ false → AllByRecursion (λ (e : Activation). stays find s e ≡ true) (ranked_all u xs)
+all_stay : (find : ℕ → Option Entry) (s u : ℤ) (xs : Line) → is_at (int_cmp s) u ≡ false → AllByRecursion (λ (e : Numbered). stays find s e ≡ true) (ranked_all u xs)
 all_stay find s u [] h = tt
 all_stay find s u (x ∷ xs) h = (stays_other find s u x h, all_stay find s u xs h)
 
-laned_stay : (find : KeyValue → Option Rank) (s : ℤ) (ls : Lanes) → AllByRecursion (λ (m : ℤ × Line). int_cmp s m.0 ≡ Less) ls → AllByRecursion (λ (e : Activation). stays find s e ≡ true) (laned ls)
+laned_stay : (find : ℕ → Option Entry) (s : ℤ) (ls : Lanes) → AllByRecursion (λ (m : ℤ × Line). int_cmp s m.0 ≡ Less) ls → AllByRecursion (λ (e : Numbered). stays find s e ≡ true) (laned ls)
 laned_stay find s [] h = tt
 laned_stay find s (l ∷ ls) h =
-    all_append (λ (e : Activation). stays find s e ≡ true) (ranked_all l.0 l.1) (laned ls) (all_stay find s l.0 l.1 (apart_above s l.0 h.0)) (laned_stay find s ls h.1)
+    all_append (λ (e : Numbered). stays find s e ≡ true) (ranked_all l.0 l.1) (laned ls) (all_stay find s l.0 l.1 (apart_above s l.0 h.0)) (laned_stay find s ls h.1)
 
-thin_by : (b : Bool) (find : KeyValue → Option Rank) (s : ℤ) (xs : Line) (l : ℤ × Line) (ls : Lanes) → is_at (int_cmp s) l.0 ≡ b → AllByRecursion (λ (m : ℤ × Line). int_cmp l.0 m.0 ≡ Less) ls → lookup (is_at (int_cmp s)) (l ∷ ls) ≡ Some xs
-    → (lookup (is_at (int_cmp s)) ls ≡ Some xs → laned (set_value (is_at (int_cmp s)) ls (filter (λ (x : ℕ × KeyValue). is_current find (ranked s x)) xs)) ≡ filter (stays find s) (laned ls))
-    → laned (set_value (is_at (int_cmp s)) (l ∷ ls) (filter (λ (x : ℕ × KeyValue). is_current find (ranked s x)) xs)) ≡ filter (stays find s) (laned (l ∷ ls))
+thin_by : (b : Bool) (find : ℕ → Option Entry) (s : ℤ) (xs : Line) (l : ℤ × Line) (ls : Lanes) → is_at (int_cmp s) l.0 ≡ b → AllByRecursion (λ (m : ℤ × Line). int_cmp l.0 m.0 ≡ Less) ls → lookup (is_at (int_cmp s)) (l ∷ ls) ≡ Some xs
+    → (lookup (is_at (int_cmp s)) ls ≡ Some xs → laned (set_value (is_at (int_cmp s)) ls (filter (λ (x : ℕ × ℕ). is_current find (ranked s x)) xs)) ≡ filter (stays find s) (laned ls))
+    → laned (set_value (is_at (int_cmp s)) (l ∷ ls) (filter (λ (x : ℕ × ℕ). is_current find (ranked s x)) xs)) ≡ filter (stays find s) (laned (l ∷ ls))
 thin_by true find s xs l ls e above h next =
     let is : s ≡ l.0 = (signed_Decides s l.0).0 e in
     let found : lookup (is_at (int_cmp s)) (l ∷ ls) ≡ Some l.1 = rw (e) refl in
     let both : Some l.1 ≡ Some xs = sym found ∙ h in
     let line : xs ≡ l.1 = cc in
-    let kept : Line = filter (λ (x : ℕ × KeyValue). is_current find (ranked s x)) xs in
+    let kept : Line = filter (λ (x : ℕ × ℕ). is_current find (ranked s x)) xs in
     let put : set_value (is_at (int_cmp s)) (l ∷ ls) kept ≡ (l.0, kept) ∷ ls = rw (e) refl in
     let own : ranked_all l.0 kept ≡ filter (stays find s) (ranked_all l.0 l.1) =
-    ap (λ u. ranked_all l.0 (filter (λ (x : ℕ × KeyValue). is_current find (ranked u x)) xs)) is
-    ∙ ap (λ (ys : Line). ranked_all l.0 (filter (λ (x : ℕ × KeyValue). is_current find (ranked l.0 x)) ys)) line ∙ own_lane find s l.0 l.1 e in
+    ap (λ u. ranked_all l.0 (filter (λ (x : ℕ × ℕ). is_current find (ranked u x)) xs)) is
+    ∙ ap (λ (ys : Line). ranked_all l.0 (filter (λ (x : ℕ × ℕ). is_current find (ranked l.0 x)) ys)) line ∙ own_lane find s l.0 l.1 e in
     let others : filter (stays find s) (laned ls) ≡ laned ls =
     filter_all (stays find s) (laned ls) (laned_stay find s ls (subst (λ u. AllByRecursion (λ (m : ℤ × Line). int_cmp u m.0 ≡ Less) ls) (sym is) above)) in
     ap laned put ∙ ap (λ es. es ++ laned ls) own ∙ ap (λ es. filter (stays find s) (ranked_all l.0 l.1) ++ es) (sym others) ∙ sym (filter_append (stays find s) (ranked_all l.0 l.1) (laned ls))
 thin_by false find s xs l ls e above h next =
-    let kept : Line = filter (λ (x : ℕ × KeyValue). is_current find (ranked s x)) xs in
+    let kept : Line = filter (λ (x : ℕ × ℕ). is_current find (ranked s x)) xs in
     let put : set_value (is_at (int_cmp s)) (l ∷ ls) kept ≡ l ∷ set_value (is_at (int_cmp s)) ls kept = rw (e) refl in
     let rest : lookup (is_at (int_cmp s)) (l ∷ ls) ≡ lookup (is_at (int_cmp s)) ls = rw (e) refl in
     ap laned put ∙ ap (λ es. ranked_all l.0 l.1 ++ es) (next (sym rest ∙ h)) ∙ ap (λ es. es ++ filter (stays find s) (laned ls)) (sym (filter_all (stays find s) (ranked_all l.0 l.1) (all_stay find s l.0 l.1 e)))
     ∙ sym (filter_append (stays find s) (ranked_all l.0 l.1) (laned ls))
 
-pub thinned_lane : (find : KeyValue → Option Rank) (s : ℤ) (xs : Line) (ls : Lanes) → SaliencesRise ls → lookup (is_at (int_cmp s)) ls ≡ Some xs
-    → laned (set_value (is_at (int_cmp s)) ls (filter (λ (x : ℕ × KeyValue). is_current find (ranked s x)) xs)) ≡ filter (stays find s) (laned ls)
+pub thinned_lane : (find : ℕ → Option Entry) (s : ℤ) (xs : Line) (ls : Lanes) → SaliencesRise ls → lookup (is_at (int_cmp s)) ls ≡ Some xs
+    → laned (set_value (is_at (int_cmp s)) ls (filter (λ (x : ℕ × ℕ). is_current find (ranked s x)) xs)) ≡ filter (stays find s) (laned ls)
 thinned_lane find s xs [] up h = cc
 thinned_lane find s xs (l ∷ ls) up h = thin_by (is_at (int_cmp s) l.0) find s xs l ls refl up.0 h (thinned_lane find s xs ls up.1)
 

@@ -1,13 +1,13 @@
 //! The activations of an agenda.
-ghost use Rattle.std.specs.Prelude.{◌≡◌, ◌<◌, ◌+◌, ◌≤◌, ℕ, [], IfOk, None, OnErr, OnOk, map};
+ghost use Rattle.std.specs.Prelude.{◌≡◌, ◌≢◌, ◌<◌, ◌+◌, ◌≤◌, ℕ, [], IfOk, OnErr, OnOk, Some, map};
 ghost use Rattle.std.specs.BTreeMap.{insert_entry};
 ghost use Rattle.std.specs.List.{AllByRecursion, list_any};
 ghost use Rattle.cb_agenda.specs.Agendas.{Activation, firing_order, key_and_salience, top_of, without_key, without_keys};
-ghost use Rattle.cb_agenda.specs.Internal.{IsFiled, IsStampedUpTo, Rises, current, left_and_key, rank_at};
+ghost use Rattle.cb_agenda.specs.Internal.{IsFiled, IsStampedUpTo, Rises, current, entry_at, key_at, left_and_key};
 ghost use Rattle.cb_agenda.specs.Ranks.{greatest_stamp, rank_cmp};
 ghost use Rattle.cb_matches.specs.Keys.{key_eq};
 
-use crate::key_ranks::KeyRanks;
+use crate::activations::Activations;
 use crate::lanes::Lanes;
 use crate::rank::Rank;
 use crate::strategy::Strategy;
@@ -18,28 +18,27 @@ use std::marker::Model;
 
 /// The activations of an agenda, and the stamp that was given last.
 ///
-/// One that is taken out leaves its entry behind in its lane, where it is stale: the rank that its key has, if it has one, is
-/// another.
+/// One that is taken out leaves its entry behind in its lane, where it is stale: its number has no activation, or one of another rank.
 ///
 /// Contracts see the activations by rising rank, each with its key.
 #[derive(Drop)]
 pub(crate) struct Due {
     alloc: Global,
     lanes: Lanes,
-    ranks: KeyRanks,
+    activations: Activations,
     last: u64,
 }
 
 impl Model for Due {
     ghost use Rattle.std.specs.Prelude.{◌≤◌};
-    ghost use Rattle.cb_agenda.specs.Internal.{DueValue, IsFiled, IsStampedUpTo, current, rank_at};
+    ghost use Rattle.cb_agenda.specs.Internal.{DueValue, IsFiled, IsStampedUpTo, current, entry_at};
     ghost use Rattle.cb_agenda.specs.Ranks.{greatest_stamp};
 
     ghost Value = { DueValue };
 
-    ghost view = { λ d. record { entries = current (rank_at d.ranks) d.lanes; last = d.last } };
+    ghost view = { λ d. record { entries = current (entry_at d.activations) d.lanes; last = d.last } };
 
-    ghost invariant = { λ d. IsFiled d.lanes (rank_at d.ranks) × IsStampedUpTo d.last d.lanes × (d.last ≤ greatest_stamp) };
+    ghost invariant = { λ d. IsFiled d.lanes (entry_at d.activations) × IsStampedUpTo d.last d.lanes × (d.last ≤ greatest_stamp) };
 }
 
 impl Due {
@@ -51,7 +50,7 @@ impl Due {
         Due {
             alloc,
             lanes: Lanes::new(alloc),
-            ranks: KeyRanks::new(alloc),
+            activations: Activations::new(alloc),
             last,
         }
     }
@@ -69,14 +68,14 @@ impl Due {
         ensures { self.new ≡ record self.old { entries = [] } }
     {
         self.lanes.clear();
-        self.ranks = KeyRanks::new(self.alloc);
+        self.activations = Activations::new(self.alloc);
     }
 
     /// Whether there is an activation with this key.
     pub(crate) fn has(&self, key: &Key) -> bool
         ensures { result ≡ list_any (λ e. key_eq key.now e.1) self.now.entries }
     {
-        self.ranks.find(key).is_some()
+        self.activations.find(key).is_some()
     }
 
     /// Takes the activations with these keys out.
@@ -92,7 +91,7 @@ impl Due {
     pub(crate) fn remove_key(&mut self, key: &Key)
         ensures { self.new ≡ record self.old { entries = without_key self.old.entries key.now } }
     {
-        remove_from(&mut self.lanes, &mut self.ranks, key);
+        remove_from(&mut self.lanes, &mut self.activations, key);
     }
 
     /// Gives a match an activation with the next stamp, in place of the one that it has already, if it has one. Growth is refused as
@@ -108,7 +107,7 @@ impl Due {
         let stamp = self.last + 1;
         put_in(
             &mut self.lanes,
-            &mut self.ranks,
+            &mut self.activations,
             Rank { salience, stamp },
             key,
         )?;
@@ -122,7 +121,7 @@ impl Due {
             ≡ (self.new.entries, result) }
         ensures last { self.new.last ≡ self.old.last }
     {
-        pop_current(&mut self.lanes, &mut self.ranks, strategy)
+        pop_current(&mut self.lanes, &mut self.activations, strategy)
     }
 
     /// Keys and saliences in the order of firing. Growth is refused as `NoMemory`.
@@ -148,58 +147,61 @@ impl Due {
         ensures all { IfOk result (λ v. v.items ≡ map key_and_salience self.now.entries) }
         ensures rising { Rises self.now.entries }
     {
-        self.lanes.by_rank(&self.ranks)
+        self.lanes.by_rank(&self.activations)
     }
 }
 
 /// Takes the activation with this key out, if there is one.
-fn remove_from(lanes: &mut Lanes, ranks: &mut KeyRanks, key: &Key)
-    requires filed { IsFiled lanes.old (rank_at ranks.old) }
-    ensures filed { IsFiled lanes.new (rank_at ranks.new) }
-    ensures due { current (rank_at ranks.new) lanes.new
-        ≡ without_key (current (rank_at ranks.old) lanes.old) key.now }
-    ensures none { rank_at ranks.new key.now ≡ None }
+fn remove_from(lanes: &mut Lanes, activations: &mut Activations, key: &Key)
+    requires filed { IsFiled lanes.old (entry_at activations.old) }
+    ensures filed { IsFiled lanes.new (entry_at activations.new) }
+    ensures due { current (entry_at activations.new) lanes.new
+        ≡ without_key (current (entry_at activations.old) lanes.old) key.now }
+    ensures none { (n : ℕ) → key_at activations.new n ≢ Some key.now }
     ensures stamped { (n : ℕ) → IsStampedUpTo n lanes.old → IsStampedUpTo n lanes.new }
 {
-    if let Some(rank) = ranks.remove(key) {
-        lanes.thin(rank.salience, ranks);
+    if let Some(rank) = activations.remove_key(key) {
+        lanes.thin(rank.salience, activations);
     }
 }
 
 /// Gives a match an activation of this rank, in place of the one that it has already, if it has one. The stamp is greater than all
 /// others.
-fn put_in(lanes: &mut Lanes, ranks: &mut KeyRanks, rank: Rank, key: &Key) -> Result<(), NoMemory>
-    requires filed { IsFiled lanes.old (rank_at ranks.old) }
+fn put_in(
+    lanes: &mut Lanes,
+    activations: &mut Activations,
+    rank: Rank,
+    key: &Key,
+) -> Result<(), NoMemory>
+    requires filed { IsFiled lanes.old (entry_at activations.old) }
     requires above { (n : ℕ) × IsStampedUpTo n lanes.old × (n < rank.stamp) }
-    ensures filed { IsFiled lanes.new (rank_at ranks.new) }
-    ensures due { OnOk result (current (rank_at ranks.new) lanes.new
-        ≡ insert_entry rank_cmp (without_key (current (rank_at ranks.old) lanes.old) key.now) rank key.now) }
+    ensures filed { IsFiled lanes.new (entry_at activations.new) }
+    ensures due { OnOk result (current (entry_at activations.new) lanes.new
+        ≡ insert_entry rank_cmp (without_key (current (entry_at activations.old) lanes.old) key.now) rank key.now) }
     ensures stamped { OnOk result (IsStampedUpTo rank.stamp lanes.new) }
     ensures err { OnErr result ((n : ℕ) → IsStampedUpTo n lanes.old → IsStampedUpTo n lanes.new) }
 {
-    let shared = key.clone()?;
-    let filed = key.clone()?;
-    remove_from(lanes, ranks, key);
-    ranks.insert(filed, rank)?;
-    let pushed = lanes.push(rank, shared);
+    let own = key.clone()?;
+    remove_from(lanes, activations, key);
+    let number = activations.add(own, rank)?;
+    let pushed = lanes.push(rank, number);
     if pushed.is_err() {
-        ranks.remove(key);
+        activations.remove(number);
     }
     pushed
 }
 
 /// Takes the activation that fires first out, if there is one. The answer is its key. Stale entries that fire before are let go.
-fn pop_current(lanes: &mut Lanes, ranks: &mut KeyRanks, strategy: Strategy) -> Option<Key>
-    requires filed { IsFiled lanes.old (rank_at ranks.old) }
-    ensures filed { IsFiled lanes.new (rank_at ranks.new) }
-    ensures left { left_and_key (current (rank_at ranks.old) lanes.old)
-        (top_of strategy (current (rank_at ranks.old) lanes.old))
-        ≡ (current (rank_at ranks.new) lanes.new, result) }
+fn pop_current(lanes: &mut Lanes, activations: &mut Activations, strategy: Strategy) -> Option<Key>
+    requires filed { IsFiled lanes.old (entry_at activations.old) }
+    ensures filed { IsFiled lanes.new (entry_at activations.new) }
+    ensures left { left_and_key (current (entry_at activations.old) lanes.old)
+        (top_of strategy (current (entry_at activations.old) lanes.old))
+        ≡ (current (entry_at activations.new) lanes.new, result) }
     ensures stamped { (n : ℕ) → IsStampedUpTo n lanes.old → IsStampedUpTo n lanes.new }
 {
-    while let Some((rank, key)) = lanes.pop(strategy) {
-        if ranks.are_paired(&key, rank) {
-            ranks.remove(&key);
+    while let Some((rank, number)) = lanes.pop(strategy) {
+        if let Some(key) = activations.take(number, rank) {
             return Some(key);
         }
     }

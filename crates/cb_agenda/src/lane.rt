@@ -2,9 +2,9 @@
 ghost use Rattle.std.specs.Prelude.{◌≡◌, ◌≢◌, ◌⊎◌, ◌++◌, ◌∷◌, [], IfOk, IfSome, None, OnErr, OnOk, false, map, true};
 ghost use Rattle.std.specs.List.{filter};
 ghost use Rattle.cb_agenda.specs.Agendas.{key_and_salience};
-ghost use Rattle.cb_agenda.specs.Internal.{Line, current, is_current, put_back, rank_at, ranked, ranked_all};
+ghost use Rattle.cb_agenda.specs.Internal.{Line, current, entry_at, is_current, put_back, ranked, ranked_all};
 
-use crate::key_ranks::KeyRanks;
+use crate::activations::Activations;
 use crate::rank::Rank;
 use crate::strategy::Strategy;
 use cb_forms::NoMemory;
@@ -13,15 +13,15 @@ use std::alloc::Global;
 use std::collections::VecDeque;
 use std::marker::Model;
 
-/// The entries of one salience by rising stamp, one for each activation that came.
+/// The entries of one salience by rising stamp, one for each activation that came: its stamp and its number.
 ///
 /// An entry whose activation was taken out is stale. It stays until more than half of the entries are stale, or until it stands at
 /// the end where activations fire. So each entry is passed over a constant number of times.
 ///
-/// Contracts see stamps and keys.
+/// Contracts see stamps and numbers.
 #[derive(Drop)]
 pub(crate) struct Lane {
-    entries: VecDeque<(u64, Key)>,
+    entries: VecDeque<(u64, usize)>,
     /// So many became stale since all stale ones were let go.
     stale: usize,
 }
@@ -46,11 +46,11 @@ impl Lane {
     }
 
     /// One entry. Growth is refused as `NoMemory`.
-    pub(crate) fn of(alloc: Global, stamp: u64, key: Key) -> Result<Lane, NoMemory>
-        ensures { IfOk result (λ lane. lane ≡ (stamp, key) ∷ []) }
+    pub(crate) fn of(alloc: Global, stamp: u64, number: usize) -> Result<Lane, NoMemory>
+        ensures { IfOk result (λ lane. lane ≡ (stamp, number) ∷ []) }
     {
         let mut lane = Lane::new(alloc);
-        lane.push(stamp, key)?;
+        lane.push(stamp, number)?;
         Ok(lane)
     }
 
@@ -63,16 +63,16 @@ impl Lane {
     }
 
     /// Adds the entry of the greatest stamp. Growth is refused as `NoMemory`, and then nothing has changed.
-    pub(crate) fn push(&mut self, stamp: u64, key: Key) -> Result<(), NoMemory>
-        ensures ok { OnOk result (self.new ≡ self.old ++ (stamp, key) ∷ []) }
+    pub(crate) fn push(&mut self, stamp: u64, number: usize) -> Result<(), NoMemory>
+        ensures ok { OnOk result (self.new ≡ self.old ++ (stamp, number) ∷ []) }
         ensures err { OnErr result (self.new ≡ self.old) }
     {
-        self.entries.push_back((stamp, key))?;
+        self.entries.push_back((stamp, number))?;
         Ok(())
     }
 
     /// Takes the entry out that fires first by this strategy, stale or not, if there is one.
-    pub(crate) fn pop(&mut self, strategy: Strategy) -> Option<(u64, Key)>
+    pub(crate) fn pop(&mut self, strategy: Strategy) -> Option<(u64, usize)>
         ensures some { IfSome result (λ x. self.old ≡ put_back strategy x self.new) }
         ensures none { result ≡ None → self.old ≡ [] }
     {
@@ -83,14 +83,14 @@ impl Lane {
     }
 
     /// One more entry has become stale. Where more than half of them may be, those that are are let go. It takes no memory.
-    pub(crate) fn thin(&mut self, salience: i64, ranks: &KeyRanks)
+    pub(crate) fn thin(&mut self, salience: i64, activations: &Activations)
         ensures { (self.new ≡ self.old)
-            ⊎ (self.new ≡ filter (λ x. is_current (rank_at ranks.now) (ranked salience x)) self.old) }
+            ⊎ (self.new ≡ filter (λ x. is_current (entry_at activations.now) (ranked salience x)) self.old) }
     {
         self.stale = self.stale.saturating_add(1);
         if self.entries.len() / 2 < self.stale {
             self.stale = 0;
-            let_go(&mut self.entries, salience, ranks);
+            let_go(&mut self.entries, salience, activations);
         }
     }
 
@@ -98,51 +98,49 @@ impl Lane {
     pub(crate) fn add_listed(
         &self,
         salience: i64,
-        ranks: &KeyRanks,
+        activations: &Activations,
         listed: &mut Vec<(Key, i64)>,
     ) -> Result<(), NoMemory>
         ensures { OnOk result (listed.new.items ≡ listed.old.items
-            ++ map key_and_salience (current (rank_at ranks.now) (ranked_all salience self.now))) }
+            ++ map key_and_salience (current (entry_at activations.now) (ranked_all salience self.now))) }
     {
         let (first, second) = self.entries.as_slices();
-        add_listed(first, salience, ranks, listed)?;
-        add_listed(second, salience, ranks, listed)?;
+        add_listed(first, salience, activations, listed)?;
+        add_listed(second, salience, activations, listed)?;
         Ok(())
     }
 }
 
 /// Lets the stale entries of a lane go.
-fn let_go(entries: &mut VecDeque<(u64, Key)>, salience: i64, ranks: &KeyRanks)
+fn let_go(entries: &mut VecDeque<(u64, usize)>, salience: i64, activations: &Activations)
     ensures { entries.new.items
-        ≡ filter (λ x. is_current (rank_at ranks.now) (ranked salience x)) entries.old.items }
+        ≡ filter (λ x. is_current (entry_at activations.now) (ranked salience x)) entries.old.items }
 {
     entries.retain(|entry| {
-        ranks.are_paired(
-            &entry.1,
-            Rank {
-                salience,
-                stamp: entry.0,
-            },
-        )
+        let rank = Rank {
+            salience,
+            stamp: entry.0,
+        };
+        activations.current_key(entry.1, rank).is_some()
     });
 }
 
 /// Adds the keys and the salience of the activations among these entries of a lane.
 fn add_listed(
-    entries: &[(u64, Key)],
+    entries: &[(u64, usize)],
     salience: i64,
-    ranks: &KeyRanks,
+    activations: &Activations,
     listed: &mut Vec<(Key, i64)>,
 ) -> Result<(), NoMemory>
     ensures { OnOk result (listed.new.items ≡ listed.old.items
-        ++ map key_and_salience (current (rank_at ranks.now) (ranked_all salience entries.now))) }
+        ++ map key_and_salience (current (entry_at activations.now) (ranked_all salience entries.now))) }
 {
-    for (stamp, key) in entries {
+    for (stamp, number) in entries {
         let rank = Rank {
             salience,
             stamp: *stamp,
         };
-        if ranks.are_paired(key, rank) {
+        if let Some(key) = activations.current_key(*number, rank) {
             listed.push((key.clone()?, salience))?;
         }
     }

@@ -1,14 +1,14 @@
 //! The entries of all saliences.
-ghost use Rattle.std.specs.Prelude.{◌≡◌, ◌≢◌, ◌<◌, ◌-◌, ◌⊎◌, ℤ, [], IfOk, None, OnErr, OnOk, Some, false, length, map, slice_get, true};
+ghost use Rattle.std.specs.Prelude.{◌≡◌, ◌≢◌, ◌<◌, ◌-◌, ◌⊎◌, ℤ, [], IfOk, IfSome, None, OnErr, OnOk, Some, false, length, map, slice_get, true};
 ghost use Rattle.std.specs.BTreeMap.{IsOrdered, get, insert_entry, is_at};
 ghost use Rattle.std.specs.List.{AllByRecursion, filter};
 ghost use Rattle.std.specs.Map.{remove_entry, set_value};
 ghost use Rattle.std.specs.Ordering.{int_cmp};
-ghost use Rattle.cb_agenda.specs.Agendas.{Activation, key_and_salience, top_of};
-ghost use Rattle.cb_agenda.specs.Internal.{AreFilled, Line, Rises, Thinned, TookAt, current, laned, left_and_entry, rank_at, stays};
+ghost use Rattle.cb_agenda.specs.Agendas.{key_and_salience};
+ghost use Rattle.cb_agenda.specs.Internal.{AreFilled, IsNext, Line, Rises, Thinned, TookAt, current, entry_at, laned, stays};
 ghost use Rattle.cb_agenda.specs.Ranks.{rank_cmp};
 
-use crate::key_ranks::KeyRanks;
+use crate::activations::Activations;
 use crate::lane::Lane;
 use crate::rank::Rank;
 use crate::strategy::Strategy;
@@ -18,7 +18,8 @@ use std::alloc::Global;
 use std::collections::BTreeMap;
 use std::marker::Model;
 
-/// The entries of an agenda: a lane for each salience that has some. An entry is stale where its activation was taken out.
+/// The entries of an agenda: a lane for each salience that has some. An entry has the number of its activation, and is stale where that
+/// was taken out.
 ///
 /// What comes has the greatest stamp, and what fires stands at an end of its lane, so neither is searched for but by its salience.
 ///
@@ -30,10 +31,10 @@ pub(crate) struct Lanes {
 }
 
 impl Model for Lanes {
-    ghost use Rattle.cb_agenda.specs.Agendas.{Entries};
-    ghost use Rattle.cb_agenda.specs.Internal.{AreFilled, Rises, laned};
+    ghost use Rattle.std.specs.Prelude.{List};
+    ghost use Rattle.cb_agenda.specs.Internal.{AreFilled, Numbered, Rises, laned};
 
-    ghost Value = { Entries };
+    ghost Value = { List Numbered };
 
     ghost view = { λ l. laned l.lanes.entries };
 
@@ -59,41 +60,42 @@ impl Lanes {
     }
 
     /// Adds an entry with a stamp that is greater than all others. Growth is refused as `NoMemory`, and then nothing has changed.
-    pub(crate) fn push(&mut self, rank: Rank, key: Key) -> Result<(), NoMemory>
+    pub(crate) fn push(&mut self, rank: Rank, number: usize) -> Result<(), NoMemory>
         requires { AllByRecursion (λ e. e.0.stamp < rank.stamp) self.old }
-        ensures ok { OnOk result (self.new ≡ insert_entry rank_cmp self.old rank key) }
+        ensures ok { OnOk result (self.new ≡ insert_entry rank_cmp self.old rank number) }
         ensures err { OnErr result (self.new ≡ self.old) }
         ensures rising { Rises self.new }
     {
-        push_to(self.alloc, &mut self.lanes, rank, key)
+        push_to(self.alloc, &mut self.lanes, rank, number)
     }
 
     /// Takes the entry out that fires first, stale or not, if there is one.
-    pub(crate) fn pop(&mut self, strategy: Strategy) -> Option<(Rank, Key)>
-        ensures left { left_and_entry self.old (top_of strategy self.old) ≡ (self.new, result) }
+    pub(crate) fn pop(&mut self, strategy: Strategy) -> Option<(Rank, usize)>
+        ensures some { IfSome result (λ x. IsNext strategy self.old x self.new) }
+        ensures none { result ≡ None → (self.old ≡ []) × (self.new ≡ []) }
         ensures rising { Rises self.new }
     {
         pop_from(&mut self.lanes, strategy)
     }
 
     /// An entry of this salience has become stale. Where more than half of that lane is, those entries are let go.
-    pub(crate) fn thin(&mut self, salience: i64, ranks: &KeyRanks)
-        ensures thinned { Thinned (rank_at ranks.now) self.old self.new }
+    pub(crate) fn thin(&mut self, salience: i64, activations: &Activations)
+        ensures thinned { Thinned (entry_at activations.now) self.old self.new }
         ensures rising { Rises self.new }
     {
-        thin_at(&mut self.lanes, salience, ranks);
+        thin_at(&mut self.lanes, salience, activations);
         settle(&mut self.lanes, salience);
     }
 
     /// The keys and saliences of the activations by rising rank. Growth is refused as `NoMemory`.
-    pub(crate) fn by_rank(&self, ranks: &KeyRanks) -> Result<Vec<(Key, i64)>, NoMemory>
+    pub(crate) fn by_rank(&self, activations: &Activations) -> Result<Vec<(Key, i64)>, NoMemory>
         ensures all { IfOk result
-            (λ v. v.items ≡ map key_and_salience (current (rank_at ranks.now) self.now)) }
+            (λ v. v.items ≡ map key_and_salience (current (entry_at activations.now) self.now)) }
         ensures rising { Rises self.now }
     {
         let mut listed = Vec::new(self.alloc);
         for (salience, lane) in self.lanes.iter() {
-            lane.add_listed(*salience, ranks, &mut listed)?;
+            lane.add_listed(*salience, activations, &mut listed)?;
         }
         Ok(listed)
     }
@@ -104,18 +106,18 @@ fn push_to(
     alloc: Global,
     lanes: &mut BTreeMap<i64, Lane>,
     rank: Rank,
-    key: Key,
+    number: usize,
 ) -> Result<(), NoMemory>
     requires { AllByRecursion (λ e. e.0.stamp < rank.stamp) (laned lanes.old.entries) }
     ensures ok { OnOk result
-        (laned lanes.new.entries ≡ insert_entry rank_cmp (laned lanes.old.entries) rank key) }
+        (laned lanes.new.entries ≡ insert_entry rank_cmp (laned lanes.old.entries) rank number) }
     ensures err { OnErr result (laned lanes.new.entries ≡ laned lanes.old.entries) }
     ensures filled { AreFilled lanes.old.entries → AreFilled lanes.new.entries }
 {
     match lanes.get_mut(&rank.salience) {
-        Some(lane) => lane.push(rank.stamp, key),
+        Some(lane) => lane.push(rank.stamp, number),
         None => {
-            let lane = Lane::of(alloc, rank.stamp, key)?;
+            let lane = Lane::of(alloc, rank.stamp, number)?;
             lanes.insert(rank.salience, lane)?;
             Ok(())
         }
@@ -123,17 +125,19 @@ fn push_to(
 }
 
 /// Takes the entry out that fires first, if there is one.
-fn pop_from(lanes: &mut BTreeMap<i64, Lane>, strategy: Strategy) -> Option<(Rank, Key)>
+fn pop_from(lanes: &mut BTreeMap<i64, Lane>, strategy: Strategy) -> Option<(Rank, usize)>
     requires rising { Rises (laned lanes.old.entries) }
     requires filled { AreFilled lanes.old.entries }
-    ensures left { left_and_entry (laned lanes.old.entries) (top_of strategy (laned lanes.old.entries))
-        ≡ (laned lanes.new.entries, result) }
+    ensures some { IfSome result
+        (λ x. IsNext strategy (laned lanes.old.entries) x (laned lanes.new.entries)) }
+    ensures none { result ≡ None
+        → (laned lanes.old.entries ≡ []) × (laned lanes.new.entries ≡ []) }
     ensures filled { AreFilled lanes.new.entries }
 {
     let salience = greatest(lanes)?;
-    let (stamp, key) = pop_at(lanes, salience, strategy)?;
+    let (stamp, number) = pop_at(lanes, salience, strategy)?;
     settle(lanes, salience);
-    Some((Rank { salience, stamp }, key))
+    Some((Rank { salience, stamp }, number))
 }
 
 /// The greatest salience that has a lane, if there is one.
@@ -146,7 +150,11 @@ fn greatest(lanes: &BTreeMap<i64, Lane>) -> Option<i64>
 }
 
 /// Takes the entry of a lane out that fires first.
-fn pop_at(lanes: &mut BTreeMap<i64, Lane>, salience: i64, strategy: Strategy) -> Option<(u64, Key)>
+fn pop_at(
+    lanes: &mut BTreeMap<i64, Lane>,
+    salience: i64,
+    strategy: Strategy,
+) -> Option<(u64, usize)>
     ensures took { (xs : Line) → get int_cmp lanes.old salience ≡ Some xs
         → TookAt strategy salience xs lanes.old.entries lanes.new.entries result }
     ensures ordered { IsOrdered int_cmp lanes.old }
@@ -158,13 +166,13 @@ fn pop_at(lanes: &mut BTreeMap<i64, Lane>, salience: i64, strategy: Strategy) ->
 }
 
 /// An entry of this salience has become stale.
-fn thin_at(lanes: &mut BTreeMap<i64, Lane>, salience: i64, ranks: &KeyRanks)
+fn thin_at(lanes: &mut BTreeMap<i64, Lane>, salience: i64, activations: &Activations)
     ensures thinned { (laned lanes.new.entries ≡ laned lanes.old.entries)
-        ⊎ (laned lanes.new.entries ≡ filter (stays (rank_at ranks.now) salience) (laned lanes.old.entries)) }
+        ⊎ (laned lanes.new.entries ≡ filter (stays (entry_at activations.now) salience) (laned lanes.old.entries)) }
     ensures set { (xs : Line) × (lanes.new.entries ≡ set_value (is_at (int_cmp salience)) lanes.old.entries xs) }
 {
     if let Some(lane) = lanes.get_mut(&salience) {
-        lane.thin(salience, ranks);
+        lane.thin(salience, activations);
     }
 }
 

@@ -1,0 +1,231 @@
+//! The activations of an agenda, by number and by key.
+ghost use Rattle.std.specs.Prelude.{◌≡◌, ◌≢◌, ◌↔◌, ℕ, [], IfOk, List, None, OnErr, OnOk, Option, Some, false, true};
+ghost use Rattle.std.specs.BTreeMap.{get};
+ghost use Rattle.std.specs.Ordering.{nat_cmp};
+ghost use Rattle.std.specs.Option.{option_copied};
+ghost use Rattle.cb_agenda.specs.Agendas.{without_key};
+ghost use Rattle.cb_agenda.specs.Internal.{AreFound, IsFiled, Numbered, current, current_key, entry_at, key_at, number_in, with_own_key};
+ghost use Rattle.cb_agenda.specs.Mixes.{mix_of, mixed};
+ghost use Rattle.cb_facts.specs.FactLists.{ChangesOnly};
+ghost use Rattle.cb_matches.specs.Keys.{KeyValue};
+
+use crate::rank::Rank;
+use cb_forms::NoMemory;
+use cb_matches::Key;
+use slab::Slab;
+use std::alloc::Global;
+use std::collections::BTreeMap;
+use std::marker::Model;
+
+/// By this an earlier number is multiplied where a later one is mixed in.
+const MULTIPLIER: u64 = 11_400_714_819_323_198_485;
+
+/// An activation: the key of the match that is due, and its rank.
+#[derive(Drop)]
+pub(crate) struct Entry {
+    pub(crate) key: Key,
+    pub(crate) rank: Rank,
+}
+
+/// The activations of an agenda. Each has a number, which it keeps, and which another gets once it is gone.
+///
+/// The number of an activation is filed under the mix of its key, a number that few other keys have, so that a look-up mostly
+/// compares numbers alone. A key that comes when a number is filed under its mix stands aside, in the order of keys. So a look-up
+/// takes logarithmic time also where a script makes all keys collide.
+///
+/// Contracts see what each number has.
+#[derive(Drop)]
+pub(crate) struct Activations {
+    entries: Slab<Entry>,
+    filed: BTreeMap<u64, usize>,
+    aside: BTreeMap<Key, usize>,
+}
+
+impl Model for Activations {
+    ghost use Rattle.cb_agenda.specs.Internal.{AreFound, Held, key_at, number_in};
+
+    ghost Value = { Held };
+
+    ghost view = { λ a. a.entries.slots };
+
+    ghost invariant = { λ a. AreFound (number_in (key_at a.entries.slots) a.filed a.aside) (key_at a.entries.slots) };
+}
+
+impl Activations {
+    /// No activation. It takes no memory yet.
+    pub(crate) fn new(alloc: Global) -> Activations
+        ensures { result ≡ [] }
+    {
+        Activations {
+            entries: Slab::new(alloc),
+            filed: BTreeMap::new(alloc),
+            aside: BTreeMap::new(alloc),
+        }
+    }
+
+    /// The number of the activation with this key, if there is one. It takes logarithmic time.
+    pub(crate) fn find(&self, key: &Key) -> Option<usize>
+        ensures { (n : ℕ) → (result ≡ Some n) ↔ (key_at self.now n ≡ Some key.now) }
+    {
+        match filed_with(&self.filed, &self.entries, key) {
+            Some(number) => Some(number),
+            None => self.aside.get(key).copied(),
+        }
+    }
+
+    /// The key of the activation with this number, if it has this rank. It takes constant time.
+    pub(crate) fn current_key(&self, number: usize, rank: Rank) -> Option<&Key>
+        ensures { option_copied result ≡ current_key (entry_at self.now number) rank }
+    {
+        match self.entries.get(number) {
+            Some(entry) => {
+                if entry.rank == rank {
+                    Some(&entry.key)
+                } else {
+                    None
+                }
+            }
+            None => None,
+        }
+    }
+
+    /// Adds an activation, whose key no other has. The answer is its number. It takes logarithmic time. Growth is refused as
+    /// `NoMemory`, and then nothing has changed.
+    pub(crate) fn add(&mut self, key: Key, rank: Rank) -> Result<usize, NoMemory>
+        requires { (n : ℕ) → key_at self.old n ≢ Some key }
+        ensures free { IfOk result (λ n. entry_at self.old n ≡ None) }
+        ensures ok { IfOk result (λ n. ChangesOnly (entry_at self.old) (entry_at self.new)
+            n (Some (record { key = key; rank = rank }))) }
+        ensures err { OnErr result ((n : ℕ) → entry_at self.new n ≡ entry_at self.old n) }
+    {
+        self.entries.reserve(1)?;
+        let number = self.entries.vacant_key();
+        file(&mut self.filed, &mut self.aside, &key, number)?;
+        self.entries.insert_reserved(Entry { key, rank });
+        Ok(number)
+    }
+
+    /// Takes the activation with this number out, if there is one. It takes logarithmic time.
+    pub(crate) fn remove(&mut self, number: usize) -> Option<Entry>
+        ensures before { result ≡ entry_at self.old number }
+        ensures after { ChangesOnly (entry_at self.old) (entry_at self.new) number None }
+    {
+        let entry = self.entries.try_remove(number)?;
+        unfile(&mut self.filed, &mut self.aside, &entry.key, number);
+        Some(entry)
+    }
+
+    /// Takes the activation with this number out, if it has this rank. The answer is its key. It takes logarithmic time.
+    pub(crate) fn take(&mut self, number: usize, rank: Rank) -> Option<Key>
+        ensures before { result ≡ current_key (entry_at self.old number) rank }
+        ensures none { result ≡ None → self.new ≡ self.old }
+        ensures some { result ≢ None → ChangesOnly (entry_at self.old) (entry_at self.new) number None }
+    {
+        self.current_key(number, rank)?;
+        let entry = self.remove(number)?;
+        Some(entry.key)
+    }
+
+    /// Takes the activation with this key out, if there is one. The answer is its rank. It takes logarithmic time.
+    pub(crate) fn remove_key(&mut self, key: &Key) -> Option<Rank>
+        ensures due { (xs : List Numbered)
+            → current (entry_at self.new) xs ≡ without_key (current (entry_at self.old) xs) key.now }
+        ensures none { (n : ℕ) → key_at self.new n ≢ Some key.now }
+        ensures filed { (xs : List Numbered) → IsFiled xs (entry_at self.old)
+            → IsFiled xs (entry_at self.new) }
+    {
+        let number = self.find(key)?;
+        let entry = self.remove(number)?;
+        Some(entry.rank)
+    }
+}
+
+/// The number that is filed under the mix of this key, if its activation has the key.
+fn filed_with(filed: &BTreeMap<u64, usize>, entries: &Slab<Entry>, key: &Key) -> Option<usize>
+    ensures { result ≡ with_own_key (key_at entries.now.slots)
+        (get nat_cmp filed.now (mix_of key.now)) key.now }
+{
+    let number = *filed.get(&mix_of(key))?;
+    let entry = entries.get(number)?;
+    if entry.key == *key {
+        Some(number)
+    } else {
+        None
+    }
+}
+
+/// Notes the number that an activation with this key gets. Growth is refused as `NoMemory`, and then nothing has changed.
+fn file(
+    filed: &mut BTreeMap<u64, usize>,
+    aside: &mut BTreeMap<Key, usize>,
+    key: &Key,
+    number: usize,
+) -> Result<(), NoMemory>
+    ensures ok { OnOk result ((keys more : ℕ → Option KeyValue)
+        → AreFound (number_in keys filed.old aside.old) keys
+        → ((n : ℕ) → keys n ≢ Some key.now) → keys number ≡ None
+        → ChangesOnly keys more number (Some key.now)
+        → AreFound (number_in more filed.new aside.new) more) }
+    ensures err { OnErr result ((keys : ℕ → Option KeyValue)
+        → AreFound (number_in keys filed.old aside.old) keys
+        → AreFound (number_in keys filed.new aside.new) keys) }
+{
+    let mix = mix_of(key);
+    if filed.contains_key(&mix) {
+        let own = key.clone()?;
+        aside.insert(own, number)?;
+    } else {
+        filed.insert(mix, number)?;
+    }
+    Ok(())
+}
+
+/// Forgets the number of an activation with this key.
+fn unfile(
+    filed: &mut BTreeMap<u64, usize>,
+    aside: &mut BTreeMap<Key, usize>,
+    key: &Key,
+    number: usize,
+)
+    ensures { (keys less : ℕ → Option KeyValue)
+        → AreFound (number_in keys filed.old aside.old) keys
+        → keys number ≡ Some key.now → ChangesOnly keys less number None
+        → AreFound (number_in less filed.new aside.new) less }
+{
+    aside.remove(key);
+    let mix = mix_of(key);
+    if has_filed(filed, mix, number) {
+        filed.remove(&mix);
+    }
+}
+
+/// Whether this number is filed under a mix.
+fn has_filed(filed: &BTreeMap<u64, usize>, mix: u64, number: usize) -> bool
+    ensures yes { result ≡ true → get nat_cmp filed.now mix ≡ Some number }
+    ensures no { result ≡ false → get nat_cmp filed.now mix ≢ Some number }
+{
+    match filed.get(&mix) {
+        Some(found) => *found == number,
+        None => false,
+    }
+}
+
+/// The mix of a key: of its rule, its branch and the indices of its parts.
+#[tactic(auto, unfolding(crate::specs::Mixes::mix_of))]
+fn mix_of(key: &Key) -> u64
+    ensures { result ≡ mix_of key.now }
+{
+    let mut mix = mixed(key.rule(), key.branch());
+    for part in key.parts() {
+        mix = mixed(mix, part.index);
+    }
+    mix
+}
+
+/// One more number mixed in.
+#[tactic(auto, unfolding(crate::specs::Mixes::mixed))]
+fn mixed(mix: u64, number: u64) -> u64
+    ensures { result ≡ mixed mix number }
+{
+    mix.wrapping_mul(MULTIPLIER).wrapping_add(number)
+}
