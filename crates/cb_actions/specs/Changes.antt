@@ -2,8 +2,8 @@
 use Rattle.std.specs.Prelude.{ℕ, ℤ, Bool, true, false, List, [], ◌++◌, Option, Some, None, Ok, codes, length, map, flat_map, if◌then◌else◌}
 use Rattle.std.specs.List.{filter}
 use Rattle.cb_actions.specs.Acts.{Act, stop, ◌>>=◌}
-use Rattle.cb_lines.specs.Lines.{activation_line, fact_line, salience_of}
-use Rattle.cb_rules.specs.RuleTables.{rule_numbered}
+use Rattle.cb_lines.specs.Lines.{activation_line, fact_line}
+use Rattle.cb_rules.specs.RuleTables.{rule_numbered, salience_of}
 use Rattle.cb_actions.specs.Worlds.{World}
 use Rattle.cb_rules.specs.RuleInfos.{RuleInfo}
 use Rattle.cb_actions.specs.declared.act.EarlyEnd.TheVariants as ended

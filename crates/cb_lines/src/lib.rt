@@ -3,7 +3,6 @@
 //! A crate of its own, since `cb_actions` writes them as things happen, and `cb_session` where commands list them.
 #![tactic(auto)]
 
-mod layouts; // the layout of a branch of a rule
 mod lines; // the lines of facts, activations and firings
 mod totals; // the lines of totals
 

@@ -1,6 +1,6 @@
 //! Rules of patterns: what they are, how they are read, and the ways in which a pattern fits a fact.
 //!
-//! All of it stands in `cb_constraints`, `cb_pattern_forms`, `cb_fit`, `cb_rules` and `cb_rule_forms`. `docs/ARCHITECTURE.md` says where the
+//! All of it stands in `cb_constraints`, `cb_fit`, `cb_rules` and `cb_rule_forms`. `docs/ARCHITECTURE.md` says where the
 //! layers stand.
 #![tactic(auto)]
 

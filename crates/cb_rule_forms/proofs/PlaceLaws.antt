@@ -7,7 +7,7 @@ use Rattle.cb_facts.specs.declared.value.Value.{Value}
 use Rattle.cb_fit.specs.Ways.{slot_at}
 use Rattle.cb_forms.specs.Members.{call_of}
 use Rattle.cb_forms.specs.Trees.{Tree, Trees}
-use Rattle.cb_pattern_forms.specs.Patterns.{named_slot, slot_in}
+use Rattle.cb_rule_forms.specs.Patterns.{named_slot, slot_in}
 use Rattle.cb_facts.specs.Places.{place_in}
 use Rattle.cb_templates.specs.Slots.{SlotShape, names}
 use Rattle.cb_templates.specs.Templates.{Templates}

@@ -4,8 +4,8 @@ use Rattle.cb_expr_forms.specs.ExprFaults.{faults_of}
 use Rattle.cb_expr_forms.specs.ExprForms.{expr_of}
 use Rattle.cb_expr_forms.specs.Scopes.{Scope}
 use Rattle.cb_forms.specs.declared.fault.Fault.{Fault}
-use Rattle.cb_pattern_forms.specs.PatternFaults.{pattern_faults}
-use Rattle.cb_pattern_forms.specs.Patterns.{pattern_of}
+use Rattle.cb_rule_forms.specs.PatternFaults.{pattern_faults}
+use Rattle.cb_rule_forms.specs.Patterns.{pattern_of}
 use Rattle.cb_rule_forms.specs.WrittenElements.{Written, wrong, written_pattern, written_test, all_of, one_of, written_group, Writtens, none_written, written}
 use Rattle.cb_rules.specs.Elements.{Element, pattern, test, group, elements}
 use Rattle.cb_templates.specs.Templates.{Templates}

@@ -1,4 +1,5 @@
 -- What only the code needs: what it has read of condition elements, and what it knows after them.
+pub mod RowReading
 pub mod SectionPlaces
 use Rattle.std.specs.Prelude.{ℕ, ℤ, pos, Bool, List, [], ◌∷◌, Option, Some, None, Result, Vec, is_some, map, min}
 use Rattle.std.specs.Borrow.{Bor}

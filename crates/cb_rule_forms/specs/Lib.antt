@@ -3,8 +3,13 @@ pub mod Choices
 pub mod Declarations
 pub mod Elements
 pub mod Internal
+pub mod Members
 pub mod Mentions
+pub mod PatternFaults
+pub mod Patterns
 pub mod Relations
+pub mod RowFaults
+pub mod Rows
 pub mod Rules
 pub mod Sections
 pub mod WrittenElements

@@ -3,19 +3,19 @@ ghost use Rattle.std.specs.Prelude.{◌≡◌, ◌++◌, ◌∷◌, [], IfOk, ma
 ghost use Rattle.std.specs.List.{flat_map};
 ghost use Rattle.cb_facts.specs.FaultLists.{ReadsAs};
 ghost use Rattle.cb_forms.specs.Members.{members};
-ghost use Rattle.cb_pattern_forms.specs.PatternFaults.{pattern_faults};
-ghost use Rattle.cb_pattern_forms.specs.Patterns.{pattern_of};
+ghost use Rattle.cb_rule_forms.specs.PatternFaults.{pattern_faults};
+ghost use Rattle.cb_rule_forms.specs.Patterns.{pattern_of};
 ghost use Rattle.cb_rule_forms.specs.Elements.{each_written, element_faults, elements_faults, written_elements};
 ghost use Rattle.cb_rule_forms.specs.Internal.{form_value, way_seen, writtens, written_seen};
 ghost use Rattle.cb_rules.specs.Elements.{pattern};
 
+use crate::pattern::read_pattern;
 use crate::written::Written;
 use cb_constraints::PatternParts;
 use cb_expr_forms::{Scope, read_expr};
 use cb_exprs::Expr;
 use cb_facts::{Name, Names, Refused};
 use cb_forms::{Form, NoMemory};
-use cb_pattern_forms::read_pattern;
 
 /// An element as it was read.
 #[derive(Drop)]

@@ -7,7 +7,7 @@ ghost use Rattle.cb_facts.specs.declared.value.Value.{Value};
 ghost use Rattle.cb_fit.specs.Ways.{slot_at};
 ghost use Rattle.cb_forms.specs.Members.{call_of};
 ghost use Rattle.cb_forms.specs.Trees.{Tree, Trees};
-ghost use Rattle.cb_pattern_forms.specs.Patterns.{slot_in};
+ghost use Rattle.cb_rule_forms.specs.Patterns.{slot_in};
 ghost use Rattle.cb_rule_forms.specs.Branches.{ways_through, ways_through_all};
 ghost use Rattle.cb_rule_forms.specs.Choices.{IsLeftOfAll};
 ghost use Rattle.cb_rule_forms.specs.WrittenElements.{Written, Writtens, written};

@@ -1,4 +1,0 @@
-mod Examples
-pub mod MemberLaws
-pub mod RowLaws
-pub mod SlotLaws
