@@ -215,8 +215,7 @@ due_kept = record {
   restarts = restart_due;
   clears = λ s h. none_are (without_all s) refl;
   runs = runs_keep AreMatches Anything acts_due (λ s n h. h) taken_matches;
-  watches = λ s w h. h;
-  orders = λ s strategy h. h;
+  sets = λ s settings h. h;
 }
 
 -- unless an act ends at the limit of numbers

@@ -46,6 +46,16 @@ after_any P s (Err (ended.Limit Firings)) h = h
 after_any P s (Err (ended.Limit Turns)) h = h
 after_any P s (Err (ended.Exit code)) h = h
 
+-- of an act that keeps it however it ends
+pub after_kept : {S A : Type 0} (P Q : S → Type 0) (s : S) (r : Result A EarlyEnd) → ((t : S) → P t → Q t) → P s → After P Q s r
+after_kept P Q s (Ok a) weaken h = h
+after_kept P Q s (Err (ended.Fault f)) weaken h = h
+after_kept P Q s (Err (ended.FaultIn f id)) weaken h = h
+after_kept P Q s (Err (ended.Limit Numbers)) weaken h = weaken s h
+after_kept P Q s (Err (ended.Limit Firings)) weaken h = h
+after_kept P Q s (Err (ended.Limit Turns)) weaken h = h
+after_kept P Q s (Err (ended.Exit code)) weaken h = h
+
 pub from_any : {S A : Type 0} (P : S → Type 0) (s : S) (r : Result A EarlyEnd) → After P P s r → P s
 from_any P s (Ok a) h = h
 from_any P s (Err (ended.Fault f)) h = h

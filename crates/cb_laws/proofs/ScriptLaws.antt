@@ -1,11 +1,10 @@
 -- Whatever a script does, facts and templates stay well kept, no more firings are left than there may be, and no match is due twice.
-use Rattle.std.proofs.Common.{◌≡◌, ◌≤◌, ◌∙◌, ◌++◌, ◌||◌, ℕ, Bool, true, false, not, List, [], ◌∷◌, Option, Some, None, Result, Ok, Err, refl, ap, arith, subst, if◌then◌else◌}
+use Rattle.std.proofs.Common.{◌≡◌, ◌≤◌, ◌∙◌, ◌++◌, ◌||◌, ℕ, Bool, true, false, not, List, [], ◌∷◌, Option, Some, None, Result, Ok, Err, refl, ap, arith, rules, subst, sym, if◌then◌else◌}
 use Rattle.std.specs.List.{list_any}
 use Rattle.std.specs.Str.{bytes_eq}
-use Rattle.cb_actions.specs.Acts.{give_or_fault, ◌>>=◌}
-use Rattle.cb_actions.specs.Commands.{watched_so}
-use Rattle.cb_actions.specs.Definitions.{all_asserted, all_evaluated, globals_defined}
-use Rattle.cb_actions.specs.Runs.{cleared_world, restarted_world}
+use Rattle.cb_actions.specs.Acts.{Act, Effect, give_or_fault, ◌>>=◌}
+use Rattle.cb_actions.specs.Definitions.{all_asserted, all_evaluated}
+use Rattle.cb_actions.specs.Runs.{restarted_world}
 use Rattle.cb_actions.specs.Worlds.{World}
 use Rattle.cb_actions.specs.declared.act.EarlyEnd.{EarlyEnd}
 use Rattle.cb_actions.specs.declared.act.EarlyEnd.TheVariants as ended
@@ -14,28 +13,31 @@ use Rattle.cb_actions.specs.declared.act.Limit.TheVariants.{Firings, Numbers, Tu
 use Rattle.cb_exprs.specs.FactTerms.{FactTerm}
 use Rattle.cb_exprs.specs.GlobalTerms.{GlobalTerm}
 use Rattle.cb_facts.specs.Results.{ok_then}
+use Rattle.cb_facts.specs.declared.value.Value.{Value}
 use Rattle.cb_forms.specs.Items.{fitting, over, whole}
 use Rattle.cb_forms.specs.Members.{call_of, head_and_rest}
-use Rattle.cb_forms.specs.Trees.{Reading, Tree, Trees, no_trees, tree}
+use Rattle.cb_forms.specs.Trees.{Reading, Tree, Trees}
 use Rattle.cb_forms.specs.declared.fault.Fault.{Fault}
 use Rattle.cb_forms.specs.declared.fault.Fault.TheVariants.{MalformedForm, TemplateInUse}
 use Rattle.cb_laws.proofs.DefaultLaws.{slots_suit}
 use Rattle.cb_laws.proofs.DefinedLaws.{other_template, put_template}
 use Rattle.cb_laws.proofs.DueLaws.{due_kept}
 use Rattle.cb_laws.proofs.ExpressionLaws.{anew_keeps, expression_keeps, facts_keep, globals_keep}
-use Rattle.cb_laws.proofs.Keeping.{After, Keeps, follow_keeps, keeps_then}
+use Rattle.cb_laws.proofs.Keeping.{After, Keeps, after_kept, follow_keeps, keeps_then}
 use Rattle.cb_laws.proofs.ReachedLaws.{defined_kept, none_kept, not_first}
 use Rattle.cb_laws.proofs.SlotFormLaws.{each_slot}
 use Rattle.cb_laws.proofs.WorldLaws.{HasAtMost, HasProperAgenda, IsKeptByAll, WellKept, agenda_kept, clear_keeps, exited_keeps, firings_kept, no_templates, none_due, ran_as_keeps, restart_keeps, rule_keeps, undefined_keeps, well_kept}
 use Rattle.cb_laws.specs.Firing.{AreMatches, IsProper}
 use Rattle.cb_laws.specs.Reached.{AreWellKept, IsTemplate}
-use Rattle.cb_expr_forms.specs.Scopes.{Scope, plain_scope}
-use Rattle.cb_requests.specs.Arguments.{alone, item_in, optional_in, rule_name_in, strategy_in}
-use Rattle.cb_requests.specs.Reads.{expr_in, facts_in, globals_in, rule_in, top_scope}
+use Rattle.cb_expr_forms.specs.Scopes.{Scope}
+use Rattle.cb_requests.specs.Arguments.{optional_in}
+use Rattle.cb_requests.specs.Reads.{expr_in, top_scope}
 use Rattle.cb_requests.specs.Requests as asked
-use Rattle.cb_requests.specs.Requests.{Request, act_request, called_request, command_request, construct_request, deffacts_request, headed_request}
+use Rattle.cb_requests.specs.Requests.{Request, act_request, called_request, command_request, construct_request, headed_request}
 use Rattle.cb_requests.specs.Uses.{is_in_use, is_named_in_rules}
-use Rattle.cb_session.specs.Actions.{acted, definitions_dropped, initials_kept, on_world, performed, performed_and_shown, requested, reset_to, shown, variables_dropped}
+use Rattle.cb_session.proofs.DeedLaws.{OfItsAct}
+use Rattle.cb_session.specs.Actions.{acted, deed_of, performed, performed_and_shown, requested, reset_to, shown, variables_dropped}
+use Rattle.cb_session.specs.Deeds.{Deed, acts, acts_and_keeps, done, keep, keeps, lists, on_world, sets, settings_of}
 use Rattle.cb_session.specs.Setups.{Setup}
 use Rattle.cb_session.specs.States.{State, first_state}
 use Rattle.cb_session.specs.Transcripts.{Run, after, after_all, after_status, begun, complete, concluded, executed, so_far, too_long, too_long_status}
@@ -84,16 +86,8 @@ module _ (s : State) where
   other_sound ask (Ok a) h = h a
   other_sound ask (Err f) h = tt
 
-  alone_sound : (request : Request) (ts : Trees) → IsSound s request → IfSound s (alone request ts)
-  alone_sound request no_trees h = h
-  alone_sound request (tree t ts) h = tt
-
   act_sound : (t : Tree) → IfSound s (act_request s.world.templates s.world.env t)
   act_sound t = other_sound asked.act (expr_in (top_scope s.world.templates s.world.env t) t) (λ e. tt)
-
-  deffacts_sound : (o : Option (List ℕ × Trees)) → IfSound s (deffacts_request s.world.templates s.world.env o)
-  deffacts_sound None = tt
-  deffacts_sound (Some (name, ts)) = other_sound (asked.define_deffacts name) (facts_in (plain_scope s.world.templates s.world.env []) (without_comment ts)) (λ facts. tt)
 
   template_sound : (o : Option (List ℕ × Trees)) → IfSound s (ok_then asked.define_template (unless_faulty (named_template_faults (is_in_use s.world.memory s.world.rules s.deffacts) o) (template_said o)))
   template_sound None = tt
@@ -108,22 +102,11 @@ module _ (s : State) where
 
   construct_sound : (c : Construct) (ts : Trees) → IfSound s (construct_request s.world.templates s.world.env (is_in_use s.world.memory s.world.rules s.deffacts) c ts)
   construct_sound construct.Deftemplate ts = template_sound (head_and_rest ts)
-  construct_sound construct.Deffacts ts = deffacts_sound (head_and_rest ts)
-  construct_sound construct.Defglobal ts = other_sound asked.define_globals (globals_in s.world.templates s.world.env [] ts) (λ gs. tt)
-  construct_sound construct.Defrule ts = other_sound asked.define_rule (rule_in s.world.templates s.world.env ts) (λ rule. tt)
+  construct_sound c ts = search rules
 
   command_sound : (scope : Scope) (w : Word) (ts : Trees) → IfSound s (command_request scope w ts)
-  command_sound scope word.Facts ts = alone_sound asked.list_facts ts tt
-  command_sound scope word.Agenda ts = alone_sound asked.list_agenda ts tt
-  command_sound scope word.Rules ts = alone_sound asked.list_rules ts tt
-  command_sound scope word.Reset ts = alone_sound asked.reset ts tt
-  command_sound scope word.Clear ts = alone_sound asked.clear ts tt
   command_sound scope word.Run ts = other_sound asked.run (optional_in scope ts) (λ t. tt)
-  command_sound scope word.Exit ts = other_sound asked.exit (optional_in scope ts) (λ t. tt)
-  command_sound scope word.Undefrule ts = other_sound asked.undefine (rule_name_in ts) (λ name. tt)
-  command_sound scope word.Watch ts = other_sound (λ item. asked.watch item true) (item_in ts) (λ item. tt)
-  command_sound scope word.Unwatch ts = other_sound (λ item. asked.watch item false) (item_in ts) (λ item. tt)
-  command_sound scope word.SetStrategy ts = other_sound asked.set_strategy (strategy_in ts) (λ strategy. tt)
+  command_sound scope w ts = search rules
 
   headed_sound : (t : Tree) (h : Option Head) (ts : Trees) → IfSound s (headed_request s.world.templates s.world.env (is_in_use s.world.memory s.world.rules s.deffacts) t h ts)
   headed_sound t None ts = act_sound t
@@ -167,22 +150,36 @@ module _ (P Q : World → Type 0) (kept : IsKeptByAll P Q)
       (λ _. keeps_then P Q variables_dropped (λ _. restarted_world >>= (λ _. all_asserted facts)) (λ w h. kept.acts.env w (record { variables = []; globals = w.env.globals }) h)
       (λ _. keeps_then P Q restarted_world (λ _. all_asserted facts) (restart_keeps P Q kept) (λ _. facts_keep P Q kept.acts facts)))
 
+  -- what holds after an act on the world
+  abbrev HoldsAfter : Act World (Option Value) → World → Type 0
+  HoldsAfter act w = After P Q (act w).state (act w).answer
+
+  -- the acts on the world that requests are made of
+  acts_keep : (s : State) (request : Request) → ((template : List ℕ × List SlotShape) → request ≡ asked.define_template template → P (performed (asked.define_template template) s).state.world) → P s.world
+      → OfItsAct HoldsAfter s (deed_of request)
+  acts_keep s (asked.act t) template h = expression_keeps P Q kept.acts t s.world h
+  acts_keep s (asked.define_template it) template h = template it refl
+  acts_keep s (asked.define_globals gs) template h = globals_keep P Q kept.acts gs s.world h
+  acts_keep s (asked.define_rule rule) template h = rule_keeps P Q kept rule s.world h
+  acts_keep s asked.reset template h = reset_keeps s.globals (kept_facts s.deffacts) s.world h
+  acts_keep s asked.clear template h = clear_keeps P Q kept s.world h
+  acts_keep s (asked.run count) template h = ran_as_keeps P Q kept count s.world h
+  acts_keep s (asked.exit status) template h = exited_keeps P Q kept status s.world h
+  acts_keep s (asked.undefine name) template h = undefined_keeps P Q kept name s.world h
+  acts_keep s request template h = tt
+
+  deed_keeps : (s : State) (deed : Deed) → P s.world → OfItsAct HoldsAfter s deed → After InWorld AtLimit (done deed s).state (done deed s).answer
+  deed_keeps s (lists lines) h act_keeps = h
+  deed_keeps s (keeps change) h act_keeps = h
+  deed_keeps s (sets act only) h act_keeps =
+      after_kept P Q (act s.world).state (act s.world).answer kept.acts.weaken (subst P (sym (only s.world)) (kept.sets s.world (settings_of (act s.world).state) h))
+  deed_keeps s (acts act) h act_keeps = act_keeps
+  deed_keeps s (acts_and_keeps act change) h act_keeps =
+      let first : Effect State (Option Value) = on_world act s in
+      follow_keeps InWorld AtLimit first.state first.written first.answer (λ _. keep change) act_keeps (λ _ u k. k)
+
   performed_keeps : (s : State) (request : Request) → ((template : List ℕ × List SlotShape) → request ≡ asked.define_template template → P (performed (asked.define_template template) s).state.world) → P s.world → After InWorld AtLimit (performed request s).state (performed request s).answer
-  performed_keeps s (asked.act t) template h = expression_keeps P Q kept.acts t s.world h
-  performed_keeps s (asked.define_template it) template h = template it refl
-  performed_keeps s (asked.define_deffacts name facts) template h = h
-  performed_keeps s (asked.define_globals gs) template h = keeps_then InWorld AtLimit (on_world (globals_defined gs)) (λ _. initials_kept gs) (λ u k. globals_keep P Q kept.acts gs u.world k) (λ _ u k. k) s h
-  performed_keeps s (asked.define_rule rule) template h = rule_keeps P Q kept rule s.world h
-  performed_keeps s asked.list_facts template h = h
-  performed_keeps s asked.list_agenda template h = h
-  performed_keeps s asked.list_rules template h = h
-  performed_keeps s asked.reset template h = reset_keeps s.globals (kept_facts s.deffacts) s.world h
-  performed_keeps s asked.clear template h = keeps_then InWorld AtLimit (on_world cleared_world) (λ _. definitions_dropped) (λ u k. clear_keeps P Q kept u.world k) (λ _ u k. k) s h
-  performed_keeps s (asked.run count) template h = ran_as_keeps P Q kept count s.world h
-  performed_keeps s (asked.exit status) template h = exited_keeps P Q kept status s.world h
-  performed_keeps s (asked.undefine name) template h = undefined_keeps P Q kept name s.world h
-  performed_keeps s (asked.watch item on) template h = kept.watches s.world (watched_so item on s.world.watched) h
-  performed_keeps s (asked.set_strategy strategy) template h = kept.orders s.world strategy h
+  performed_keeps s request template h = deed_keeps s (deed_of request) h (acts_keep s request template h)
 
   acted_keeps : (r : Reading) → Keeps InWorld AtLimit (acted r)
   unfolding acted

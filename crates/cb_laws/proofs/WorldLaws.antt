@@ -11,7 +11,6 @@ use Rattle.cb_actions.specs.Runs.{actions_of, acted, added_rule, all_gone, clear
 use Rattle.cb_actions.specs.Worlds.{World}
 use Rattle.cb_actions.specs.declared.act.EarlyEnd.TheVariants as ended
 use Rattle.cb_actions.specs.declared.act.Limit.TheVariants.{Firings, Numbers}
-use Rattle.cb_actions.specs.declared.watched.Watched.{Watched}
 use Rattle.cb_agenda.specs.Agendas.{changed, has_stamps, popped}
 use Rattle.cb_agenda.specs.declared.strategy.Strategy.{Strategy}
 use Rattle.cb_exprs.specs.Terms.{Term}
@@ -30,6 +29,7 @@ use Rattle.cb_laws.proofs.ReachedLaws.{asserted_kept, none_kept, retracted_kept,
 use Rattle.cb_laws.proofs.RetractedLaws.{retracted_takes}
 use Rattle.cb_laws.specs.Firing.{IsProper}
 use Rattle.cb_laws.specs.Reached.{AreWellKept, IsTemplate}
+use Rattle.cb_session.specs.Deeds.{Settings, with_settings}
 use Rattle.cb_rules.specs.RuleTables.{rule_named, rule_numbered}
 use Rattle.cb_matches.specs.Keys.{KeyValue}
 use Rattle.cb_matches.specs.Networks.{Conditions, all_keys, bindings_of, with_rule, without_rule}
@@ -93,8 +93,7 @@ pub record IsKeptByAll (P Q : World → Type 0) : Type 0 where
   pub restarts : Keeps P Q started_anew
   pub clears : (s : World) → P s → P (without_all s)
   pub runs : (asked : Option ℕ) → Keeps P Q (run asked)
-  pub watches : (s : World) (w : Watched) → P s → P (record s { watched = w })
-  pub orders : (s : World) (strategy : Strategy) → P s → P (record s { agenda = record s.agenda { strategy = strategy } })
+  pub sets : (s : World) (settings : Settings) → P s → P (with_settings settings s)
 
 module _ (P Q : World → Type 0) (kept : IsKeptByAll P Q) where
   -- changes of the rules
@@ -210,8 +209,7 @@ well_kept = record {
   restarts = λ s h. agenda_only WellKept WellKept [] (all_keys (restarted s.memory).network) (λ t ss k. k) (λ t k. k) (without_facts s) (none_kept s.memory.network.rules 0 s.memory.last_rule s.templates (omega arith) h.templates_are);
   clears = λ s h. none_kept [] 0 s.memory.last_rule [] (omega arith) no_templates;
   runs = runs_keep WellKept WellKept acts_well (λ s n h. h) (λ s h. h);
-  watches = λ s w h. h;
-  orders = λ s strategy h. h;
+  sets = λ s settings h. h;
 }
 
 -- so many firings are left at most
@@ -245,8 +243,7 @@ firings_kept n = record {
   restarts = λ s h. agenda_only (HasAtMost n) (HasAtMost n) [] (all_keys (restarted s.memory).network) (λ t ss k. k) (λ t k. k) (without_facts s) h;
   clears = λ s h. h;
   runs = λ asked s h. after_any (HasAtMost n) (run asked s).state (run asked s).answer (still_below n s.firings (run asked s).state.firings (never_rise asked s) h);
-  watches = λ s w h. h;
-  orders = λ s strategy h. h;
+  sets = λ s settings h. h;
 }
 
 -- the agenda is proper
@@ -282,6 +279,5 @@ agenda_kept = record {
       (without_facts s) (none_due s.agenda.last s.agenda.strategy s.agenda.failed);
   clears = λ s h. none_due s.agenda.last s.agenda.strategy s.agenda.failed;
   runs = runs_keep HasProperAgenda HasProperAgenda acts_proper (λ s n h. h) (λ s h. popped_proper s.agenda h);
-  watches = λ s w h. h;
-  orders = λ s strategy h. record { rising = h.rising; once = h.once };
+  sets = λ s settings h. record { rising = h.rising; once = h.once };
 }

@@ -3,7 +3,6 @@ pub mod Modified
 pub mod Naming
 pub mod Running
 pub mod SlotValues
-pub mod Written
 pub mod Reached
 pub mod Words
 pub mod Firing

@@ -5,7 +5,6 @@
 
 pub mod acting; // what `assert` and `retract` do, with their answers and faults
 pub mod asserting; // what is asserted is there, and nothing goes
-pub mod attributes; // what a slot is by its attributes, and which faults an attribute has
 pub mod equality; // what counts as equal is the same
 pub mod firing; // how many firings a run takes, that a rule fires once for one match, and that what is due is one
 pub mod items; // an item does what is written: an expression, an `assert`, a `deftemplate`
@@ -16,5 +15,3 @@ pub mod reached; // what holds of every state that a script can reach
 pub mod retracting; // what is retracted is gone, and nothing else
 pub mod running; // items are carried out one after another
 pub mod slots; // a slot has the values that it is given, or its default
-pub mod templates; // what a template that is defined changes
-pub mod written; // which slots and attributes are accepted, and which fault comes first

@@ -1,6 +1,7 @@
 mod AskedLaws
 mod CommandTurns
 mod CutOffLaws
+pub mod DeedLaws
 mod Examples
 mod FaultLaws
 mod ItemLaws

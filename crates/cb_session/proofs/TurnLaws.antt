@@ -1,7 +1,7 @@
 -- The turns that are left never rise from item to item.
 use Rattle.std.proofs.Common.{◌≤◌, ℕ, Bool, true, false, List, [], ◌∷◌, Option, Some, None, Result, Ok, Err, arith, if◌then◌else◌}
 use Rattle.cb_actions.specs.Internal.{Falls}
-use Rattle.cb_actions.specs.Acts.{give_or_fault, ◌>>=◌}
+use Rattle.cb_actions.specs.Acts.{give_or_fault}
 use Rattle.cb_actions.proofs.FallLaws.{falls_then}
 use Rattle.cb_actions.specs.declared.act.EarlyEnd.{EarlyEnd}
 use Rattle.cb_actions.specs.declared.act.EarlyEnd.TheVariants as ended
@@ -9,7 +9,8 @@ use Rattle.cb_forms.specs.Items.{fitting, over}
 use Rattle.cb_forms.specs.Trees.{Reading}
 use Rattle.cb_forms.specs.declared.fault.Fault.{Fault}
 use Rattle.cb_requests.specs.Requests.{Request}
-use Rattle.cb_session.proofs.RequestLaws.{left, performed_falls}
+use Rattle.cb_session.proofs.DeedLaws.{left}
+use Rattle.cb_session.proofs.RequestLaws.{performed_falls}
 use Rattle.cb_session.specs.Actions.{acted, performed, performed_and_shown, requested, shown}
 use Rattle.cb_session.specs.Setups.{Setup}
 use Rattle.cb_session.specs.States.{State}

@@ -12,7 +12,7 @@ use Rattle.cb_io.specs.Output.{OutState}
 use Rattle.cb_exprs.specs.GlobalTerms.{GlobalTerm}
 use Rattle.cb_exprs.specs.Terms.{term_of}
 use Rattle.cb_exprs.specs.declared.expr.Expr.{Expr}
-use Rattle.cb_session.specs.Actions.{definitions_dropped, in_state, on_world}
+use Rattle.cb_session.specs.Deeds.{in_state, keep, no_definitions, on_world}
 use Rattle.cb_session.specs.States.{State}
 use Rattle.cb_working_memory.specs.Deffacts.{DeffactsTable}
 
@@ -30,7 +30,7 @@ went_inside writes o o1 s now w r act is h = subst (λ (it : State). Went writes
 
 -- what was defined goes
 pub definitions_go : (s : State) (deffacts : DeffactsTable) (globals : List GlobalTerm) → deffacts ≡ [] → globals ≡ []
-    → definitions_dropped s ≡ record { state = record s { deffacts = deffacts; globals = globals }; written = []; answer = Ok None }
+    → keep (λ _. no_definitions) s ≡ record { state = record s { deffacts = deffacts; globals = globals }; written = []; answer = Ok None }
 definitions_go s deffacts globals p q = rw (p, q) refl
 
 -- an expression and a name that are lent

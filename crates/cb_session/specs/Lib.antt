@@ -1,4 +1,5 @@
 pub mod Actions
+pub mod Deeds
 pub mod Internal
 pub mod ItemLines
 pub mod Laws

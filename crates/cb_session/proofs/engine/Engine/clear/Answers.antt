@@ -5,12 +5,12 @@ use Rattle.cb_actions.proofs.ActLaws.{went_as, went_off, went_quietly, went_then
 use Rattle.cb_facts.specs.declared.value.Value.{Value}
 use Rattle.cb_io.proofs.PutLaws.{puts_fine}
 use Rattle.cb_session.proofs.WorldLaws.{definitions_go, went_inside}
-use Rattle.cb_session.specs.Actions.{definitions_dropped, on_world}
+use Rattle.cb_session.specs.Deeds.{keep, no_definitions, on_world}
 use Rattle.cb_session.specs.States.{State}
 use Rattle.cb_session.proofs.engine.Engine.clear.Goals as goal
 
 abbrev next : Unit {0} → Act State (Option Value)
-next _ = definitions_dropped
+next _ = keep (λ _. no_definitions)
 
 pub returns-in_err-clear : goal.returns-in_err-clear
 returns-in_err-clear g c =

@@ -3,7 +3,7 @@ use Rattle.cb_actions.specs.Commands.{exited}
 use Rattle.cb_actions.proofs.ActLaws.{went_as}
 use Rattle.cb_exprs.specs.Terms.{term_of}
 use Rattle.cb_session.proofs.WorldLaws.{lent_term, went_inside}
-use Rattle.cb_session.specs.Actions.{on_world}
+use Rattle.cb_session.specs.Deeds.{on_world}
 use Rattle.cb_session.proofs.engine.Engine.exit.Goals as goal
 
 pub returns : goal.returns

@@ -2,7 +2,7 @@ use Rattle.std.proofs.Common.{ap, option_map, refl, sym}
 use Rattle.cb_actions.specs.Commands.{undefined}
 use Rattle.cb_actions.proofs.ActLaws.{went_as}
 use Rattle.cb_session.proofs.WorldLaws.{lent_name, went_inside}
-use Rattle.cb_session.specs.Actions.{on_world}
+use Rattle.cb_session.specs.Deeds.{on_world}
 use Rattle.cb_session.proofs.engine.Engine.undefine.Goals as goal
 
 pub returns : goal.returns
