@@ -1,16 +1,17 @@
 -- What the look-up of numbers by keys keeps.
-use Rattle.std.proofs.Common.{◌≡◌, ◌≢◌, ◌⊎◌, inl, inr, ℕ, Bool, true, false, Option, Some, None, List, ap, ap₂, if◌then◌else◌, nat_cmp, nat_eq, refl, slice_index_or, sym, ◌∙◌}
+use Rattle.std.proofs.Common.{◌≡◌, ◌≢◌, ◌⊎◌, inl, inr, ℕ, Bool, true, false, Option, Some, None, List, ap, if◌then◌else◌, nat_eq, refl, slice_index_or, sym, ◌∙◌}
 use Rattle.std.proofs.lemmas.Bool.{false_from_ne_true}
 use Rattle.std.specs.BTreeMap as tree
 use Rattle.std.specs.BTreeMap.{is_at, BTreeMap}
-use Rattle.std.specs.Cmp.{unsigned_Decides, unsigned_ties}
-use Rattle.std.specs.Map.{lookup}
+use Rattle.std.specs.Cmp.{unsigned_Decides}
 use Rattle.cb_agenda.proofs.Equality.{key-Decides, key-cases}
 use Rattle.cb_agenda.specs.Internal.{AreFound, first_of, is_key, number_in, with_own_key}
 use Rattle.cb_agenda.specs.Mixes.{mix_of}
 use Rattle.cb_facts.specs.FactLists.{ChangesOnly}
 use Rattle.cb_matches.specs.Internal.KeyLaws.{key_tied}
 use Rattle.cb_matches.specs.Keys.{KeyValue, key_cmp, key_eq}
+use Rattle.cb_number_map.specs.NumberMaps.{Updates, number_at}
+use Rattle.cb_number_map.specs.declared.number_map.NumberMap.{NumberMap}
 
 abbrev Keys : Type 0
 Keys = ℕ → Option KeyValue
@@ -19,7 +20,7 @@ abbrev Find : Type 0
 Find = KeyValue → Option ℕ
 
 abbrev Filed : Type 0
-Filed = BTreeMap ℕ ℕ
+Filed = NumberMap
 
 abbrev Aside : Type 0
 Aside = BTreeMap KeyValue ℕ
@@ -43,8 +44,8 @@ same_some {A} {a} {b} o e f = let both : Some a ≡ Some b = sym e ∙ f in cc
 pub some_none : {A : Type 0} {a : A} (o : Option A) → o ≡ Some a → o ≡ None → ⊥
 some_none {A} {a} o e f = let no : Some a ≡ None = sym e ∙ f in cc
 
-other_mix : (m n : Filed) (i j : ℕ) (r : Option ℕ) → tree.Updates nat_cmp m n i r → i ≢ j → tree.get nat_cmp n j ≡ tree.get nat_cmp m j
-other_mix m n i j r u apart = u.2 j (false_from_ne_true (is_at (nat_cmp i) j) (λ e. apart ((unsigned_Decides i j).0 (unsigned_ties i j ∙ e))))
+other_mix : (m n : Filed) (i j : ℕ) (r : Option ℕ) → Updates m n i r → i ≢ j → number_at n j ≡ number_at m j
+other_mix m n i j r u apart = u.others j (λ e. apart (sym e))
 
 other_key : (a b : Aside) (k q : KeyValue) (r : Option ℕ) → tree.Updates key_cmp a b k r → k ≢ q → tree.get key_cmp b q ≡ tree.get key_cmp a q
 other_key a b k q r u apart = u.2 q (false_from_ne_true (is_at (key_cmp k) q) (λ e. apart ((key-Decides k q).0 (key_tied k q ∙ e))))
@@ -66,12 +67,6 @@ own_none keys n k h = let is : is_key (keys n) k ≡ false = no_key (keys n) k h
 own_same : (keys more : Keys) (o : Option ℕ) (q : KeyValue) → ((n : ℕ) → is_key (more n) q ≡ is_key (keys n) q) → with_own_key more o q ≡ with_own_key keys o q
 own_same keys more None q h = refl
 own_same keys more (Some n) q h = ap (λ b. if b then Some n else None) (h n)
-
--- where the maps have the same entries
-pub still_found : (keys : Keys) (m m' : Filed) (a b : Aside) → m'.entries ≡ m.entries → b.entries ≡ a.entries → AreFound (number_in keys m a) keys → AreFound (number_in keys m' b) keys
-still_found keys m m' a b e f was k n =
-    let same : number_in keys m' b k ≡ number_in keys m a k = ap₂ (λ (es : List (ℕ × ℕ)) (fs : List (KeyValue × ℕ)). first_of (with_own_key keys (lookup (is_at (nat_cmp (mix_of k))) es) k) (lookup (is_at (key_cmp k)) fs)) e f in
-    (λ h. (was k n).0 (sym same ∙ h), λ h. same ∙ (was k n).1 h)
 
 -- an activation comes with a key that no other has
 module _ (keys more : Keys) (n : ℕ) (k : KeyValue) (absent : (i : ℕ) → keys i ≢ Some k) (free : keys n ≡ None) (change : ChangesOnly keys more n (Some k)) where
@@ -107,20 +102,20 @@ module _ (keys more : Keys) (n : ℕ) (k : KeyValue) (absent : (i : ℕ) → key
   ]
 
   -- its number is filed under a mix under which none is
-  filed_more : (m m' : Filed) (a : Aside) → tree.get nat_cmp m (mix_of k) ≡ None → tree.Updates nat_cmp m m' (mix_of k) (Some n) → ChangesOnly (number_in keys m a) (number_in more m' a) k (Some n)
+  filed_more : (m m' : Filed) (a : Aside) → number_at m (mix_of k) ≡ None → Updates m m' (mix_of k) (Some n) → ChangesOnly (number_in keys m a) (number_in more m' a) k (Some n)
   filed_more m m' a none u = record {
-    here = ap (λ o. first_of (with_own_key more o k) (tree.get key_cmp a k)) u.1 ∙ ap (λ o. first_of o (tree.get key_cmp a k)) (own_here more n k change.here);
+    here = ap (λ o. first_of (with_own_key more o k) (tree.get key_cmp a k)) u.changed ∙ ap (λ o. first_of o (tree.get key_cmp a k)) (own_here more n k change.here);
     others = λ q apart. elim (number-cases (mix_of k) (mix_of q)) as (λ _. number_in more m' a q ≡ number_in keys m a q) [
       | inl e ↦
-          let now : with_own_key more (tree.get nat_cmp m' (mix_of q)) q ≡ None = ap (λ i. with_own_key more (tree.get nat_cmp m' i) q) (sym e) ∙ ap (λ o. with_own_key more o q) u.1 ∙ own_other more n k q change.here apart in
-          let old : with_own_key keys (tree.get nat_cmp m (mix_of q)) q ≡ None = ap (λ i. with_own_key keys (tree.get nat_cmp m i) q) (sym e) ∙ ap (λ o. with_own_key keys o q) none in
+          let now : with_own_key more (number_at m' (mix_of q)) q ≡ None = ap (λ i. with_own_key more (number_at m' i) q) (sym e) ∙ ap (λ o. with_own_key more o q) u.changed ∙ own_other more n k q change.here apart in
+          let old : with_own_key keys (number_at m (mix_of q)) q ≡ None = ap (λ i. with_own_key keys (number_at m i) q) (sym e) ∙ ap (λ o. with_own_key keys o q) none in
           ap (λ o. first_of o (tree.get key_cmp a q)) (now ∙ sym old)
       | inr differ ↦ ap (λ o. first_of (with_own_key more o q) (tree.get key_cmp a q)) (other_mix m m' (mix_of k) (mix_of q) (Some n) u differ)
-          ∙ ap (λ o. first_of o (tree.get key_cmp a q)) (own_more q apart (tree.get nat_cmp m (mix_of q)))
+          ∙ ap (λ o. first_of o (tree.get key_cmp a q)) (own_more q apart (number_at m (mix_of q)))
     ];
   }
 
-  pub noted_filed : (m m' : Filed) (a : Aside) → AreFound (number_in keys m a) keys → tree.get nat_cmp m (mix_of k) ≡ None → tree.Updates nat_cmp m m' (mix_of k) (Some n) → AreFound (number_in more m' a) more
+  pub noted_filed : (m m' : Filed) (a : Aside) → AreFound (number_in keys m a) keys → number_at m (mix_of k) ≡ None → Updates m m' (mix_of k) (Some n) → AreFound (number_in more m' a) more
   noted_filed m m' a was none u = found_more (number_in keys m a) (number_in more m' a) was (filed_more m m' a none u)
 
   -- it stands aside
@@ -133,9 +128,9 @@ module _ (keys more : Keys) (n : ℕ) (k : KeyValue) (absent : (i : ℕ) → key
 
   aside_more : (m : Filed) (a b : Aside) → tree.Updates key_cmp a b k (Some n) → ChangesOnly (number_in keys m a) (number_in more m b) k (Some n)
   aside_more m a b u = record {
-    here = ap (first_of (with_own_key more (tree.get nat_cmp m (mix_of k)) k)) u.1 ∙ own_new (tree.get nat_cmp m (mix_of k));
-    others = λ q apart. ap (first_of (with_own_key more (tree.get nat_cmp m (mix_of q)) q)) (other_key a b k q (Some n) u apart)
-        ∙ ap (λ o. first_of o (tree.get key_cmp a q)) (own_more q apart (tree.get nat_cmp m (mix_of q)));
+    here = ap (first_of (with_own_key more (number_at m (mix_of k)) k)) u.1 ∙ own_new (number_at m (mix_of k));
+    others = λ q apart. ap (first_of (with_own_key more (number_at m (mix_of q)) q)) (other_key a b k q (Some n) u apart)
+        ∙ ap (λ o. first_of o (tree.get key_cmp a q)) (own_more q apart (number_at m (mix_of q)));
   }
 
   pub noted_aside : (m : Filed) (a b : Aside) → AreFound (number_in keys m a) keys → tree.Updates key_cmp a b k (Some n) → AreFound (number_in more m b) more
@@ -176,21 +171,21 @@ module _ (keys less : Keys) (n : ℕ) (k : KeyValue) (there : keys n ≡ Some k)
   ]
 
   -- its number was filed
-  filed_less : (m m' : Filed) (a b : Aside) → tree.get nat_cmp m (mix_of k) ≡ Some n → tree.Updates nat_cmp m m' (mix_of k) None → tree.Updates key_cmp a b k None → ChangesOnly (number_in keys m a) (number_in less m' b) k None
+  filed_less : (m m' : Filed) (a b : Aside) → number_at m (mix_of k) ≡ Some n → Updates m m' (mix_of k) None → tree.Updates key_cmp a b k None → ChangesOnly (number_in keys m a) (number_in less m' b) k None
   filed_less m m' a b filed u v = record {
-    here = ap (λ o. first_of (with_own_key less o k) (tree.get key_cmp b k)) u.1 ∙ v.1;
+    here = ap (λ o. first_of (with_own_key less o k) (tree.get key_cmp b k)) u.changed ∙ v.1;
     others = λ q apart.
-        ap (first_of (with_own_key less (tree.get nat_cmp m' (mix_of q)) q)) (other_key a b k q None v apart)
-        ∙ ap (λ o. first_of o (tree.get key_cmp a q)) (elim (number-cases (mix_of k) (mix_of q)) as (λ _. with_own_key less (tree.get nat_cmp m' (mix_of q)) q ≡ with_own_key keys (tree.get nat_cmp m (mix_of q)) q) [
+        ap (first_of (with_own_key less (number_at m' (mix_of q)) q)) (other_key a b k q None v apart)
+        ∙ ap (λ o. first_of o (tree.get key_cmp a q)) (elim (number-cases (mix_of k) (mix_of q)) as (λ _. with_own_key less (number_at m' (mix_of q)) q ≡ with_own_key keys (number_at m (mix_of q)) q) [
           | inl e ↦
-              let now : with_own_key less (tree.get nat_cmp m' (mix_of q)) q ≡ None = ap (λ i. with_own_key less (tree.get nat_cmp m' i) q) (sym e) ∙ ap (λ o. with_own_key less o q) u.1 in
-              let old : with_own_key keys (tree.get nat_cmp m (mix_of q)) q ≡ None = ap (λ i. with_own_key keys (tree.get nat_cmp m i) q) (sym e) ∙ ap (λ o. with_own_key keys o q) filed ∙ own_other keys n k q there apart in
+              let now : with_own_key less (number_at m' (mix_of q)) q ≡ None = ap (λ i. with_own_key less (number_at m' i) q) (sym e) ∙ ap (λ o. with_own_key less o q) u.changed in
+              let old : with_own_key keys (number_at m (mix_of q)) q ≡ None = ap (λ i. with_own_key keys (number_at m i) q) (sym e) ∙ ap (λ o. with_own_key keys o q) filed ∙ own_other keys n k q there apart in
               now ∙ sym old
-          | inr differ ↦ ap (λ o. with_own_key less o q) (other_mix m m' (mix_of k) (mix_of q) None u differ) ∙ own_less q apart (tree.get nat_cmp m (mix_of q))
+          | inr differ ↦ ap (λ o. with_own_key less o q) (other_mix m m' (mix_of k) (mix_of q) None u differ) ∙ own_less q apart (number_at m (mix_of q))
         ]);
   }
 
-  pub forgot_filed : (m m' : Filed) (a b : Aside) → AreFound (number_in keys m a) keys → tree.get nat_cmp m (mix_of k) ≡ Some n → tree.Updates nat_cmp m m' (mix_of k) None → tree.Updates key_cmp a b k None → AreFound (number_in less m' b) less
+  pub forgot_filed : (m m' : Filed) (a b : Aside) → AreFound (number_in keys m a) keys → number_at m (mix_of k) ≡ Some n → Updates m m' (mix_of k) None → tree.Updates key_cmp a b k None → AreFound (number_in less m' b) less
   forgot_filed m m' a b was filed u v = found_less (number_in keys m a) (number_in less m' b) was (filed_less m m' a b filed u v)
 
   -- it stood aside
@@ -203,11 +198,11 @@ module _ (keys less : Keys) (n : ℕ) (k : KeyValue) (there : keys n ≡ Some k)
         other (same_some (find k) ((was k n).1 there) one))
   ]
 
-  pub forgot_aside : (m : Filed) (a b : Aside) → AreFound (number_in keys m a) keys → tree.get nat_cmp m (mix_of k) ≢ Some n → tree.Updates key_cmp a b k None → AreFound (number_in less m b) less
+  pub forgot_aside : (m : Filed) (a b : Aside) → AreFound (number_in keys m a) keys → number_at m (mix_of k) ≢ Some n → tree.Updates key_cmp a b k None → AreFound (number_in less m b) less
   forgot_aside m a b was other v = found_less (number_in keys m a) (number_in less m b) was (record {
-    here = ap (λ o. first_of o (tree.get key_cmp b k)) (own_gone (number_in keys m a) was (tree.get nat_cmp m (mix_of k)) other) ∙ v.1;
-    others = λ q apart. ap (first_of (with_own_key less (tree.get nat_cmp m (mix_of q)) q)) (other_key a b k q None v apart)
-        ∙ ap (λ o. first_of o (tree.get key_cmp a q)) (own_less q apart (tree.get nat_cmp m (mix_of q)));
+    here = ap (λ o. first_of o (tree.get key_cmp b k)) (own_gone (number_in keys m a) was (number_at m (mix_of k)) other) ∙ v.1;
+    others = λ q apart. ap (first_of (with_own_key less (number_at m (mix_of q)) q)) (other_key a b k q None v apart)
+        ∙ ap (λ o. first_of o (tree.get key_cmp a q)) (own_less q apart (number_at m (mix_of q)));
   })
 
 -- the key of each number, where activations change at one

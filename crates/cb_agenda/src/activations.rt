@@ -1,17 +1,17 @@
 //! The activations of an agenda, by number and by key.
 ghost use Rattle.std.specs.Prelude.{◌≡◌, ◌≢◌, ◌↔◌, ℕ, [], IfOk, List, None, OnErr, OnOk, Option, Some, false, true};
-ghost use Rattle.std.specs.BTreeMap.{get};
-ghost use Rattle.std.specs.Ordering.{nat_cmp};
 ghost use Rattle.std.specs.Option.{option_copied};
 ghost use Rattle.cb_agenda.specs.Agendas.{without_key};
 ghost use Rattle.cb_agenda.specs.Internal.{AreFound, IsFiled, Numbered, current, current_key, entry_at, key_at, number_in, with_own_key};
 ghost use Rattle.cb_agenda.specs.Mixes.{mix_of, mixed};
 ghost use Rattle.cb_facts.specs.FactLists.{ChangesOnly};
 ghost use Rattle.cb_matches.specs.Keys.{KeyValue};
+ghost use Rattle.cb_number_map.specs.NumberMaps.{number_at};
 
 use crate::rank::Rank;
 use cb_forms::NoMemory;
 use cb_matches::Key;
+use cb_number_map::NumberMap;
 use slab::Slab;
 use std::alloc::Global;
 use std::collections::BTreeMap;
@@ -30,14 +30,14 @@ pub(crate) struct Entry {
 /// The activations of an agenda. Each has a number, which it keeps, and which another gets once it is gone.
 ///
 /// The number of an activation is filed under the mix of its key, a number that few other keys have, so that a look-up mostly
-/// compares numbers alone. A key that comes when a number is filed under its mix stands aside, in the order of keys. So a look-up
-/// takes logarithmic time also where a script makes all keys collide.
+/// compares numbers alone, in constant time. A key that comes when a number is filed under its mix stands aside, in the order of keys,
+/// and so does one whose number has more than 32 bits. So a look-up takes logarithmic time also where a script makes all keys collide.
 ///
 /// Contracts see what each number has.
 #[derive(Drop)]
 pub(crate) struct Activations {
     entries: Slab<Entry>,
-    filed: BTreeMap<u64, usize>,
+    filed: NumberMap,
     aside: BTreeMap<Key, usize>,
 }
 
@@ -58,12 +58,13 @@ impl Activations {
     {
         Activations {
             entries: Slab::new(alloc),
-            filed: BTreeMap::new(alloc),
+            filed: NumberMap::new(alloc),
             aside: BTreeMap::new(alloc),
         }
     }
 
-    /// The number of the activation with this key, if there is one. It takes logarithmic time.
+    /// The number of the activation with this key, if there is one. It takes constant time where few mixes are equal, and logarithmic
+    /// time at most.
     pub(crate) fn find(&self, key: &Key) -> Option<usize>
         ensures { (n : ℕ) → (result ≡ Some n) ↔ (key_at self.now n ≡ Some key.now) }
     {
@@ -141,11 +142,11 @@ impl Activations {
 }
 
 /// The number that is filed under the mix of this key, if its activation has the key.
-fn filed_with(filed: &BTreeMap<u64, usize>, entries: &Slab<Entry>, key: &Key) -> Option<usize>
+fn filed_with(filed: &NumberMap, entries: &Slab<Entry>, key: &Key) -> Option<usize>
     ensures { result ≡ with_own_key (key_at entries.now.slots)
-        (get nat_cmp filed.now (mix_of key.now)) key.now }
+        (number_at filed.now (mix_of key.now)) key.now }
 {
-    let number = *filed.get(&mix_of(key))?;
+    let number = filed.get(mix_of(key))? as usize;
     let entry = entries.get(number)?;
     if entry.key == *key {
         Some(number)
@@ -156,7 +157,7 @@ fn filed_with(filed: &BTreeMap<u64, usize>, entries: &Slab<Entry>, key: &Key) ->
 
 /// Notes the number that an activation with this key gets. Growth is refused as `NoMemory`, and then nothing has changed.
 fn file(
-    filed: &mut BTreeMap<u64, usize>,
+    filed: &mut NumberMap,
     aside: &mut BTreeMap<Key, usize>,
     key: &Key,
     number: usize,
@@ -171,22 +172,18 @@ fn file(
         → AreFound (number_in keys filed.new aside.new) keys) }
 {
     let mix = mix_of(key);
-    if filed.contains_key(&mix) {
-        let own = key.clone()?;
-        aside.insert(own, number)?;
-    } else {
-        filed.insert(mix, number)?;
+    match u32::try_from(number) {
+        Ok(short) if filed.get(mix).is_none() => filed.insert(mix, short),
+        _ => {
+            let own = key.clone()?;
+            aside.insert(own, number)?;
+            Ok(())
+        }
     }
-    Ok(())
 }
 
 /// Forgets the number of an activation with this key.
-fn unfile(
-    filed: &mut BTreeMap<u64, usize>,
-    aside: &mut BTreeMap<Key, usize>,
-    key: &Key,
-    number: usize,
-)
+fn unfile(filed: &mut NumberMap, aside: &mut BTreeMap<Key, usize>, key: &Key, number: usize)
     ensures { (keys less : ℕ → Option KeyValue)
         → AreFound (number_in keys filed.old aside.old) keys
         → keys number ≡ Some key.now → ChangesOnly keys less number None
@@ -195,17 +192,17 @@ fn unfile(
     aside.remove(key);
     let mix = mix_of(key);
     if has_filed(filed, mix, number) {
-        filed.remove(&mix);
+        filed.remove(mix);
     }
 }
 
 /// Whether this number is filed under a mix.
-fn has_filed(filed: &BTreeMap<u64, usize>, mix: u64, number: usize) -> bool
-    ensures yes { result ≡ true → get nat_cmp filed.now mix ≡ Some number }
-    ensures no { result ≡ false → get nat_cmp filed.now mix ≢ Some number }
+fn has_filed(filed: &NumberMap, mix: u64, number: usize) -> bool
+    ensures yes { result ≡ true → number_at filed.now mix ≡ Some number }
+    ensures no { result ≡ false → number_at filed.now mix ≢ Some number }
 {
-    match filed.get(&mix) {
-        Some(found) => *found == number,
+    match filed.get(mix) {
+        Some(found) => found as usize == number,
         None => false,
     }
 }

@@ -1,9 +1,8 @@
 -- The numbers of buckets, which are filed under mixes of their values or stand aside.
-use Rattle.std.proofs.Common.{◌≡◌, ◌≢◌, ◌∙◌, ◌↔◌, ◌⊎◌, ◌<◌, ◌^◌, ℕ, Bool, true, false, List, Option, Some, None, ap, arith, if◌then◌else◌, inl, inr, nat_cmp, refl, sym}
+use Rattle.std.proofs.Common.{◌≡◌, ◌≢◌, ◌∙◌, ◌↔◌, ◌⊎◌, ◌<◌, ◌^◌, ℕ, Bool, true, false, List, Option, Some, None, ap, arith, if◌then◌else◌, inl, inr, refl, sym}
 use Rattle.std.proofs.lemmas.Bool.{cases_eq, false_from_ne_true}
 use Rattle.std.specs.BTreeMap as tree
 use Rattle.std.specs.BTreeMap.{BTreeMap, is_at}
-use Rattle.std.specs.Cmp.{unsigned_Decides, unsigned_ties}
 use Rattle.std.specs.Cmp.Lexicographic.{pointwise}
 use Rattle.std.specs.Map.{lookup}
 use Rattle.std.specs.Option.{option_or}
@@ -14,6 +13,8 @@ use Rattle.cb_alpha.specs.Internal.Numbered.{AreInOrder, AreNumbered, IsMade, Is
 use Rattle.cb_alpha.specs.declared.numbering.Numbers.{Numbers}
 use Rattle.cb_facts.specs.declared.value.Value.{Value}
 use Rattle.cb_functions.specs.Comparison.{same}
+use Rattle.cb_number_map.specs.NumberMaps.{AreSameNumbers, Updates, number_at}
+use Rattle.cb_number_map.specs.declared.number_map.NumberMap.{NumberMap}
 
 by_option : {A P : Type 0} (o : Option A) → (o ≡ None → P) → ((a : A) → o ≡ Some a → P) → P
 by_option None none some = none refl
@@ -117,8 +118,8 @@ module _ (find find' : List Value → Option ℕ) (key key' : ℕ → Option (Li
 
 -- ---- maps that change at one key
 
-other_mix : (m m' : BTreeMap ℕ ℕ) (i j : ℕ) (o : Option ℕ) → tree.Updates nat_cmp m m' i o → i ≢ j → tree.get nat_cmp m' j ≡ tree.get nat_cmp m j
-other_mix m m' i j o u apart = u.2 j (false_from_ne_true (is_at (nat_cmp i) j) (λ e. apart ((unsigned_Decides i j).0 (unsigned_ties i j ∙ e))))
+other_mix : (m m' : NumberMap) (i j : ℕ) (o : Option ℕ) → Updates m m' i o → i ≢ j → number_at m' j ≡ number_at m j
+other_mix m m' i j o u apart = u.others j (λ e. apart (sym e))
 
 tied_is : (vs ws : List Value) → is_at (values_cmp vs) ws ≡ true → vs ≡ ws
 tied_is vs ws t = are_same vs ws (tied_same vs ws ∙ t)
@@ -150,12 +151,12 @@ module _ (ns ns' : Numbers) (order : ns'.is_ordered ≡ ns.is_ordered) where
   mix_stays q = ap (λ b. if b then None else Some (mix_of q)) order
 
   -- maps with the same entries
-  pub numbered_alike : (vs : Filing) → tree.IsUnchanged ns.filed ns'.filed → tree.IsUnchanged ns.aside ns'.aside → AreNumbered ns vs → AreNumbered ns' vs
+  pub numbered_alike : (vs : Filing) → AreSameNumbers ns.filed ns'.filed → tree.IsUnchanged ns.aside ns'.aside → AreNumbered ns vs → AreNumbered ns' vs
   numbered_alike vs filed aside was = record { found = λ q i. (λ h. (was.found q i).0 (sym (alike q) ∙ h), λ h. alike q ∙ (was.found q i).1 h); small = was.small }
     where
       under : (mix : Option ℕ) → filed_under ns'.filed mix ≡ filed_under ns.filed mix
       under None = refl
-      under (Some m) = ap (lookup (is_at (nat_cmp m))) filed
+      under (Some m) = filed m
 
       alike : (q : List Value) → number_in ns' vs q ≡ number_in ns vs q
       alike q =
@@ -177,15 +178,15 @@ module _ (ns ns' : Numbers) (order : ns'.is_ordered ≡ ns.is_ordered) where
     filed_same e = ap (λ it. number_with vs' q (filed_under it (mix_in ns' q))) e ∙ (ap (λ it. number_with vs' q (filed_under ns.filed it)) (mix_stays q) ∙ with_same (filed_under ns.filed (mix_in ns q)))
 
     -- where under a mix that number was filed, or taken out
-    module _ (m : ℕ) (o : Option ℕ) (u : tree.Updates nat_cmp ns.filed ns'.filed m o)
-        (at : number_with vs' q o ≡ number_with vs q (tree.get nat_cmp ns.filed m)) where
+    module _ (m : ℕ) (o : Option ℕ) (u : Updates ns.filed ns'.filed m o)
+        (at : number_with vs' q o ≡ number_with vs q (number_at ns.filed m)) where
       filed_at : (mix : Option ℕ) → number_with vs' q (filed_under ns'.filed mix) ≡ number_with vs q (filed_under ns.filed mix)
       filed_at None = refl
-      filed_at (Some j) = elim (cases_eq m j) as (λ _. number_with vs' q (tree.get nat_cmp ns'.filed j) ≡ number_with vs q (tree.get nat_cmp ns.filed j)) [
+      filed_at (Some j) = elim (cases_eq m j) as (λ _. number_with vs' q (number_at ns'.filed j) ≡ number_with vs q (number_at ns.filed j)) [
         | inl e ↦
-            ap (λ i. number_with vs' q (tree.get nat_cmp ns'.filed i)) (sym e)
-            ∙ (ap (number_with vs' q) u.1 ∙ (at ∙ ap (λ i. number_with vs q (tree.get nat_cmp ns.filed i)) e))
-        | inr ne ↦ ap (number_with vs' q) (other_mix ns.filed ns'.filed m j o u ne) ∙ with_same (tree.get nat_cmp ns.filed j)
+            ap (λ i. number_with vs' q (number_at ns'.filed i)) (sym e)
+            ∙ (ap (number_with vs' q) u.changed ∙ (at ∙ ap (λ i. number_with vs q (number_at ns.filed i)) e))
+        | inr ne ↦ ap (number_with vs' q) (other_mix ns.filed ns'.filed m j o u ne) ∙ with_same (number_at ns.filed j)
       ]
 
       filed_then : number_with vs' q (filed_under ns'.filed (mix_in ns' q)) ≡ number_with vs q (filed_under ns.filed (mix_in ns q))
@@ -206,14 +207,14 @@ module _ (ns ns' : Numbers) (order : ns'.is_ordered ≡ ns.is_ordered) where
     }
 
     -- under a mix
-    pub filed_more : (m : ℕ) → mix_in ns ws ≡ Some m → tree.get nat_cmp ns.filed m ≡ None → tree.Updates nat_cmp ns.filed ns'.filed m (Some n) → ns'.aside ≡ ns.aside → AreNumbered ns' vs'
+    pub filed_more : (m : ℕ) → mix_in ns ws ≡ Some m → number_at ns.filed m ≡ None → Updates ns.filed ns'.filed m (Some n) → ns'.aside ≡ ns.aside → AreNumbered ns' vs'
     filed_more m mix free u aside = numbered_more
         (
-        let here : filed_under ns'.filed (mix_in ns' ws) ≡ Some n = ap (filed_under ns'.filed) (mix_stays ws ∙ mix) ∙ u.1 in
+        let here : filed_under ns'.filed (mix_in ns' ws) ≡ Some n = ap (filed_under ns'.filed) (mix_stays ws ∙ mix) ∙ u.changed in
         ap (λ o. option_or o (tree.get values_cmp ns'.aside ws)) (ap (number_with vs' ws) here ∙ with_these vs' ws n made.there)
         )
         (λ q d.
-        let at : number_with vs' q (Some n) ≡ number_with vs q (tree.get nat_cmp ns.filed m) = with_others vs' q n (not_it q d) ∙ ap (number_with vs q) (sym free) in
+        let at : number_with vs' q (Some n) ≡ number_with vs q (number_at ns.filed m) = with_others vs' q n (not_it q d) ∙ ap (number_with vs q) (sym free) in
         ap (λ o. option_or o (tree.get values_cmp ns'.aside q)) (filed_then vs vs' n made.others q (not_yet q) (not_it q d) m (Some n) u at)
         ∙ ap (λ it. option_or (number_with vs q (filed_under ns.filed (mix_in ns q))) (tree.get values_cmp it q)) aside)
 
@@ -254,7 +255,7 @@ module _ (ns ns' : Numbers) (order : ns'.is_ordered ≡ ns.is_ordered) where
       small = λ i l. elim (cases_eq i n) as (λ _. values_at vs' i ≡ None) [ inl s ↦ ap (values_at vs') s ∙ unmade.gone | inr d ↦ unmade.others i d ∙ was.small i l ];
     }
 
-    pub all_less : ((m : ℕ) → mix_in ns ws ≡ Some m → tree.get nat_cmp ns.filed m ≡ Some n → tree.Updates nat_cmp ns.filed ns'.filed m None)
+    pub all_less : ((m : ℕ) → mix_in ns ws ≡ Some m → number_at ns.filed m ≡ Some n → Updates ns.filed ns'.filed m None)
         → (filed_under ns.filed (mix_in ns ws) ≢ Some n → ns'.filed ≡ ns.filed) → AreNumbered ns' vs'
     all_less gone other = by_option (filed_under ns.filed (mix_in ns ws))
         (λ none. untouched (λ e. some_none (filed_under ns.filed (mix_in ns ws)) e none))
@@ -269,7 +270,7 @@ module _ (ns ns' : Numbers) (order : ns'.is_ordered ≡ ns.is_ordered) where
         touched : filed_under ns.filed (mix_in ns ws) ≡ Some n → (mix : Option ℕ) → mix ≡ mix_in ns ws → AreNumbered ns' vs'
         touched at None e = let no : None ≡ Some n = ap (filed_under ns.filed) e ∙ at in absurd (cc)
         touched at (Some m) e =
-            let here : tree.get nat_cmp ns.filed m ≡ Some n = ap (filed_under ns.filed) e ∙ at in
-            let v : tree.Updates nat_cmp ns.filed ns'.filed m None = gone m (sym e) here in
+            let here : number_at ns.filed m ≡ Some n = ap (filed_under ns.filed) e ∙ at in
+            let v : Updates ns.filed ns'.filed m None = gone m (sym e) here in
             numbered_less (λ q ne. filed_then vs vs' n unmade.others q (others_had q ne) (has_none q) m None v
             (sym (ap (number_with vs q) here ∙ with_others vs q n (others_had q ne))))

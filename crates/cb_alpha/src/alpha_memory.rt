@@ -6,7 +6,7 @@ ghost use Rattle.cb_fit.specs.declared.join_fields.JoinField.{JoinField as Field
 
 use crate::candidate::Candidate;
 use crate::candidates::{file, insert};
-use crate::join_index::{JoinIndex, clear_all, fill, find_join, remove_from_all};
+use crate::join_index::{JoinIndex, clear_all, fill, find_join, push_join, remove_from_all};
 use crate::join_values::JoinValues;
 use cb_fit::JoinField;
 use cb_forms::NoMemory;
@@ -172,7 +172,7 @@ impl AlphaMemory {
         let mut join = JoinIndex::new(self.alloc, fields, is_ordered);
         fill(&self.candidates, &mut join)?;
         let number = self.joins.len();
-        self.joins.push(join)?;
+        push_join(&mut self.joins, join)?;
         Ok(number)
     }
 

@@ -1,5 +1,5 @@
 //! The facts of an alpha memory by the values of join fields.
-ghost use Rattle.std.specs.Prelude.{◌≡◌, ◌<◌, ℕ, All, IfSome, List, None, OnErr, OnOk, Option, Some, length, map, option_copied, slice_get, true};
+ghost use Rattle.std.specs.Prelude.{◌≡◌, ◌<◌, ◌++◌, [], ◌∷◌, ℕ, All, IfSome, List, None, OnErr, OnOk, Option, Some, length, map, option_copied, slice_get, true};
 ghost use Rattle.cb_alpha.specs.AlphaMemories.{AreSameFields, candidate_in};
 ghost use Rattle.cb_alpha.specs.Buckets.{AreFirstWithin, AreLastWithin, AreSameFilings, AreWithValues, Refiles, values_at};
 ghost use Rattle.cb_alpha.specs.Internal.Joined.{AreSmall, IsFiled, IsFiledBut, fields_of};
@@ -161,6 +161,19 @@ pub(crate) fn fill(candidates: &Slab<Candidate>, join: &mut JoinIndex) -> Result
             join.add(key as u32, &candidate.fact)?;
         }
     }
+    Ok(())
+}
+
+/// Adds a join behind the others. Most memories have one, so the first takes room for itself alone. Growth is refused as `NoMemory`, and
+/// then nothing has changed.
+pub(crate) fn push_join(joins: &mut Vec<JoinIndex>, join: JoinIndex) -> Result<(), NoMemory>
+    ensures ok { OnOk result (joins.new.items ≡ joins.old.items ++ join ∷ []) }
+    ensures err { OnErr result (joins.new.items ≡ joins.old.items) }
+{
+    if joins.is_empty() {
+        joins.reserve_exact(1)?;
+    }
+    joins.push(join)?;
     Ok(())
 }
 

@@ -1,19 +1,19 @@
 //! The numbers of buckets: equal values have one number.
 ghost use Rattle.std.specs.Prelude.{◌≡◌, ◌≢◌, ◌↔◌, ℕ, [], IfOk, List, None, OnErr, OnOk, Option, Some};
 ghost use Rattle.std.specs.BTreeMap as tree;
-ghost use Rattle.std.specs.BTreeMap.{BTreeMap};
 ghost use Rattle.std.specs.Option.{option_or};
-ghost use Rattle.std.specs.Ordering.{nat_cmp};
 ghost use Rattle.cb_alpha.specs.Buckets.{AreSameFilings, Filing, values_at, values_cmp};
 ghost use Rattle.cb_alpha.specs.Internal.Mixes.{mix_of};
 ghost use Rattle.cb_alpha.specs.Internal.Numbered.{AreNumbered, IsMade, IsUnmade, KeepsValues, are_those, filed_under, mix_in, number_in, number_with};
 ghost use Rattle.cb_facts.specs.declared.value.Value.{Value as Joined};
 ghost use Rattle.cb_groups.specs.Groups.{AreMembers, HasMember};
+ghost use Rattle.cb_number_map.specs.NumberMaps.{Updates, number_at};
 
 use crate::join_values::JoinValues;
 use cb_facts::Value;
 use cb_forms::NoMemory;
 use cb_groups::Groups;
+use cb_number_map::NumberMap;
 use slab::Slab;
 use std::alloc::Global;
 use std::collections::BTreeMap;
@@ -21,12 +21,12 @@ use std::hash::{FoldHasher, Hash, Hasher};
 
 /// How buckets are found by their values: the number of each.
 ///
-/// A bucket is filed under the mix of its values, a number that few other values have, so that a look-up mostly compares numbers, and
-/// values once. A bucket that comes when another is filed under its mix stands aside, in the order of values, and so do all where
-/// buckets are kept in order. So a look-up takes logarithmic time also where a script makes all values collide.
+/// A bucket is filed under the mix of its values, a number that few other values have, so that a look-up mostly compares numbers, in
+/// constant time, and values once. A bucket that comes when another is filed under its mix stands aside, in the order of values, and
+/// so do all where buckets are kept in order. So a look-up takes logarithmic time also where a script makes all values collide.
 #[derive(Drop)]
 pub(crate) struct Numbers {
-    filed: BTreeMap<u64, u32>,
+    filed: NumberMap,
     pub(crate) aside: BTreeMap<JoinValues, u32>,
     pub(crate) is_ordered: bool,
 }
@@ -37,7 +37,7 @@ impl Numbers {
         ensures { (buckets : Filing) → ((n : ℕ) → values_at buckets n ≡ None) → AreNumbered result buckets }
     {
         Numbers {
-            filed: BTreeMap::new(alloc),
+            filed: NumberMap::new(alloc),
             aside: BTreeMap::new(alloc),
             is_ordered,
         }
@@ -120,8 +120,10 @@ impl Numbers {
     {
         match mix {
             Some(mix) => self.filed.insert(mix, number)?,
-            None => self.aside.insert(values.copy(alloc)?, number)?,
-        };
+            None => {
+                self.aside.insert(values.copy(alloc)?, number)?;
+            }
+        }
         Ok(())
     }
 
@@ -149,7 +151,7 @@ impl Numbers {
     fn filed_under(&self, mix: Option<u64>) -> Option<u32>
         ensures { result ≡ filed_under self.now.filed mix }
     {
-        self.filed.get(&mix?).copied()
+        self.filed.get(mix?)
     }
 
     /// The number of the bucket with these values, if there is one, where this one is filed under their mix.
@@ -202,15 +204,15 @@ fn free_mix(mix: Option<u64>, filed: Option<u32>) -> Option<u64>
 }
 
 /// Drops what is filed under a mix, if it is this number.
-fn drop_filed(filed: &mut BTreeMap<u64, u32>, mix: Option<u64>, number: u32)
-    ensures gone { (m : ℕ) → mix ≡ Some m → tree.get nat_cmp filed.old m ≡ Some number → tree.Updates nat_cmp filed.old filed.new m None }
+fn drop_filed(filed: &mut NumberMap, mix: Option<u64>, number: u32)
+    ensures gone { (m : ℕ) → mix ≡ Some m → number_at filed.old m ≡ Some number → Updates filed.old filed.new m None }
     ensures other { filed_under filed.old mix ≢ Some number → filed.new ≡ filed.old }
 {
     let Some(mix) = mix else {
         return;
     };
-    if filed.get(&mix).copied() == Some(number) {
-        filed.remove(&mix);
+    if filed.get(mix) == Some(number) {
+        filed.remove(mix);
     }
 }
 

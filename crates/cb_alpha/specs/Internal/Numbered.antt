@@ -4,7 +4,6 @@ use Rattle.std.specs.BTreeMap as tree
 use Rattle.std.specs.BTreeMap.{BTreeMap}
 use Rattle.std.specs.Cmp.Lexicographic.{pointwise}
 use Rattle.std.specs.Option.{option_and_then, option_or}
-use Rattle.std.specs.Ordering.{nat_cmp}
 use Rattle.std.specs.declared.cmp.Ordering.{Ordering}
 use Rattle.cb_alpha.specs.Buckets.{Filing, IsWithin, values_at, values_cmp}
 use Rattle.cb_alpha.specs.Internal.Mixes.{mix_of}
@@ -12,6 +11,8 @@ use Rattle.cb_alpha.specs.declared.numbering.Numbers.{Numbers}
 use Rattle.cb_facts.specs.contracts.value.ValuePartialEq.TheImpl as value_eq
 use Rattle.cb_facts.specs.declared.value.Value.{Value}
 use Rattle.cb_groups.specs.Groups.{HasMember, Membership, group_of}
+use Rattle.cb_number_map.specs.NumberMaps.{number_at}
+use Rattle.cb_number_map.specs.declared.number_map.NumberMap.{NumberMap}
 
 -- the map has the number of each key under it
 abbrev pub AreNumbers : {K : Type 0} → (K → K → Ordering) → BTreeMap K ℕ → (ℕ → Option K) → Type 0
@@ -36,8 +37,8 @@ abbrev pub mix_in : Numbers → List Value → Option ℕ
 mix_in numbers values = if numbers.is_ordered then None else Some (mix_of values)
 
 -- the number that is filed under a mix, if one is given
-abbrev pub filed_under : BTreeMap ℕ ℕ → Option ℕ → Option ℕ
-filed_under filed mix = option_and_then (tree.get nat_cmp filed) mix
+abbrev pub filed_under : NumberMap → Option ℕ → Option ℕ
+filed_under filed mix = option_and_then (number_at filed) mix
 
 -- the number of the bucket with these values: the one that is filed under their mix, or else the one that stands aside
 abbrev pub number_in : Numbers → Filing → List Value → Option ℕ

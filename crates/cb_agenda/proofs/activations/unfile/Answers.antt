@@ -1,16 +1,17 @@
-use Rattle.std.proofs.Common.{◌≡◌, ◌≢◌, None, Some, nat_cmp, rules}
-use Rattle.std.specs.BTreeMap.{Updates, get}
+use Rattle.std.proofs.Common.{◌≡◌, ◌≢◌, None, Some, rules}
 use Rattle.cb_agenda.proofs.NumberLaws.{forgot_aside, forgot_filed}
 use Rattle.cb_agenda.specs.Mixes.{mix_of}
+use Rattle.cb_number_map.specs.NumberMaps as numbers
+use Rattle.cb_number_map.specs.NumberMaps.{AreSameNumbers, number_at}
 use Rattle.cb_agenda.proofs.activations.unfile.Goals as goal
 
 pub returns-then-has_filed : goal.returns-then-has_filed
 returns-then-has_filed c = λ keys less was there change.
-    let filed : get nat_cmp c.args.filed.now (mix_of c.args.key.now) ≡ Some c.args.number = search rules in
-    let updates : Updates nat_cmp c.args.filed.now c.remove-then-has_filed.new.self (mix_of c.args.key.now) None = search rules in
+    let filed : number_at c.args.filed.now (mix_of c.args.key.now) ≡ Some c.args.number = search rules in
+    let updates : numbers.Updates c.args.filed.now c.remove-then-has_filed.new.self (mix_of c.args.key.now) None = search rules in
     forgot_filed keys less c.args.number c.args.key.now there change c.args.filed.now c.remove-then-has_filed.new.self c.args.aside.now c.remove.new.self was filed updates c.remove.ensures.updates
 
 pub returns-else-has_filed : goal.returns-else-has_filed
 returns-else-has_filed c = λ keys less was there change.
-    let other : get nat_cmp c.args.filed.now (mix_of c.args.key.now) ≢ Some c.args.number = search rules in
+    let other : number_at c.args.filed.now (mix_of c.args.key.now) ≢ Some c.args.number = search rules in
     forgot_aside keys less c.args.number c.args.key.now there change c.args.filed.now c.args.aside.now c.remove.new.self was other c.remove.ensures.updates

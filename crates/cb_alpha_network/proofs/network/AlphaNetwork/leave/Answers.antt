@@ -105,3 +105,13 @@ returns-in-Some-try_remove-clause-alphas g c =
     (λ fs was.
     shape_less v v' c.args.number keeps fs (subst (λ it. AreAlphas it fs) (sym c.self.view_is) was) c.in-Some-try_remove.ensures.updates.changed
     (subst IsAtRest (sym c.reset.ensures.at) (record { none_gone = refl; none_come = refl })))
+
+pub returns-in-Some-try_remove-clause-count : goal.returns-in-Some-try_remove-clause-count
+returns-in-Some-try_remove-clause-count g c =
+    let old = c.self.inside in
+    let v : AlphaNetworkValue = record { shapes = old.shapes.slots; users = old.users.keys; memories = old.memories } in
+    on_any c.remove-in-Some-try_remove.result
+    (λ p is.
+    let was : IsShapeOf v c.args.number p c.args.place = subst (λ it. IsShapeOf it c.args.number p c.args.place) (sym c.self.view_is) is in
+    subst (λ it. length c.remove-2.new.self.keys + 1 ≡ use_count it) c.self.view_is
+    (one_user_less old.users.keys c.remove-2.new.self.keys (user_at c.args.number c.args.place) c.remove-2.result was.used c.remove-2.ensures.test c.remove-2.ensures.len))

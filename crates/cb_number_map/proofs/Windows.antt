@@ -1,0 +1,170 @@
+-- What a change of one slot does to what windows of slots have.
+use Rattle.std.proofs.Common.{◌≡◌, ◌≢◌, ◌∙◌, ◌⊎◌, ◌+◌, ◌-◌, ◌<◌, ◌≤◌, ℕ, zero, suc, Bool, true, false, List, [], ◌∷◌, Option, Some, None, ap, ap₂, arith, drop, get_or, if◌then◌else◌, inl, inr, length, min, nat_eq, refl, replicate, set, sym, take}
+use Rattle.std.proofs.lemmas.Bool.{cases_eq}
+use Rattle.std.proofs.lemmas.List.{at_drop_more, get_or-replicate, get_or-set_other, get_or-set_same, length-drop, length-replicate, length-set, take_min}
+use Rattle.std.specs.Cmp.{unsigned_Decides}
+use Rattle.std.specs.Option.{is_some, option_or}
+use Rattle.cb_number_map.specs.Slots.{HasRoom, TableUpdates, first_number, first_slot, free, number_for, number_in}
+use Rattle.cb_number_map.specs.declared.slots.Slot.{Slot}
+
+-- ---- one slot
+
+by_test : {P : Type 0} (b : Bool) → (b ≡ true → P) → (b ≡ false → P) → P
+by_test true on_true on_false = on_true refl
+by_test false on_true on_false = on_false refl
+
+either_none : (b : Bool) (o : Option ℕ) → o ≡ None → (if b then o else None) ≡ None
+either_none true o e = e
+either_none false o e = refl
+
+pub slot_here : (key : ℕ) (s : Slot) → s.key ≡ key → number_for key s ≡ s.number
+slot_here key s e = ap (λ b. if b then s.number else None) ((unsigned_Decides s.key key).1 e)
+
+pub slot_other : (key : ℕ) (s : Slot) → s.key ≢ key → number_for key s ≡ None
+slot_other key s d = by_test (nat_eq s.key key)
+    (λ t. absurd (d ((unsigned_Decides s.key key).0 t)))
+    (λ f. ap (λ b. if b then s.number else None) f)
+
+pub slot_free : (key : ℕ) (s : Slot) → s.number ≡ None → number_for key s ≡ None
+slot_free key s e = either_none (nat_eq s.key key) s.number e
+
+pub slot_has : (key n : ℕ) (s : Slot) → number_for key s ≡ Some n → (s.key ≡ key) × (s.number ≡ Some n)
+slot_has key n s h = by_test (nat_eq s.key key)
+    (λ t. ((unsigned_Decides s.key key).0 t, sym (ap (λ b. if b then s.number else None) t) ∙ h))
+    (λ f. absurd (let no : None ≡ Some n = sym (ap (λ b. if b then s.number else None) f) ∙ h in cc))
+
+or_none : (o p : Option ℕ) → option_or o p ≡ None → (o ≡ None) × (p ≡ None)
+or_none None p e = (refl, e)
+or_none (Some n) p e = absurd (cc)
+
+or_some : (o p : Option ℕ) (n : ℕ) → option_or o p ≡ Some n → (o ≡ Some n) ⊎ (p ≡ Some n)
+or_some None p n e = inr e
+or_some (Some m) p n e = inl e
+
+-- ---- a slot changes that hasn't the key, before and after
+
+module _ (key : ℕ) (v : Slot) (none : number_for key v ≡ None) where
+  same_front : (xs : List Slot) (m i : ℕ) → number_for key (get_or xs i free) ≡ None → first_number key (take m (set xs i v)) ≡ first_number key (take m xs)
+  same_front [] m i h = refl
+  same_front (x ∷ xs) zero i h = refl
+  same_front (x ∷ xs) (suc m) zero h = ap (λ o. option_or o (first_number key (take m xs))) (none ∙ sym h)
+  same_front (x ∷ xs) (suc m) (suc i) h = ap (option_or (number_for key x)) (same_front xs m i h)
+
+  same_window : (xs : List Slot) (from m i : ℕ) → number_for key (get_or xs i free) ≡ None → first_number key (take m (drop from (set xs i v))) ≡ first_number key (take m (drop from xs))
+  same_window xs zero m i h = same_front xs m i h
+  same_window [] (suc from) m i h = refl
+  same_window (x ∷ xs) (suc from) m zero h = refl
+  same_window (x ∷ xs) (suc from) m (suc i) h = same_window xs from m i h
+
+  pub same_table : (xs : List Slot) (i : ℕ) → number_for key (get_or xs i free) ≡ None → number_in (set xs i v) key ≡ number_in xs key
+  unfolding number_in
+  same_table xs i h =
+      ap (λ n. first_number key (take 8 (drop (first_slot key n) (set xs i v)))) (length-set xs i v)
+      ∙ same_window xs (first_slot key (length xs)) 8 i h
+
+-- ---- a key comes into its window
+
+module _ (key n : ℕ) (v : Slot) (some : number_for key v ≡ Some n) where
+  there_front : (xs : List Slot) (m i : ℕ) → i < m → i < length xs → first_number key (take m xs) ≡ None → first_number key (take m (set xs i v)) ≡ Some n
+  there_front [] m i l w h = absurd (omega arith)
+  there_front (x ∷ xs) zero i l w h = absurd (omega arith)
+  there_front (x ∷ xs) (suc m) zero l w h = ap (λ o. option_or o (first_number key (take m xs))) some
+  there_front (x ∷ xs) (suc m) (suc i) l w h =
+      let both = or_none (number_for key x) (first_number key (take m xs)) h in
+      ap (λ o. option_or o (first_number key (take m (set xs i v)))) both.0 ∙ there_front xs m i (omega arith) (omega arith) both.1
+
+  there_window : (xs : List Slot) (from m i : ℕ) → from ≤ i → i < from + m → i < length xs → first_number key (take m (drop from xs)) ≡ None → first_number key (take m (drop from (set xs i v))) ≡ Some n
+  there_window xs zero m i f l w h = there_front xs m i (omega arith) w h
+  there_window [] (suc from) m i f l w h = absurd (omega arith)
+  there_window (x ∷ xs) (suc from) m zero f l w h = absurd (omega arith)
+  there_window (x ∷ xs) (suc from) m (suc i) f l w h = there_window xs from m i (omega arith) (omega arith) (omega arith) h
+
+  there_table : (xs : List Slot) (i : ℕ) → HasRoom xs key i → number_in xs key ≡ None → number_in (set xs i v) key ≡ Some n
+  unfolding number_in
+  there_table xs i room h =
+      ap (λ c. first_number key (take 8 (drop (first_slot key c) (set xs i v)))) (length-set xs i v)
+      ∙ there_window xs (first_slot key (length xs)) 8 i room.behind room.before room.within h
+
+pub put_updates : (xs : List Slot) (key n i : ℕ) → HasRoom xs key i → number_in xs key ≡ None → TableUpdates xs (set xs i (record { key = key; number = Some n })) key (Some n)
+put_updates xs key n i room absent =
+    let v : Slot = record { key = key; number = Some n } in
+    record {
+      changed = there_table key n v (slot_here key v refl) xs i room absent;
+      others = λ other d. same_table other v (slot_other other v (λ e. d (sym e))) xs i (slot_free other (get_or xs i free) room.room);
+    }
+
+-- ---- no slot of a window has a key
+
+none_front : (key : ℕ) (xs : List Slot) (m : ℕ) → ((j : ℕ) → j < m → j < length xs → number_for key (get_or xs j free) ≡ None) → first_number key (take m xs) ≡ None
+none_front key xs zero h = refl
+none_front key [] (suc m) h = refl
+none_front key (x ∷ xs) (suc m) h = ap₂ option_or (h 0 (omega arith) (omega arith)) (none_front key xs m (λ j l w. h (suc j) (omega arith) (omega arith)))
+
+none_window : (key : ℕ) (xs : List Slot) (from m : ℕ) → ((j : ℕ) → from ≤ j → j < from + m → j < length xs → number_for key (get_or xs j free) ≡ None) → first_number key (take m (drop from xs)) ≡ None
+none_window key xs zero m h = none_front key xs m (λ j l w. h j (omega arith) (omega arith) w)
+none_window key [] (suc from) zero h = refl
+none_window key [] (suc from) (suc m) h = refl
+none_window key (x ∷ xs) (suc from) m h = none_window key xs from m (λ j f l w. h (suc j) (omega arith) (omega arith) (omega arith))
+
+pub none_table : (key n : ℕ) (xs : List Slot) → length xs ≡ n → ((j : ℕ) → first_slot key n ≤ j → j < min (first_slot key n + 8) n → number_for key (get_or xs j free) ≡ None) → number_in xs key ≡ None
+unfolding number_in
+none_table key n xs e h =
+    ap (λ c. first_number key (take 8 (drop (first_slot key c) xs))) e
+    ∙ none_window key xs (first_slot key n) 8 (λ j f l w. h j f (omega arith))
+
+pub free_table : (key n : ℕ) → number_in (replicate n free) key ≡ None
+free_table key n = none_table key n (replicate n free) (length-replicate n free) (λ j f l.
+    ap (number_for key) (get_or-replicate n j free free (omega arith)) ∙ slot_free key free refl)
+
+-- one slot more of a window hasn't the key
+module _ (key from i : ℕ) (xs : List Slot) (so_far : (j : ℕ) → from ≤ j → j < i → number_for key (get_or xs j free) ≡ None) where
+  pub none_more : number_for key (get_or xs i free) ≡ None → (j : ℕ) → from ≤ j → j < i + 1 → number_for key (get_or xs j free) ≡ None
+  none_more here j f l = elim (cases_eq j i) as (λ _. number_for key (get_or xs j free) ≡ None) [
+    | inl e ↦ ap (λ k. number_for key (get_or xs k free)) e ∙ here
+    | inr d ↦ so_far j f (omega (arith, l, d))
+  ]
+
+  pub cleared_more : (v : Slot) → v.number ≡ None → i < length xs → (j : ℕ) → from ≤ j → j < i + 1 → number_for key (get_or (set xs i v) j free) ≡ None
+  cleared_more v empty w j f l = elim (cases_eq j i) as (λ _. number_for key (get_or (set xs i v) j free) ≡ None) [
+    | inl e ↦ ap (λ k. number_for key (get_or (set xs i v) k free)) e ∙ (ap (number_for key) (get_or-set_same xs i v free w) ∙ slot_free key v empty)
+    | inr d ↦ ap (number_for key) (get_or-set_other xs i j v free d) ∙ so_far j f (omega (arith, l, d))
+  ]
+
+-- ---- a walk along a window
+
+or_there : (o p : Option ℕ) → is_some o ≡ true → option_or o p ≡ o
+or_there None p e = absurd (let no : false ≡ true = e in cc)
+or_there (Some n) p e = refl
+
+pub seen_here : (key : ℕ) (xs : List Slot) (i : ℕ) → i < length xs → (get_or xs i free).key ≡ key → is_some (get_or xs i free).number ≡ true → first_number key (drop i xs) ≡ (get_or xs i free).number
+seen_here key xs i l e some =
+    at_drop_more (first_number key) xs i free l
+    ∙ (ap (λ o. option_or o (first_number key (drop (i + 1) xs))) (slot_here key (get_or xs i free) e)
+    ∙ or_there (get_or xs i free).number (first_number key (drop (i + 1) xs)) some)
+
+pub window_seen : (key from to : ℕ) (xs : List Slot) → from ≡ first_slot key (length xs) → to ≡ min (first_slot key (length xs) + 8) (length xs) → first_number key (take (to - from) (drop from xs)) ≡ number_in xs key
+unfolding number_in
+window_seen key from to xs f t =
+    let first = first_slot key (length xs) in
+    let long : to - from ≡ min 8 (length (drop from xs)) = omega (arith, length-drop from xs, f, t) in
+    ap (λ n. first_number key (take n (drop from xs))) long
+    ∙ (ap (first_number key) (take_min 8 (drop from xs)) ∙ ap (λ n. first_number key (take 8 (drop n xs))) f)
+
+-- ---- some slot has a key that the table has
+
+found_front : (key n : ℕ) (xs : List Slot) (m : ℕ) → first_number key (take m xs) ≡ Some n → (j : ℕ) × (j < length xs) × (number_for key (get_or xs j free) ≡ Some n)
+found_front key n xs zero h = absurd (let no : None ≡ Some n = h in cc)
+found_front key n [] (suc m) h = absurd (let no : None ≡ Some n = h in cc)
+found_front key n (x ∷ xs) (suc m) h = elim (or_some (number_for key x) (first_number key (take m xs)) n h) as (λ _. (j : ℕ) × (j < length (x ∷ xs)) × (number_for key (get_or (x ∷ xs) j free) ≡ Some n)) [
+  | inl here ↦ (0, omega arith, here)
+  | inr later ↦ let it = found_front key n xs m later in (suc it.0, omega (arith, it.1), it.2)
+]
+
+found_window : (key n : ℕ) (xs : List Slot) (from m : ℕ) → first_number key (take m (drop from xs)) ≡ Some n → (j : ℕ) × (j < length xs) × (number_for key (get_or xs j free) ≡ Some n)
+found_window key n xs zero m h = found_front key n xs m h
+found_window key n [] (suc from) m h = found_front key n [] m h
+found_window key n (x ∷ xs) (suc from) m h = let it = found_window key n xs from m h in (suc it.0, omega (arith, it.1), it.2)
+
+pub found_table : (key n : ℕ) (xs : List Slot) → number_in xs key ≡ Some n → (j : ℕ) × (j < length xs) × (number_for key (get_or xs j free) ≡ Some n)
+unfolding number_in
+found_table key n xs h = found_window key n xs (first_slot key (length xs)) 8 h

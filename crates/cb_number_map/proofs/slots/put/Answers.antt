@@ -1,0 +1,5 @@
+use Rattle.cb_number_map.proofs.Windows.{put_updates}
+use Rattle.cb_number_map.proofs.slots.put.Goals as goal
+
+pub returns-clause-put : goal.returns-clause-put
+returns-clause-put c = λ _. put_updates c.args.slots.now c.args.key c.args.number c.in-Some.index c.in-Some.ensures c.requires

@@ -1,0 +1,3 @@
+pub mod NumberMaps
+pub mod Slots
+pub mod Internal

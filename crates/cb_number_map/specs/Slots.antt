@@ -1,0 +1,44 @@
+-- The slots of a table, and where a key stands.
+use Rattle.std.specs.Prelude.{◌≡◌, ◌≢◌, ◌+◌, ◌-◌, ◌*◌, ◌/◌, ◌%◌, ◌^◌, ◌<◌, ◌≤◌, ℕ, List, [], ◌∷◌, Option, None, bit_xor, drop, if◌then◌else◌, length, min, nat_eq, slice_index_or, take}
+use Rattle.std.specs.Option.{option_or}
+use Rattle.cb_number_map.specs.declared.slots.Slot.{Slot}
+
+-- a slot without a key
+abbrev pub free : Slot
+free = record { key = 0; number = None }
+
+-- the number that a slot has for a key
+abbrev pub number_for : ℕ → Slot → Option ℕ
+number_for key slot = if nat_eq slot.key key then slot.number else None
+
+-- the first number that slots have for a key
+abbrev pub first_number : ℕ → List Slot → Option ℕ
+first_number key [] = None
+first_number key (slot ∷ slots) = option_or (number_for key slot) (first_number key slots)
+
+-- a key spread over 32 bits
+abbrev pub spread : ℕ → ℕ
+spread key = ((bit_xor key (key / 2 ^ 32) * 11400714819323198485) % 2 ^ 64) / 2 ^ 32
+
+-- the place at which the window of a key begins, of a table of so many slots
+unfoldable pub start_of : ℕ → ℕ → ℕ
+start_of key count = ((spread key * (count - 7)) % 2 ^ 64) / 2 ^ 32
+
+abbrev pub first_slot : ℕ → ℕ → ℕ
+first_slot key count = min (start_of key count) count
+
+-- the number that a table has for a key: that of the first slot of the key's window that has the key
+unfoldable pub number_in : List Slot → ℕ → Option ℕ
+number_in slots key = first_number key (take 8 (drop (first_slot key (length slots)) slots))
+
+-- this key has this number now, or none, and the others have those that they had
+pub record TableUpdates (old new : List Slot) (key : ℕ) (number : Option ℕ) : Type 0 where
+  pub changed : number_in new key ≡ number
+  pub others : (other : ℕ) → other ≢ key → number_in new other ≡ number_in old other
+
+-- a slot of a key's window is free
+pub record HasRoom (slots : List Slot) (key index : ℕ) : Type 0 where
+  pub behind : first_slot key (length slots) ≤ index
+  pub before : index < first_slot key (length slots) + 8
+  pub within : index < length slots
+  pub room : (slice_index_or slots index free).number ≡ None

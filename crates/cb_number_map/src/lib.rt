@@ -1,0 +1,9 @@
+//! A map from numbers to numbers.
+//!
+//! `docs/ARCHITECTURE.md` says where it belongs.
+#![tactic(auto)]
+
+mod number_map; // the map: a table, and an ordered map for what finds no room in it
+mod slots; // the slots of a table, and where a key stands
+
+pub use number_map::NumberMap;

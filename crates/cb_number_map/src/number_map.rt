@@ -1,0 +1,179 @@
+//! The map: a table, and an ordered map for what finds no room in it.
+ghost use Rattle.std.specs.Prelude.{◌≡◌, ◌≢◌, ℕ, None, OnErr, OnOk, Some, false, true};
+ghost use Rattle.cb_number_map.specs.Internal.{AreAmong, TakesOver};
+ghost use Rattle.cb_number_map.specs.NumberMaps.{AreSameNumbers, Updates, number_at};
+ghost use Rattle.cb_number_map.specs.Slots.{number_in};
+
+use crate::slots::{Slot, are_free, clear, free_slots, longer, number_in, places, put};
+use cb_forms::NoMemory;
+use std::alloc::Global;
+use std::collections::BTreeMap;
+
+/// A table of so many slots at most is kept when its last key goes.
+const KEPT: usize = 64;
+
+/// A map from numbers, the keys, to numbers.
+///
+/// It is a table, in which a key may stand in one of eight slots, and an ordered map for the keys that find no room there. Where a key
+/// finds no room and the table is half full, it is made anew with twice as many slots. So a call takes constant time where few keys
+/// want the same slots, and logarithmic time whatever the keys are, but for the growth of the table. A few keys take a few slots, of
+/// 16 bytes each; a long table is taken to a quarter or more when it has grown.
+///
+/// Contracts see the number of each key.
+#[derive(Drop)]
+pub struct NumberMap {
+    alloc: Global,
+    slots: Vec<Slot>,
+    /// How many keys stand in the table, by which it is chosen when it grows.
+    taken: usize,
+    /// The keys that found no room in the table.
+    aside: BTreeMap<u64, u32>,
+}
+
+impl NumberMap {
+    /// No key. It takes no memory.
+    pub fn new(alloc: Global) -> NumberMap
+        ensures { (key : ℕ) → number_at result key ≡ None }
+    {
+        NumberMap {
+            alloc,
+            slots: Vec::new(alloc),
+            taken: 0,
+            aside: BTreeMap::new(alloc),
+        }
+    }
+
+    /// The number of a key, if the map has the key.
+    #[tactic(auto, unfolding(crate::specs::NumberMaps::number_at))]
+    pub fn get(&self, key: u64) -> Option<u32>
+        ensures { result ≡ number_at self.now key }
+    {
+        match number_in(self.slots.as_slice(), key) {
+            Some(number) => Some(number),
+            None => self.aside.get(&key).copied(),
+        }
+    }
+
+    /// Adds a key that the map doesn't have, with its number. Growth is refused as `NoMemory`, and then nothing has changed.
+    pub fn insert(&mut self, key: u64, number: u32) -> Result<(), NoMemory>
+        requires { number_at self.old key ≡ None }
+        ensures ok { OnOk result (Updates self.old self.new key (Some number)) }
+        ensures err { OnErr result (AreSameNumbers self.old self.new) }
+    {
+        if self.put(key, number) {
+            return Ok(());
+        }
+        if self.taken >= places(self.slots.len()) / 2 {
+            self.grow()?;
+        }
+        self.add(key, number)
+    }
+
+    /// Takes a key out, if the map has it.
+    #[tactic(auto, unfolding(crate::specs::NumberMaps::number_at))]
+    pub fn remove(&mut self, key: u64)
+        ensures { Updates self.old self.new key None }
+    {
+        if clear(self.slots.as_mut_slice(), key) {
+            self.taken = self.taken.saturating_sub(1);
+        }
+        self.aside.remove(&key);
+        if self.taken == 0 {
+            self.release();
+        }
+    }
+
+    /// Gives the memory of a long table back, if there is no key. This takes as many steps as the table has slots, and fewer than were
+    /// taken to fill it.
+    fn release(&mut self)
+        ensures { AreSameNumbers self.old self.new }
+    {
+        if self.slots.len() > KEPT && self.aside.is_empty() && are_free(self.slots.as_slice()) {
+            *self = NumberMap::new(self.alloc);
+        }
+    }
+
+    /// Puts a key that the map doesn't have into the table. The answer is whether there is room for it.
+    fn put(&mut self, key: u64, number: u32) -> bool
+        requires { number_at self.old key ≡ None }
+        ensures put { result ≡ true → Updates self.old self.new key (Some number) }
+        ensures full { result ≡ false → AreSameNumbers self.old self.new }
+    {
+        if !put(self.slots.as_mut_slice(), key, number) {
+            return false;
+        }
+        self.taken = self.taken.saturating_add(1);
+        true
+    }
+
+    /// Adds a key that the map doesn't have, aside if there is no room for it in the table. Growth is refused as `NoMemory`, and then
+    /// nothing has changed.
+    fn add(&mut self, key: u64, number: u32) -> Result<(), NoMemory>
+        requires { number_at self.old key ≡ None }
+        ensures ok { OnOk result (Updates self.old self.new key (Some number)) }
+        ensures err { OnErr result (AreSameNumbers self.old self.new) }
+    {
+        if !self.put(key, number) {
+            self.aside.insert(key, number)?;
+        }
+        Ok(())
+    }
+
+    /// Makes the table anew with more slots, and puts everything in again. Growth is refused as `NoMemory`, and then nothing has changed.
+    fn grow(&mut self) -> Result<(), NoMemory>
+        ensures { AreSameNumbers self.old self.new }
+    {
+        let mut longer = NumberMap {
+            alloc: self.alloc,
+            slots: free_slots(self.alloc, longer(self.slots.len()))?,
+            taken: 0,
+            aside: BTreeMap::new(self.alloc),
+        };
+        longer.take_table(self)?;
+        longer.take_aside(self)?;
+        *self = longer;
+        Ok(())
+    }
+
+    /// Takes over what another map has in its table. Growth is refused as `NoMemory`.
+    fn take_table(&mut self, other: &NumberMap) -> Result<(), NoMemory>
+        requires { AreAmong self.old other.now }
+        ensures among { OnOk result (AreAmong self.new other.now) }
+        ensures all { OnOk result ((key : ℕ) → number_in other.now.slots.items key ≢ None
+            → number_at self.new key ≡ number_at other.now key) }
+    {
+        for slot in other.slots.as_slice() {
+            if slot.number.is_some() {
+                self.take_over(other, slot.key)?;
+            }
+        }
+        Ok(())
+    }
+
+    /// Takes over what stands aside in another map. Growth is refused as `NoMemory`.
+    fn take_aside(&mut self, other: &NumberMap) -> Result<(), NoMemory>
+        requires among { AreAmong self.old other.now }
+        requires table { (key : ℕ) → number_in other.now.slots.items key ≢ None
+            → number_at self.old key ≡ number_at other.now key }
+        ensures { OnOk result (AreSameNumbers other.now self.new) }
+    {
+        for (key, _number) in &other.aside {
+            self.take_over(other, *key)?;
+        }
+        Ok(())
+    }
+
+    /// Takes over what another map has for a key. Growth is refused as `NoMemory`.
+    fn take_over(&mut self, other: &NumberMap, key: u64) -> Result<(), NoMemory>
+        requires { AreAmong self.old other.now }
+        ensures { OnOk result (TakesOver self.old self.new other.now key) }
+    {
+        if self.get(key).is_some() {
+            return Ok(());
+        }
+        match other.get(key) {
+            Some(number) => self.add(key, number),
+            None => Ok(()),
+        }
+    }
+}

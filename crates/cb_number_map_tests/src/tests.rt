@@ -1,0 +1,103 @@
+//! Drawn calls of `NumberMap`, made of an ordered map as well.
+use cb_forms::NoMemory;
+use cb_number_map::NumberMap;
+use std::alloc::Global;
+use std::collections::BTreeMap;
+
+/// How many calls are drawn.
+const CALLS: u64 = 3000;
+
+/// How many keys there are of each kind.
+const KEYS: u64 = 150;
+
+/// Keys that are so many times this all want the same slots.
+const SAME_SLOTS: u64 = 17428512612931826493;
+
+#[derive(Clone, Copy)]
+enum Call {
+    /// The key has this number from now on.
+    Set(u64, u32),
+    Remove(u64),
+}
+
+/// The next state of the generator, a linear congruential one.
+fn next(state: u64) -> u64 {
+    state
+        .wrapping_mul(6364136223846793005)
+        .wrapping_add(1442695040888963407)
+}
+
+/// A key: of those near each other, or of those that all want the same slots.
+fn key_of(drawn: u64) -> u64 {
+    let number = drawn / 2 % KEYS;
+    if drawn % 2 == 0 {
+        return number;
+    }
+    let wanted = number.wrapping_mul(SAME_SLOTS);
+    wanted ^ (wanted >> 32)
+}
+
+/// The call that a state of the generator stands for. In the first half most keys come, in the second most go.
+fn call_of(state: u64, number: u64) -> Call {
+    let drawn = state >> 33;
+    let key = key_of(drawn / 4);
+    let comes = if number < CALLS / 2 { 3 } else { 1 };
+    if drawn % 4 < comes {
+        Call::Set(key, (drawn % 1000) as u32)
+    } else {
+        Call::Remove(key)
+    }
+}
+
+/// Makes a call of both.
+fn make(
+    numbers: &mut NumberMap,
+    wanted: &mut BTreeMap<u64, u32>,
+    call: &Call,
+) -> Result<(), NoMemory> {
+    match call {
+        Call::Set(key, number) => {
+            numbers.remove(*key);
+            numbers.insert(*key, *number)?;
+            wanted.insert(*key, *number)?;
+        }
+        Call::Remove(key) => {
+            numbers.remove(*key);
+            wanted.remove(key);
+        }
+    }
+    Ok(())
+}
+
+/// Whether both have the same number for each key.
+fn are_alike(numbers: &NumberMap, wanted: &BTreeMap<u64, u32>) -> bool {
+    for drawn in 0..2 * KEYS {
+        let key = key_of(drawn);
+        if numbers.get(key) != wanted.get(&key).copied() {
+            return false;
+        }
+    }
+    true
+}
+
+/// The number of the first call after which the two differ.
+fn wrong_call(alloc: Global) -> Result<Option<u64>, NoMemory> {
+    let mut numbers = NumberMap::new(alloc);
+    let mut wanted = BTreeMap::new(alloc);
+    let mut state = 1;
+    for number in 0..CALLS {
+        state = next(state);
+        make(&mut numbers, &mut wanted, &call_of(state, number))?;
+        if !are_alike(&numbers, &wanted) {
+            return Ok(Some(number));
+        }
+    }
+    Ok(None)
+}
+
+#[test]
+fn drawn_calls_leave_the_numbers_of_a_map(rt: HostRuntime) -> Result<(), NoMemory> {
+    let wrong = wrong_call(rt.alloc())?;
+    assert!(rt; wrong.is_none(), "{wrong:?}");
+    Ok(())
+}
