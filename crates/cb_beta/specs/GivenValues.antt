@@ -4,7 +4,7 @@ use Rattle.std.specs.Option.{option_map_or}
 use Rattle.std.specs.Rc.{rc_value}
 use Rattle.cb_beta.specs.declared.given.Held.{Held}
 use Rattle.cb_beta.specs.declared.given.Held.TheVariants.{Found, Fields}
-use Rattle.cb_beta.specs.declared.given.TakenFields.{TakenFields}
+use Rattle.cb_beta.specs.TakenFields.{TakenFieldsValue}
 use Rattle.cb_exprs.specs.Bindings.{no_bindings}
 use Rattle.cb_facts.specs.Facts.{FactContent}
 use Rattle.cb_facts.specs.declared.value.Value.{Value}
@@ -18,13 +18,13 @@ abbrev pub values_taken : List JoinField → FactContent → List (List ℕ × V
 values_taken js content = taken_by_all js no_bindings content
 
 -- the way with these lengths by which the fields give their values
-abbrev pub way_by_fields : TakenFields → FactContent → WayValue
-way_by_fields taken content = record { cuts = taken.cuts; bound = values_taken taken.fields.items content }
+abbrev pub way_by_fields : TakenFieldsValue → FactContent → WayValue
+way_by_fields taken content = record { cuts = taken.cuts; bound = values_taken taken.fields content }
 
 -- the way that was found, or that of the fields
 abbrev pub way_in : Held → WayValue
-way_in (Found way) = way_of way
-way_in (Fields taken fact) = way_by_fields (rc_value {X = TakenFields} taken) fact.content
+way_in (Found way) = way_of way.value
+way_in (Fields taken fact) = way_by_fields (rc_value {X = TakenFieldsValue} taken) fact.content
 
 -- what a way gives variables, if there is one
 abbrev pub values_given : Option WayValue → List (List ℕ × Value)

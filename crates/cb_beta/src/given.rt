@@ -1,26 +1,19 @@
 //! What a token gives variables.
 ghost use Rattle.std.specs.Prelude.{◌≡◌, IfOk, OnOk, option_copied};
 ghost use Rattle.std.specs.Rc.{rc_value};
-ghost use Rattle.cb_beta.specs.GivenValues.{values_taken, way_by_fields};
+ghost use Rattle.cb_beta.specs.GivenValues.{way_by_fields};
 ghost use Rattle.cb_exprs.specs.Bindings.{no_bindings, value_at, with_variables};
-ghost use Rattle.cb_fit.specs.Decided.{taken_by};
 ghost use Rattle.cb_fit.specs.WayValues.{way_of};
 
+use crate::marks::Sought;
+use crate::taken_fields::TakenFields;
 use cb_exprs::Env;
 use cb_facts::{Fact, Name, Value};
-use cb_fit::{Cuts, JoinField, Way};
+use cb_fit::{Cuts, Way};
 use cb_forms::NoMemory;
+use std::alloc::Global;
 use std::marker::Model;
 use std::rc::Rc;
-
-/// What all tokens of a list take that is joined by values.
-#[derive(Drop)]
-pub struct TakenFields {
-    /// The fields of a fact that give variables their values.
-    pub fields: Vec<JoinField>,
-    /// The lengths of the segments of the way.
-    pub cuts: Cuts,
-}
 
 /// What a token gives variables by the fact that it took, and the lengths of the segments.
 ///
@@ -34,8 +27,8 @@ pub struct Given {
 /// Where the values are.
 #[derive(Drop)]
 enum Held {
-    /// In a way that a test of the pattern found.
-    Found(Way),
+    /// In a way that a test of the pattern found, in a block of its own, so that a token of the other kind has no place for it.
+    Found(Box<Way>),
     /// In these fields of the fact.
     Fields(Rc<TakenFields>, Fact),
 }
@@ -50,13 +43,14 @@ impl Model for Given {
 }
 
 impl Given {
-    /// What a way gives that a test of the pattern found.
-    pub fn found(way: Way) -> Given
-        ensures { result ≡ way_of way }
+    /// What a way gives that a test of the pattern found. It takes one block, which is refused as `NoMemory`.
+    pub fn found(alloc: Global, way: Way) -> Result<Given, NoMemory>
+        ensures { IfOk result (λ given. given ≡ way_of way) }
     {
-        Given {
+        let way = Box::new(alloc, way)?;
+        Ok(Given {
             held: Held::Found(way),
-        }
+        })
     }
 
     /// What these fields of a fact give, both shared. It takes no memory, and is refused as `NoMemory` only where a count of sharers is
@@ -78,19 +72,19 @@ impl Given {
     {
         match &self.held {
             Held::Found(way) => &way.cuts,
-            Held::Fields(taken, _) => &taken.cuts,
+            Held::Fields(taken, _) => taken.cuts(),
         }
     }
 
     /// The value that it gives a variable, of which the last counts, or `None` where it gives none. The value shares its bytes or
     /// fields. It is refused as `NoMemory` only where a count of sharers is full.
-    pub fn value(&self, name: &Name) -> Result<Option<Value>, NoMemory>
+    pub fn value(&self, name: &Sought<'_>) -> Result<Option<Value>, NoMemory>
         ensures { IfOk result (λ found. found
             ≡ value_at name.now (with_variables self.now.bound no_bindings).variables) }
     {
         match &self.held {
-            Held::Found(way) => copied(value_in(way.bound.as_slice(), name)),
-            Held::Fields(taken, fact) => value_of_fields(taken.fields.as_slice(), fact, name),
+            Held::Found(way) => copied(value_in(way.bound.as_slice(), name.name())),
+            Held::Fields(taken, fact) => taken.value(fact, name),
         }
     }
 
@@ -100,7 +94,7 @@ impl Given {
     {
         match &self.held {
             Held::Found(way) => bind_all(env, way.bound.as_slice()),
-            Held::Fields(taken, fact) => bind_fields(env, taken.fields.as_slice(), fact),
+            Held::Fields(taken, fact) => taken.bind(env, fact),
         }
     }
 }
@@ -130,37 +124,6 @@ fn copied(found: Option<&Value>) -> Result<Option<Value>, NoMemory>
     }
 }
 
-/// The value that these fields of a fact give a variable, of which the last counts.
-fn value_of_fields(
-    fields: &[JoinField],
-    fact: &Fact,
-    name: &Name,
-) -> Result<Option<Value>, NoMemory>
-    ensures { IfOk result (λ found. found ≡ value_at name.now
-        (with_variables (values_taken fields.now fact.now.content) no_bindings).variables) }
-{
-    let mut left = fields;
-    while let Some((last, others)) = left.split_last() {
-        if let Some(value) = value_of_field(last, fact, name)? {
-            return Ok(Some(value));
-        }
-        left = others;
-    }
-    Ok(None)
-}
-
-/// The value that a field of a fact gives a variable, if that is the field's own.
-fn value_of_field(field: &JoinField, fact: &Fact, name: &Name) -> Result<Option<Value>, NoMemory>
-    ensures { IfOk result (λ found. found ≡ value_at name.now
-        (with_variables (taken_by no_bindings fact.now.content field.now) no_bindings).variables) }
-{
-    if *name == field.variable {
-        field.value_in(fact)
-    } else {
-        Ok(None)
-    }
-}
-
 /// Gives variables these values, one after another.
 fn bind_all(env: &mut Env, bound: &[(Name, Value)]) -> Result<(), NoMemory>
     ensures { OnOk result (env.new ≡ with_variables bound.now env.old) }
@@ -169,26 +132,4 @@ fn bind_all(env: &mut Env, bound: &[(Name, Value)]) -> Result<(), NoMemory>
         env.set(name, value.clone()?)?;
     }
     Ok(())
-}
-
-/// Gives the variables of these fields their values in a fact, one after another.
-fn bind_fields(env: &mut Env, fields: &[JoinField], fact: &Fact) -> Result<(), NoMemory>
-    ensures { OnOk result
-        (env.new ≡ with_variables (values_taken fields.now fact.now.content) env.old) }
-{
-    for field in fields {
-        bind_field(env, field, fact)?;
-    }
-    Ok(())
-}
-
-/// Gives the variable of a field its value in a fact, if that has such a field.
-fn bind_field(env: &mut Env, field: &JoinField, fact: &Fact) -> Result<(), NoMemory>
-    ensures { OnOk result (env.new
-        ≡ with_variables (taken_by no_bindings fact.now.content field.now) env.old) }
-{
-    match field.value_in(fact)? {
-        Some(value) => env.set(&field.variable, value),
-        None => Ok(()),
-    }
 }

@@ -8,9 +8,13 @@
 
 mod filing; // tokens among those that they are found by
 mod given; // what a token gives variables
+mod marks; // marks of variables
 mod memory; // the tokens of a list of partial matches
+mod taken_fields; // the fields of a fact that give variables their values
 mod token; // a token
 
-pub use given::{Given, TakenFields};
+pub use given::Given;
+pub use marks::Sought;
 pub use memory::BetaMemory;
+pub use taken_fields::TakenFields;
 pub use token::{Taken, Token};

@@ -5,15 +5,15 @@ ghost use Rattle.cb_beta.specs.Tokens.{candidate_of};
 use crate::given::Given;
 use std::marker::Model;
 
-/// What a pattern took.
+/// What a pattern took. What is read of each token on the way down to a variable stands first.
 #[derive(Drop)]
 pub struct Taken {
-    /// The number of the fact among the candidates of the pattern.
-    pub candidate: u32,
-    /// The index of the fact.
-    pub index: u64,
     /// What it gives variables: the way in which the pattern fits the fact.
     pub given: Given,
+    /// The index of the fact.
+    pub index: u64,
+    /// The number of the fact among the candidates of the pattern.
+    pub candidate: u32,
 }
 
 impl Model for Taken {

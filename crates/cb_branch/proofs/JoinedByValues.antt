@@ -43,6 +43,7 @@ module _ {T : Type 0} where
     fields = is.fields ∙ known_same (join_fields asked.pattern.parts) us bs same;
     taken = is.taken ∙ unknown_same (giving_fields asked.pattern.parts) us bs same;
     compared = is.compared;
+    conditional = is.conditional;
     cuts = is.cuts;
     address = is.address;
   }
@@ -51,6 +52,7 @@ module _ {T : Type 0} where
   lookup_same us bs node same is = record {
     decided = is.decided;
     unchosen = is.unchosen;
+    unconditional = is.unconditional;
     asks = subst (λ (it : List JoinField). AsksBy (looking_of node.sight) node.fields.items it (compared_fields node.pattern.parts)) (known_same (join_fields node.pattern.parts) us bs same) is.asks;
   }
 

@@ -11,7 +11,7 @@ use Rattle.cb_branch.specs.Alphas.{AlphaUse, HasTurned}
 use Rattle.cb_branch.specs.Turning.{IsNodeAfter, IsNodeBefore, IsSameNode}
 use Rattle.cb_constraints.specs.PatternValues.{PatternValue}
 use Rattle.cb_facts.specs.FactLists.{IndexedFacts}
-use Rattle.cb_fit.specs.Comparisons.{choice_fields, compared_fields, is_decided}
+use Rattle.cb_fit.specs.Comparisons.{choice_fields, compared_fields, conditions, is_decided}
 use Rattle.cb_fit.specs.JoinFields.{join_fields}
 use Rattle.cb_fit.specs.declared.join_fields.JoinField.{JoinField}
 use Rattle.cb_list_changes.proofs.Places.{one_at}
@@ -34,16 +34,17 @@ use_of alpha p join fields = record { pattern = p; alpha = alpha; join = Some (j
 module _ {T : Type 0} where
   -- the number of the join says nothing of what is looked up
   pub lookup_of_join : (names : Scope) (node : LookupNode T) (join : ℕ) → IsLookup names node → IsLookup names (record node { join = join })
-  lookup_of_join names node join is = record { decided = is.decided; unchosen = is.unchosen; asks = is.asks }
+  lookup_of_join names node join is = record { decided = is.decided; unchosen = is.unchosen; unconditional = is.unconditional; asks = is.asks }
 
   pub lookup_of_any : (names : Scope) (node : LookupNode T) (join : ℕ) → IsLookup names (record node { join = join }) → IsLookup names node
-  lookup_of_any names node join is = record { decided = is.decided; unchosen = is.unchosen; asks = is.asks }
+  lookup_of_any names node join is = record { decided = is.decided; unchosen = is.unchosen; unconditional = is.unconditional; asks = is.asks }
 
   -- what is looked up is, where the node asks the same
   pub lookup_with : (names : Scope) (node node' : LookupNode T) → AsksTheSame node node' → IsLookup names node → IsLookup names node'
   lookup_with names node node' same is = record {
     decided = ap (λ (p : PatternValue). is_decided p) same.pattern ∙ is.decided;
     unchosen = ap (λ (p : PatternValue). choice_fields p.parts) same.pattern ∙ is.unchosen;
+    unconditional = ap (λ (p : PatternValue). conditions p.parts) same.pattern ∙ is.unconditional;
     asks = subst (λ (it : Looking). AsksBy it node'.fields.items (known_fields (join_fields node'.pattern.parts) names) (compared_fields node'.pattern.parts)) (sym same.looking)
         (subst (λ (v : Vec JoinField Global). AsksBy (looking_of node.sight) v.items (known_fields (join_fields node'.pattern.parts) names) (compared_fields node'.pattern.parts)) (sym same.fields)
         (subst (λ (p : PatternValue). AsksBy (looking_of node.sight) node.fields.items (known_fields (join_fields p.parts) names) (compared_fields p.parts)) (sym same.pattern) is.asks));

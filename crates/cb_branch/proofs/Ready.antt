@@ -19,7 +19,7 @@ use Rattle.cb_lookup_node.specs.declared.node.LookupNode.{LookupNode}
 use Rattle.cb_matches.specs.Matches.{Partial}
 use Rattle.cb_constraints.specs.PatternValues.{PatternValue}
 use Rattle.cb_exprs.specs.Terms.{Term}
-use Rattle.cb_fit.specs.Comparisons.{choice_fields, compared_fields, is_decided}
+use Rattle.cb_fit.specs.Comparisons.{choice_fields, compared_fields, conditions, is_decided}
 use Rattle.cb_fit.specs.JoinFields.{join_fields}
 use Rattle.cb_fit.specs.Plain.{bound_names}
 use Rattle.cb_fit.specs.declared.comparison.ComparedField.{ComparedField}
@@ -229,6 +229,7 @@ module _ {T : Type 0} where
         fields = w.fields;
         taken = w.taken;
         compared = w.compared;
+        conditional = w.conditional;
         cuts = w.cuts;
         address = w.address;
       },
@@ -266,11 +267,11 @@ module _ {T : Type 0} where
   -- that of a group of a pattern that is looked up
   pub lookup_planned : (ss : ℕ → Scope) (names : Scope) (from : ℕ) (node : LookupNode T) (p : PatternValue) (cs : List ComparedField) (known : List JoinField) → AreSame names (ss from) → node.from ≡ from
       → known ≡ known_fields (join_fields p.parts) names → IsDecidedBy p cs
-      → ((ns : Scope) → is_decided p ≡ true → choice_fields p.parts ≡ [] → known ≡ known_fields (join_fields p.parts) ns → cs ≡ compared_fields p.parts → IsLookup ns node)
+      → ((ns : Scope) → is_decided p ≡ true → choice_fields p.parts ≡ [] → conditions p.parts ≡ [] → known ≡ known_fields (join_fields p.parts) ns → cs ≡ compared_fields p.parts → IsLookup ns node)
       → ((names : Scope) (at : ℕ → Partial) (facts : ℕ → Option (ℕ × FactValue)) → IsLookup names node → IsLookupReady node names at (λ number. ⊥) facts no_tokens)
       → IsPlannedNode ss (kept.Lookup 0 node)
   lookup_planned ss names from node p cs known same is_from is_known decided lookup ready = record {
-    prepared = subst (λ k. IsLookup (ss k) node) (sym is_from) (lookup_same names (ss from) node same (lookup names decided.decided decided.unchosen is_known decided.compared));
+    prepared = subst (λ k. IsLookup (ss k) node) (sym is_from) (lookup_same names (ss from) node same (lookup names decided.decided decided.unchosen decided.unconditional is_known decided.compared));
     ready = ready;
   }
 

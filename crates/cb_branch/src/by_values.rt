@@ -1,8 +1,9 @@
 //! What a pattern is joined on, by the variables that have values before it.
-ghost use Rattle.std.specs.Prelude.{◌≡◌, ◌≢◌, ℕ, [], false, IfOk, IfSome, List, Some, filter, not};
+ghost use Rattle.std.specs.Prelude.{◌≡◌, ◌≢◌, ℕ, [], false, IfOk, IfSome, List, Some, filter, map, not};
 ghost use Rattle.std.specs.List.{list_any};
 ghost use Rattle.std.specs.Str.{bytes_eq};
-ghost use Rattle.cb_branch.specs.Internal.ByValues.{IsDecidedBy, IsElsewhere, is_own};
+ghost use Rattle.cb_branch.specs.Internal.ByValues.{IsElsewhere, IsJoinedBy, is_own};
+ghost use Rattle.cb_exprs.specs.Terms.{term_of};
 ghost use Rattle.cb_fit.specs.JoinFields.{giving_fields, join_fields};
 ghost use Rattle.cb_fit.specs.Plain.{is_named};
 ghost use Rattle.cb_join_node.specs.Nodes.{IsByValues};
@@ -10,13 +11,24 @@ ghost use Rattle.cb_nodes.specs.Patterns.{AreJoinFields};
 ghost use Rattle.cb_scopes.specs.Decided.{known_fields, unknown_fields};
 
 use crate::bound::Bound;
+use crate::copies::copy_all;
 use cb_beta::TakenFields;
+use cb_exprs::Expr;
 use cb_facts::Name;
 use cb_fit::{ComparedField, JoinField, Pattern};
 use cb_forms::NoMemory;
 use cb_join_node::{ByValues, Joining};
 use std::alloc::Global;
 use std::rc::Rc;
+
+/// What a pattern that is decided by values asks beside the fields that it is joined on.
+#[derive(Drop)]
+struct Asked {
+    /// The fields that it compares.
+    compared: Vec<ComparedField>,
+    /// Its conditions.
+    conditions: Vec<Expr>,
+}
 
 /// What is asked of a fact by a pattern without tests, where these variables have values before it. Growth is refused as `NoMemory`, and
 /// so is a count of sharers that is full.
@@ -36,14 +48,13 @@ pub(crate) fn asked_by<T>(
 {
     let known = known_fields_of(alloc, &pattern, bound)?;
     match decided_by(alloc, &address, &pattern)? {
-        Some(compared) => {
-            let taken = TakenFields {
-                fields: unknown_fields_of(alloc, &pattern, bound)?,
-                cuts: pattern.ones(alloc)?,
-            };
+        Some(by) => {
+            let fields = unknown_fields_of(alloc, &pattern, bound)?;
+            let taken = TakenFields::new(fields, pattern.ones(alloc)?);
             let by_values = ByValues {
                 taken: Rc::new(alloc, taken)?,
-                compared,
+                compared: by.compared,
+                conditions: by.conditions,
             };
             Ok(Joining {
                 address,
@@ -129,28 +140,36 @@ fn is_own(address: &Option<Name>, variable: &Name) -> bool
     }
 }
 
-/// The fields that a pattern compares, where it is decided by values, whatever its address is: it has no alternatives, and the variable
-/// of the address doesn't stand in it.
+/// The fields that a pattern compares and its conditions, where it is decided by values, whatever its address is: it has no alternatives,
+/// and the variable of the address doesn't stand in it.
 fn decided_by<T>(
     alloc: Global,
     address: &Option<Name>,
     pattern: &Pattern<T>,
-) -> Result<Option<Vec<ComparedField>>, NoMemory>
-    ensures decided { IfOk result
-        (λ found. IfSome found (λ compared. IsDecidedBy pattern.now compared.items)) }
+) -> Result<Option<Asked>, NoMemory>
+    ensures decided { IfOk result (λ found. IfSome found
+        (λ by. IsJoinedBy pattern.now by.compared.items (map term_of by.conditions.items))) }
     ensures address { IfOk result
-        (λ found. IfSome found (λ compared. IsElsewhere address.now pattern.now compared.items)) }
+        (λ found. IfSome found (λ by. IsElsewhere address.now pattern.now by.compared.items)) }
 {
     let Some(decision) = pattern.decide(alloc)? else {
         return Ok(None);
     };
-    let names = pattern.bound_names(alloc)?;
-    if !decision.chosen.is_empty()
-        || stands_in(address, names.as_slice(), decision.compared.as_slice())
-    {
+    if !decision.chosen.is_empty() {
         return Ok(None);
     }
-    Ok(Some(decision.compared))
+    let names = pattern.bound_names(alloc)?;
+    let compared = decision.compared.as_slice();
+    if stands_in(address, names.as_slice(), compared) {
+        return Ok(None);
+    }
+    let Some(conditions) = copy_all(alloc, decision.conditions.as_slice())? else {
+        return Ok(None);
+    };
+    Ok(Some(Asked {
+        compared: decision.compared,
+        conditions,
+    }))
 }
 
 /// Whether the variable of an address is one of these, or one that a field is compared with.

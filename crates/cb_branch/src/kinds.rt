@@ -63,10 +63,10 @@ fn kind_by<T>(alloc: Global, only: &Pattern<T>) -> Result<Kind, NoMemory>
 }
 
 /// Whether a pattern is looked up, by what decides whether it fits.
-fn is_looked_up(decision: &Decision) -> bool
+fn is_looked_up(decision: &Decision<'_>) -> bool
     ensures { result ≡ is_looked_up (Some (decision_of decision.now)) }
 {
-    decision.chosen.is_empty()
+    decision.chosen.is_empty() && decision.conditions.is_empty()
 }
 
 /// The pattern of a group that is of one alone.

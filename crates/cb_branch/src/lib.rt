@@ -9,6 +9,7 @@ mod bound; // the variables to which the elements before give values
 mod branch; // a branch
 mod by_values; // what a pattern is joined on, by the variables that have values before it
 mod clearing; // nodes and lists as they were before anything was found
+mod copies; // copies of expressions without an effect
 mod entering; // the patterns of nodes, entered in the alpha network
 mod filling; // what a filling begins with
 mod kinds; // groups of one pattern: how they are kept

@@ -8,6 +8,7 @@ use Rattle.std.specs.Option.{option_map_or}
 use Rattle.std.specs.Str.{bytes_eq}
 use Rattle.cb_constraints.specs.Constraints.{Test, constant, variable, predicate, return_value, Check, Demand, nothing, each, either, Constraint}
 use Rattle.cb_constraints.specs.Holding.{after_check, after_checks, after_demand, after_test, one_holds, opposite_if, provided, after_variable, test_holds}
+use Rattle.cb_constraints.specs.Internal.Known.{given_to, given_to_all}
 use Rattle.cb_constraints.specs.PatternValues.{PatternParts, PatternValue, SlotValue}
 use Rattle.cb_constraints.specs.PatternValues as pattern
 use Rattle.cb_exprs.specs.Bindings.{Bindings, value_at, with_variable, with_variables}
@@ -44,14 +45,14 @@ Gives names before grown =
 abbrev pub Step : List (List ℕ) → Bindings → Bindings → Type 0
 Step names before grown = Keeps before grown × Gives names before grown
 
-gives-none : (env grown : Bindings) → env ≡ grown → Step [] env grown
+pub gives-none : (env grown : Bindings) → env ≡ grown → Step [] env grown
 gives-none env grown e = subst (Step [] env) e ((λ x v h. h), (λ after bound keeps. ([], ap (λ b. gave b env) (sym (append-nil bound)), refl)))
 
 given-together : (more others : List (List ℕ × Value)) (env : Bindings) → with_variables (more ++ others) env ≡ with_variables others (with_variables more env)
 given-together [] others env = refl
 given-together (s ∷ more) others env = given-together more others (with_variable s.0 s.1 env)
 
-both : (xs ys : List (List ℕ)) (a b c : Bindings) → Step xs a b → Step ys b c → Step (xs ++ ys) a c
+pub both : (xs ys : List (List ℕ)) (a b c : Bindings) → Step xs a b → Step ys b c → Step (xs ++ ys) a c
 both xs ys a b c h i = (
   (λ x v e. i.0 x v (h.0 x v e)),
   (λ after bound keeps.
@@ -80,25 +81,35 @@ takes-first x v env o p bound e d = ap (λ q. given_one x q p (gave bound env)) 
 has-already : (x : List ℕ) (w : Value) (o p : Option Value) (g : GivenSoFar) → o ≡ Some w → given_one x o p g ≡ g
 has-already x w o p g e = ap (λ q. given_one x q p g) e
 
+gave-one : (x : List ℕ) (v : Value) (env : Bindings) → Step (x ∷ []) env (given_to x v env)
+gave-one x v env = by (value_at x env.variables) refl
+  where
+    by : (o : Option Value) → value_at x env.variables ≡ o → Step (x ∷ []) env (option_map_or (λ w. env) o (with_variable x v env))
+    by None is = (
+      others-keep x v env is,
+      (λ after bound keeps.
+          ((x, v) ∷ [], takes-first x v env (value_at x env.variables) (value_at x after.variables) bound is (keeps x v (value_at_set env.variables x v)), refl)),
+    )
+    by (Some w) is = (
+      (λ y u h. h),
+      (λ after bound keeps.
+          ([], has-already x w (value_at x env.variables) (value_at x after.variables) (gave bound env) is ∙ ap (λ b. gave b env) (sym (append-nil bound)), refl)),
+    )
+
+-- several get one value, if they have none
+pub gave-all : (xs : List (List ℕ)) (v : Value) (env : Bindings) → Step xs env (given_to_all xs v env)
+gave-all [] v env = gives-none env env refl
+gave-all (x ∷ xs) v env = both (x ∷ []) xs env (given_to x v env) (given_to_all xs v (given_to x v env)) (gave-one x v env) (gave-all xs v (given_to x v env))
+
 takes : (x : List ℕ) (v : Value) (env grown : Bindings) → after_variable x v env ≡ Some grown → Step (x ∷ []) env grown
-takes x v env grown e = by (value_at x env.variables) refl e
+takes x v env grown e = subst (Step (x ∷ []) env) (by (value_at x env.variables) e) (gave-one x v env)
   where
     same-one : (a b : Bindings) → Some a ≡ Some b → a ≡ b
     same-one a b d = cc
 
-    by : (o : Option Value) → value_at x env.variables ≡ o → option_map_or (λ w. provided (same v w) env) o (Some (with_variable x v env)) ≡ Some grown → Step (x ∷ []) env grown
-    by None is d =
-        subst (Step (x ∷ []) env) (same-one (with_variable x v env) grown d) (
-          others-keep x v env is,
-          (λ after bound keeps.
-              ((x, v) ∷ [], takes-first x v env (value_at x env.variables) (value_at x after.variables) bound is (keeps x v (value_at_set env.variables x v)), refl)),
-        )
-    by (Some w) is d =
-        subst (Step (x ∷ []) env) (provided-if (same v w) env grown d).1 (
-          (λ y u h. h),
-          (λ after bound keeps.
-              ([], has-already x w (value_at x env.variables) (value_at x after.variables) (gave bound env) is ∙ ap (λ b. gave b env) (sym (append-nil bound)), refl)),
-        )
+    by : (o : Option Value) → option_map_or (λ w. provided (same v w) env) o (Some (with_variable x v env)) ≡ Some grown → option_map_or (λ w. env) o (with_variable x v env) ≡ grown
+    by None d = same-one (with_variable x v env) grown d
+    by (Some w) d = (provided-if (same v w) env grown d).1
 
 pub test-gives : (negated : Bool) (t : Test) (v : Value) (env grown : Bindings) → after_test negated t v env ≡ Some grown → Step (binder negated t) env grown
 test-gives false (variable x) v env grown e = takes x v env grown e
@@ -147,7 +158,7 @@ parts-give (pattern.fields row) (fact.slots ss) cuts before after h = absurd h
 parts-give (pattern.slots rows) (fact.fields fs) cuts before after h = absurd h
 parts-give (pattern.slots rows) (fact.slots ss) cuts before after h = slots-give rows ss cuts before after h
 
-bound-gives : (p : PatternParts) (before after : Bindings) → Step (binders_in (constraints_in p)) before after → with_variables (newly_bound p before after) before ≡ after
+pub bound-gives : (p : PatternParts) (before after : Bindings) → Step (binders_in (constraints_in p)) before after → with_variables (newly_bound p before after) before ≡ after
 bound-gives p before after h =
     let w = h.1 after [] (λ x v e. e) in
     ap (λ bound. with_variables bound before) (sym (given_once (binders_in (constraints_in p)) after (gave [] before))) ∙ ap (λ g. with_variables g.bound before) w.1 ∙ w.2

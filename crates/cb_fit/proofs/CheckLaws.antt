@@ -1,5 +1,5 @@
 -- What is asked of one field, and decided by values.
-use Rattle.std.proofs.Common.{◌≡◌, ◌∙◌, ◌&&◌, ◌||◌, ℕ, Bool, true, false, is_some, not, List, [], ◌∷◌, ◌++◌, Option, Some, None, ap, ap₂, refl, sym}
+use Rattle.std.proofs.Common.{◌≡◌, ◌∙◌, ◌&&◌, ◌||◌, ℕ, Bool, true, false, is_some, not, List, [], ◌∷◌, ◌++◌, Option, Some, None, ap, ap₂, refl, sym, if◌then◌else◌}
 use Rattle.std.proofs.lemmas.Bool.{and_parts}
 use Rattle.std.proofs.lemmas.Grind.{flat_map-append}
 use Rattle.std.proofs.lemmas.List.{append-nil}
@@ -15,11 +15,15 @@ use Rattle.cb_constraints.specs.Holding.{after_checks, after_test, after_variabl
 use Rattle.cb_constraints.specs.Internal.Known.{given_to, given_to_all}
 use Rattle.cb_fit.proofs.Compared.{AreOwn, compares_known, limit_one, test_compares, test_limited}
 use Rattle.cb_fit.proofs.Given.{if_so, after_one, other_keeps}
-use Rattle.cb_fit.proofs.Members.{named_append}
-use Rattle.cb_fit.specs.Comparisons.{WithConstant, WithVariable, are_decided_checks, compared_checks, compared_term, compared_test, limited_checks, limited_term, limited_test}
+use Rattle.cb_fit.proofs.Leading.{AreWithin, HaveValues, Leads, given_leads, leads_on, settled_met, still_have}
+use Rattle.cb_fit.proofs.Members.{behind, in_front, named_append}
+use Rattle.cb_fit.specs.Comparisons.{WithConstant, WithVariable, are_decided_checks, are_settled_checks, compared_checks, compared_term, compared_test, condition_checks, is_decided_test, limited_checks, limited_term, limited_test}
+use Rattle.cb_fit.specs.Decided.{is_met}
 use Rattle.cb_fit.specs.Plain.{is_named}
+use Rattle.cb_fit.specs.Settled.{is_settled}
 use Rattle.cb_exprs.proofs.ValueLaws.{value_at_set}
 use Rattle.cb_exprs.specs.Bindings.{Bindings, value_at, with_variable}
+use Rattle.cb_exprs.specs.Terms.{Term}
 use Rattle.cb_facts.proofs.Equality.{value-Decides}
 use Rattle.cb_facts.specs.declared.value.Value.{Value}
 use Rattle.cb_functions.specs.Comparison.{same}
@@ -118,6 +122,16 @@ own_after own x v env has e y i = by (bytes_eq y x) refl i
     by false is d = other_keeps y x v env is ∙ has y d
 
 -- orders in which tests are joined
+pub at_left : (a b c : Bool) → a && (b && c) ≡ (a && b) && c
+at_left true b c = refl
+at_left false b c = refl
+
+in_between : (a b c : Bool) → a && (b && c) ≡ b && (a && c)
+in_between true true c = refl
+in_between true false c = refl
+in_between false true c = refl
+in_between false false c = refl
+
 of_variable : (g k a c : Bool) → g && (k && (a && c)) ≡ k && ((g && a) && c)
 of_variable true k a c = refl
 of_variable false true a c = refl
@@ -160,37 +174,38 @@ own_still before c v env none has y i =
 own_with : (before : List Check) (x : List ℕ) (v : Value) (env : Bindings) → AreOwn (x ∷ binders_of before) v env → AreOwn (binders_of (before ++ record { negated = false; test = variable x } ∷ [])) v env
 own_with before x v env has y i = has y (sym (last_named y before (record { negated = false; test = variable x }) ∙ or_turned (is_named y (binders_of before)) (bytes_eq y x)) ∙ i)
 
--- checks joined by `&` hold where their constants, their variables and these comparisons do
-abbrev Claim : List WithVariable → List WithConstant → List Check → Value → Bindings → Type 0
-Claim ks ls cs v env = after_checks cs v env ≡ provided (values_hold (constants_hold v cs && limits_hold v ls) (binders_of cs) ks v env) (given_to_all (binders_of cs) v env)
+-- checks joined by `&` hold where their constants, their variables, these comparisons and these conditions do
+abbrev Claim : Bool → List WithVariable → List WithConstant → List Check → Value → Bindings → Type 0
+Claim met ks ls cs v env = after_checks cs v env ≡ provided (values_hold (constants_hold v cs && limits_hold v ls) (binders_of cs) ks v env && met) (given_to_all (binders_of cs) v env)
 
-abbrev Checked : List Check → List Check → Value → Bindings → Type 0
-Checked before cs v env =
-    are_decided_checks before cs ≡ true → AreOwn (binders_of before) v env → are_others (binders_of cs) (compared_checks before cs) ≡ true
-    → Claim (compared_checks before cs) (limited_checks before cs) cs v env
-
-constant_first : (negated : Bool) (w : Value) (cs : List Check) (ks : List WithVariable) (ls : List WithConstant) (v : Value) (env : Bindings)
-    → after_test negated (constant w) v env ≡ provided (opposite_if negated (same v w)) env → Claim ks ls cs v env
+constant_first : (met negated : Bool) (w : Value) (cs : List Check) (ks : List WithVariable) (ls : List WithConstant) (v : Value) (env : Bindings)
+    → after_test negated (constant w) v env ≡ provided (opposite_if negated (same v w)) env → Claim met ks ls cs v env
     → option_and_then (after_checks cs v) (after_test negated (constant w) v env)
-    ≡ provided (values_hold ((opposite_if negated (same v w) && constants_hold v cs) && limits_hold v ls) (binders_of cs) ks v env) (given_to_all (binders_of cs) v env)
-constant_first negated w cs ks ls v env is more =
+    ≡ provided (values_hold ((opposite_if negated (same v w) && constants_hold v cs) && limits_hold v ls) (binders_of cs) ks v env && met) (given_to_all (binders_of cs) v env)
+constant_first met negated w cs ks ls v env is more =
+    let end = given_to_all (binders_of cs) v env in
+    let hold = values_hold (constants_hold v cs && limits_hold v ls) (binders_of cs) ks v env in
     ap (option_and_then (after_checks cs v)) is
-    ∙ (in_turn (opposite_if negated (same v w)) (values_hold (constants_hold v cs && limits_hold v ls) (binders_of cs) ks v env) (after_checks cs v) env (given_to_all (binders_of cs) v env) (λ g. more)
-    ∙ ap (λ t. provided t (given_to_all (binders_of cs) v env))
-    (of_constant (opposite_if negated (same v w)) (constants_hold v cs) (limits_hold v ls) (list_all (agree_one v env) (binders_of cs)) (list_all (compare_one v env) ks)))
+    ∙ (in_turn (opposite_if negated (same v w)) (hold && met) (after_checks cs v) env end (λ g. more)
+    ∙ ap (λ t. provided t end)
+    (at_left (opposite_if negated (same v w)) hold met
+    ∙ ap (λ t. t && met)
+    (of_constant (opposite_if negated (same v w)) (constants_hold v cs) (limits_hold v ls) (list_all (agree_one v env) (binders_of cs)) (list_all (compare_one v env) ks))))
 
-variable_first : (own : List (List ℕ)) (x : List ℕ) (cs : List Check) (ks : List WithVariable) (ls : List WithConstant) (v : Value) (env : Bindings) → AreOwn own v env
-    → are_others (x ∷ binders_of cs) ks ≡ true → (AreOwn (x ∷ own) v (given_to x v env) → Claim ks ls cs v (given_to x v env))
+variable_first : (met : Bool) (own : List (List ℕ)) (x : List ℕ) (cs : List Check) (ks : List WithVariable) (ls : List WithConstant) (v : Value) (env : Bindings) → AreOwn own v env
+    → are_others (x ∷ binders_of cs) ks ≡ true → (AreOwn (x ∷ own) v (given_to x v env) → Claim met ks ls cs v (given_to x v env))
     → option_and_then (after_checks cs v) (after_variable x v env)
-    ≡ provided (values_hold (constants_hold v cs && limits_hold v ls) (x ∷ binders_of cs) ks v env) (given_to_all (x ∷ binders_of cs) v env)
-variable_first own x cs ks ls v env has others more =
-    let out = given_to_all (binders_of cs) v (given_to x v env) in
+    ≡ provided (values_hold (constants_hold v cs && limits_hold v ls) (x ∷ binders_of cs) ks v env && met) (given_to_all (x ∷ binders_of cs) v env)
+variable_first met own x cs ks ls v env has others more =
+    let end = given_to_all (binders_of cs) v (given_to x v env) in
     let constants = constants_hold v cs && limits_hold v ls in
     let hold = values_hold constants (binders_of cs) ks v env in
     ap (option_and_then (after_checks cs v)) (variable_step x v env)
-    ∙ (in_turn (agree_one v env x) hold (after_checks cs v) (given_to x v env) out
-    (λ g. more (own_after own x v env has g) ∙ ap (λ t. provided t out) (hold_still x constants (binders_of cs) ks v env others))
-    ∙ ap (λ t. provided t out) (of_variable (agree_one v env x) constants (list_all (agree_one v env) (binders_of cs)) (list_all (compare_one v env) ks)))
+    ∙ (in_turn (agree_one v env x) (hold && met) (after_checks cs v) (given_to x v env) end
+    (λ g. more (own_after own x v env has g) ∙ ap (λ t. provided (t && met) end) (hold_still x constants (binders_of cs) ks v env others))
+    ∙ ap (λ t. provided t end)
+    (at_left (agree_one v env x) hold met
+    ∙ ap (λ t. t && met) (of_variable (agree_one v env x) constants (list_all (agree_one v env) (binders_of cs)) (list_all (compare_one v env) ks))))
 
 once : (a : Bool) → a ≡ (a && true) && true
 once true = refl
@@ -217,58 +232,126 @@ test_asks own negated t v env e has = by (compared_test own negated t) (limited_
     by None (Some l) i j d = test_limited own negated t l v env j has ∙ once_limited (limit_one v l)
     by None None i j d = absurd (cc)
 
-comparison_first : (own : List (List ℕ)) (negated : Bool) (t : Test) (cs : List Check) (ks : List WithVariable) (ls : List WithConstant) (v : Value) (env : Bindings)
+comparison_first : (met : Bool) (own : List (List ℕ)) (negated : Bool) (t : Test) (cs : List Check) (ks : List WithVariable) (ls : List WithConstant) (v : Value) (env : Bindings)
     → is_some (compared_test own negated t) || is_some (limited_test own negated t) ≡ true → AreOwn own v env
-    → after_test negated t v env ≡ provided (opposite_if negated (test_holds t v env)) env → Claim ks ls cs v env
+    → after_test negated t v env ≡ provided (opposite_if negated (test_holds t v env)) env → Claim met ks ls cs v env
     → option_and_then (after_checks cs v) (after_test negated t v env)
-    ≡ provided (values_hold (constants_hold v cs && limits_hold v (option_to_list (limited_test own negated t) ++ ls)) (binders_of cs) (option_to_list (compared_test own negated t) ++ ks) v env)
+    ≡ provided
+    (values_hold (constants_hold v cs && limits_hold v (option_to_list (limited_test own negated t) ++ ls)) (binders_of cs) (option_to_list (compared_test own negated t) ++ ks) v env && met)
     (given_to_all (binders_of cs) v env)
-comparison_first own negated t cs ks ls v env e has is more =
-    let out = given_to_all (binders_of cs) v env in
+comparison_first met own negated t cs ks ls v env e has is more =
+    let end = given_to_all (binders_of cs) v env in
     let with_it = option_to_list (compared_test own negated t) in
     let limit = option_to_list (limited_test own negated t) in
     let agree = list_all (agree_one v env) (binders_of cs) in
+    let here = list_all (compare_one v env) with_it && limits_hold v limit in
+    let hold = values_hold (constants_hold v cs && limits_hold v ls) (binders_of cs) ks v env in
     ap (option_and_then (after_checks cs v)) (is ∙ ap (λ g. provided g env) (test_asks own negated t v env e has))
-    ∙ (in_turn (list_all (compare_one v env) with_it && limits_hold v limit) (values_hold (constants_hold v cs && limits_hold v ls) (binders_of cs) ks v env) (after_checks cs v) env out (λ g. more)
-    ∙ (ap (λ g. provided g out) (of_comparison (list_all (compare_one v env) with_it) (limits_hold v limit) (constants_hold v cs) (limits_hold v ls) agree (list_all (compare_one v env) ks))
-    ∙ ap₂ (λ s c. provided ((constants_hold v cs && s) && (agree && c)) out) (sym (list_all-append (limit_one v) limit ls)) (sym (list_all-append (compare_one v env) with_it ks))))
+    ∙ (in_turn here (hold && met) (after_checks cs v) env end (λ g. more)
+    ∙ (ap (λ g. provided g end) (at_left here hold met)
+    ∙ (ap (λ g. provided (g && met) end) (of_comparison (list_all (compare_one v env) with_it) (limits_hold v limit) (constants_hold v cs) (limits_hold v ls) agree (list_all (compare_one v env) ks))
+    ∙ ap₂ (λ s c. provided (((constants_hold v cs && s) && (agree && c)) && met) end) (sym (list_all-append (limit_one v) limit ls)) (sym (list_all-append (compare_one v env) with_it ks)))))
+
+none_of : {X Y : Type 0} (o : Option X) (p : Option Y) → is_some o || is_some p ≡ false → (o ≡ None) × (p ≡ None)
+none_of None None e = (refl, refl)
+none_of None (Some y) e = absurd (cc)
+none_of (Some x) p e = absurd (cc)
+
+-- a condition that is met at its place where it is behind the pattern
+condition_first : (here met : Bool) (own : List (List ℕ)) (t : Term) (cs : List Check) (ks : List WithVariable) (ls : List WithConstant) (v : Value) (env : Bindings)
+    → is_some (compared_term own t) || is_some (limited_term own t) ≡ false → is_met env t ≡ here → Claim met ks ls cs v env
+    → option_and_then (after_checks cs v) (after_test false (predicate t) v env)
+    ≡ provided
+    (values_hold (constants_hold v cs && limits_hold v (option_to_list (limited_term own t) ++ ls)) (binders_of cs) (option_to_list (compared_term own t) ++ ks) v env && (here && met))
+    (given_to_all (binders_of cs) v env)
+condition_first here met own t cs ks ls v env none is more =
+    let end = given_to_all (binders_of cs) v env in
+    let hold = values_hold (constants_hold v cs && limits_hold v ls) (binders_of cs) ks v env in
+    let nones = none_of (compared_term own t) (limited_term own t) none in
+    ap (λ g. option_and_then (after_checks cs v) (provided g env)) is
+    ∙ (in_turn here (hold && met) (after_checks cs v) env end (λ g. more)
+    ∙ (ap (λ g. provided g end) (in_between here hold met)
+    ∙ ap₂ (λ o p. provided (values_hold (constants_hold v cs && limits_hold v (option_to_list p ++ ls)) (binders_of cs) (option_to_list o ++ ks) v env && (here && met)) end) (sym nones.0) (sym nones.1)))
 
 -- those of a list that has one in front
 rest_are_others : (names : List (List ℕ)) (o : Option WithVariable) (cs : List WithVariable) → are_others names (option_to_list o ++ cs) ≡ true → are_others names cs ≡ true
 rest_are_others names None cs e = e
 rest_are_others names (Some c) cs e = (and_parts (not (is_named c.1 names)) (are_others names cs) e).1
 
-one_check : (before : List Check) (negated : Bool) (t : Test) (cs : List Check) (v : Value) (env : Bindings) → ((before' : List Check) (env' : Bindings) → Checked before' cs v env')
-    → Checked before (record { negated = negated; test = t } ∷ cs) v env
-one_check before true (constant w) cs v env more e has others =
-    let c : Check = record { negated = true; test = constant w } in
-    constant_first true w cs (compared_checks (before ++ c ∷ []) cs) (limited_checks (before ++ c ∷ []) cs) v env refl (more (before ++ c ∷ []) env e (own_still before c v env refl has) others)
-one_check before false (constant w) cs v env more e has others =
-    let c : Check = record { negated = false; test = constant w } in
-    constant_first false w cs (compared_checks (before ++ c ∷ []) cs) (limited_checks (before ++ c ∷ []) cs) v env refl (more (before ++ c ∷ []) env e (own_still before c v env refl has) others)
-one_check before false (variable x) cs v env more e has others =
-    let c : Check = record { negated = false; test = variable x } in
-    let ks = compared_checks (before ++ c ∷ []) cs in
-    variable_first (binders_of before) x cs ks (limited_checks (before ++ c ∷ []) cs) v env has others
-    (λ own_has. more (before ++ c ∷ []) (given_to x v env) e (own_with before x v (given_to x v env) own_has)
-    (weaker (λ (k : WithVariable). not (is_named k.1 (x ∷ binders_of cs))) (λ (k : WithVariable). not (is_named k.1 (binders_of cs))) ks (λ k. others_differ k.1 x (binders_of cs)) others))
-one_check before true (variable x) cs v env more e has others =
-    let c : Check = record { negated = true; test = variable x } in
-    let own = binders_of before in
-    let ks = compared_checks (before ++ c ∷ []) cs in
-    comparison_first own true (variable x) cs ks (limited_checks (before ++ c ∷ []) cs) v env refl has refl
-    (more (before ++ c ∷ []) env e (own_still before c v env refl has) (rest_are_others (binders_of cs) (compared_test own true (variable x)) ks others))
-one_check before false (predicate t) cs v env more e has others =
-    let c : Check = record { negated = false; test = predicate t } in
-    let own = binders_of before in
-    let ks = compared_checks (before ++ c ∷ []) cs in
-    let both = and_parts (is_some (compared_term own t) || is_some (limited_term own t)) (are_decided_checks (before ++ c ∷ []) cs) e in
-    comparison_first own false (predicate t) cs ks (limited_checks (before ++ c ∷ []) cs) v env both.0 has refl
-    (more (before ++ c ∷ []) env both.1 (own_still before c v env refl has) (rest_are_others (binders_of cs) (compared_term own t) ks others))
-one_check before true (predicate t) cs v env more e has others = absurd (cc)
-one_check before true (return_value t) cs v env more e has others = absurd (cc)
-one_check before false (return_value t) cs v env more e has others = absurd (cc)
+-- in a pattern that may give values to these names, behind fields with these variables, where variables have `out` behind it
+module _ (names stand : List (List ℕ)) (out : Bindings) where
+  abbrev met_of : List Check → List Check → Bool
+  met_of before cs = list_all (is_met out) (condition_checks before cs)
 
-pub checks_claim : (cs before : List Check) (v : Value) (env : Bindings) → Checked before cs v env
-checks_claim [] before v env e has others = refl
-checks_claim (c ∷ cs) before v env e has others = one_check before c.negated c.test cs v env (λ before' env'. checks_claim cs before' v env') e has others
+  abbrev Checked : List Check → List Check → Value → Bindings → Type 0
+  Checked before cs v env =
+      are_decided_checks before cs ≡ true → AreOwn (binders_of before) v env → are_others (binders_of cs) (compared_checks before cs) ≡ true
+      → are_settled_checks names stand before cs ≡ true → AreWithin (binders_of cs) names → HaveValues stand env → Leads names (given_to_all (binders_of cs) v env) out
+      → Claim (met_of before cs) (compared_checks before cs) (limited_checks before cs) cs v env
+
+  -- a predicate in front of checks, which compares or makes a condition
+  module _ (before : List Check) (t : Term) (cs : List Check) (v : Value) (env : Bindings) where
+    abbrev own : List (List ℕ)
+    own = binders_of before
+
+    abbrev passed : List Check
+    passed = before ++ record { negated = false; test = predicate t } ∷ []
+
+    abbrev condition_if : Bool → List Term
+    condition_if compares = option_to_list (if compares then None else Some t)
+
+    predicate_first : AreOwn own v env → AreWithin (binders_of cs) names → HaveValues stand env → Leads names (given_to_all (binders_of cs) v env) out
+        → (b : Bool) → is_some (compared_term own t) || is_some (limited_term own t) ≡ b → list_all (is_settled names stand own) (condition_if b) && are_settled_checks names stand passed cs ≡ true
+        → (are_settled_checks names stand passed cs ≡ true → Claim (met_of passed cs) (compared_checks passed cs) (limited_checks passed cs) cs v env)
+        → option_and_then (after_checks cs v) (after_test false (predicate t) v env)
+        ≡ provided
+        (values_hold (constants_hold v cs && limits_hold v (option_to_list (limited_term own t) ++ limited_checks passed cs)) (binders_of cs) (option_to_list (compared_term own t) ++ compared_checks passed cs) v env
+        && list_all (is_met out) (condition_if b ++ condition_checks passed cs))
+        (given_to_all (binders_of cs) v env)
+    predicate_first has within known leads true is settled more =
+        comparison_first (met_of passed cs) own false (predicate t) cs (compared_checks passed cs) (limited_checks passed cs) v env is has refl (more settled)
+    predicate_first has within known leads false is settled more =
+        let both = and_parts (is_settled names stand own t && true) (are_settled_checks names stand passed cs) settled in
+        let mid = given_to_all (binders_of cs) v env in
+        condition_first (is_met out t) (met_of passed cs) own t cs (compared_checks passed cs) (limited_checks passed cs) v env is
+        (settled_met names stand own t v env out (and_parts (is_settled names stand own t) true both.0).0 has known
+        (leads_on names env mid out (given_leads names (binders_of cs) v env within) leads)) (more both.1)
+
+  one_check : (before : List Check) (negated : Bool) (t : Test) (cs : List Check) (v : Value) (env : Bindings) → ((before' : List Check) (env' : Bindings) → Checked before' cs v env')
+      → Checked before (record { negated = negated; test = t } ∷ cs) v env
+  one_check before true (constant w) cs v env more e has others settled within known leads =
+      let c : Check = record { negated = true; test = constant w } in
+      constant_first (met_of (before ++ c ∷ []) cs) true w cs (compared_checks (before ++ c ∷ []) cs) (limited_checks (before ++ c ∷ []) cs) v env refl
+      (more (before ++ c ∷ []) env e (own_still before c v env refl has) others settled within known leads)
+  one_check before false (constant w) cs v env more e has others settled within known leads =
+      let c : Check = record { negated = false; test = constant w } in
+      constant_first (met_of (before ++ c ∷ []) cs) false w cs (compared_checks (before ++ c ∷ []) cs) (limited_checks (before ++ c ∷ []) cs) v env refl
+      (more (before ++ c ∷ []) env e (own_still before c v env refl has) others settled within known leads)
+  one_check before false (variable x) cs v env more e has others settled within known leads =
+      let c : Check = record { negated = false; test = variable x } in
+      let ks = compared_checks (before ++ c ∷ []) cs in
+      variable_first (met_of (before ++ c ∷ []) cs) (binders_of before) x cs ks (limited_checks (before ++ c ∷ []) cs) v env has others
+      (λ own_has. more (before ++ c ∷ []) (given_to x v env) e (own_with before x v (given_to x v env) own_has)
+      (weaker (λ (k : WithVariable). not (is_named k.1 (x ∷ binders_of cs))) (λ (k : WithVariable). not (is_named k.1 (binders_of cs))) ks (λ k. others_differ k.1 x (binders_of cs)) others)
+      settled (λ y i. within y (behind y (x ∷ []) (binders_of cs) i))
+      (still_have names stand env (given_to x v env) (given_leads names (x ∷ []) v env (λ y i. within y (in_front y (x ∷ []) (binders_of cs) i))) known) leads)
+  one_check before true (variable x) cs v env more e has others settled within known leads =
+      let c : Check = record { negated = true; test = variable x } in
+      let own = binders_of before in
+      let ks = compared_checks (before ++ c ∷ []) cs in
+      comparison_first (met_of (before ++ c ∷ []) cs) own true (variable x) cs ks (limited_checks (before ++ c ∷ []) cs) v env refl has refl
+      (more (before ++ c ∷ []) env e (own_still before c v env refl has) (rest_are_others (binders_of cs) (compared_test own true (variable x)) ks others) settled within known leads)
+  one_check before false (predicate t) cs v env more e has others settled within known leads =
+      let c : Check = record { negated = false; test = predicate t } in
+      let both = and_parts (is_decided_test (binders_of before) false (predicate t)) (are_decided_checks (before ++ c ∷ []) cs) e in
+      predicate_first before t cs v env has within known leads (is_some (compared_term (binders_of before) t) || is_some (limited_term (binders_of before) t)) refl settled
+      (λ s. more (before ++ c ∷ []) env both.1 (own_still before c v env refl has)
+      (rest_are_others (binders_of cs) (compared_term (binders_of before) t) (compared_checks (before ++ c ∷ []) cs) others) s within known leads)
+  one_check before true (predicate t) cs v env more e has others settled within known leads = absurd (cc)
+  one_check before true (return_value t) cs v env more e has others settled within known leads = absurd (cc)
+  one_check before false (return_value t) cs v env more e has others settled within known leads = absurd (cc)
+
+  pub checks_claim : (cs before : List Check) (v : Value) (env : Bindings) → Checked before cs v env
+  checks_claim [] before v env e has others settled within known leads = refl
+  checks_claim (c ∷ cs) before v env e has others settled within known leads =
+      one_check before c.negated c.test cs v env (λ before' env'. checks_claim cs before' v env') e has others settled within known leads

@@ -3,6 +3,7 @@ use Rattle.std.proofs.Common.{arith, ◌≡◌, ◌≢◌, ◌↔◌, ◌∙◌,
 use Rattle.std.proofs.lemmas.Bool.{and_from, and_parts}
 use Rattle.std.proofs.lemmas.List.{map-append}
 use Rattle.std.proofs.lemmas.List.Folds.{flat_map-map, list_all-map}
+use Rattle.std.proofs.lemmas.Simd.{map-map}
 use Rattle.std.specs.Cmp.{IsTotalOrder}
 use Rattle.std.specs.Cmp.Lexicographic.{nat_list_cmp_total, slice_cmp}
 use Rattle.std.specs.List.{AllPairs, list_all, list_any}
@@ -15,20 +16,23 @@ use Rattle.cb_constraints.specs.Bound.{each_once, given, newly_bound}
 use Rattle.cb_constraints.specs.Constraints.{Constraint, Demand}
 use Rattle.cb_constraints.specs.Holding.{may_hold, provided}
 use Rattle.cb_constraints.specs.PatternValues.{PatternValue}
+use Rattle.cb_fit.proofs.AllGiven.{Step, both, bound-gives, gave-all, gives-none}
 use Rattle.cb_fit.proofs.Asked.{AreLong, Asked, after_all, are_single, asked_of, parts_in, parts_out}
 use Rattle.cb_fit.proofs.CheckLaws.{agree_one, alike, are_others, weaker}
 use Rattle.cb_fit.proofs.DemandLaws.{choose_one}
 use Rattle.cb_fit.proofs.Givers.{the_names, they_take}
+use Rattle.cb_fit.proofs.Leading.{AreWithin, leads_nowhere, none_have}
 use Rattle.cb_fit.proofs.Members.{all_of_flat, all_pass, one_passes, only_this}
 use Rattle.cb_fit.proofs.LooseDecided.{HoldsLoosely, all_may, asked_loose, long_loose, ones_loose, single_loose}
 use Rattle.cb_fit.proofs.PlacedFields.{AskedIf, parts_asked, parts_placed, placed_value, with_a_value}
 use Rattle.cb_fit.proofs.Passed.{compare_if, compared}
-use Rattle.cb_fit.proofs.Whole.{AllStand, agree_of, all_compared, all_own, are_all_others, choose_of, decides, given_over, in_sequence, may_of, names_of, over_stands, together, whole}
-use Rattle.cb_fit.specs.Comparisons.{ChoiceFieldValue, all_own_hold, choice_fields, choices, chooses_others, compared_fields, compares, compares_others, comparisons, demand_choice_fields, is_decided, is_decided_constraint, is_decided_demand, is_other, own_fields, own_fields_from}
-use Rattle.cb_fit.specs.Decided.{AgreeWith, AreOneOf, HoldOf, HoldsOf, IsOneOf, ValuesDecide, ones, taken_by_all, way_by_values}
+use Rattle.cb_fit.proofs.Whole.{AllStand, agree_of, all_compared, all_own, are_all_others, choose_of, decides, demands_of, given_over, in_sequence, may_of, met_behind, names_of, over_stands, together, whole}
+use Rattle.cb_fit.specs.Comparisons.{ChoiceFieldValue, all_own_hold, are_settled_from, choice_fields, choices, chooses_others, compared_fields, compares, compares_others, comparisons, conditions, demand_choice_fields, demand_conditions, is_decided, is_decided_constraint, is_decided_demand, is_other, own_fields, own_fields_from, settles}
+use Rattle.cb_fit.specs.Decided.{AgreeWith, AreMet, AreOneOf, HoldOf, HoldsOf, IsOneOf, ValuesDecide, is_met, ones, taken_by_all, way_by_values}
 use Rattle.cb_fit.specs.Plain.{bound_names, is_named}
 use Rattle.cb_fit.specs.declared.comparison.ComparedField.{ComparedField}
-use Rattle.cb_exprs.specs.Bindings.{Bindings, no_bindings, value_at}
+use Rattle.cb_constraints.specs.Internal.Known.{given_to_all}
+use Rattle.cb_exprs.specs.Bindings.{Bindings, no_bindings, value_at, with_variables}
 use Rattle.cb_facts.proofs.Equality.{value-Decides}
 use Rattle.cb_facts.specs.Facts.{FactContent, FactValue}
 use Rattle.cb_facts.specs.declared.value.Value.{Value}
@@ -153,8 +157,11 @@ module _ (p : PatternValue) (content : FactContent) (before : Bindings) (e : is_
   abbrev decided_one : Constraint → Bool
   decided_one c = is_decided_constraint c && compares_others c
 
-  decided_all : (list_all decided_one (constraints_in p.parts) ≡ true) × (chooses_others p.parts ≡ true)
-  decided_all = and_parts (list_all decided_one (constraints_in p.parts)) (chooses_others p.parts) e
+  decided_all : (list_all decided_one (constraints_in p.parts) ≡ true) × (chooses_others p.parts && settles p.parts ≡ true)
+  decided_all = and_parts (list_all decided_one (constraints_in p.parts)) (chooses_others p.parts && settles p.parts) e
+
+  decided_others : (chooses_others p.parts ≡ true) × (settles p.parts ≡ true)
+  decided_others = and_parts (chooses_others p.parts) (settles p.parts) decided_all.1
 
   -- what it compares of one fact
   own_are : own_fields p.parts ≡ own_fields_from [] placed
@@ -209,10 +216,40 @@ module _ (p : PatternValue) (content : FactContent) (before : Bindings) (e : is_
     choices_others =
         sym (over_choices other_choice (λ (b : AskedIf). are_all_others (bound_names p) (choices b.0))
         (λ d. list_all-map other_choice (λ names. record { place = d.place; variables = names }) (choices d.demand)))
-        ∙ decided_all.1
+        ∙ decided_others.0
 
-    exactly : after_all asked before ≡ provided (in_sequence asked before) the_after
-    exactly = whole asked before demands_are
+    -- conditions
+    demands_placed : map (λ (d : PlacedDemand). d.demand) placed ≡ demands_of asked
+    demands_placed =
+        sym (map-map (λ (b : AskedIf). b.0) (placed_value content) placed)
+        ∙ (ap (map (λ (b : AskedIf). b.0)) (parts_placed p.parts content single_all long) ∙ map-map (λ (b : AskedIf). b.0) with_a_value asked)
+
+    settled : are_settled_from (bound_names p) [] (demands_of asked) ≡ true
+    settled = ap (are_settled_from (bound_names p) []) (sym demands_placed) ∙ decided_others.1
+
+    all_within : AreWithin (names_of asked) (bound_names p)
+    all_within y i = ap (is_named y) (sym names_are) ∙ i
+
+    abbrev conditions_met : Bool
+    conditions_met = list_all (met_behind the_after) asked
+
+    conditions_are : list_all (is_met the_after) (conditions p.parts) ≡ conditions_met
+    conditions_are =
+        all_of_flat (is_met the_after) (λ (d : PlacedDemand). demand_conditions d.demand) placed
+        ∙ over_placed (λ (b : AskedIf). list_all (is_met the_after) (demand_conditions b.0))
+
+    exactly : after_all asked before ≡ provided (in_sequence asked before && conditions_met) the_after
+    exactly = whole (bound_names p) [] the_after asked before demands_are settled all_within (none_have before) (leads_nowhere (bound_names p) the_after)
+
+    -- the way gives variables what they have behind the pattern
+    given_is : with_variables (newly_bound p.parts before the_after) before ≡ the_after
+    given_is = bound-gives p.parts before the_after (subst (λ names. Step names before the_after) names_are (over_step asked before))
+      where
+        over_step : (more : Asked) (env : Bindings) → Step (names_of more) env (given_over more env)
+        over_step [] env = gives-none env env refl
+        over_step (a ∷ more) env =
+            let env' = given_to_all (binders a.0) a.1 env in
+            both (binders a.0) (names_of more) env env' (given_over more env') (gave-all (binders a.0) a.1 env) (over_step more env')
 
     fields_are : map (λ (j : JoinField). j.variable) (join_fields p.parts) ≡ bound_names p
     fields_are = variables_of placed ∙ (flat_over_placed (λ (b : AskedIf). binders b.0) ∙ (flat asked ∙ names_are))
@@ -249,21 +286,33 @@ module _ (p : PatternValue) (content : FactContent) (before : Bindings) (e : is_
       holds_where : in_sequence asked before ≡ each_holds
       holds_where =
           together content before (bound_names p) placed asked [] before (parts_placed p.parts content single_all long) nothing_stands (λ y i. refl)
-          (λ y i. ap (is_named y) (sym names_are) ∙ i) agrees choices_others
+          all_within agrees choices_others
+
+      -- what the way gives
+      pub bound_is : newly_bound p.parts before the_after ≡ taken_by_all (giving_fields p.parts) before content
+      bound_is =
+          ap (flat_map (given before the_after)) (ap each_once (sym fields_are) ∙ the_names (join_fields p.parts))
+          ∙ they_take content before the_after (join_fields p.parts)
+          (over_stands content before placed asked [] before (parts_placed p.parts content single_all long) nothing_stands agrees)
+
+      behind_is : with_variables (way_by_values p before content).bound before ≡ the_after
+      behind_is = ap (λ bound. with_variables bound before) (sym bound_is) ∙ given_is
 
       pub hold_all : list_all (λ (a : Demand × Value). may_hold a.0 a.1) asked ≡ true → all_own_hold (own_fields p.parts) content ≡ true → HoldOf (compared_fields p.parts) before content
-          → AreOneOf (choice_fields p.parts) before content → after_all asked before ≡ Some the_after
-      hold_all may own hold one =
+          → AreOneOf (choice_fields p.parts) before content → AreMet p before content → after_all asked before ≡ Some the_after
+      hold_all may own hold one met =
           let all = list_all (may_of content before) asked in
           let others = all_compared content before [] placed in
           exactly
           ∙ ap (λ t. provided t the_after)
+          (and_from (in_sequence asked before) conditions_met
           (holds_where
           ∙ and_from (all && (all_own content before [] placed && others)) (list_all (choose_of content before) asked)
           (and_from all (all_own content before [] placed && others) may
           (and_from (all_own content before [] placed) others (ap (λ os. all_own_hold os content) (sym own_are) ∙ own)
           (all_pass (compared content before) (compared_fields p.parts) (λ c i. compared_if content before c (hold c i)))))
           (sym choices_are ∙ all_pass (chosen content before) (choice_fields p.parts) (λ c i. chosen_if content before c (one c i))))
+          (sym conditions_are ∙ all_pass (is_met the_after) (conditions p.parts) (λ t i. ap (λ env. is_met env t) (sym behind_is) ∙ met t i)))
 
       provided_if : (after : Bindings) (t : Bool) → provided t the_after ≡ Some after → t ≡ true
       provided_if after true d = refl
@@ -271,10 +320,13 @@ module _ (p : PatternValue) (content : FactContent) (before : Bindings) (e : is_
 
       -- and all of it holds where the pattern fits
       module _ (after : Bindings) (h : after_all asked before ≡ Some after) where
+        in_both : (in_sequence asked before ≡ true) × (conditions_met ≡ true)
+        in_both = and_parts (in_sequence asked before) conditions_met (provided_if after (in_sequence asked before && conditions_met) (sym exactly ∙ h))
+
         holds : (list_all (may_of content before) asked && (all_own content before [] placed && all_compared content before [] placed) ≡ true) × (list_all (choose_of content before) asked ≡ true)
         holds =
             and_parts (list_all (may_of content before) asked && (all_own content before [] placed && all_compared content before [] placed)) (list_all (choose_of content before) asked)
-            (sym holds_where ∙ provided_if after (in_sequence asked before) (sym exactly ∙ h))
+            (sym holds_where ∙ in_both.0)
 
         fields_hold : (all_own content before [] placed ≡ true) × (all_compared content before [] placed ≡ true)
         fields_hold =
@@ -290,12 +342,8 @@ module _ (p : PatternValue) (content : FactContent) (before : Bindings) (e : is_
         pub choices_hold : AreOneOf (choice_fields p.parts) before content
         choices_hold c i = chosen_is content before c (one_passes (chosen content before) (choice_fields p.parts) c (choices_are ∙ holds.1) i)
 
-      -- what the way gives
-      pub bound_is : newly_bound p.parts before the_after ≡ taken_by_all (giving_fields p.parts) before content
-      bound_is =
-          ap (flat_map (given before the_after)) (ap each_once (sym fields_are) ∙ the_names (join_fields p.parts))
-          ∙ they_take content before the_after (join_fields p.parts)
-          (over_stands content before placed asked [] before (parts_placed p.parts content single_all long) nothing_stands agrees)
+        pub conditions_hold : AreMet p before content
+        conditions_hold t i = ap (λ env. is_met env t) behind_is ∙ one_passes (is_met the_after) (conditions p.parts) t (conditions_are ∙ in_both.1) i
 
 -- the pattern fits where the fact has its shape, and the values agree and compare so
 module _ (known : WaysAreKnown) (p : PatternValue) (f : FactValue) (before : Bindings) (e : is_decided p ≡ true) where
@@ -325,11 +373,11 @@ module _ (known : WaysAreKnown) (p : PatternValue) (f : FactValue) (before : Bin
   selected h = and_parts (has_shape p f) (all_own_hold (own_fields p.parts) f.content) h
 
   pub fits_so : is_selected p f ≡ true → ValuesDecide p before f.content → ways p f before ≡ the_way ∷ []
-  fits_so h (agree, hold, choose) =
+  fits_so h (agree, hold, choose, met) =
       let shape = the_shape (selected h).0 in
       let long = shape.1 in
       let after = given_over (asked_of p.parts f.content) before in
-      let is = hold_all p f.content before e long agree shape.2 (selected h).1 hold choose in
+      let is = hold_all p f.content before e long agree shape.2 (selected h).1 hold choose met in
       let one = taken_way p before (ones (constraints_in p.parts)) after in
       let there = known.listed p f (ones (constraints_in p.parts)) before after (shape.0, parts_out p.parts f.content before after (single_all p f.content before e) long is) in
       only_this (λ (w : WayValue). w.cuts) one (ways p f before) there (each_is after long is) (known.rising p f before) (not_less (ones (constraints_in p.parts)))
@@ -346,6 +394,7 @@ module _ (known : WaysAreKnown) (p : PatternValue) (f : FactValue) (before : Bin
           agree,
           comparisons_hold p f.content before e took.0 agree fits.0 took.2,
           choices_hold p f.content before e took.0 agree fits.0 took.2,
+          conditions_hold p f.content before e took.0 agree fits.0 took.2,
         ),
       )
 

@@ -2,9 +2,11 @@
 use Rattle.std.proofs.Common.{◌≡◌, ℕ, pos, List, [], ◌∷◌, None, codes, true, false, refl}
 use Rattle.cb_constraints.specs.Constraints.{Check, Constraint, Test, constant, variable, predicate, each, either}
 use Rattle.cb_constraints.specs.PatternValues.{PatternValue, fields}
-use Rattle.cb_fit.specs.Comparisons.{all_own_hold, choice_fields, compared_fields, compares, is_decided, own_fields}
+use Rattle.cb_fit.specs.Comparisons.{all_own_hold, choice_fields, compared_fields, compares, conditions, is_decided, own_fields}
+use Rattle.cb_fit.specs.Decided.{is_met}
 use Rattle.cb_fit.specs.declared.comparison.Comparison.TheVariants.{Differs, GreaterOrEqual, Less, LessOrEqual, Same}
 use Rattle.cb_fit.specs.declared.own_field.Operand.TheVariants as operand
+use Rattle.cb_exprs.specs.Bindings.{Bindings, no_bindings, with_variable}
 use Rattle.cb_exprs.specs.Terms.{Term, no_terms, term}
 use Rattle.cb_exprs.specs.Terms as expression
 use Rattle.cb_facts.specs.Facts as fact
@@ -19,6 +21,9 @@ v = codes "v"
 
 abbrev w : List ℕ
 w = codes "w"
+
+abbrev u : List ℕ
+u = codes "u"
 
 abbrev is : Test → Check
 is t = record { negated = false; test = t }
@@ -35,9 +40,27 @@ one cs = record { segment = false; demand = each cs }
 abbrev of : List Constraint → PatternValue
 of row = record { relation = codes "x"; parts = fields row }
 
+-- `(f a b)`
+abbrev calls : Function → Term → Term → Term
+calls f a b = expression.call f (term a (term b no_terms))
+
 -- `:(f a b)`
 abbrev asks : Function → Term → Term → Check
-asks f a b = is (predicate (expression.call f (term a (term b no_terms))))
+asks f a b = is (predicate (calls f a b))
+
+-- `(not a)`
+abbrev not_of : Term → Term
+not_of a = expression.call function.Not (term a no_terms)
+
+-- `(+ ?x 1)`
+abbrev one_more : List ℕ → Term
+one_more x = calls function.Add (expression.variable x) (expression.constant (value.Int (pos 1)))
+
+-- `(= 1 (abs (- ?w ?v)))`
+abbrev next_to : Term
+next_to =
+    calls function.Equal (expression.constant (value.Int (pos 1)))
+    (expression.call function.Abs (term (calls function.Subtract (expression.variable w) (expression.variable v)) no_terms))
 
 -- (x ?w&~red red|~red)
 abbrev without_comparison : PatternValue
@@ -200,15 +223,28 @@ own_turned : own_fields (of (one (is (variable w) ∷ asks function.LessOrEqual 
     ≡ record { place = record { slot = None; field = 0 }; comparison = GreaterOrEqual; other = operand.Constant (value.Int (pos 3)) } ∷ []
 own_turned = refl
 
--- (x ?w&:(< ?v 3)) and (x ?w&:(< ?v ?v)): no comparison of the field
-not_decided_other : is_decided (of (one (is (variable w) ∷ asks function.Less (expression.variable v) (expression.constant (value.Int (pos 3))) ∷ []) ∷ [])) ≡ false
-not_decided_other = refl
+-- (x ?w&:(< ?v 3)) and (x ?w&:(< ?v ?v)): no comparison of the field, and so conditions
+abbrev of_another : PatternValue
+of_another = of (one (is (variable w) ∷ asks function.Less (expression.variable v) (expression.constant (value.Int (pos 3))) ∷ []) ∷ [])
 
-not_decided_elsewhere : is_decided (of (one (is (variable w) ∷ asks function.Less (expression.variable v) (expression.variable v) ∷ []) ∷ [])) ≡ false
-not_decided_elsewhere = refl
+decided_of_another : is_decided of_another ≡ true
+decided_of_another = refl
+
+conditions_of_another : conditions of_another.parts ≡ calls function.Less (expression.variable v) (expression.constant (value.Int (pos 3))) ∷ []
+conditions_of_another = refl
+
+decided_elsewhere : is_decided (of (one (is (variable w) ∷ asks function.Less (expression.variable v) (expression.variable v) ∷ []) ∷ [])) ≡ true
+decided_elsewhere = refl
+
+-- (x ?w&:(< ?w ?v)) and (x ?w&:(< ?w 3)): comparisons, and so no conditions
+no_conditions_least : conditions least.parts ≡ []
+no_conditions_least = refl
+
+no_conditions_constant : conditions less_than_three.parts ≡ []
+no_conditions_constant = refl
 
 -- (x ?w&~:(< ?w ?v)) holds where the comparison faults, and is left general
-not_decided_opposite : is_decided (of (one (is (variable w) ∷ differs (predicate (expression.call function.Less (term (expression.variable w) (term (expression.variable v) no_terms)))) ∷ []) ∷ [])) ≡ false
+not_decided_opposite : is_decided (of (one (is (variable w) ∷ differs (predicate (calls function.Less (expression.variable w) (expression.variable v))) ∷ []) ∷ [])) ≡ false
 not_decided_opposite = refl
 
 -- what is no integer is in no order
@@ -221,3 +257,65 @@ no_integer = refl
 -- but differs from all that it isn't equal to
 they_differ : compares Differs (value.Int (pos 1)) (value.Symbol (codes "a")) ≡ true
 they_differ = refl
+
+-- (x ?w&:(not (member$ ?w ?v)))
+abbrev no_member : PatternValue
+no_member = of (one (is (variable w) ∷ is (predicate (not_of (calls function.Member (expression.variable w) (expression.variable v)))) ∷ []) ∷ [])
+
+decided_no_member : is_decided no_member ≡ true
+decided_no_member = refl
+
+conditions_no_member : conditions no_member.parts ≡ not_of (calls function.Member (expression.variable w) (expression.variable v)) ∷ []
+conditions_no_member = refl
+
+-- and nothing else is asked
+compares_no_member : compared_fields no_member.parts ≡ []
+compares_no_member = refl
+
+-- (x ?v red ?w&~?u&:(= 1 (abs (- ?w ?v)))): the first field has ?v
+abbrev beside : PatternValue
+beside = of (one (is (variable v) ∷ []) ∷ one (is red ∷ []) ∷ one (is (variable w) ∷ differs (variable u) ∷ is (predicate next_to) ∷ []) ∷ [])
+
+decided_beside : is_decided beside ≡ true
+decided_beside = refl
+
+conditions_beside : conditions beside.parts ≡ next_to ∷ []
+conditions_beside = refl
+
+compares_beside : compared_fields beside.parts ≡ record { place = record { slot = None; field = 2 }; comparison = Differs; variable = u } ∷ []
+compares_beside = refl
+
+-- (x ?w&:(= ?v (+ ?w 1)))
+abbrev one_less : PatternValue
+one_less = of (one (is (variable w) ∷ asks function.Equal (expression.variable v) (one_more w) ∷ []) ∷ [])
+
+decided_one_less : is_decided one_less ≡ true
+decided_one_less = refl
+
+conditions_one_less : conditions one_less.parts ≡ calls function.Equal (expression.variable v) (one_more w) ∷ []
+conditions_one_less = refl
+
+-- the condition holds where ?w has 2 and ?v 3, and not where ?v has no value: then it faults
+abbrev with_two : Bindings
+with_two = with_variable w (value.Int (pos 2)) no_bindings
+
+three_is_met : is_met (with_variable v (value.Int (pos 3)) with_two) (calls function.Equal (expression.variable v) (one_more w)) ≡ true
+three_is_met = refl
+
+four_is_not_met : is_met (with_variable v (value.Int (pos 4)) with_two) (calls function.Equal (expression.variable v) (one_more w)) ≡ false
+four_is_not_met = refl
+
+none_is_not_met : is_met with_two (calls function.Equal (expression.variable v) (one_more w)) ≡ false
+none_is_not_met = refl
+
+-- (x ?w&:(= ?v (+ ?w 1)) ?v): ?v may get its value behind the condition, which has to fault where it has none before
+not_decided_later : is_decided (of (one (is (variable w) ∷ asks function.Equal (expression.variable v) (one_more w) ∷ []) ∷ one (is (variable v) ∷ []) ∷ [])) ≡ false
+not_decided_later = refl
+
+-- (x ?w&:(= ?v (+ ?w 1))&?v): so it is in one field
+not_decided_later_there : is_decided (of (one (is (variable w) ∷ asks function.Equal (expression.variable v) (one_more w) ∷ is (variable v) ∷ []) ∷ [])) ≡ false
+not_decided_later_there = refl
+
+-- (x ?v ?w&:(= ?v (+ ?w 1)) ?v): but not where ?v stands before as well
+decided_before : is_decided (of (one (is (variable v) ∷ []) ∷ one (is (variable w) ∷ asks function.Equal (expression.variable v) (one_more w) ∷ []) ∷ one (is (variable v) ∷ []) ∷ [])) ≡ true
+decided_before = refl

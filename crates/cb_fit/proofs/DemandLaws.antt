@@ -10,7 +10,9 @@ use Rattle.cb_constraints.specs.Constraints.{Test, constant, variable, predicate
 use Rattle.cb_constraints.specs.Holding.{after_demand, check_holds, constant_holds, constants_hold, may_hold, one_holds, provided}
 use Rattle.cb_constraints.specs.Internal.Known.{given_to, given_to_all}
 use Rattle.cb_fit.proofs.CheckLaws.{agree_one, agrees_still, alike, are_others, checks_claim, in_turn, limits_hold, values_hold, variable_step}
-use Rattle.cb_fit.specs.Comparisons.{choices, choices_of, compared_checks, comparisons, is_decided_demand, is_one_variable, is_variable, limited_checks, limits}
+use Rattle.cb_fit.proofs.Leading.{AreWithin, HaveValues, Leads}
+use Rattle.cb_fit.specs.Comparisons.{choices, choices_of, compared_checks, comparisons, demand_conditions, is_decided_demand, is_one_variable, is_settled_demand, is_variable, limited_checks, limits}
+use Rattle.cb_fit.specs.Decided.{is_met}
 use Rattle.cb_exprs.specs.Bindings.{Bindings}
 use Rattle.cb_facts.specs.declared.value.Value.{Value}
 use Rattle.cb_fit.specs.StandsAlone.{are_constants}
@@ -87,22 +89,32 @@ any_alike : {X : Type 0} (t u : X → Bool) (xs : List X) → ((x : X) → t x �
 any_alike t u [] h = refl
 any_alike t u (x ∷ xs) h = ap₂ (λ a b. a || b) (h x) (any_alike t u xs h)
 
-pub demand_claim : (d : Demand) (v : Value) (env : Bindings) → is_decided_demand d ≡ true → are_others (binders d) (comparisons d) ≡ true
-    → after_demand d v env ≡ provided (demand_holds d v env) (given_to_all (binders d) v env)
-demand_claim nothing v env e others = refl
-demand_claim (each cs) v env e others =
-    checks_claim cs [] v env e (λ y i. absurd (cc)) others ∙ ap (λ t. provided t (given_to_all (binders_of cs) v env)) (sym (and_true (values_hold (constants_hold v cs && limits_hold v (limited_checks [] cs)) (binders_of cs) (compared_checks [] cs) v env)))
-demand_claim (either None alternatives) v env e others =
-    let chosen = list_all (choose_one v env) (choices (either None alternatives)) in
-    ap (λ t. provided t env) (alternatives_hold (list_all are_constants alternatives) alternatives v env refl e ∙ alone (may_hold (either None alternatives) v) chosen)
-demand_claim (either (Some x) alternatives) v env e others =
-    let grown = given_to x v env in
-    let may = may_hold (either (Some x) alternatives) v in
-    let sets = choices (either (Some x) alternatives) in
-    let chosen = list_all (choose_one v env) sets in
-    ap (option_and_then (λ mid. provided (one_holds alternatives v mid) mid)) (variable_step x v env)
-    ∙ (in_turn (agree_one v env x) (may && chosen) (λ mid. provided (one_holds alternatives v mid) mid) grown grown
-    (λ g. ap (λ t. provided t grown)
-    (alternatives_hold (list_all are_constants alternatives) alternatives v grown refl e
-    ∙ ap (λ b. may && b) (alike (choose_one v grown) (choose_one v env) sets (λ names. any_alike (agree_one v grown) (agree_one v env) names (agrees_still x v env)))))
-    ∙ ap (λ t. provided t grown) (set_apart (agree_one v env x) may chosen))
+-- in a pattern that may give values to these names, behind fields with these variables, where variables have `out` behind it
+module _ (names stand : List (List ℕ)) (out : Bindings) where
+  -- the conditions of a constraint are met behind the pattern
+  abbrev pub demand_met : Demand → Bool
+  demand_met d = list_all (is_met out) (demand_conditions d)
+
+  pub demand_claim : (d : Demand) (v : Value) (env : Bindings) → is_decided_demand d ≡ true → are_others (binders d) (comparisons d) ≡ true → is_settled_demand names stand d ≡ true
+      → AreWithin (binders d) names → HaveValues stand env → Leads names (given_to_all (binders d) v env) out
+      → after_demand d v env ≡ provided (demand_holds d v env && demand_met d) (given_to_all (binders d) v env)
+  demand_claim nothing v env e others settled within known leads = refl
+  demand_claim (each cs) v env e others settled within known leads =
+      checks_claim names stand out cs [] v env e (λ y i. absurd (cc)) others settled within known leads
+      ∙ ap (λ t. provided (t && demand_met (each cs)) (given_to_all (binders_of cs) v env)) (sym (and_true (values_hold (constants_hold v cs && limits_hold v (limited_checks [] cs)) (binders_of cs) (compared_checks [] cs) v env)))
+  demand_claim (either None alternatives) v env e others settled within known leads =
+      let chosen = list_all (choose_one v env) (choices (either None alternatives)) in
+      ap (λ t. provided t env)
+      (alternatives_hold (list_all are_constants alternatives) alternatives v env refl e
+      ∙ (alone (may_hold (either None alternatives) v) chosen ∙ sym (and_true (demand_holds (either None alternatives) v env))))
+  demand_claim (either (Some x) alternatives) v env e others settled within known leads =
+      let grown = given_to x v env in
+      let may = may_hold (either (Some x) alternatives) v in
+      let sets = choices (either (Some x) alternatives) in
+      let chosen = list_all (choose_one v env) sets in
+      ap (option_and_then (λ mid. provided (one_holds alternatives v mid) mid)) (variable_step x v env)
+      ∙ (in_turn (agree_one v env x) (may && chosen) (λ mid. provided (one_holds alternatives v mid) mid) grown grown
+      (λ g. ap (λ t. provided t grown)
+      (alternatives_hold (list_all are_constants alternatives) alternatives v grown refl e
+      ∙ ap (λ b. may && b) (alike (choose_one v grown) (choose_one v env) sets (λ xs. any_alike (agree_one v grown) (agree_one v env) xs (agrees_still x v env)))))
+      ∙ ap (λ t. provided t grown) (set_apart (agree_one v env x) may chosen ∙ sym (and_true (demand_holds (either (Some x) alternatives) v env))))

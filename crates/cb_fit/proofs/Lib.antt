@@ -21,6 +21,7 @@ mod Groups
 mod Having
 mod InTurn
 mod Joined
+mod Leading
 mod Listed
 mod Looked
 mod LooseDecided
@@ -45,6 +46,7 @@ mod StandsAlone
 mod Takes
 mod Trailing
 mod Tries
+mod VariableFields
 mod Whole
 mod Wildcards
 mod WithoutVariables

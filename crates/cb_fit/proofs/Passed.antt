@@ -11,7 +11,7 @@ use Rattle.cb_exprs.specs.Bindings.{Bindings, value_at}
 use Rattle.cb_facts.proofs.Equality.{value-Decides}
 use Rattle.cb_facts.specs.Facts.{FactContent}
 use Rattle.cb_facts.specs.declared.value.Value.{Value}
-use Rattle.cb_fit.proofs.CheckLaws.{agree_one, alike_where, compare_one, limits_hold}
+use Rattle.cb_fit.proofs.CheckLaws.{agree_one, alike_where, at_left, compare_one, limits_hold}
 use Rattle.cb_fit.proofs.Compared.{compares_known}
 use Rattle.cb_fit.proofs.Given.{after_several, if_so, or_none}
 use Rattle.cb_fit.proofs.Members.{all_of_flat}
@@ -32,10 +32,6 @@ in_pairs true true c d = refl
 in_pairs true false true d = refl
 in_pairs true false false d = refl
 in_pairs false b c d = refl
-
-pub at_left : (a b c : Bool) → a && (b && c) ≡ (a && b) && c
-at_left true b c = refl
-at_left false b c = refl
 
 in_between : (a b c : Bool) → a && (b && c) ≡ b && (a && c)
 in_between true true c = refl

@@ -12,13 +12,15 @@ use Rattle.cb_constraints.specs.Constraints.{Demand}
 use Rattle.cb_constraints.specs.Holding.{may_hold, provided}
 use Rattle.cb_constraints.specs.Internal.Known.{given_to_all}
 use Rattle.cb_fit.proofs.Asked.{Asked, after_all}
-use Rattle.cb_fit.proofs.CheckLaws.{agree_one, alike_where, are_others, in_turn}
+use Rattle.cb_fit.proofs.CheckLaws.{agree_one, alike_where, are_others, at_left, in_turn}
 use Rattle.cb_fit.proofs.DemandLaws.{choose_one, demand_claim, demand_holds}
 use Rattle.cb_fit.proofs.Given.{others_keep}
+use Rattle.cb_fit.proofs.Leading.{AreWithin, HaveValues, Leads, away, given_have, given_leads, leads_nowhere, leads_on}
 use Rattle.cb_fit.proofs.Members.{behind, in_front}
-use Rattle.cb_fit.proofs.Passed.{HasField, Stands, at_left, compared, compared_hold, in_pairs, limited_hold, repeated_hold, stands_still}
+use Rattle.cb_fit.proofs.Passed.{HasField, Stands, compared, compared_hold, in_pairs, limited_hold, repeated_hold, stands_still}
 use Rattle.cb_fit.proofs.PlacedFields.{AskedIf, placed_value, with_a_value}
-use Rattle.cb_fit.specs.Comparisons.{choices, compared_at, compared_from, comparisons, is_decided_demand, is_other, limits, own_compared_at, own_fields_at, own_fields_from, own_holds, own_limits_at, repeated_at, with_others}
+use Rattle.cb_fit.specs.Comparisons.{are_settled_from, choices, compared_at, compared_from, comparisons, demand_conditions, is_decided_demand, is_other, is_settled_demand, limits, own_compared_at, own_fields_at, own_fields_from, own_holds, own_limits_at, repeated_at, with_others}
+use Rattle.cb_fit.specs.Decided.{is_met}
 use Rattle.cb_fit.specs.FieldPlaces.{PlacedDemand}
 use Rattle.cb_fit.specs.JoinFields.{demand_join_fields, fields_for}
 use Rattle.cb_fit.specs.Plain.{is_named}
@@ -52,21 +54,42 @@ are_all_others names sets = list_all (λ xs. list_all (is_other names) xs) sets
 abbrev pub decides : Demand × Value → Bool
 decides a = is_decided_demand a.0 && are_others (binders a.0) (comparisons a.0)
 
-pub whole : (asked : Asked) (env : Bindings) → list_all decides asked ≡ true → after_all asked env ≡ provided (in_sequence asked env) (given_over asked env)
-whole [] env e = refl
-whole (a ∷ more) env e =
+-- what is asked
+abbrev pub demands_of : Asked → List Demand
+demands_of asked = map (λ (a : Demand × Value). a.0) asked
+
+-- what variables have after all of it
+pub over_leads : (names : List (List ℕ)) (asked : Asked) (env : Bindings) → AreWithin (names_of asked) names → Leads names env (given_over asked env)
+over_leads names [] env within = leads_nowhere names env
+over_leads names (a ∷ more) env within =
+    let env' = given_to_all (binders a.0) a.1 env in
+    leads_on names env env' (given_over more env') (given_leads names (binders a.0) a.1 env (λ y i. within y (in_front y (binders a.0) (names_of more) i)))
+    (over_leads names more env' (λ y i. within y (behind y (binders a.0) (names_of more) i)))
+
+-- the conditions of what is asked are met behind the pattern
+abbrev pub met_behind : Bindings → Demand × Value → Bool
+met_behind out a = list_all (is_met out) (demand_conditions a.0)
+
+pub whole : (names stand : List (List ℕ)) (out : Bindings) (asked : Asked) (env : Bindings) → list_all decides asked ≡ true → are_settled_from names stand (demands_of asked) ≡ true
+    → AreWithin (names_of asked) names → HaveValues stand env → Leads names (given_over asked env) out
+    → after_all asked env ≡ provided (in_sequence asked env && list_all (met_behind out) asked) (given_over asked env)
+whole names stand out [] env e settled within known leads = refl
+whole names stand out (a ∷ more) env e settled within known leads =
     let both = and_parts (decides a) (list_all decides more) e in
     let first = and_parts (is_decided_demand a.0) (are_others (binders a.0) (comparisons a.0)) both.0 in
+    let settles = and_parts (is_settled_demand names stand a.0) (are_settled_from names (stand ++ binders a.0) (demands_of more)) settled in
     let env' = given_to_all (binders a.0) a.1 env in
-    ap (option_and_then (after_all more)) (demand_claim a.0 a.1 env first.0 first.1)
-    ∙ in_turn (demand_holds a.0 a.1 env) (in_sequence more env') (after_all more) env' (given_over more env') (λ g. whole more env' both.1)
+    let here = λ (y : List ℕ) (i : is_named y (binders a.0) ≡ true). within y (in_front y (binders a.0) (names_of more) i) in
+    let later = λ (y : List ℕ) (i : is_named y (names_of more) ≡ true). within y (behind y (binders a.0) (names_of more) i) in
+    ap (option_and_then (after_all more))
+    (demand_claim names stand out a.0 a.1 env first.0 first.1 settles.0 here known (leads_on names env' (given_over more env') out (over_leads names more env' later) leads))
+    ∙ (in_turn (demand_holds a.0 a.1 env && met_behind out a) (in_sequence more env' && list_all (met_behind out) more) (after_all more) env' (given_over more env')
+    (λ g. whole names (stand ++ binders a.0) out more env' both.1 settles.1 later (given_have stand (binders a.0) a.1 env known) leads)
+    ∙ ap (λ t. provided t (given_over more env')) (in_pairs (demand_holds a.0 a.1 env) (met_behind out a) (in_sequence more env') (list_all (met_behind out) more)))
 
 -- the variables that aren't these have what they have before
 abbrev pub KeepOthers : List (List ℕ) → Bindings → Bindings → Type 0
 KeepOthers names before env = (y : List ℕ) → is_named y names ≡ false → value_at y env.variables ≡ value_at y before.variables
-
-abbrev pub AreWithin : List (List ℕ) → List (List ℕ) → Type 0
-AreWithin xs names = (y : List ℕ) → is_named y xs ≡ true → is_named y names ≡ true
 
 -- names are among themselves
 pub named_contained : (xs : List (List ℕ)) (x : List ℕ) → Contains xs x → is_named x xs ≡ true
@@ -77,13 +100,6 @@ named_contained (y ∷ ys) x (suc k, lt, is) = later (bytes_eq x y) (named_conta
     later : (b : Bool) → is_named x ys ≡ true → b || is_named x ys ≡ true
     later true e = refl
     later false e = e
-
-away : (names xs : List (List ℕ)) (y : List ℕ) → AreWithin xs names → is_named y names ≡ false → is_named y xs ≡ false
-away names xs y within e = by (is_named y xs) refl
-  where
-    by : (b : Bool) → is_named y xs ≡ b → b ≡ false
-    by false is = refl
-    by true is = absurd (both_ways (is_named y names) e (within y is))
 
 -- two tests say the same of all for which a third holds
 any_where : {X : Type 0} (s t u : X → Bool) (xs : List X) → ((x : X) → s x ≡ true → t x ≡ u x) → list_all s xs ≡ true → list_any t xs ≡ list_any u xs

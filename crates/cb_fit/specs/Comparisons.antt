@@ -17,6 +17,7 @@ use Rattle.cb_facts.specs.declared.value.Value.{Value}
 use Rattle.cb_facts.specs.declared.value.Value.TheVariants as value
 use Rattle.cb_facts.specs.Facts.{FactContent}
 use Rattle.cb_fit.specs.FieldPlaces.{PlacedDemand, field_value, placed_demands}
+use Rattle.cb_fit.specs.Settled.{is_settled}
 use Rattle.cb_fit.specs.StandsAlone.{are_constants}
 use Rattle.cb_fit.specs.declared.field_place.FieldPlace.{FieldPlace}
 use Rattle.cb_fit.specs.declared.join_fields.JoinField.{JoinField}
@@ -148,9 +149,18 @@ limited_test own true (predicate t) = None
 limited_test own false (predicate t) = limited_term own t
 limited_test own negated (return_value t) = None
 
--- a test that is plain, or compares
+-- the condition that a test makes: an expression without `~` before it that makes no comparison
+abbrev pub condition_test : List (List ℕ) → Bool → Test → Option Term
+condition_test own negated (constant v) = None
+condition_test own negated (variable x) = None
+condition_test own true (predicate t) = None
+condition_test own false (predicate t) = if is_some (compared_term own t) || is_some (limited_term own t) then None else Some t
+condition_test own negated (return_value t) = None
+
+-- a test that is plain, or compares, or makes a condition
 abbrev pub is_decided_test : List (List ℕ) → Bool → Test → Bool
-is_decided_test own negated t = is_plain_test negated t || (is_some (compared_test own negated t) || is_some (limited_test own negated t))
+is_decided_test own negated t =
+    is_plain_test negated t || ((is_some (compared_test own negated t) || is_some (limited_test own negated t)) || is_some (condition_test own negated t))
 
 -- each of the checks joined by `&` is such, after these: the variables before a check are the field's own
 abbrev pub are_decided_checks : List Check → List Check → Bool
@@ -167,6 +177,17 @@ abbrev pub limited_checks : List Check → List Check → List WithConstant
 limited_checks before [] = []
 limited_checks before (c ∷ cs) = option_to_list (limited_test (binders_of before) c.negated c.test) ++ limited_checks (before ++ c ∷ []) cs
 
+-- their conditions
+abbrev pub condition_checks : List Check → List Check → List Term
+condition_checks before [] = []
+condition_checks before (c ∷ cs) = option_to_list (condition_test (binders_of before) c.negated c.test) ++ condition_checks (before ++ c ∷ []) cs
+
+-- each of their conditions is settled, in a pattern that may give values to these names, behind fields with these variables
+abbrev pub are_settled_checks : List (List ℕ) → List (List ℕ) → List Check → List Check → Bool
+are_settled_checks names stand before [] = true
+are_settled_checks names stand before (c ∷ cs) =
+    list_all (is_settled names stand (binders_of before)) (option_to_list (condition_test (binders_of before) c.negated c.test)) && are_settled_checks names stand (before ++ c ∷ []) cs
+
 -- a variable without `~`
 abbrev pub is_variable : Bool → Test → Bool
 is_variable false (variable x) = true
@@ -178,7 +199,7 @@ is_one_variable [] = false
 is_one_variable (c ∷ []) = is_variable c.negated c.test
 is_one_variable (c ∷ d ∷ cs) = false
 
--- what a constraint asks is plain, or compares, or is alternatives that are variables, as `?a|?b`
+-- what a constraint asks is plain, or compares, or makes conditions, or is alternatives that are variables, as `?a|?b`
 abbrev pub is_decided_demand : Demand → Bool
 is_decided_demand nothing = true
 is_decided_demand (each cs) = are_decided_checks [] cs
@@ -195,6 +216,18 @@ abbrev pub limits : Demand → List WithConstant
 limits nothing = []
 limits (each cs) = limited_checks [] cs
 limits (either first alternatives) = []
+
+-- the conditions that it makes
+abbrev pub demand_conditions : Demand → List Term
+demand_conditions nothing = []
+demand_conditions (each cs) = condition_checks [] cs
+demand_conditions (either first alternatives) = []
+
+-- they are settled
+abbrev pub is_settled_demand : List (List ℕ) → List (List ℕ) → Demand → Bool
+is_settled_demand names stand nothing = true
+is_settled_demand names stand (each cs) = are_settled_checks names stand [] cs
+is_settled_demand names stand (either first alternatives) = true
 
 -- the variables of alternatives that aren't constants
 abbrev pub choices_of : Bool → List (List Check) → List (List (List ℕ))
@@ -278,6 +311,19 @@ demand_choice_fields d = chosen_at d.place (choices d.demand)
 abbrev pub choice_fields : PatternParts → List ChoiceFieldValue
 choice_fields p = flat_map demand_choice_fields (placed_demands p)
 
+-- the conditions of a pattern: they are to hold beside all else that it asks
+abbrev pub conditions : PatternParts → List Term
+conditions p = flat_map (λ (d : PlacedDemand). demand_conditions d.demand) (placed_demands p)
+
+-- those of what is asked of several fields are settled, behind fields with these variables
+abbrev pub are_settled_from : List (List ℕ) → List (List ℕ) → List Demand → Bool
+are_settled_from names stand [] = true
+are_settled_from names stand (d ∷ ds) = is_settled_demand names stand d && are_settled_from names (stand ++ binders d) ds
+
+-- those of a pattern are
+abbrev pub settles : PatternParts → Bool
+settles p = are_settled_from (binders_in (constraints_in p)) [] (map (λ (d : PlacedDemand). d.demand) (placed_demands p))
+
 -- the variable is none of these
 abbrev pub is_other : List (List ℕ) → List ℕ → Bool
 is_other names x = not (is_named x names)
@@ -291,9 +337,9 @@ abbrev pub chooses_others : PatternParts → Bool
 chooses_others p = list_all (λ (c : ChoiceFieldValue). list_all (is_other (binders_in (constraints_in p))) c.variables) (choice_fields p)
 
 -- what is asked is decided by values: each constraint is, and compares its field with other variables than its own, and so it is with
--- alternatives
+-- alternatives; and the conditions are settled
 abbrev pub are_decided_parts : PatternParts → Bool
-are_decided_parts p = list_all (λ c. is_decided_constraint c && compares_others c) (constraints_in p) && chooses_others p
+are_decided_parts p = list_all (λ c. is_decided_constraint c && compares_others c) (constraints_in p) && (chooses_others p && settles p)
 
 -- a pattern that is decided by values
 abbrev pub is_decided : PatternValue → Bool
@@ -317,11 +363,13 @@ own_holds content o =
 abbrev pub all_own_hold : List OwnField → FactContent → Bool
 all_own_hold os content = list_all (own_holds content) os
 
--- what decides beside the fact's shape and the fields with variables: the fields that are compared, and those with alternatives
+-- what decides beside the fact's shape and the fields with variables: the fields that are compared, those with alternatives, and the
+-- conditions
 pub record DecisionValue : Type 0 where
   pub compared : List ComparedField
   pub chosen : List ChoiceFieldValue
+  pub conditions : List Term
 
 -- what decides, of a pattern that is decided by values
 abbrev pub decision : PatternParts → Option DecisionValue
-decision p = if are_decided_parts p then Some (record { compared = compared_fields p; chosen = choice_fields p }) else None
+decision p = if are_decided_parts p then Some (record { compared = compared_fields p; chosen = choice_fields p; conditions = conditions p }) else None

@@ -9,6 +9,7 @@ pub mod Laws
 pub mod Meters
 pub mod Plain
 pub mod Related
+pub mod Settled
 pub mod ShapeKeys
 pub mod Shapes
 pub mod StandsAlone

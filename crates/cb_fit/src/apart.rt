@@ -48,7 +48,7 @@ fn are_others(names: &[Name], variables: &[Name]) -> bool
 }
 
 /// Whether a name is one of these.
-fn is_named(name: &Name, names: &[Name]) -> bool
+pub(crate) fn is_named(name: &Name, names: &[Name]) -> bool
     ensures { result ≡ is_named name.now names.now }
 {
     for other in names {

@@ -1,5 +1,5 @@
 //! Reading the checks of a constraint: whether they are decided by values, and with what they compare the field.
-ghost use Rattle.std.specs.Prelude.{◌≡◌, ◌++◌, [], OnOk, map, option_map, option_to_list};
+ghost use Rattle.std.specs.Prelude.{◌≡◌, ◌++◌, ◌||◌, ℕ, [], List, OnOk, is_some, map, option_map, option_to_list};
 ghost use Rattle.cb_constraints.specs.Binders.{binder, binders_of};
 ghost use Rattle.cb_constraints.specs.Constraints.{check_of};
 ghost use Rattle.cb_fit.specs.Comparisons.{are_decided_checks, compared_call, compared_checks, compared_term, compared_test, comparison_of, constant_of, is_decided_test, limited_arguments, limited_call, limited_checks, limited_term, limited_test, variable_of, with_constant, with_other};
@@ -28,30 +28,37 @@ pub(crate) struct Limit<'a> {
     pub(crate) constant: &'a Value,
 }
 
-/// Whether each of the checks of a constraint is plain, or compares the field with a variable or a constant.
+/// Whether each of the checks of a constraint is plain, or compares the field with a variable or a constant, or makes a condition.
 pub(crate) fn are_decided_checks(checks: &[Check]) -> bool
     ensures { result ≡ are_decided_checks [] (map check_of checks.now) }
 {
-    for i in 0..checks.len() {
-        if !is_decided_check(&checks[..i], &checks[i]) {
+    for check in checks {
+        if !is_decided_check(check) {
             return false;
         }
     }
     true
 }
 
-/// Whether a check is, after these of the same constraint.
-fn is_decided_check(before: &[Check], check: &Check) -> bool
-    ensures { result ≡ is_decided_test (own_of before.now)
-        (check_of check.now).negated (check_of check.now).test }
+/// Whether a check is.
+fn is_decided_check(check: &Check) -> bool
+    ensures { (own : List (List ℕ)) → result
+        ≡ is_decided_test own (check_of check.now).negated (check_of check.now).test }
 {
     match &check.test {
         Test::Constant(_) | Test::Variable(_) => true,
-        Test::Predicate(_) => {
-            compared_check(before, check).is_some() || limited_check(before, check).is_some()
-        }
+        Test::Predicate(_) => !check.is_negated,
         Test::ReturnValue(_) => false,
     }
+}
+
+/// Whether a check compares the field with a variable or a constant, after these of the same constraint.
+pub(crate) fn compares(before: &[Check], check: &Check) -> bool
+    ensures { result
+        ≡ is_some (compared_test (own_of before.now) (check_of check.now).negated (check_of check.now).test)
+        || is_some (limited_test (own_of before.now) (check_of check.now).negated (check_of check.now).test) }
+{
+    compared_check(before, check).is_some() || limited_check(before, check).is_some()
 }
 
 /// Adds the comparisons that checks make.
@@ -248,7 +255,7 @@ fn with_constant<'a>(
 }
 
 /// Whether one of the checks may give this variable a value.
-fn is_own(checks: &[Check], name: &Name) -> bool
+pub(crate) fn is_own(checks: &[Check], name: &Name) -> bool
     ensures { result ≡ is_named name.now (own_of checks.now) }
 {
     for check in checks {

@@ -4,32 +4,38 @@ ghost use Rattle.std.specs.List.{list_all};
 ghost use Rattle.cb_constraints.specs.Binders.{binders_in, constraints_in};
 ghost use Rattle.cb_constraints.specs.Constraints.{constraint_of};
 ghost use Rattle.cb_constraints.specs.PartValues.{asked_parts};
-ghost use Rattle.cb_fit.specs.Comparisons.{are_decided_parts, choice_fields, compared_at, compared_fields, decision, with_others};
+ghost use Rattle.cb_fit.specs.Comparisons.{are_decided_parts, choice_fields, compared_at, compared_fields, conditions, decision, with_others};
 ghost use Rattle.cb_fit.specs.Decided.{ones};
-ghost use Rattle.cb_fit.specs.Decisions.{choice_field_of, decision_of};
+ghost use Rattle.cb_fit.specs.Decisions.{choice_field_of, decision_of, terms_at};
 ghost use Rattle.cb_fit.specs.Internal.Reading.{compared_of, is_decided_alone, rows_of};
 
 use crate::apart::{are_others_chosen, are_others_compared};
 use crate::checks::Compared;
 use crate::choice_field::ChoiceField;
 use crate::comparison::ComparedField;
+use crate::conditions::add_conditions;
 use crate::cuts::Cuts;
 use crate::demands::{add_chosen, add_names, comparisons_of, is_decided_demand, names_of};
 use crate::field_place::FieldPlace;
-use crate::join_fields::{JoinField, add_demand, field_of};
 use crate::placed::placed_demands;
+use crate::settled::conditions_settle;
+use crate::variable_fields::VariableFields;
 use cb_constraints::{Constraint, PatternParts, SlotRow};
+use cb_exprs::Expr;
 use cb_facts::Name;
 use cb_forms::NoMemory;
 use std::alloc::Global;
 
 /// What decides whether a pattern fits a fact, beside the fact's shape and the fields that have to be equal to variables.
 #[derive(Drop)]
-pub struct Decision {
+pub struct Decision<'a> {
     /// The fields that are compared with variables that don't stand before in the pattern.
     pub compared: Vec<ComparedField>,
     /// The fields that are to be equal to one of several variables.
     pub chosen: Vec<ChoiceField>,
+    /// The conditions: expressions of predicates that are no comparisons. Each is to have a value that isn't FALSE, where variables have
+    /// their values behind the pattern.
+    pub conditions: Vec<&'a Expr>,
 }
 
 /// What decides whether a pattern that asks these parts fits a fact, or `None` where it isn't decided by values. Growth is refused as
@@ -37,7 +43,7 @@ pub struct Decision {
 pub(crate) fn decide_parts(
     alloc: Global,
     parts: &PatternParts,
-) -> Result<Option<Decision>, NoMemory>
+) -> Result<Option<Decision<'_>>, NoMemory>
     ensures { IfOk result (λ d. option_map decision_of d ≡ decision (asked_parts parts.now)) }
 {
     if !are_decided_parts(alloc, parts)? {
@@ -45,7 +51,12 @@ pub(crate) fn decide_parts(
     }
     let compared = compared_in(alloc, parts)?;
     let chosen = chosen_in(alloc, parts)?;
-    Ok(Some(Decision { compared, chosen }))
+    let conditions = conditions_in(alloc, parts)?;
+    Ok(Some(Decision {
+        compared,
+        chosen,
+        conditions,
+    }))
 }
 
 /// Whether what parts ask is decided by values. Growth is refused as `NoMemory`, and so is a count of sharers that is full.
@@ -57,7 +68,10 @@ pub(crate) fn are_decided_parts(alloc: Global, parts: &PatternParts) -> Result<b
     }
     let names = names_in(alloc, parts)?;
     let chosen = chosen_in(alloc, parts)?;
-    Ok(are_others_chosen(names.as_slice(), chosen.as_slice()))
+    if !are_others_chosen(names.as_slice(), chosen.as_slice()) {
+        return Ok(false);
+    }
+    conditions_settle(alloc, names.as_slice(), parts)
 }
 
 /// Whether each constraint is decided by values, and compares its field with other variables than its own.
@@ -179,23 +193,18 @@ fn compared_in(alloc: Global, parts: &PatternParts) -> Result<Vec<ComparedField>
     ensures { IfOk result (λ all. all.items ≡ compared_fields (asked_parts parts.now)) }
 {
     let mut all = Vec::new(alloc);
-    let mut before = Vec::new(alloc);
+    let mut before = VariableFields::new(alloc);
     for placed in placed_demands(alloc, parts)? {
         let comparisons = comparisons_of(alloc, placed.demand)?;
-        add_compared(
-            before.as_slice(),
-            placed.place,
-            comparisons.as_slice(),
-            &mut all,
-        )?;
-        add_demand(placed.place, placed.demand, &mut before)?;
+        add_compared(&before, placed.place, comparisons.as_slice(), &mut all)?;
+        before = before.with_demand(alloc, placed.place, placed.demand)?;
     }
     Ok(all)
 }
 
 /// Adds the field at this place, for each of these comparisons with a variable that none of the fields before has.
 fn add_compared(
-    before: &[JoinField],
+    before: &VariableFields,
     place: FieldPlace,
     comparisons: &[Compared<'_>],
     all: &mut Vec<ComparedField>,
@@ -211,7 +220,7 @@ fn add_compared(
 
 /// The same of one comparison.
 fn add_comparison(
-    before: &[JoinField],
+    before: &VariableFields,
     place: FieldPlace,
     compared: &Compared<'_>,
     all: &mut Vec<ComparedField>,
@@ -219,7 +228,7 @@ fn add_comparison(
     ensures { OnOk result (all.new.items ≡ all.old.items
         ++ compared_at place (with_others before.now (compared_of compared.now ∷ []))) }
 {
-    if field_of(before, compared.variable).is_none() {
+    if before.field_of(compared.variable).is_none() {
         all.push(ComparedField {
             place,
             comparison: compared.comparison,
@@ -237,6 +246,17 @@ fn chosen_in(alloc: Global, parts: &PatternParts) -> Result<Vec<ChoiceField>, No
     let mut all = Vec::new(alloc);
     for placed in placed_demands(alloc, parts)? {
         add_chosen(alloc, placed.place, placed.demand, &mut all)?;
+    }
+    Ok(all)
+}
+
+/// The conditions of parts.
+fn conditions_in(alloc: Global, parts: &PatternParts) -> Result<Vec<&Expr>, NoMemory>
+    ensures { IfOk result (λ all. terms_at all.items ≡ conditions (asked_parts parts.now)) }
+{
+    let mut all = Vec::new(alloc);
+    for placed in placed_demands(alloc, parts)? {
+        add_conditions(placed.demand, &mut all)?;
     }
     Ok(all)
 }

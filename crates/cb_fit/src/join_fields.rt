@@ -3,12 +3,12 @@ ghost use Rattle.std.specs.Prelude.{◌≡◌, ◌++◌, ◌∷◌, [], IfOk, On
 ghost use Rattle.cb_constraints.specs.Binders.{binder, binders, binders_of};
 ghost use Rattle.cb_constraints.specs.Constraints.{check_of, demand_of};
 ghost use Rattle.cb_constraints.specs.PartValues.{asked_parts};
-ghost use Rattle.cb_fit.specs.Comparisons.{field_of};
 ghost use Rattle.cb_fit.specs.FieldPlaces.{field_value};
 ghost use Rattle.cb_fit.specs.JoinFields.{fields_for, giving_fields, join_fields, place_of, value_in};
 
 use crate::field_place::FieldPlace;
 use crate::placed::placed_demands;
+use crate::variable_fields::VariableFields;
 use cb_constraints::{Check, Demand, PatternParts, Test};
 use cb_facts::{Fact, Name, Value};
 use cb_forms::NoMemory;
@@ -37,7 +37,7 @@ impl JoinField {
     }
 
     /// Its place.
-    fn place(&self) -> FieldPlace
+    pub(crate) fn place(&self) -> FieldPlace
         ensures { result ≡ place_of self.now }
     {
         FieldPlace {
@@ -45,18 +45,6 @@ impl JoinField {
             field: self.field,
         }
     }
-}
-
-/// The place of the first of these fields with a variable.
-pub(crate) fn field_of(fields: &[JoinField], name: &Name) -> Option<FieldPlace>
-    ensures { result ≡ field_of fields.now name.now }
-{
-    for field in fields {
-        if *name == field.variable {
-            return Some(field.place());
-        }
-    }
-    None
 }
 
 /// The first field with each variable, by what a pattern asks. Growth is refused as `NoMemory`, and so is a count of sharers that is
@@ -67,13 +55,13 @@ pub(crate) fn giving_of_parts(
 ) -> Result<Vec<JoinField>, NoMemory>
     ensures { IfOk result (λ all. all.items ≡ giving_fields (asked_parts parts.now)) }
 {
-    let mut all = Vec::new(alloc);
+    let mut all = VariableFields::new(alloc);
     for field in fields_of_parts(alloc, parts)? {
-        if field_of(all.as_slice(), &field.variable).is_none() {
-            all.push(field)?;
+        if all.field_of(&field.variable).is_none() {
+            all = all.with(field)?;
         }
     }
-    Ok(all)
+    Ok(all.into_fields())
 }
 
 /// The fields that have to be equal to variables, by what a pattern asks. Growth is refused as `NoMemory`, and so is a count of

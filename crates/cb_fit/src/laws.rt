@@ -146,8 +146,12 @@ pub fn the_key_of_a_selection_is_the_shape()
 /// A pattern that is decided by values fits a fact just where the fact is selected for it, by its shape and by the fields that are
 /// compared with constants and with one another, each field with a variable has the
 /// variable's value, if that has one, each field that is compared with a variable which doesn't stand before in the pattern is
-/// compared so with the variable's value, and each field with variables as alternatives has the value of one, or one has none. There
-/// is one way then: each constraint takes one field, and the variables that had no value get those of the first fields that they stand
+/// compared so with the variable's value, each field with variables as alternatives has the value of one, or one has none, and each
+/// condition holds. A condition is the expression of a predicate that makes no such comparison, as in `?x&:(oddp ?x)`; it holds if it
+/// has a value, without a fault, and that isn't FALSE, where variables have their values behind the pattern. These are what they have at its
+/// place: each variable of it stands before it in the pattern, or may be given no value by the pattern.
+///
+/// There is one way then: each constraint takes one field, and the variables that had no value get those of the first fields that they stand
 /// in, in the order of the pattern. The pattern without its variables and expressions takes the same fields.
 pub fn a_pattern_is_decided_by_values()
     ensures fits { (p : PatternValue) (f : FactValue) (before : Bindings) → is_decided p ≡ true

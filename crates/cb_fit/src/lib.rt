@@ -11,6 +11,7 @@ mod checks; // reading the checks of a constraint
 mod choice; // a choice: the places where a segment may end
 mod choice_field; // fields with variables as alternatives
 mod comparison; // comparisons of a field with a variable
+mod conditions; // reading the conditions of a pattern
 mod constant_fields; // the fields of a fact that have to be equal to constants
 mod cuts; // the lengths of the segments into which a pattern cuts a fact
 mod decision; // what decides whether a pattern fits
@@ -33,10 +34,12 @@ mod placed; // what a pattern asks of each field that it takes alone
 mod rest; // how a row begins: the constraints before the first segment, and what is left after them
 mod search; // the search for all ways, which takes up one choice at a time
 mod selection; // what a pattern asks of a fact alone
+mod settled; // whether the conditions of a pattern can be evaluated behind it
 mod shape; // the shapes of patterns, as keys
 mod slots; // whether the rows of all slots may take what a fact has
 mod standing_alone; // whether a pattern asks by constants and lengths alone
 mod taking; // whether the constraint that comes next holds; constraints that take fields, from a place on
+mod variable_fields; // fields with variables, found by these
 mod way; // a way
 
 pub use choice_field::ChoiceField;

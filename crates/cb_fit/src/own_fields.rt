@@ -11,9 +11,9 @@ use crate::comparison::Comparison;
 use crate::decision::are_decided_parts;
 use crate::demands::{comparisons_of, limits_of, names_of};
 use crate::field_place::FieldPlace;
-use crate::join_fields::{JoinField, add_demand, field_of};
 use crate::own_field::{Operand, OwnField};
 use crate::placed::placed_demands;
+use crate::variable_fields::VariableFields;
 use cb_constraints::{Demand, PatternParts};
 use cb_facts::Name;
 use cb_forms::NoMemory;
@@ -36,16 +36,10 @@ fn own_in(alloc: Global, parts: &PatternParts) -> Result<Vec<OwnField>, NoMemory
         ≡ own_fields_from [] (placed_demands (asked_parts parts.now))) }
 {
     let mut all = Vec::new(alloc);
-    let mut before = Vec::new(alloc);
+    let mut before = VariableFields::new(alloc);
     for placed in placed_demands(alloc, parts)? {
-        add_own(
-            alloc,
-            before.as_slice(),
-            placed.place,
-            placed.demand,
-            &mut all,
-        )?;
-        add_demand(placed.place, placed.demand, &mut before)?;
+        add_own(alloc, &before, placed.place, placed.demand, &mut all)?;
+        before = before.with_demand(alloc, placed.place, placed.demand)?;
     }
     Ok(all)
 }
@@ -53,7 +47,7 @@ fn own_in(alloc: Global, parts: &PatternParts) -> Result<Vec<OwnField>, NoMemory
 /// Adds what a field of which this is asked is compared with, after these fields with variables.
 fn add_own(
     alloc: Global,
-    before: &[JoinField],
+    before: &VariableFields,
     place: FieldPlace,
     demand: &Demand,
     all: &mut Vec<OwnField>,
@@ -91,7 +85,7 @@ fn add_own_limits(
 
 /// Adds the first field with each of these variables that stands before: the field at this place is to be equal to it.
 fn add_repeated(
-    before: &[JoinField],
+    before: &VariableFields,
     place: FieldPlace,
     names: &[Name],
     all: &mut Vec<OwnField>,
@@ -100,14 +94,14 @@ fn add_repeated(
         ≡ all.old.items ++ repeated_at before.now place names.now) }
 {
     for name in names {
-        add_own_field(place, Comparison::Same, field_of(before, name), all)?;
+        add_own_field(place, Comparison::Same, before.field_of(name), all)?;
     }
     Ok(())
 }
 
 /// Adds the first field with each variable that stands before and with which the field at this place is compared.
 fn add_own_compared(
-    before: &[JoinField],
+    before: &VariableFields,
     place: FieldPlace,
     comparisons: &[Compared<'_>],
     all: &mut Vec<OwnField>,
@@ -116,7 +110,7 @@ fn add_own_compared(
         ++ own_compared_at before.now place (map compared_of comparisons.now)) }
 {
     for compared in comparisons {
-        let other = field_of(before, compared.variable);
+        let other = before.field_of(compared.variable);
         add_own_field(place, compared.comparison, other, all)?;
     }
     Ok(())

@@ -138,8 +138,10 @@ impl<T> Pattern<T> {
     }
 
     /// What decides whether it fits, beside a fact's shape and the fields that have to be equal to variables; `None` where it isn't decided
-    /// by values. Growth is refused as `NoMemory`, and so is a count of sharers that is full.
-    pub fn decide(&self, alloc: Global) -> Result<Option<Decision>, NoMemory>
+    /// by values: where a constraint takes a segment, a predicate has `~` before it, an expression is asked by `=`, alternatives are more
+    /// than constants or variables alone, or a condition, the expression of a predicate that is no comparison, has a variable that the
+    /// pattern may give a value behind it alone, as ?y in `(p ?x&:(oddp (+ ?x ?y)) ?y)`. Growth is refused as `NoMemory`, and so is a count of sharers that is full.
+    pub fn decide(&self, alloc: Global) -> Result<Option<Decision<'_>>, NoMemory>
         ensures { IfOk result (λ d. option_map decision_of d ≡ decision self.now.parts) }
     {
         decide_parts(alloc, self.body.parts())

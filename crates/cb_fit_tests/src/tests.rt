@@ -88,7 +88,7 @@ fn pattern(alloc: Global, with_segment: bool) -> Result<Pattern<Counted>, NoMemo
 }
 
 /// Whether the first field is greater than `?v` or equal, the second differs from `?a`, and the third is `?b` or `?c`.
-fn is_read(alloc: Global, decision: &Decision) -> Result<bool, NoMemory> {
+fn is_read(alloc: Global, decision: &Decision<'_>) -> Result<bool, NoMemory> {
     let [first, second] = decision.compared.as_slice() else {
         return Ok(false);
     };
@@ -108,7 +108,8 @@ fn is_read(alloc: Global, decision: &Decision) -> Result<bool, NoMemory> {
 
 #[test]
 fn reads_what_decides(rt: HostRuntime) -> Result<(), NoMemory> {
-    let decision = pattern(rt.alloc(), false)?.decide(rt.alloc())?;
+    let pattern = pattern(rt.alloc(), false)?;
+    let decision = pattern.decide(rt.alloc())?;
     let is_right = match &decision {
         Some(decision) => is_read(rt.alloc(), decision)?,
         None => false,
@@ -117,9 +118,37 @@ fn reads_what_decides(rt: HostRuntime) -> Result<(), NoMemory> {
     Ok(())
 }
 
+/// `(r ?w&:(oddp ?w))`
+fn odd(alloc: Global) -> Result<Pattern<Counted>, NoMemory> {
+    let mut args = Vec::new(alloc);
+    args.push(Expr::Variable(name(alloc, b"w")?))?;
+    let mut checks = Vec::new(alloc);
+    checks.push(variable(alloc, false, b"w")?)?;
+    checks.push(Check {
+        is_negated: false,
+        test: Test::Predicate(Expr::Call(Function::Oddp, args)),
+    })?;
+    let mut constraints = Vec::new(alloc);
+    constraints.push(one_field(Demand::Each(checks)))?;
+    let parts = PatternParts::Fields(Row::new(constraints));
+    Pattern::new(alloc, name(alloc, b"r")?, parts)
+}
+
+#[test]
+fn reads_a_condition(rt: HostRuntime) -> Result<(), NoMemory> {
+    let pattern = odd(rt.alloc())?;
+    let conditions = match pattern.decide(rt.alloc())? {
+        Some(decision) => decision.conditions.len(),
+        None => 0,
+    };
+    assert!(rt; conditions == 1);
+    Ok(())
+}
+
 #[test]
 fn reads_nothing_where_a_segment_stands(rt: HostRuntime) -> Result<(), NoMemory> {
-    let decision = pattern(rt.alloc(), true)?.decide(rt.alloc())?;
+    let pattern = pattern(rt.alloc(), true)?;
+    let decision = pattern.decide(rt.alloc())?;
     assert!(rt; decision.is_none());
     Ok(())
 }

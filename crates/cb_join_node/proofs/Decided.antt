@@ -1,20 +1,22 @@
 -- Patterns that are decided by values: what a way gives, and where there is one.
-use Rattle.std.proofs.Common.{◌≡◌, ◌≢◌, ◌∙◌, ◌↔◌, ◌+◌, ◌++◌, ℕ, Bool, true, false, not, List, [], ◌∷◌, Option, Some, None, ap, ap₂, cond, inl, inr, refl, subst, sym}
+use Rattle.std.proofs.Common.{◌≡◌, ◌≢◌, ◌∙◌, ◌↔◌, ◌+◌, ◌++◌, ℕ, Bool, true, false, not, List, [], ◌∷◌, Option, Some, None, ap, ap₂, cond, inl, inr, map, refl, subst, sym}
+use Rattle.std.proofs.lemmas.Bool.{and_from, and_parts}
 use Rattle.std.specs.Rc.{rc_value}
 use Rattle.std.specs.Str.{bytes_eq}
 use Rattle.cb_alpha.specs.JoinValues.{field_values, variable_values, with_first}
 use Rattle.cb_beta.specs.GivenValues.{values_taken}
-use Rattle.cb_beta.specs.declared.given.TakenFields.{TakenFields}
+use Rattle.cb_beta.specs.TakenFields.{TakenFieldsValue}
 use Rattle.cb_constraints.specs.Binders.{binders, constraints_in}
 use Rattle.cb_constraints.specs.Bound.{given_if}
 use Rattle.cb_constraints.specs.Constraints.{Constraint}
 use Rattle.cb_constraints.specs.PatternValues.{PatternParts, PatternValue, SlotValue}
 use Rattle.cb_constraints.specs.PatternValues as pattern
-use Rattle.cb_exprs.specs.Bindings.{Bindings, value_at}
+use Rattle.cb_exprs.specs.Bindings.{Bindings, value_at, with_variables}
+use Rattle.cb_exprs.specs.Terms.{Term, term_of}
 use Rattle.cb_facts.specs.Facts.{FactContent, FactValue}
 use Rattle.cb_facts.specs.declared.value.Value.{Value}
-use Rattle.cb_fit.specs.Comparisons.{choice_fields, compared_fields, is_decided}
-use Rattle.cb_fit.specs.Decided.{AgreeWith, AreOneOf, HoldOf, ValuesDecide, taken_by, taken_by_all, way_by_values}
+use Rattle.cb_fit.specs.Comparisons.{choice_fields, compared_fields, conditions, is_decided}
+use Rattle.cb_fit.specs.Decided.{AgreeWith, AreMet, AreOneOf, HoldOf, ValuesDecide, is_met, taken_by, taken_by_all, way_by_values}
 use Rattle.cb_fit.specs.FieldPlaces.{PlacedDemand, placed_at, placed_demands, row_demands, slot_demands}
 use Rattle.cb_fit.specs.JoinFields.{demand_join_fields, first_fields, giving_fields, join_fields, value_in}
 use Rattle.cb_fit.specs.Plain.{bound_names, is_named}
@@ -30,7 +32,8 @@ use Rattle.cb_join_node.specs.declared.joining.Joining.{Joining}
 use Rattle.cb_matches.proofs.Lists.{filter_in, flat_in, in_filter, in_flat, in_map}
 use Rattle.cb_matches.proofs.Lists as lists
 use Rattle.cb_matches.specs.Chains.{In}
-use Rattle.cb_matches.specs.Matches.{Partial, with_address}
+use Rattle.cb_matches.specs.Matches.{Partial, grown, test_holds, with_address}
+use Rattle.cb_nodes.specs.Flat.{all_hold}
 use Rattle.cb_scopes.proofs.Comparing.{all_so, so_all}
 use Rattle.cb_scopes.specs.Compared.{all_compare}
 use Rattle.cb_scopes.proofs.Decided.{in_named, named_in}
@@ -150,6 +153,16 @@ no_ways (w ∷ ws) h = absurd (h (λ e. apart e))
     apart : w ∷ ws ≡ [] → ⊥
     apart d = cc
 
+-- tests one by one
+each_holds : (ts : List Term) (m : Partial) → all_hold ts m ≡ true → (t : Term) → In t ts → test_holds t m.env ≡ true
+each_holds [] m e t h = absurd h
+each_holds (u ∷ ts) m e t (inl is) = ap (λ it. test_holds it m.env) is ∙ (and_parts (test_holds u m.env) (all_hold ts m) e).0
+each_holds (u ∷ ts) m e t (inr h) = each_holds ts m (and_parts (test_holds u m.env) (all_hold ts m) e).1 t h
+
+all_are : (ts : List Term) (m : Partial) → ((t : Term) → In t ts → test_holds t m.env ≡ true) → all_hold ts m ≡ true
+all_are [] m h = refl
+all_are (u ∷ ts) m h = and_from (test_holds u m.env) (all_hold ts m) (h u (inl refl)) (all_are ts m (λ t i. h t (inr i)))
+
 abbrev way_with : List ℕ → List (List ℕ × Value) → WayValue
 way_with cuts bound = record { cuts = cuts; bound = bound }
 
@@ -202,17 +215,42 @@ module _ {T : Type 0} (law : DecidedByValues) (asked : Joining T) (by : ByValues
       ap (λ it. all_compare it m.env content) meet.is.compared
       ∙ so_all cs m.env content (λ c h. let is = hs c (lists.in_contains c cs h) in (is.0, is.1, is.2, sym (compared_apart c h) ∙ is.3, is.4))
 
-  -- the only way
-  pub the_way : (way : WayValue) → all_compare by.compared.items m.env content ≡ true → way.cuts ≡ (rc_value {X = TakenFields} by.taken).cuts → way.bound ≡ values_taken (rc_value {X = TakenFields} by.taken).fields.items content
-      → ways p f.1 before ≡ way ∷ []
-  the_way way e cuts bound =
+  -- what a way gives, if it gives what the fields have
+  abbrev GivesFields : WayValue → Type 0
+  GivesFields way = way.bound ≡ values_taken (rc_value {X = TakenFieldsValue} by.taken).fields content
+
+  bound_is : (way : WayValue) → GivesFields way → (way_by_values p before content).bound ≡ way.bound
+  bound_is way bound =
       let gs = giving_fields p.parts in
       let given : taken_by_all gs before content ≡ values_taken (unknown_fields gs meet.names) content =
       taken_same gs before content meet.names (λ j h. subst (λ o. (o ≢ None) ↔ In j.variable meet.names) (sym (join_apart j (first_in js j h))) (meet.scope j.variable)) in
-      law.way p f.1 before meet.is.decided meet.selected (agree, hold e, one_of)
-      ∙ ap (λ it. it ∷ [])
-      (ap₂ way_with (sym (cuts ∙ meet.is.cuts)) (given ∙ sym (bound ∙ ap (λ it. values_taken it content) meet.is.taken)))
+      given ∙ sym (bound ∙ ap (λ it. values_taken it content) meet.is.taken)
+
+  -- the conditions hold where they do behind the pattern
+  abbrev they_hold : WayValue → Bool
+  they_hold way = all_hold (map term_of by.conditions.items) (grown asked.address f.0 m way)
+
+  met : (way : WayValue) → GivesFields way → they_hold way ≡ true → AreMet p before content
+  met way bound holds t i =
+      ap (λ it. is_met (with_variables it before) t) (bound_is way bound)
+      ∙ each_holds (conditions p.parts) (grown asked.address f.0 m way) (ap (λ ts. all_hold ts (grown asked.address f.0 m way)) (sym meet.is.conditional) ∙ holds) t (lists.contains_in t (conditions p.parts) i)
+
+  met_so : (way : WayValue) → GivesFields way → AreMet p before content → they_hold way ≡ true
+  met_so way bound is =
+      ap (λ ts. all_hold ts (grown asked.address f.0 m way)) meet.is.conditional
+      ∙ all_are (conditions p.parts) (grown asked.address f.0 m way)
+      (λ t h. ap (λ it. is_met (with_variables it before) t) (sym (bound_is way bound)) ∙ is t (lists.in_contains t (conditions p.parts) h))
+
+  -- the only way
+  pub the_way : (way : WayValue) → all_compare by.compared.items m.env content ≡ true → way.cuts ≡ (rc_value {X = TakenFieldsValue} by.taken).cuts → GivesFields way → they_hold way ≡ true
+      → ways p f.1 before ≡ way ∷ []
+  the_way way e cuts bound holds =
+      law.way p f.1 before meet.is.decided meet.selected (agree, hold e, one_of, met way bound holds)
+      ∙ ap (λ it. it ∷ []) (ap₂ way_with (sym (cuts ∙ meet.is.cuts)) (bound_is way bound))
 
   -- and where there is none
   pub no_way : all_compare by.compared.items m.env content ≡ false → ways p f.1 before ≡ []
   no_way e = no_ways (ways p f.1 before) (λ some. not_both (all_compare by.compared.items m.env content) (held ((law.fits p f.1 before meet.is.decided).0 some).1.1) e)
+
+  pub none_met : (way : WayValue) → GivesFields way → they_hold way ≡ false → ways p f.1 before ≡ []
+  none_met way bound e = no_ways (ways p f.1 before) (λ some. not_both (they_hold way) (met_so way bound ((law.fits p f.1 before meet.is.decided).0 some).1.3) e)

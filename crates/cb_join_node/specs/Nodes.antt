@@ -6,12 +6,12 @@ use Rattle.cb_alpha.specs.AlphaMemories.{AlphaMemoryValue, candidate_in, live}
 use Rattle.cb_alpha.specs.Turning.{AlphaTurns, HasJoin, were_in}
 use Rattle.cb_beta.specs.BetaMemories.{BetaMemoryValue}
 use Rattle.cb_beta.specs.Tokens.{TokenValue, partial_after}
-use Rattle.cb_beta.specs.declared.given.TakenFields.{TakenFields}
+use Rattle.cb_beta.specs.TakenFields.{TakenFieldsValue}
 use Rattle.cb_constraints.specs.Binders.{constraints_in}
 use Rattle.cb_exprs.specs.Terms.{Term, term_of}
 use Rattle.cb_facts.specs.FactLists.{IndexedFacts}
 use Rattle.cb_facts.specs.Facts.{FactValue}
-use Rattle.cb_fit.specs.Comparisons.{choice_fields, compared_fields, is_decided}
+use Rattle.cb_fit.specs.Comparisons.{choice_fields, compared_fields, conditions, is_decided}
 use Rattle.cb_fit.specs.Decided.{ones}
 use Rattle.cb_fit.specs.JoinFields.{giving_fields, join_fields}
 use Rattle.cb_fit.specs.Plain.{bound_names, is_named}
@@ -72,9 +72,10 @@ module _ {T : Type 0} where
     pub decided : is_decided asked.pattern ≡ true
     pub unchosen : choice_fields asked.pattern.parts ≡ []
     pub fields : asked.fields.items ≡ known_fields (join_fields asked.pattern.parts) names
-    pub taken : (rc_value {X = TakenFields} by.taken).fields.items ≡ unknown_fields (giving_fields asked.pattern.parts) names
+    pub taken : (rc_value {X = TakenFieldsValue} by.taken).fields ≡ unknown_fields (giving_fields asked.pattern.parts) names
     pub compared : by.compared.items ≡ compared_fields asked.pattern.parts
-    pub cuts : (rc_value {X = TakenFields} by.taken).cuts ≡ ones (constraints_in asked.pattern.parts)
+    pub conditional : map term_of by.conditions.items ≡ conditions asked.pattern.parts
+    pub cuts : (rc_value {X = TakenFieldsValue} by.taken).cuts ≡ ones (constraints_in asked.pattern.parts)
     pub address : (x : List ℕ) → asked.address ≡ Some x → (is_named x (bound_names asked.pattern) ≡ false)
         × ((c : ComparedField) → In c (compared_fields asked.pattern.parts) → x ≢ c.variable)
 

@@ -1,5 +1,6 @@
 //! How a pattern that is decided by values is joined.
 use cb_beta::TakenFields;
+use cb_exprs::Expr;
 use cb_fit::ComparedField;
 use std::rc::Rc;
 
@@ -11,4 +12,6 @@ pub struct ByValues {
     pub taken: Rc<TakenFields>,
     /// The fields that are compared with variables.
     pub compared: Vec<ComparedField>,
+    /// The conditions: expressions that are to hold where variables have their values behind the pattern.
+    pub conditions: Vec<Expr>,
 }

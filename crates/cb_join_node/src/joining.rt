@@ -4,6 +4,7 @@ ghost use Rattle.cb_exprs.specs.Terms.{term_of};
 ghost use Rattle.cb_fit.specs.WayValues.{way_of};
 ghost use Rattle.cb_join_node.specs.Meetings.{MayMeet, MayMeetAll, MayMeetOne, Meet};
 ghost use Rattle.cb_join_node.specs.Joins.{IsOfFact, IsOfFacts, IsOfPartials, IsOfWay, IsOfWays, IsPair};
+ghost use Rattle.cb_join_node.specs.KnownValues.{AreRead, IsRead};
 ghost use Rattle.cb_join_node.specs.Nodes.{tests_of};
 ghost use Rattle.cb_matches.specs.Chains.{Chain, In};
 ghost use Rattle.cb_matches.specs.Matches.{Partial, grown};
@@ -12,6 +13,7 @@ ghost use Rattle.cb_token_lists.specs.Growth.{Comes};
 ghost use Rattle.cb_token_lists.specs.Partials.{partial_at};
 
 use crate::by_values::ByValues;
+use crate::known_values::{KnownValues, compare_known, read_values};
 use cb_alpha::{AlphaMemory, Candidate};
 use cb_beta::{BetaMemory, Given, Taken, Token};
 use cb_exprs::{Expr, Lookup};
@@ -19,7 +21,6 @@ use cb_facts::Name;
 use cb_fit::laws::{a_pattern_is_decided_by_values, the_ways_rise_by_their_cuts};
 use cb_fit::{JoinField, Meter, Pattern, Way, fit};
 use cb_forms::NoMemory;
-use cb_scopes::compare_all;
 use cb_token_lists::{Grown, TokenLists};
 use smallvec::SmallVec;
 
@@ -55,10 +56,35 @@ pub(crate) fn join_facts<T>(
         (partial_at lists.now.sources.now lists.now.lists.now from number) number alpha.now.candidates candidates.now)) }
     ensures probes { OnOk result (meter.new ≤ meter.old + length candidates.now) }
 {
+    let values = read_for(lists, from, asked, number, candidates.len())?;
+    let read = &values;
     for candidate in candidates {
-        join_candidate(lists, from, asked, alpha, number, *candidate, own, meter)?;
+        join_candidate(
+            lists, from, asked, alpha, number, *candidate, read, own, meter,
+        )?;
     }
     Ok(())
+}
+
+/// What variables have by a partial match that the pattern compares, read once where it is joined by values with more facts than one.
+fn read_for<T>(
+    lists: &TokenLists<'_>,
+    from: usize,
+    asked: &Joining<T>,
+    number: u32,
+    facts: usize,
+) -> Result<Option<KnownValues>, NoMemory>
+    ensures { IfOk result (λ read. AreRead asked.now
+        (partial_at lists.now.sources.now lists.now.lists.now from number).env read) }
+{
+    match &asked.by_values {
+        Some(by) if facts > 1 => {
+            let known = lists.reading(from, number);
+            let values = read_values(lists.alloc, by.compared.as_slice(), &known)?;
+            Ok(Some(values))
+        }
+        _ => Ok(None),
+    }
 }
 
 /// Joins a partial match of a list with the fact of this number, if there is one.
@@ -69,9 +95,12 @@ fn join_candidate<T>(
     alpha: &AlphaMemory,
     number: u32,
     candidate: u32,
+    read: &Option<KnownValues>,
     own: &mut BetaMemory,
     meter: &mut Meter<T>,
 ) -> Result<(), NoMemory>
+    requires { AreRead asked.now
+        (partial_at lists.now.sources.now lists.now.lists.now from number).env read.now }
     ensures come { OnOk result
         (MayMeetOne asked.now (partial_at lists.now.sources.now lists.now.lists.now from number) alpha.now.candidates candidate
         → Comes own.old own.new (IsOfFact asked.now.address asked.now.pattern (tests_of asked.now)
@@ -79,7 +108,7 @@ fn join_candidate<T>(
     ensures probes { OnOk result (meter.new ≤ meter.old + 1) }
 {
     match alpha.candidate(candidate) {
-        Some(one) => join_one(lists, from, asked, number, candidate, one, own, meter),
+        Some(one) => join_one(lists, from, asked, number, candidate, one, read, own, meter),
         None => Ok(()),
     }
 }
@@ -102,7 +131,9 @@ pub(crate) fn join_partials<T>(
     ensures probes { OnOk result (meter.new ≤ meter.old + length numbers.now) }
 {
     for number in numbers {
-        join_one(lists, from, asked, *number, candidate, one, own, meter)?;
+        join_one(
+            lists, from, asked, *number, candidate, one, &None, own, meter,
+        )?;
     }
     Ok(())
 }
@@ -115,9 +146,12 @@ fn join_one<T>(
     number: u32,
     candidate: u32,
     one: &Candidate,
+    read: &Option<KnownValues>,
     own: &mut BetaMemory,
     meter: &mut Meter<T>,
 ) -> Result<(), NoMemory>
+    requires { AreRead asked.now
+        (partial_at lists.now.sources.now lists.now.lists.now from number).env read.now }
     ensures come { OnOk result
         (MayMeet asked.now (partial_at lists.now.sources.now lists.now.lists.now from number) one.now
         → Comes own.old own.new (IsPair asked.now.address asked.now.pattern (tests_of asked.now)
@@ -125,13 +159,13 @@ fn join_one<T>(
     ensures probes { OnOk result (meter.new ≤ meter.old + 1) }
 {
     match &asked.by_values {
-        Some(by) => join_by_values(lists, from, asked, by, number, candidate, one, own),
+        Some(by) => join_by_values(lists, from, asked, by, number, candidate, one, read, own),
         None => join_by_test(lists, from, asked, number, candidate, one, own, meter),
     }
 }
 
-/// Joins a partial match with a fact that it meets by values: a token comes if the fields that are compared compare so, and the tests
-/// hold. The pattern isn't tested.
+/// Joins a partial match with a fact that it meets by values: a token comes if the fields that are compared compare so, and the
+/// conditions and the tests hold. The pattern isn't tested.
 fn join_by_values<T>(
     lists: &TokenLists<'_>,
     from: usize,
@@ -140,8 +174,11 @@ fn join_by_values<T>(
     number: u32,
     candidate: u32,
     one: &Candidate,
+    read: &Option<KnownValues>,
     own: &mut BetaMemory,
 ) -> Result<(), NoMemory>
+    requires { IsRead by.now.compared.items
+        (partial_at lists.now.sources.now lists.now.lists.now from number).env read.now }
     ensures { OnOk result
         (Meet asked.now by.now (partial_at lists.now.sources.now lists.now.lists.now from number) one.now
         → Comes own.old own.new (IsPair asked.now.address asked.now.pattern (tests_of asked.now)
@@ -149,10 +186,16 @@ fn join_by_values<T>(
 {
     a_pattern_is_decided_by_values();
     let known = lists.reading(from, number);
-    if !compare_all(by.compared.as_slice(), &known, &one.fact)? {
+    let compares = compare_known(by.compared.as_slice(), &known, read, &one.fact)?;
+    if !compares {
         return Ok(());
     }
     let given = Given::of_fields(&by.taken, &one.fact)?;
+    let conditions = by.conditions.as_slice();
+    let met = hold_after(lists, from, asked, conditions, number, one.index, &given)?;
+    if !met {
+        return Ok(());
+    }
     add_given(lists, from, asked, number, candidate, one.index, given, own)
 }
 
@@ -206,7 +249,7 @@ fn add_ways<T>(
         (partial_at lists.now.sources.now lists.now.lists.now from number) number candidate index (map way_of ways.items))) }
 {
     for way in ways {
-        let given = Given::found(way);
+        let given = Given::found(lists.alloc, way)?;
         add_given(lists, from, asked, number, candidate, index, given, own)?;
     }
     Ok(())
@@ -226,7 +269,8 @@ fn add_given<T>(
     ensures { OnOk result (Comes own.old own.new (IsOfWay asked.now.address (tests_of asked.now)
         (partial_at lists.now.sources.now lists.now.lists.now from number) number candidate index given)) }
 {
-    if !hold_after(lists, from, asked, number, index, &given)? {
+    let tests = asked.tests.as_slice();
+    if !hold_after(lists, from, asked, tests, number, index, &given)? {
         return Ok(());
     }
     let taken = Taken {
@@ -241,16 +285,17 @@ fn add_given<T>(
     Ok(())
 }
 
-/// Whether all tests hold after a partial match of a list and what a fact gives.
+/// Whether all of these tests hold after a partial match of a list and what a fact gives.
 fn hold_after<T>(
     lists: &TokenLists<'_>,
     from: usize,
     asked: &Joining<T>,
+    tests: &[Expr],
     number: u32,
     index: u64,
     given: &Given,
 ) -> Result<bool, NoMemory>
-    ensures { IfOk result (λ holds. holds ≡ all_hold (tests_of asked.now) (grown asked.now.address index
+    ensures { IfOk result (λ holds. holds ≡ all_hold (map term_of tests.now) (grown asked.now.address index
         (partial_at lists.now.sources.now lists.now.lists.now from number) given.now)) }
 {
     let after = Grown {
@@ -259,7 +304,7 @@ fn hold_after<T>(
         index,
         given: Some(given),
     };
-    hold_all(lists, asked.tests.as_slice(), &after)
+    hold_all(lists, tests, &after)
 }
 
 /// Whether all of these tests hold.

@@ -14,6 +14,7 @@
 mod by_values; // how a pattern that is decided by values is joined
 mod filed; // partial matches, and facts, by the values that they are joined on
 mod joining; // partial matches joined with facts
+mod known_values; // what compared variables have by a partial match
 pub mod laws; // laws of what is ready, and of how often a pattern may be tested
 mod node; // a change of a join node
 

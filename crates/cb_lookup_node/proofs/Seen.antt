@@ -9,7 +9,7 @@ use Rattle.cb_alpha.specs.AlphaMemories.{values_in}
 use Rattle.cb_alpha.specs.JoinValues as joined
 use Rattle.cb_alpha.specs.Turning.{AreCandidates}
 use Rattle.cb_constraints.specs.PatternValues.{PatternValue}
-use Rattle.cb_fit.specs.Comparisons.{choice_fields, compared_fields, is_decided}
+use Rattle.cb_fit.specs.Comparisons.{choice_fields, compared_fields, conditions, is_decided}
 use Rattle.cb_fit.specs.Decided.{AgreeWith, AreOneOf, HoldOf, HoldsOf, ValuesDecide}
 use Rattle.cb_fit.specs.Plain.{is_named}
 use Rattle.cb_fit.specs.declared.comparison.ComparedField.{ComparedField}
@@ -227,7 +227,7 @@ one_alone (Some b) a e = let same : b ≡ a = inside e in ap Some same
     inside : b ∷ [] ≡ a ∷ [] → b ≡ a
     inside d = cc
 
-module _ (agree : AgreeByValues) (by_sight : HoldsBySight) (opposite : HoldsOpposite) (p : PatternValue) (decided : is_decided p ≡ true) (unchosen : choice_fields p.parts ≡ []) (names : Scope)
+module _ (agree : AgreeByValues) (by_sight : HoldsBySight) (opposite : HoldsOpposite) (p : PatternValue) (decided : is_decided p ≡ true) (unchosen : choice_fields p.parts ≡ []) (unconditional : conditions p.parts ≡ []) (names : Scope)
     (m : Partial) (scope : HasValuesOf names m) where
   abbrev known : List JoinField
   known = known_fields (join_fields p.parts) names
@@ -236,7 +236,12 @@ module _ (agree : AgreeByValues) (by_sight : HoldsBySight) (opposite : HoldsOppo
   values_known = all_known names m scope (join_fields p.parts)
 
   decides : (content : FactContent) → AgreeWith (join_fields p.parts) m.env content → HoldOf (compared_fields p.parts) m.env content → ValuesDecide p m.env content
-  decides content h compare = (h, compare, subst (λ cs. AreOneOf cs m.env content) (sym unchosen) (λ c k. absurd (none_contained c k)))
+  decides content h compare = (
+    h,
+    compare,
+    subst (λ cs. AreOneOf cs m.env content) (sym unchosen) (λ c k. absurd (none_contained c k)),
+    λ t k. absurd (none_contained t (subst (λ ts. Contains ts t) unconditional k)),
+  )
 
   -- the values of fields that are known in a fact are those of their variables, where the fact agrees with these
   fields_known : (content : FactContent) → AgreeWith (join_fields p.parts) m.env content → joined.field_values known content ≡ Some values_known.0

@@ -102,4 +102,4 @@ pub ready_with_join : {T : Type 0} (node : LookupNode T) (join : ℕ) (names : S
     → IsLookupReady node names at There facts own → IsLookupReady (record node { join = join }) names at There facts own
 ready_with_join node join names at There facts own is =
     let l = is.lookup in
-    record { lookup = record { decided = l.decided; unchosen = l.unchosen; asks = l.asks }; kept = is.kept; tokens = is.tokens }
+    record { lookup = record { decided = l.decided; unchosen = l.unchosen; unconditional = l.unconditional; asks = l.asks }; kept = is.kept; tokens = is.tokens }

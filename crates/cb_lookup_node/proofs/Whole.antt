@@ -67,21 +67,21 @@ module _ {T : Type 0} (agree : AgreeByValues) (by_sight : HoldsBySight) (opposit
 
     held_so : (n : ℕ) → WasThere before n → (holds_alone node.positive node.pattern fs (at n) ≡ true) ↔ Passes node.positive (Had n)
     held_so n h =
-        holds_so agree by_sight opposite node.pattern b.ready.lookup.decided b.ready.lookup.unchosen names (at n) (b.scope (at n) (inl (b.turns.was.to n h))) fs (were_in alpha) b.facts.was js looking asked
+        holds_so agree by_sight opposite node.pattern b.ready.lookup.decided b.ready.lookup.unchosen b.ready.lookup.unconditional names (at n) (b.scope (at n) (inl (b.turns.was.to n h))) fs (were_in alpha) b.facts.was js looking asked
         node.positive
 
     now_so : (n : ℕ) → IsThere before n → (holds_alone node.positive node.pattern fs' (at n) ≡ true) ↔ Passes node.positive (Has n)
     now_so n h =
-        holds_so agree by_sight opposite node.pattern b.ready.lookup.decided b.ready.lookup.unchosen names (at n) (b.scope (at n) (inr (b.turns.is.to n h))) fs' (live alpha) b.facts.is js looking asked
+        holds_so agree by_sight opposite node.pattern b.ready.lookup.decided b.ready.lookup.unchosen b.ready.lookup.unconditional names (at n) (b.scope (at n) (inr (b.turns.is.to n h))) fs' (live alpha) b.facts.is js looking asked
         node.positive
 
     had_or : (n : ℕ) → Stays before n → Had n ⊎ (Had n → ⊥)
     had_or n h =
-        sees_or agree by_sight opposite node.pattern b.ready.lookup.decided b.ready.lookup.unchosen names (at n) (b.scope (at n) (inl (b.turns.was.to n h.0))) fs (were_in alpha) b.facts.was js looking asked
+        sees_or agree by_sight opposite node.pattern b.ready.lookup.decided b.ready.lookup.unchosen b.ready.lookup.unconditional names (at n) (b.scope (at n) (inl (b.turns.was.to n h.0))) fs (were_in alpha) b.facts.was js looking asked
 
     has_or : (n : ℕ) → Stays before n → Has n ⊎ (Has n → ⊥)
     has_or n h =
-        sees_or agree by_sight opposite node.pattern b.ready.lookup.decided b.ready.lookup.unchosen names (at n) (b.scope (at n) (inl (b.turns.was.to n h.0))) fs' (live alpha) b.facts.is js looking asked
+        sees_or agree by_sight opposite node.pattern b.ready.lookup.decided b.ready.lookup.unchosen b.ready.lookup.unconditional names (at n) (b.scope (at n) (inl (b.turns.was.to n h.0))) fs' (live alpha) b.facts.is js looking asked
 
     abbrev leave : List ℕ
     leave = cond node.positive done.lost done.gained
@@ -103,6 +103,7 @@ module _ {T : Type 0} (agree : AgreeByValues) (by_sight : HoldsBySight) (opposit
             lookup = record {
               decided = l.decided;
               unchosen = l.unchosen;
+              unconditional = l.unconditional;
               asks = subst (λ (it : Looking). AsksBy it js (known_fields (join_fields node.pattern.parts) names) (compared_fields node.pattern.parts)) (sym same) asked;
             };
             kept = done.kept;

@@ -6,7 +6,7 @@ use Rattle.cb_alpha.specs.JoinValues.{variable_values}
 use Rattle.cb_alpha.specs.Turning.{AlphaTurns, HasJoin, were_in}
 use Rattle.cb_beta.specs.BetaMemories.{BetaMemoryValue}
 use Rattle.cb_beta.specs.Tokens.{TokenValue, partial_after}
-use Rattle.cb_fit.specs.Comparisons.{choice_fields, compared_fields, compares, integer_so, is_decided}
+use Rattle.cb_fit.specs.Comparisons.{choice_fields, compared_fields, compares, conditions, integer_so, is_decided}
 use Rattle.cb_facts.specs.FactLists.{IndexedFacts}
 use Rattle.cb_facts.specs.Facts.{FactValue}
 use Rattle.cb_facts.specs.declared.value.Value.{Value}
@@ -163,6 +163,7 @@ module _ {T : Type 0} where
   pub record IsLookup (names : Scope) (node : LookupNode T) : Type 0 where
     pub decided : is_decided node.pattern ≡ true
     pub unchosen : choice_fields node.pattern.parts ≡ []
+    pub unconditional : conditions node.pattern.parts ≡ []
     pub asks : AsksBy (looking_of node.sight) node.fields.items (known_fields (join_fields node.pattern.parts) names) (compared_fields node.pattern.parts)
 
   -- the pattern is looked up so, what is before the node is kept, and the tokens behind it are those that it passes on over these facts

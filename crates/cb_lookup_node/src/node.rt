@@ -3,7 +3,7 @@ ghost use Rattle.std.specs.Prelude.{◌≡◌, ℕ, [], IfOk, List, OnOk, Option
 ghost use Rattle.cb_beta.specs.BetaMemories.{BetaMemoryValue};
 ghost use Rattle.cb_facts.specs.FactLists.{IndexedFacts};
 ghost use Rattle.cb_facts.specs.Facts.{FactValue};
-ghost use Rattle.cb_fit.specs.Comparisons.{choice_fields, compared_fields, is_decided};
+ghost use Rattle.cb_fit.specs.Comparisons.{choice_fields, compared_fields, conditions, is_decided};
 ghost use Rattle.cb_fit.specs.JoinFields.{join_fields};
 ghost use Rattle.cb_lookup_node.specs.LookupNodes.{AsksTheSame, IsAfterLookup, IsBeforeLookup, IsLookup, IsLookupReady};
 ghost use Rattle.cb_matches.specs.Matches.{Partial};
@@ -60,7 +60,7 @@ impl<T> LookupNode<T> {
         ensures positive { IfOk result (λ node. node.positive ≡ positive) }
         ensures pattern { IfOk result (λ node. node.pattern ≡ pattern) }
         ensures lookup { IfOk result (λ node. (names : Scope) → is_decided pattern ≡ true
-            → choice_fields pattern.parts ≡ []
+            → choice_fields pattern.parts ≡ [] → conditions pattern.parts ≡ []
             → known.items ≡ known_fields (join_fields pattern.parts) names
             → compared.items ≡ compared_fields pattern.parts → IsLookup names node) }
         ensures ready { IfOk result (λ node. (names : Scope) (at : ℕ → Partial) (facts : ℕ → Option (ℕ × FactValue))

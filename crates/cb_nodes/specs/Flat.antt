@@ -120,10 +120,15 @@ abbrev pub are_none_chosen : List ChoiceFieldValue → Bool
 are_none_chosen [] = true
 are_none_chosen (c ∷ cs) = false
 
+-- no expression is asked
+abbrev pub are_no_conditions : List Term → Bool
+are_no_conditions [] = true
+are_no_conditions (t ∷ ts) = false
+
 -- whether there is a fact that a pattern fits can be looked up by values, by what decides
 abbrev pub is_looked_up : Option DecisionValue → Bool
 is_looked_up None = false
-is_looked_up (Some d) = are_none_chosen d.chosen
+is_looked_up (Some d) = are_none_chosen d.chosen && are_no_conditions d.conditions
 
 -- the pattern of a group that has no other element, where no address is taken, and the pattern stands alone or is looked up
 abbrev pub lone_pattern : Elements → Option PatternValue

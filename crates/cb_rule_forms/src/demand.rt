@@ -14,6 +14,8 @@ pub(crate) fn demand(alternatives: Vec<Vec<Check>>, last: Vec<Check>) -> Result<
         ≡ demand_in (alternatives_of alternatives ++ checks_of last ∷ [])) }
 {
     let mut alternatives = alternatives;
+    let mut last = last;
+    last.shrink_to_fit();
     if alternatives.is_empty() {
         return Ok(Demand::Each(last));
     }

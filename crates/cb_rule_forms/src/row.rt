@@ -36,6 +36,7 @@ pub(crate) fn read_row(
         constraints.push(constraint)?;
         rest = following;
     }
+    constraints.shrink_to_fit();
     Ok(constraints)
 }
 

@@ -7,7 +7,7 @@ ghost use Rattle.cb_exprs.specs.Bindings.{Bindings, no_bindings, value_at, with_
 ghost use Rattle.cb_matches.specs.Matches.{Partial, with_address};
 
 use crate::source::Source;
-use cb_beta::{Given, Token};
+use cb_beta::{Given, Sought, Token};
 use cb_facts::{Name, Value};
 use cb_forms::NoMemory;
 
@@ -16,7 +16,7 @@ use cb_forms::NoMemory;
 pub(crate) fn given_by_token(
     source: &Source,
     token: &Token,
-    name: &Name,
+    name: &Sought<'_>,
 ) -> Result<Option<Value>, NoMemory>
     ensures { IfOk result (λ found. (m : Partial)
         → value_at name.now (with_taken source.now.address token.now.taken m).env.variables
@@ -33,7 +33,7 @@ pub(crate) fn given_with(
     way: Option<&Given>,
     address: &Option<Name>,
     index: u64,
-    name: &Name,
+    name: &Sought<'_>,
 ) -> Result<Option<Value>, NoMemory>
     ensures { IfOk result (λ found. (env : Bindings) → value_at name.now
         (with_variables (values_given (option_copied way.entry)) (with_address address.now index env)).variables
@@ -50,7 +50,7 @@ fn given(
     way: &Given,
     address: &Option<Name>,
     index: u64,
-    name: &Name,
+    name: &Sought<'_>,
 ) -> Result<Option<Value>, NoMemory>
     ensures { IfOk result (λ found. (env : Bindings)
         → value_at name.now (with_variables way.now.bound (with_address address.now index env)).variables
@@ -63,11 +63,11 @@ fn given(
 }
 
 /// The address of the fact with an index, if that is what the variable has.
-fn given_by_address(address: &Option<Name>, index: u64, name: &Name) -> Option<Value>
+fn given_by_address(address: &Option<Name>, index: u64, name: &Sought<'_>) -> Option<Value>
     ensures { result ≡ value_at name.now (with_address address.now index no_bindings).variables }
 {
     match address {
-        Some(own) if *name == *own => Some(Value::Fact(index)),
+        Some(own) if *name.name() == *own => Some(Value::Fact(index)),
         _ => None,
     }
 }

@@ -1,7 +1,7 @@
 //! What variables have where a test is, read when it asks for them.
 use crate::giving::given_with;
 use crate::reading::TokenLists;
-use cb_beta::Given;
+use cb_beta::{Given, Sought};
 use cb_exprs::Lookup;
 use cb_facts::{Name, Value};
 use cb_forms::NoMemory;
@@ -23,7 +23,7 @@ impl Lookup for Reading<'_> {
     ghost bindings = { λ r. (partial_at r.lists.sources.now r.lists.lists.now r.list r.number).env };
 
     fn variable(&self, name: &Name) -> Result<Option<Value>, NoMemory> {
-        self.lists.value(self.list, self.number, name)
+        self.lists.value(self.list, self.number, &Sought::new(name))
     }
 
     fn global_variable(&self, _name: &Name) -> Result<Option<Value>, NoMemory> {
@@ -55,9 +55,13 @@ impl Lookup for Grown<'_, '_> {
         (partial_at g.before.lists.sources.now g.before.lists.lists.now g.before.list g.before.number).env) };
 
     fn variable(&self, name: &Name) -> Result<Option<Value>, NoMemory> {
-        match given_with(self.given, self.address, self.index, name)? {
+        let name = Sought::new(name);
+        match given_with(self.given, self.address, self.index, &name)? {
             Some(value) => Ok(Some(value)),
-            None => self.before.variable(name),
+            None => {
+                let before = self.before;
+                before.lists.value(before.list, before.number, &name)
+            }
         }
     }
 

@@ -6,14 +6,20 @@ ghost use Rattle.cb_token_lists.specs.Partials.{partial_at};
 use crate::giving::given_by_token;
 use crate::known::Reading;
 use crate::reading::TokenLists;
-use cb_facts::{Name, Value};
+use cb_beta::Sought;
+use cb_facts::Value;
 use cb_forms::NoMemory;
 
 impl<'a> TokenLists<'a> {
     /// The value that a variable has by the partial match with a number in a list, or `None` where it has none. It takes some steps
     /// for each list that is gone down to, until one gives the variable, and no memory: the value shares its bytes or fields. It is
     /// refused as `NoMemory` only where a count of sharers is full.
-    pub fn value(&self, list: usize, number: u32, name: &Name) -> Result<Option<Value>, NoMemory>
+    pub fn value(
+        &self,
+        list: usize,
+        number: u32,
+        name: &Sought<'_>,
+    ) -> Result<Option<Value>, NoMemory>
         ensures { IfOk result (λ found. found ≡ value_at name.now
             (partial_at self.now.sources.now self.now.lists.now list number).env.variables) }
     {

@@ -8,5 +8,5 @@ pub returns-clause-address : goal.returns-clause-address
 returns-clause-address g c = λ x e.
     let apart = c.stands_in.ensures c.if-stands_in.false x e in
     let names : c.as_slice.result.now ≡ bound_names c.args.pattern.now = search rules in
-    let compared : c.as_slice-else-not-is_empty.result.now ≡ c.in-Some.decision.compared.items = search rules in
+    let compared : c.as_slice-compared.result.now ≡ c.in-Some.decision.compared.items = search rules in
     (subst (λ it. is_named x it ≡ false) names apart.0, subst (λ it. list_any (λ (d : ComparedField). bytes_eq x d.variable) it ≡ false) compared apart.1)

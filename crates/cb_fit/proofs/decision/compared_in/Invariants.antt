@@ -6,4 +6,4 @@ use Rattle.cb_fit.specs.Internal.Placed.{placed_of}
 
 abbrev pub invariant-loop-placed : goal.invariant-loop-placed
 invariant-loop-placed l =
-    l.all.items ++ compared_from l.before.items (map placed_of l.placed-iterator.rest.items) ≡ compared_fields (asked_parts l.parts)
+    l.all.items ++ compared_from l.before (map placed_of l.placed-iterator.rest.items) ≡ compared_fields (asked_parts l.parts)

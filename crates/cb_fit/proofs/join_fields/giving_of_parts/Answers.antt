@@ -8,24 +8,24 @@ use Rattle.cb_fit.specs.declared.join_fields.JoinField.{JoinField}
 pub loop-field-init : goal.loop-field-init
 loop-field-init c =
     let all : c.into_iter-field-iterator.result.rest.items ≡ join_fields (asked_parts c.args.parts.now) = search rules in
-    ap (λ (ks : List JoinField). ks ++ unseen ks (first_fields c.into_iter-field-iterator.result.rest.items)) c.new-all.ensures.items
+    ap (λ (ks : List JoinField). ks ++ unseen ks (first_fields c.into_iter-field-iterator.result.rest.items)) c.new-all.ensures
     ∙ unseen_none (first_fields c.into_iter-field-iterator.result.rest.items)
     ∙ ap first_fields all
 
-pub loop-field-preserved-in-Continue-branch-2 : goal.loop-field-preserved-in-Continue-branch-2
-loop-field-preserved-in-Continue-branch-2 c =
-    let unknown : is_seen c.loop-field.all.items c.in-Some.field.variable ≡ false = search rules in
-    let pushed : c.push.new.self.items ≡ c.loop-field.all.items ++ c.in-Some.field ∷ [] = search rules in
+pub loop-field-preserved-then-is_none : goal.loop-field-preserved-then-is_none
+loop-field-preserved-then-is_none c =
+    let unknown : is_seen c.loop-field.all c.in-Some.field.variable ≡ false = search rules in
+    let pushed : c.in_ok-all.all ≡ c.loop-field.all ++ c.in-Some.field ∷ [] = search rules in
     let next : c.loop-field.field-iterator.rest.items ≡ c.in-Some.field ∷ c.next.new.self.rest.items = search rules in
     ap (λ (ks : List JoinField). ks ++ unseen ks (first_fields c.next.new.self.rest.items)) pushed
-    ∙ first_more c.loop-field.all.items c.in-Some.field c.next.new.self.rest.items unknown
-    ∙ ap (λ (js : List JoinField). c.loop-field.all.items ++ unseen c.loop-field.all.items (first_fields js)) (sym next)
+    ∙ first_more c.loop-field.all c.in-Some.field c.next.new.self.rest.items unknown
+    ∙ ap (λ (js : List JoinField). c.loop-field.all ++ unseen c.loop-field.all (first_fields js)) (sym next)
     ∙ c.loop-field.invariant
 
 pub loop-field-preserved : goal.loop-field-preserved
 loop-field-preserved c =
-    let known : is_seen c.loop-field.all.items c.in-Some.field.variable ≡ true = search rules in
+    let known : is_seen c.loop-field.all c.in-Some.field.variable ≡ true = search rules in
     let next : c.loop-field.field-iterator.rest.items ≡ c.in-Some.field ∷ c.next.new.self.rest.items = search rules in
-    first_still c.loop-field.all.items c.in-Some.field c.next.new.self.rest.items known
-    ∙ ap (λ (js : List JoinField). c.loop-field.all.items ++ unseen c.loop-field.all.items (first_fields js)) (sym next)
+    first_still c.loop-field.all c.in-Some.field c.next.new.self.rest.items known
+    ∙ ap (λ (js : List JoinField). c.loop-field.all ++ unseen c.loop-field.all (first_fields js)) (sym next)
     ∙ c.loop-field.invariant

@@ -6,4 +6,4 @@ use Rattle.cb_fit.specs.JoinFields.{first_fields, giving_fields}
 
 abbrev pub invariant-loop-field : goal.invariant-loop-field
 invariant-loop-field l =
-    l.all.items ++ unseen l.all.items (first_fields l.field-iterator.rest.items) ≡ giving_fields (asked_parts l.parts)
+    l.all ++ unseen l.all (first_fields l.field-iterator.rest.items) ≡ giving_fields (asked_parts l.parts)

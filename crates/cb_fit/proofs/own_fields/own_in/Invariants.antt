@@ -7,4 +7,4 @@ use Rattle.cb_fit.specs.Internal.Placed.{placed_of}
 
 abbrev pub invariant-loop-placed : goal.invariant-loop-placed
 invariant-loop-placed l =
-    l.all.items ++ own_fields_from l.before.items (map placed_of l.placed-iterator.rest.items) ≡ own_fields_from [] (placed_demands (asked_parts l.parts))
+    l.all.items ++ own_fields_from l.before (map placed_of l.placed-iterator.rest.items) ≡ own_fields_from [] (placed_demands (asked_parts l.parts))

@@ -34,5 +34,5 @@ loop-way-preserved g c =
       append_assoc done (w ∷ []) rest ∙ whole,
       λ once.
           ways_more x ts m c.args.number c.args.candidate c.args.index c.args.own.now c.loop-way.own c.add_given.new.own done w
-          (next_apart done w rest (subst (Chain (λ (u : WayValue) (v : WayValue). u ≢ v)) (sym whole) once)) (inv.2 once) (subst (λ it. Comes c.loop-way.own c.add_given.new.own (IsOfWay x ts m c.args.number c.args.candidate c.args.index it)) c.found-given.ensures c.in_ok-add_given.ensures),
+          (next_apart done w rest (subst (Chain (λ (u : WayValue) (v : WayValue). u ≢ v)) (sym whole) once)) (inv.2 once) (subst (λ it. Comes c.loop-way.own c.add_given.new.own (IsOfWay x ts m c.args.number c.args.candidate c.args.index it)) c.in_ok-given.ensures c.in_ok-add_given.ensures),
     )

@@ -1,7 +1,7 @@
 use Rattle.std.proofs.Common.{◌≡◌, drop}
 use Rattle.cb_beta.specs.GivenValues.{values_taken}
 use Rattle.cb_exprs.specs.Bindings.{with_variables}
-use Rattle.cb_beta.proofs.given.bind_fields.Given as goal
+use Rattle.cb_beta.proofs.taken_fields.bind_fields.Given as goal
 
 abbrev pub invariant-loop-field : goal.invariant-loop-field
 invariant-loop-field l =

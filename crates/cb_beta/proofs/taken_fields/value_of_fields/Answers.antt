@@ -1,6 +1,6 @@
 use Rattle.std.proofs.Common.{◌∙◌, None, Some, rules, sym}
 use Rattle.cb_beta.proofs.Values.{last_field}
-use Rattle.cb_beta.proofs.given.value_of_fields.Goals as goal
+use Rattle.cb_beta.proofs.taken_fields.value_of_fields.Goals as goal
 
 pub returns-in-Some-2 : goal.returns-in-Some-2
 returns-in-Some-2 c =

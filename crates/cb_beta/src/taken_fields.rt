@@ -1,0 +1,128 @@
+//! The fields of a fact that give variables their values.
+ghost use Rattle.std.specs.Prelude.{◌≡◌, IfOk, OnOk};
+ghost use Rattle.cb_beta.specs.GivenValues.{values_taken};
+ghost use Rattle.cb_exprs.specs.Bindings.{no_bindings, value_at, with_variables};
+ghost use Rattle.cb_fit.specs.Decided.{taken_by};
+
+use crate::marks::{Sought, marks_of};
+use cb_exprs::Env;
+use cb_facts::{Fact, Name, Value};
+use cb_fit::{Cuts, JoinField};
+use cb_forms::NoMemory;
+use std::marker::Model;
+
+/// What all tokens of a list take that is joined by values: the fields of a fact that give variables their values, and the lengths of
+/// the segments of the way. Contracts see these two.
+#[derive(Drop)]
+pub struct TakenFields {
+    fields: Vec<JoinField>,
+    cuts: Cuts,
+    /// The marks of the variables of the fields.
+    marks: u64,
+}
+
+impl Model for TakenFields {
+    ghost use Rattle.cb_beta.specs.TakenFields.{TakenFieldsValue};
+    ghost use Rattle.cb_beta.specs.Marks.{AreMarked};
+
+    ghost Value = { TakenFieldsValue };
+
+    ghost view = { λ t. record { fields = t.fields.items; cuts = t.cuts } };
+
+    ghost invariant = { λ t. AreMarked t.marks t.fields.items };
+}
+
+impl TakenFields {
+    /// These fields and lengths. It takes no memory, and some steps for each field.
+    pub fn new(fields: Vec<JoinField>, cuts: Cuts) -> TakenFields
+        ensures fields { result.fields ≡ fields.items }
+        ensures cuts { result.cuts ≡ cuts }
+    {
+        let marks = marks_of(fields.as_slice());
+        TakenFields {
+            fields,
+            cuts,
+            marks,
+        }
+    }
+
+    /// The lengths of the segments.
+    pub(crate) fn cuts(&self) -> &Cuts
+        ensures { result.now ≡ self.now.cuts }
+    {
+        &self.cuts
+    }
+
+    /// The value that the fields give a variable in a fact, of which the last counts. Where they don't give it, that is mostly seen
+    /// without a look at their names.
+    pub(crate) fn value(&self, fact: &Fact, name: &Sought<'_>) -> Result<Option<Value>, NoMemory>
+        ensures { IfOk result (λ found. found ≡ value_at name.now
+            (with_variables (values_taken self.now.fields fact.now.content) no_bindings).variables) }
+    {
+        if !name.is_marked(self.marks) {
+            return Ok(None);
+        }
+        value_of_fields(self.fields.as_slice(), fact, name.name())
+    }
+
+    /// Gives the variables of the fields their values in a fact, one after another.
+    pub(crate) fn bind(&self, env: &mut Env, fact: &Fact) -> Result<(), NoMemory>
+        ensures { OnOk result
+            (env.new ≡ with_variables (values_taken self.now.fields fact.now.content) env.old) }
+    {
+        bind_fields(env, self.fields.as_slice(), fact)
+    }
+}
+
+/// The value that these fields of a fact give a variable, of which the last counts.
+fn value_of_fields(
+    fields: &[JoinField],
+    fact: &Fact,
+    name: &Name,
+) -> Result<Option<Value>, NoMemory>
+    ensures { IfOk result (λ found. found ≡ value_at name.now
+        (with_variables (values_taken fields.now fact.now.content) no_bindings).variables) }
+{
+    let mut left = fields;
+    while let Some((last, others)) = left.split_last() {
+        if let Some(value) = value_of_field(last, fact, name)? {
+            return Ok(Some(value));
+        }
+        left = others;
+    }
+    Ok(None)
+}
+
+/// The value that a field of a fact gives a variable, if that is the field's own.
+fn value_of_field(field: &JoinField, fact: &Fact, name: &Name) -> Result<Option<Value>, NoMemory>
+    ensures { IfOk result (λ found. found ≡ value_at name.now
+        (with_variables (taken_by no_bindings fact.now.content field.now) no_bindings).variables) }
+{
+    if *name == field.variable {
+        field.value_in(fact)
+    } else {
+        Ok(None)
+    }
+}
+
+/// Gives the variables of these fields their values in a fact, one after another.
+fn bind_fields(env: &mut Env, fields: &[JoinField], fact: &Fact) -> Result<(), NoMemory>
+    ensures { OnOk result
+        (env.new ≡ with_variables (values_taken fields.now fact.now.content) env.old) }
+{
+    for field in fields {
+        bind_field(env, field, fact)?;
+    }
+    Ok(())
+}
+
+/// Gives the variable of a field its value in a fact, if that has such a field.
+fn bind_field(env: &mut Env, field: &JoinField, fact: &Fact) -> Result<(), NoMemory>
+    ensures { OnOk result (env.new
+        ≡ with_variables (taken_by no_bindings fact.now.content field.now) env.old) }
+{
+    match field.value_in(fact)? {
+        Some(value) => env.set(&field.variable, value),
+        None => Ok(()),
+    }
+}
