@@ -1,8 +1,9 @@
 #!/bin/sh
 # Refuses each growth of memory in turn in the built program: the first alone, the second alone,
 # and so on; and then each with all after it. A refused run must end with status 3, say that it is out of memory, and have
-# written a beginning of what it writes with ample memory. Where one growth alone is refused, it may also be asked for again
-# and be had, as the room for the program's words: then the run must be the same as with ample memory.
+# written a beginning of what it writes with ample memory. What is refused may also be asked for again and be had, as the room for
+# the program's words, or be for the line on standard error that says where faults arose: then the transcript and the status must be
+# the same as with ample memory.
 # Run it from anywhere, with a C compiler and the GNU C library:
 #
 #     benches/refusals.sh
@@ -95,6 +96,9 @@ rule_scripts() {
 (watch activations)(defrule m (a ?x) (not (b ?x)) (c ?x) => (printout t ?x crlf))(assert (a 1) (a 2) (c 1) (c 2) (b 2))(run)(retract 5)(run)(defrule g (not (and (n ?x) (test (> ?x 3)))) => (printout t small crlf))(assert (n 2))(run)(assert (n 9))(retract 6)(run)
 (defrule o (or (p ?x) (and (q ?x) (not (r ?x)))) (exists (s) (t)) => (printout t ?x crlf))(assert (p 1) (q 2) (s) (t))(agenda)(run)(defrule n (not (not (a))) =>)(defrule n (exists (a ?x)) => (println ?x))(deftemplate s)
 (watch all)(defrule e =>)(defrule n (not (a)) =>)(deffacts d (a))(reset)(rules)(undefrule e)(undefrule e)(undefrule *)(unwatch all)(watch x)(exit 256)(exit)
+(defrule c (n ?h) (next ?g&:(= ?g (+ ?h 1))) (column ?c&:(not (member$ ?c (create$ ?h ?g)))) => (println ?h ?g ?c))(assert (n 1) (n 2) (next 2) (next 3) (column 1) (column 7))(run)(retract 3)(agenda)(run)
+(watch activations)(defrule l ?f <- (x ?v) (not (x ?w&:(< ?w ?v))) => (retract ?f))(defrule d (y ?a ?b) (not (y ~?a ?c&:(> ?c ?b))) =>)(assert (x 3) (x 1) (x 2) (y 1 1) (y 2 5) (y 1 7))(run)(retract 5)(agenda)
+(defrule f (forall (task ?t) (done ?t) (not (and (late ?t) (not (excused ?t))))) => (println all))(run)(assert (task 1) (task 2) (done 1))(assert (done 2))(run)(assert (late 2))(assert (excused 2))(run)(retract 1 5)(agenda)
 (defrule a (p) => (bind ?y (+ 1 2)) (if (> ?y 2) then (assert (q ?y "z") (r)) else (while FALSE)) (halt))(defrule b (q ?y $?) => (div ?y 0))(watch rules)(assert (p))(run)(run)(exit 3)
 END
     # Many ways.
@@ -108,9 +112,9 @@ wrong() {
     exit 1
 }
 
-# Whether the run was the same as with ample memory.
+# Whether the transcript and the status were the same as with ample memory.
 is_whole() {
-    [ "$status" -eq "$whole_status" ] && [ ! -s "$place/said" ] && cmp -s "$place/written" "$place/whole"
+    [ "$status" -eq "$whole_status" ] && cmp -s "$place/written" "$place/whole"
 }
 
 # Refuses each growth in turn in the run of a script, and counts them in n, and in had those that were had after all.
@@ -128,12 +132,12 @@ refused() {
             n=$((n - 1))
             return
         fi
-        if [ -z "${REFUSE_ALL:-}" ] && is_whole; then
+        if is_whole; then
             had=$((had + 1))
             continue
         fi
         [ "$status" -eq 3 ] || wrong "status $status"
-        [ "$(cat "$place/said")" = "${program##*/}: out of memory" ] || wrong "it says $(cat "$place/said")"
+        [ "$(tail -n 1 "$place/said")" = "${program##*/}: out of memory" ] || wrong "it says $(cat "$place/said")"
         cmp -s -n "$(wc -c <"$place/written")" "$place/written" "$place/whole" || wrong 'no beginning of what it writes with ample memory'
     done
 }
@@ -146,7 +150,7 @@ refused_in_scripts() {
     while IFS= read -r script; do
         printf '%s\n' "$script" >"$place/script"
         whole_status=0
-        "$program" <"$place/script" >"$place/whole" || whole_status=$?
+        "$program" <"$place/script" >"$place/whole" 2>"$place/said" || whole_status=$?
         unset REFUSE_ALL
         refused
         alone=$n

@@ -21,6 +21,8 @@ SECONDS = 600
 TEMPLATE = "(deftemplate t (slot k) (slot v (default 0)) (multislot m))"
 CONSTANTS = ["1", "2", "3", "red"]
 ORDERS = ["<", ">", "<=", ">="]
+# Predicates that compare no field with a variable or a constant.
+CONDITIONS = ["(= {0} (+ {1} 1))", "(not (eq {0} {1}))", "(oddp {0})", "(eq {1} (max {0} 2))", "(or (< {1} {0}) (= {0} 2))"]
 
 # What the copy of --plain has in another way: in a file, each old text and the new one.
 PLAIN = {
@@ -49,8 +51,10 @@ class LeftSide:
         if chance < 0.45 or name in self.known:
             return draw.choice([known, known, known, f"~{known}"])
         self.known.append(name)
-        if chance < 0.7:
+        if chance < 0.58:
             return f"?{name}&:({draw.choice(ORDERS)} ?{name} {known})"
+        if chance < 0.7:
+            return f"?{name}&:{draw.choice(CONDITIONS).format(f'?{name}', known)}"
         return f"?{name}&=(+ {known} 1)" if chance < 0.75 else f"?{name}"
 
     def fields(self, most):
