@@ -6,7 +6,7 @@ docs/man.py    prints what it says otherwise (so does docs/man.py --check); the 
 The options with their ranges and defaults have to be those of README.md, of docs/LANGUAGE.md and of the help that the
 program prints. The statuses have to be those of README.md, and the faults, the limits and the lines on standard error those
 of docs/LANGUAGE.md. Any other part of a sentence that has a number of two digits or more has to stand in one of the two.
-The script of the man page is a row of `clipsbatch_tests`, by docs/examples.py.
+tools/pages.py runs the script of the man page.
 """
 import re
 import sys

@@ -89,11 +89,3 @@ pub(super) const CB23: &[u8] = b"[CB23] template in use\n";
 pub(super) const CB92: &[u8] = b"[CB92] firing limit reached\n";
 
 pub(super) const CB93: &[u8] = b"[CB93] loop limit reached\n";
-
-/// A whole script, all that it writes, and how it ends.
-pub(super) struct Example {
-    pub(super) name: &'static str,
-    pub(super) script: &'static [u8],
-    pub(super) written: &'static [u8],
-    pub(super) outcome: Outcome,
-}

@@ -1,8 +1,10 @@
 #!/usr/bin/env python3
-"""The rows of `clipsbatch_tests` that are scripts of the pages, of the man page and of `examples/`, made from these files.
+"""Runs the scripts of the pages, of the man page, of `examples/` and of `tests/` on the built program.
 
-docs/examples.py            writes the rows into crates/clipsbatch_tests/src/tests
-docs/examples.py --check    only checks that they are up to date
+    tools/pages.py [--after LINE] [PROGRAM ..]
+
+PROGRAM is crates/clipsbatch/out/clipsbatch unless it is given. A script that has another transcript or exit status has a line, and
+the last line is 'N passed, M failed', to which the numbers of LINE are added, if it is given: a line of that form.
 
 A script of a page is a block of the kind `clips`, and its transcript is the next block of the kind `text`. In a block of the
 kind `clips control` pictures such as ␁ stand for control bytes. The tables of tokens, words, strings, items and patterns are
@@ -11,53 +13,27 @@ script, and what it shows a line of the transcript. In the man page the script i
 
 The exit status follows from the transcript: 4 where its last line is a limit's, 1 where one line is a fault's, else 0. A line
 that is `(exit)` or `(exit n)` alone, n up to 255, ends a script, and so does any other `exit` with a comment `; status n`.
-
-A list of rows has a section of a page and those after it, up to the first section of the next list. Lists are kept to about
-3,000 bytes, since the cost of a test grows with the square of them.
 """
+import os
 import re
+import subprocess
 import sys
 from pathlib import Path
 
 TOP = Path(__file__).resolve().parent.parent
 MAN = "docs/clipsbatch.1"
 LANGUAGE = "docs/LANGUAGE.md"
-ROWS = TOP / "crates" / "clipsbatch_tests" / "src" / "tests"
+PAGES = ["README.md", LANGUAGE, "docs/CLIPS.md", "tests/language.md", "tests/modify.md", "tests/rules.md"]
+# The limits of each run, which some of the scripts reach.
+LIMITS = ["--max-form", "2000", "--max-firings", "1000", "--max-turns", "1000"]
+# A script takes some milliseconds.
+SECONDS = 60
 CALL = re.compile(r"^\| `[^`]+` \|.*\| `(\([^`]*\))` \| `([^`]*)` \|$")
 PIPED = re.compile(r"^\$ echo '([^']*)' \| clipsbatch\n(.*?)^\.Ed$", re.M | re.S)
 LIMIT = re.compile(r"^\[CB9\d\] .*\n\Z", re.M)
 FAULT = re.compile(r"\[CB\d\d\] ")
 EXIT = re.compile(r"^\(exit(?: (\d+))?\)$|^\(exit .*; status (\d+)$", re.M)
 PICTURES = {0x2421: 127} | {0x2400 + byte: byte for byte in range(32)}
-
-# The files of rows that pages have: what each is about, and its lists, each with its first section.
-FILES = {
-    "functions.rt": (LANGUAGE, "expressions, variables and control", {"EXPRESSIONS": "Expressions", "VARIABLES": "Variables"}),
-    "facts.rt": (LANGUAGE, "templates and facts", {"TEMPLATES": "Templates", "FACTS": "Facts"}),
-    "rules.rt": (
-        LANGUAGE,
-        "rules, the agenda and the order of the faults",
-        {"RULES": "Rules", "GROUPS": "Groups", "RULE_FAULTS": "Faults of a rule", "AGENDA": "The agenda"},
-    ),
-    "commands.rt": (
-        LANGUAGE,
-        "commands",
-        {
-            "COMMANDS": "assert, facts and printing",
-            "MODIFYING": "modify",
-            "RUNNING": "run and halt",
-            "WATCHING": "watch and unwatch",
-        },
-    ),
-    "clips.rt": (
-        "docs/CLIPS.md",
-        "what differs",
-        {"CLIPS_TEXT": "Input and output", "CLIPS_FACTS": "Facts and templates", "CLIPS_RULES": "Rules", "CLIPS_COMMANDS": "Commands"},
-    ),
-}
-# The files of the tables of patterns, with their lists.
-PATTERNS = {"patterns.rt": ("CONSTANTS", "PATTERN_VARIABLES", "CONNECTIVES"), "pattern_ways.rt": ("CHECKS", "WAYS", "SLOTS")}
-
 
 def sections(page):
     """The headings of a page, each with the lines below it up to the next."""
@@ -100,16 +76,6 @@ def scripts(page):
                 script = None
 
 
-def lists(page):
-    """The lists of a page."""
-    names = {first: name for other, _, firsts in FILES.values() if other == page for name, first in firsts.items()}
-    found, name = {}, None
-    for heading, *example in scripts(page):
-        name = names.get(heading, name)
-        found.setdefault(name, []).append(example)
-    return found
-
-
 def piped_scripts():
     """The scripts of the man page."""
     for number, (script, written) in enumerate(PIPED.findall((TOP / MAN).read_text()), 1):
@@ -117,9 +83,9 @@ def piped_scripts():
 
 
 def files():
-    """The scripts of `examples/`, each a list."""
+    """The scripts of `examples/`."""
     for script in sorted((TOP / "examples").glob("*.clp")):
-        yield script.stem.upper(), [(script.name, script.read_text(), script.with_suffix(".txt").read_text())]
+        yield script.name, script.read_text(), script.with_suffix(".txt").read_text()
 
 
 def cells_of(line):
@@ -209,16 +175,15 @@ def pattern_script(pattern, fitting, others):
     return pattern, f"{script}(assert {' '.join(others)})\n(run)\n", f"{written}<Fact-{len(others)}>\n"
 
 
-def pattern_lists():
-    """The scripts of the tables of patterns, a list for each table. A row without a pattern has another fact for the last."""
-    names = [name for chosen in PATTERNS.values() for name in chosen]
-    for name, (_, body) in zip(names, tables("Patterns")[1:], strict=True):
+def pattern_scripts():
+    """The scripts of the tables of patterns. A row without a pattern has another fact for the last."""
+    for _, body in tables("Patterns")[1:]:
         patterns = []
         for pattern, fact, ways, others in (map(code, row) for row in body):
             if pattern:
                 patterns.append((pattern[0], [], others))
             patterns[-1][1].extend((each, ways) for each in fact)
-        yield name, [pattern_script(*each) for each in patterns]
+        yield from (pattern_script(*each) for each in patterns)
 
 
 def wrong_lengths():
@@ -228,80 +193,53 @@ def wrong_lengths():
             yield f"{LANGUAGE}: {row[0]} hasn't the length {row[1]}"
 
 
-def literal(text):
-    text = text.replace("\\", "\\\\").replace('"', '\\"').replace("\t", "\\t")
-    return re.sub(r"[\x00-\x09\x0b-\x1f\x7f]", lambda found: f"\\x{ord(found[0]):02x}", text)
-
-
-def outcome(script, written):
-    """How a script ends that writes this: the name of an outcome, or a status that an `exit` gives."""
+def status_of(script, written):
+    """The exit status of a script that writes this."""
     if LIMIT.search(written):
-        return "AT_A_LIMIT"
+        return 4
     is_faulty = bool(FAULT.search(written))
     statuses = [int(number or said or is_faulty) for number, said in EXIT.findall(script)]
-    ended = "WITH_A_FAULT" if is_faulty else "WITHOUT_FAULT"
-    return next((status for status in statuses if status < 256), ended)
+    return next((status for status in statuses if status < 256), int(is_faulty))
 
 
-def row_of(pad, title, script, written):
-    """A row, with the blanks before its lines."""
-    ending = outcome(script, written)
-    if isinstance(ending, int):
-        ending = f"Outcome {{\n{pad}        status: {ending},\n{pad}        cause: Cause::Exit,\n{pad}    }}"
-    return (
-        f'Example {{\n{pad}    name: "{literal(title)}",\n{pad}    script: b"{literal(script)}",\n'
-        f'{pad}    written: b"{literal(written)}",\n{pad}    outcome: {ending},\n{pad}}}'
-    )
+def all_scripts():
+    """All scripts: the name of each, its text and its transcript."""
+    for page in PAGES:
+        for _, name, *script in scripts(page):
+            yield f"{page}, {name}", *script
+    yield from piped_scripts()
+    yield from token_scripts()
+    yield from pattern_scripts()
+    yield from files()
 
 
-def list_of(examples):
-    """A list of rows, laid out as `rt fmt` does."""
-    if len(examples) == 1:
-        return f"[{row_of('', *examples[0])}]"
-    return "[\n" + "".join(f"    {row_of('    ', *each)},\n" for each in examples) + "]"
+def goes(program, name, script, written):
+    """Whether a program writes this for a script. It prints where it doesn't."""
+    ran = subprocess.run([program, *LIMITS], input=script.encode(), capture_output=True, timeout=SECONDS)
+    wanted, status = written.encode(), status_of(script, written)
+    if ran.stdout == wanted and ran.returncode == status:
+        return True
+    same = os.path.commonprefix([ran.stdout.split(b"\n"), wanted.split(b"\n")])
+    print(f"{name}: status {ran.returncode}, not {status}" if ran.stdout == wanted else f"{name}: the transcript differs in line {len(same) + 1}")
+    return False
 
 
-def module(source, content):
-    """A file of rows."""
-    text = "".join(f"\npub(super) const {name}: [Example; {len(rows)}] = {list_of(rows)};\n" for name, rows in content.items())
-    words = [word for word in ("AT_A_LIMIT", "Example", "WITH_A_FAULT", "WITHOUT_FAULT") if re.search(rf"\b{word}\b", text)]
-    uses = f"use super::rows::{{{', '.join(words)}}};\n" + ("use cb_command_line::{Cause, Outcome};\n" if "Cause::" in text else "")
-    return f"//! The scripts of {source}, made by `docs/examples.py`.\n{uses}{text}"
-
-
-def modules():
-    """The files, and what should stand in each."""
-    for name, (page, subject, firsts) in FILES.items():
-        found = lists(page)
-        yield name, module(f"`{page}` on {subject}", {first: found[first] for first in firsts})
-    yield "tokens.rt", module(f"the tables of `{LANGUAGE}` on tokens, words, strings and items", {"TOKENS": list(token_scripts())})
-    patterns = dict(pattern_lists())
-    for name, chosen in PATTERNS.items():
-        yield name, module(f"the tables of `{LANGUAGE}` on patterns", {each: patterns[each] for each in chosen})
-    first = [example for _, *example in scripts("README.md")]
-    yield "first_scripts.rt", module("`README.md` and of the man page", {"FIRST_SCRIPTS": [*first, *piped_scripts()]})
-    yield "examples.rt", module("`examples/`", dict(files()))
-
-
-def main():
-    words = sys.argv[1:]
-    if words not in ([], ["--check"]):
-        sys.exit(__doc__)
-    stale = 0
-    for line in wrong_lengths():
-        stale += 1
+def main(words):
+    passed = failed = 0
+    if words[:1] == ["--after"]:
+        passed, failed = map(int, re.match(r"(\d+) passed, (\d+) failed", words[1]).groups())
+        words = words[2:]
+    wrong = list(wrong_lengths())
+    for line in wrong:
         print(line)
-    for name, text in modules():
-        path = ROWS / name
-        if path.is_file() and path.read_text() == text:
-            continue
-        stale += 1
-        if words:
-            print(f"{path.relative_to(TOP)} is not up to date: run docs/examples.py")
-        else:
-            path.write_text(text)
-    return 1 if words and stale else 0
+    failed += len(wrong)
+    for program in words or [f"{TOP}/crates/clipsbatch/out/clipsbatch"]:
+        results = [goes(os.path.abspath(program), *each) for each in all_scripts()]
+        print(f"pages: {os.path.relpath(program)}: {sum(results)} of {len(results)} scripts went as they should")
+        passed, failed = passed + sum(results), failed + len(results) - sum(results)
+    print(f"{passed} passed, {failed} failed")
+    return 1 if failed else 0
 
 
 if __name__ == "__main__":
-    sys.exit(main())
+    sys.exit(main(sys.argv[1:]))
