@@ -16,11 +16,11 @@ use Rattle.cb_flat.proofs.Untaken.{matches_stay}
 use Rattle.cb_flat.specs.Taking.{NoneTakes, takes}
 use Rattle.cb_matches.specs.Matches.{matches_of}
 use Rattle.cb_matches.specs.Order.{IsRising, WaysRise}
+use Rattle.cb_matches.specs.Probes.{branch_probes}
 use Rattle.cb_nodes.proofs.Facts.{indices_of}
 use Rattle.cb_nodes.specs.Flat.{branch_nodes, widths_of}
 use Rattle.cb_nodes.specs.Lists.{branch_lists}
 use Rattle.cb_nodes.specs.Patterns.{Unselected}
-use Rattle.cb_partials.specs.Probes.{branch_probes}
 use Rattle.cb_branch.specs.Nodes.{flat_node, flat_nodes}
 use Rattle.cb_branch.specs.declared.node.Node.{Node}
 use Rattle.cb_branch.specs.declared.node.Node.TheVariants as kept

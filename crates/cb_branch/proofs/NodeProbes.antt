@@ -13,8 +13,8 @@ use Rattle.cb_join_node.specs.Bounds.{join_probes, kept_probes}
 use Rattle.cb_join_node.specs.Nodes.{added_fact}
 use Rattle.cb_list_changes.proofs.Places.{by_option, within}
 use Rattle.cb_matches.specs.Matches.{Partial}
+use Rattle.cb_matches.specs.Probes.{is_candidate, partials_come, partials_kept}
 use Rattle.cb_nodes.specs.Flat.{FlatNode, Lists}
-use Rattle.cb_partials.specs.Probes.{is_candidate, partials_come, partials_kept}
 
 same_number : (n : ℕ) → nat_eq n n ≡ true
 same_number n = grind arith

@@ -18,11 +18,11 @@ use Rattle.cb_list_changes.specs.Resting.{AreResting}
 use Rattle.cb_matches.specs.Changes.{come_of}
 use Rattle.cb_matches.specs.Keys.{KeyValue}
 use Rattle.cb_matches.specs.Order.{IsRising, WaysRise}
+use Rattle.cb_matches.specs.Probes.{branch_probes}
 use Rattle.cb_matches.specs.declared.delta.Delta.{Delta}
 use Rattle.cb_nodes.proofs.Facts.{indices_of}
 use Rattle.cb_nodes.specs.Flat.{FlatNode, Lists, branch_nodes}
 use Rattle.cb_nodes.specs.Lists.{branch_lists}
-use Rattle.cb_partials.specs.Probes.{branch_probes}
 use Rattle.cb_branch.specs.Nodes.{flat_nodes}
 use Rattle.cb_branch.specs.declared.node.Node.{Node}
 use Rattle.cb_rule_keys.specs.Keys.{Tells, key_of, keys_in_branch}

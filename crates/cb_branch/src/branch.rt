@@ -15,7 +15,7 @@ ghost use Rattle.cb_matches.specs.Keys.{key_eq};
 ghost use Rattle.cb_matches.specs.Matches.{matches_of};
 ghost use Rattle.cb_matches.specs.Networks.{keyed};
 ghost use Rattle.cb_matches.specs.Order.{IsRising};
-ghost use Rattle.cb_partials.specs.Probes.{branch_probes};
+ghost use Rattle.cb_matches.specs.Probes.{branch_probes};
 ghost use Rattle.cb_rule_keys.specs.Keys.{Tells, keys_in_branch};
 ghost use Rattle.cb_rules.specs.Elements.{element_of, elements};
 

@@ -9,7 +9,7 @@ ghost use Rattle.cb_facts.specs.Facts.{FactValue};
 ghost use Rattle.cb_fit.specs.Shapes.{is_selected};
 ghost use Rattle.cb_matches.specs.Matches.{matches_of};
 ghost use Rattle.cb_matches.specs.Order.{IsRising};
-ghost use Rattle.cb_partials.specs.Probes.{branch_probes};
+ghost use Rattle.cb_matches.specs.Probes.{branch_probes};
 ghost use Rattle.cb_rules.specs.Elements.{Elements};
 
 use cb_fit::laws::{a_fact_that_fits_is_selected, the_ways_rise_by_their_cuts};

@@ -3,6 +3,7 @@ use Rattle.std.proofs.Common.{◌≡◌, ◌≤◌, ℕ, suc, ◌+◌, Bool, tru
 use Rattle.cb_constraints.specs.PatternValues.{PatternValue}
 use Rattle.cb_facts.specs.FactLists.{IndexedFacts}
 use Rattle.cb_facts.specs.Facts.{FactValue}
+use Rattle.cb_matches.specs.Probes.{added_probes, branch_probes, element_probes, partials_kept, probes}
 use Rattle.cb_nodes.specs.Flat.{AreLists, FlatNode, Lists, branch_nodes, count_inside, flat_all, flat_probes, flat_probes_of, group_node, joining, last_list, lists_of, lone_pattern, node_count, nodes_inside, tests_first}
 use Rattle.cb_nodes.specs.Patterns.{HaveIndices}
 use Rattle.cb_flat.proofs.Named.{AllAt, all_first, all_second, place_behind}
@@ -12,7 +13,6 @@ use Rattle.cb_flat.proofs.Lone.{lone_elements}
 use Rattle.cb_fit.specs.Shapes.{has_shape}
 use Rattle.cb_matches.specs.Order.{WaysRise}
 use Rattle.cb_matches.specs.Matches.{Partial, after, next, no_parts, test_holds}
-use Rattle.cb_partials.specs.Probes.{added_probes, branch_probes, element_probes, partials_kept, probes}
 use Rattle.cb_rules.specs.Elements.{pattern, test, group, Elements, no_elements, element}
 
 both_less : (a b c d : ℕ) → a ≡ b → c ≤ d → a + c ≤ b + d

@@ -8,10 +8,10 @@ use Rattle.cb_flat.proofs.Whole.{probes_within}
 use Rattle.cb_flat.specs.Joined.{flat_joins, flat_joins_of}
 use Rattle.cb_flat.specs.Taking.{pattern_count, patterns_of}
 use Rattle.cb_matches.specs.Order.{WaysRise}
+use Rattle.cb_matches.specs.Probes.{added_probes, branch_probes}
 use Rattle.cb_nodes.specs.Flat.{FlatNode, Lists, alone, branch_nodes, flat_probes, flat_probes_of, grouping, joining, testing}
 use Rattle.cb_nodes.specs.Lists.{branch_lists}
 use Rattle.cb_nodes.specs.Patterns.{HaveIndices}
-use Rattle.cb_partials.specs.Probes.{added_probes, branch_probes}
 use Rattle.cb_rules.specs.Elements.{Elements}
 
 one_first : (a b : ℕ) → (a + b) + 1 ≡ a + (1 + b)

@@ -9,10 +9,10 @@ use Rattle.cb_flat.proofs.Named.{last_below, long_flat_all}
 use Rattle.cb_flat.proofs.Widths.{branch_widths, lists_are_once, lists_are_wide}
 use Rattle.cb_matches.specs.Matches.{matches_of, no_parts}
 use Rattle.cb_matches.specs.Order.{IsOnce, WaysRise}
+use Rattle.cb_matches.specs.Probes.{branch_probes}
 use Rattle.cb_nodes.specs.Flat.{FlatNode, branch_last, branch_nodes, flat_probes, widths_of}
 use Rattle.cb_nodes.specs.Lists.{AreWhole, HaveParts, branch_lists}
 use Rattle.cb_nodes.specs.Patterns.{HaveIndices}
-use Rattle.cb_partials.specs.Probes.{branch_probes}
 use Rattle.cb_rules.specs.Elements.{Elements}
 use Rattle.std.specs.Prelude.{Option}
 

@@ -4,8 +4,8 @@ use Rattle.cb_constraints.specs.PatternValues.{PatternValue}
 use Rattle.cb_facts.specs.FactLists.{IndexedFacts}
 use Rattle.cb_facts.specs.Facts.{FactValue}
 use Rattle.cb_fit.specs.Shapes.{has_shape}
+use Rattle.cb_matches.specs.Probes.{is_candidate, partials_come, partials_kept}
 use Rattle.cb_nodes.specs.Flat.{FlatNode, Lists, alone, grouping, joining, testing}
-use Rattle.cb_partials.specs.Probes.{is_candidate, partials_come, partials_kept}
 
 -- the fact that is added, if one is and has the shape, with each partial match that was before the pattern and still is
 abbrev pub added_joins : PatternValue → Option FactValue → ℕ → ℕ

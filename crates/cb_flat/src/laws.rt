@@ -7,10 +7,10 @@ ghost use Rattle.cb_flat.specs.Sources.{sources_of};
 ghost use Rattle.cb_flat.specs.Taking.{NoneTakes, pattern_count};
 ghost use Rattle.cb_matches.specs.Matches.{matches_of};
 ghost use Rattle.cb_matches.specs.Order.{IsOnce};
+ghost use Rattle.cb_matches.specs.Probes.{branch_probes};
 ghost use Rattle.cb_nodes.specs.Flat.{FlatNode, branch_last, branch_nodes, grouping, lists_of, widths_of};
 ghost use Rattle.cb_nodes.specs.Lists.{AreWhole, HaveParts, branch_lists};
 ghost use Rattle.cb_nodes.specs.Patterns.{HaveIndices};
-ghost use Rattle.cb_partials.specs.Probes.{branch_probes};
 ghost use Rattle.cb_rules.specs.Elements.{Elements};
 ghost use Rattle.cb_token_lists.specs.Partials.{AreBelow, LeadsTo};
 

@@ -30,8 +30,8 @@ use Rattle.cb_matches.proofs.Lists.{by_test, filter_in}
 use Rattle.cb_matches.specs.Chains.{Chain, In}
 use Rattle.cb_matches.specs.Keys.{PartValue, part_eq}
 use Rattle.cb_matches.specs.Matches.{Partial}
+use Rattle.cb_matches.specs.Probes.{has_parts, is_candidate, partials_come, partials_kept}
 use Rattle.cb_nodes.proofs.Grown.{and_both, and_first, and_second}
-use Rattle.cb_partials.specs.Probes.{has_parts, is_candidate, partials_come, partials_kept}
 use Rattle.cb_token_lists.specs.Turns.{IsReadable, IsThere, Turns}
 
 -- a list without one of its members

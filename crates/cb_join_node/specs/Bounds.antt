@@ -6,7 +6,7 @@ use Rattle.cb_facts.specs.Facts.{FactValue}
 use Rattle.cb_fit.specs.Shapes.{has_shape}
 use Rattle.cb_matches.specs.Chains.{In}
 use Rattle.cb_matches.specs.Matches.{Partial}
-use Rattle.cb_partials.specs.Probes.{is_candidate, partials_come, partials_kept}
+use Rattle.cb_matches.specs.Probes.{is_candidate, partials_come, partials_kept}
 
 -- on a fact that is added, if one is, and has the shape: with each partial match that was before the pattern and still is
 abbrev pub kept_probes : PatternValue → Option FactValue → ℕ → ℕ

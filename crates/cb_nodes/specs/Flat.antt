@@ -10,7 +10,7 @@ use Rattle.cb_fit.specs.Comparisons.{ChoiceFieldValue, DecisionValue, decision}
 use Rattle.cb_fit.specs.StandsAlone.{stands_alone}
 use Rattle.cb_matches.specs.Keys.{PartValue, part_eq}
 use Rattle.cb_matches.specs.Matches.{Partial, group_holds, next, test_holds}
-use Rattle.cb_partials.specs.Probes.{added_probes, is_candidate, partials_come, partials_kept}
+use Rattle.cb_matches.specs.Probes.{added_probes, is_candidate, partials_come, partials_kept}
 use Rattle.cb_rules.specs.Elements.{pattern, test, group, Elements, no_elements, element}
 
 pub data FlatNode : Type 0 where

@@ -11,7 +11,7 @@ use Rattle.cb_fit.specs.Ways.{WayValue, ways}
 use Rattle.cb_fit.specs.declared.join_fields.JoinField.{JoinField}
 use Rattle.cb_matches.specs.Chains.{Chain, In}
 use Rattle.cb_matches.specs.Matches.{Partial}
-use Rattle.cb_partials.specs.Probes.{is_candidate, added_probes, partials_come, partials_kept}
+use Rattle.cb_matches.specs.Probes.{is_candidate, added_probes, partials_come, partials_kept}
 
 -- a pattern fits a fact that isn't selected for it in no way
 abbrev pub Unselected : Type 0

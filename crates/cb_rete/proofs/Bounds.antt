@@ -5,7 +5,7 @@ use Rattle.cb_facts.specs.FactLists.{IndexedFacts}
 use Rattle.cb_facts.specs.Facts.{FactValue}
 use Rattle.cb_matches.specs.Networks.{Conditions}
 use Rattle.cb_matches.specs.Order.{IsRising}
-use Rattle.cb_partials.specs.Probes.{branch_probes, branches_probes, rules_probes}
+use Rattle.cb_matches.specs.Probes.{branch_probes, branches_probes, rules_probes}
 use Rattle.cb_rete.specs.Changing.{TurnValue, join_tests}
 use Rattle.cb_rule_keys.proofs.Sums.{rules_within}
 use Rattle.cb_rule_keys.specs.Sums.{branches_sum, rules_sum}

@@ -20,9 +20,9 @@ use Rattle.cb_matches.proofs.Lists.{by_test}
 use Rattle.cb_matches.specs.Chains.{In}
 use Rattle.cb_matches.specs.Matches.{matches_of}
 use Rattle.cb_matches.specs.Order.{IsRising}
+use Rattle.cb_matches.specs.Probes.{branch_probes}
 use Rattle.cb_matches.specs.declared.delta.Delta.{Delta}
 use Rattle.cb_nodes.proofs.Facts.{added_fact}
-use Rattle.cb_partials.specs.Probes.{branch_probes}
 use Rattle.cb_rete.proofs.Entered.{entered_alike}
 use Rattle.cb_rete.specs.Changing.{IsBranchDone, IsBranchReady, IsTurn, TurnValue, join_tests}
 use Rattle.cb_rule_keys.proofs.Branches.{IsBranchUnconcerned}

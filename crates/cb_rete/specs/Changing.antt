@@ -15,8 +15,8 @@ use Rattle.cb_facts.specs.Facts.{FactValue}
 use Rattle.cb_matches.specs.Chains.{In}
 use Rattle.cb_matches.specs.Changes.{come_of}
 use Rattle.cb_matches.specs.Order.{IsRising}
+use Rattle.cb_matches.specs.Probes.{branch_probes}
 use Rattle.cb_matches.specs.declared.delta.Delta.{Delta}
-use Rattle.cb_partials.specs.Probes.{branch_probes}
 use Rattle.cb_rete.specs.Rules.{AreRulesEntered, AreRulesOver, kept_branches, kept_rule, kept_rules}
 use Rattle.cb_rete.specs.declared.rule.Rule.{Rule}
 use Rattle.cb_rule_keys.specs.Changing.{IsBranchChanged, IsRuleChanged}

@@ -9,7 +9,7 @@ ghost use Rattle.cb_branch.specs.Patterns.{branch_patterns};
 ghost use Rattle.cb_facts.specs.FactLists.{IndexedFacts, IsAbsent, fact_at, with_fact, without_fact};
 ghost use Rattle.cb_matches.specs.Changes.{IsAbove, IsDelta};
 ghost use Rattle.cb_matches.specs.Order.{IsRising};
-ghost use Rattle.cb_partials.specs.Probes.{rules_probes};
+ghost use Rattle.cb_matches.specs.Probes.{rules_probes};
 ghost use Rattle.cb_rete.specs.Changing.{AreRulesReady, AreRulesTurned, IsTurning, TurnValue};
 ghost use Rattle.cb_rete.specs.Entering.{IsRuleLeft};
 ghost use Rattle.cb_rete.specs.Rules.{AreBranchesEntered, AreBranchesOver, CanRuleBeFilled, IsKeeping, kept_branches, kept_rule, kept_rules};

@@ -4,7 +4,7 @@ ghost use Rattle.cb_facts.specs.FactLists.{IsAbsent, fact_at, with_fact, without
 ghost use Rattle.cb_matches.specs.Changes.{IsAbove, IsDelta, IsRestart};
 ghost use Rattle.cb_matches.specs.Matchers.{new_matcher};
 ghost use Rattle.cb_matches.specs.Networks.{bindings_of, with_one, with_rule, without_one, without_rule};
-ghost use Rattle.cb_partials.specs.Probes.{rules_probes};
+ghost use Rattle.cb_matches.specs.Probes.{rules_probes};
 ghost use Rattle.cb_rules.specs.Elements.{branches_of};
 
 use crate::changes::{add_planned, assert_fact, drop_rule, fill_anew, retract_fact};

@@ -2,7 +2,7 @@ use Rattle.std.proofs.Common.{◌*◌, None, Some, arith, cond, filter, length}
 use Rattle.cb_fit.specs.Shapes.{has_shape}
 use Rattle.cb_join_node.proofs.Bounds.{added_within, with_shape, without_shape}
 use Rattle.cb_join_node.proofs.laws.a_join_node_tests_no_more_than_the_pattern_may_be_tested.Goals as goal
-use Rattle.cb_partials.specs.Probes.{is_candidate, partials_come, partials_kept}
+use Rattle.cb_matches.specs.Probes.{is_candidate, partials_come, partials_kept}
 
 pub returns-clause-added : goal.returns-clause-added
 returns-clause-added c p alpha added fs fs' old new turns is =

@@ -14,8 +14,8 @@ use Rattle.cb_join_node.specs.Meetings.{KnowsValues}
 use Rattle.cb_join_node.specs.Filings.{ArePartialsFiled}
 use Rattle.cb_join_node.specs.Nodes.{AreJoined, IsAfter, IsBefore, Stays, added_fact}
 use Rattle.cb_matches.specs.Chains.{Chain, In}
+use Rattle.cb_matches.specs.Probes.{is_candidate, partials_come, partials_kept}
 use Rattle.cb_nodes.proofs.Grown.{ways_rise}
-use Rattle.cb_partials.specs.Probes.{is_candidate, partials_come, partials_kept}
 use Rattle.cb_token_lists.proofs.Down.{got}
 use Rattle.cb_token_lists.specs.Growth.{Comes}
 use Rattle.cb_token_lists.specs.Partials.{partial_at}
