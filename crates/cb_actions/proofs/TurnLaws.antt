@@ -8,6 +8,9 @@ use Rattle.cb_actions.proofs.FallLaws.{falls_then}
 use Rattle.cb_actions.specs.Definitions.{all_asserted, all_evaluated, globals_after, globals_defined, one_evaluated, template_defined}
 use Rattle.cb_actions.specs.Effects.{found, wanted, valued, truth_of, ends, called, fact_added, fact_gone, gone_if, added_beside, added_next, asserted, changed_to, fact_back, fact_replaced, fact_said, index_said, modified, modified_at, replaced_beside, replaced_if_new, shared_out, retracted, retracted_one, index_named, taken_by, joined, bound, global_bound, effected, chosen, turn, turn_of}
 use Rattle.cb_actions.specs.Internal.{Falls, turns_left}
+use Rattle.cb_eval.specs.Applied.{applied}
+use Rattle.cb_eval.specs.Constants.{false_symbol}
+use Rattle.cb_eval.specs.Logic.{is_true}
 use Rattle.cb_rules.specs.RuleTables.{rule_named, rule_numbered}
 use Rattle.cb_actions.specs.Runs.{acted, actions_of, added_rule, all_gone, cleared_world, defined_rule, dropped_rule, due_by, fire_line, fired, forgotten, in_scope, next_due, numbered, ran, replaced, restarted_world, run, spent, started_anew, unless_halted, with_variables_of, without_all, without_facts}
 use Rattle.cb_actions.specs.declared.act.Limit.TheVariants.{Firings}
@@ -26,9 +29,6 @@ use Rattle.cb_exprs.specs.Terms.{Term, constant, variable, global, call, effect,
 use Rattle.cb_facts.specs.declared.value.Value.{Value}
 use Rattle.cb_forms.specs.declared.fault.Fault.{Fault}
 use Rattle.cb_forms.specs.declared.fault.Fault.TheVariants.{NoSuchFact, UnboundVariable, UnknownGlobal}
-use Rattle.cb_functions.specs.Applied.{applied}
-use Rattle.cb_functions.specs.Constants.{false_symbol}
-use Rattle.cb_functions.specs.Logic.{is_true}
 use Rattle.cb_templates.specs.Building.{Given, built, changed}
 use Rattle.cb_templates.specs.Slots.{SlotShape}
 use Rattle.cb_words.specs.declared.words.Function.{Function}

@@ -10,6 +10,9 @@ use Rattle.cb_actions.specs.Printing.{printed, printed_values}
 use Rattle.cb_actions.specs.Worlds.{World}
 use Rattle.cb_actions.specs.declared.act.EarlyEnd.TheVariants as ended
 use Rattle.cb_actions.specs.declared.act.Limit.TheVariants.{Numbers, Turns}
+use Rattle.cb_eval.specs.Applied.{applied}
+use Rattle.cb_eval.specs.Constants.{false_symbol}
+use Rattle.cb_eval.specs.Logic.{is_true, decides}
 use Rattle.cb_exprs.specs.Bindings.{value_at, with_variable, with_global}
 use Rattle.cb_exprs.specs.Shapes.{Shape, SlotCounts}
 use Rattle.cb_exprs.specs.declared.effect.Effect.{Effect}
@@ -20,9 +23,6 @@ use Rattle.cb_facts.specs.declared.value.Value.{Value}
 use Rattle.cb_facts.specs.declared.value.Value.TheVariants as value
 use Rattle.cb_forms.specs.declared.fault.Fault.{Fault}
 use Rattle.cb_forms.specs.declared.fault.Fault.TheVariants.{NoSuchFact, UnboundVariable, UnknownGlobal, WrongType}
-use Rattle.cb_functions.specs.Applied.{applied}
-use Rattle.cb_functions.specs.Constants.{false_symbol}
-use Rattle.cb_functions.specs.Logic.{is_true, decides}
 use Rattle.cb_templates.specs.Building.{Given, PartValues, field_values, slot_values, built, changed}
 use Rattle.cb_words.specs.declared.words.Function.{Function}
 use Rattle.cb_words.specs.declared.words.Function.TheVariants as function

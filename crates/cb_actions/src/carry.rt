@@ -5,16 +5,16 @@ ghost use Rattle.cb_actions.specs.Acts.{give};
 ghost use Rattle.cb_actions.specs.Effects.{truth_of, valued};
 ghost use Rattle.cb_actions.specs.Internal.{items_answered};
 ghost use Rattle.cb_actions.specs.Went.{Quietly, Went};
+ghost use Rattle.cb_eval.specs.Constants.{false_symbol};
 ghost use Rattle.cb_exprs.specs.Terms.{term_of, terms_of};
 ghost use Rattle.cb_exprs.specs.Terms as term;
-ghost use Rattle.cb_functions.specs.Constants.{false_symbol};
 
 use crate::act::{Break, EarlyEnd};
 use crate::world::{World, constant, ends};
+use cb_eval::{decides, is_true};
 use cb_exprs::{Effect, Expr};
 use cb_facts::Value;
 use cb_forms::{Fault, Out, Sink};
-use cb_functions::{decides, is_true};
 use cb_matches::Matcher;
 use cb_words::Function;
 use cb_working_memory::Mark;

@@ -3,13 +3,13 @@ ghost use Rattle.std.specs.Prelude.{◌≡◌, ◌-◌, IfOk, OnOk, Some, false,
 ghost use Rattle.std.specs.Rc.{rc_value};
 ghost use Rattle.cb_actions.specs.Acts.{Act};
 ghost use Rattle.cb_actions.specs.Actions.{carried_all};
+ghost use Rattle.cb_eval.specs.Constants.{false_symbol};
 ghost use Rattle.cb_rules.specs.RuleTables.{rule_numbered};
 ghost use Rattle.cb_actions.specs.Runs.{acted, actions_of, due_by, fire_line, fired, in_scope, next_due, run, spent, with_variables_of};
 ghost use Rattle.cb_actions.specs.Effects.{halted};
 ghost use Rattle.cb_actions.specs.Went.{Quietly, Went};
 ghost use Rattle.cb_actions.specs.Worlds.{World as State};
 ghost use Rattle.cb_exprs.specs.Terms.{terms_of};
-ghost use Rattle.cb_functions.specs.Constants.{false_symbol};
 ghost use Rattle.cb_matches.specs.Keys.{KeyValue};
 
 use crate::act::{Break, EarlyEnd, Limit};

@@ -1,5 +1,6 @@
 //! What actions see and change, and what each kind of action does with the values that it is given.
 ghost use Rattle.std.specs.Prelude.{◌≡◌, [], false, IfOk, OnOk, Some, ◌∷◌};
+ghost use Rattle.cb_eval.specs.Constants.{false_symbol};
 ghost use Rattle.cb_facts.specs.Results.{Returns};
 ghost use Rattle.cb_eval.specs.Evaluation.{value_of};
 ghost use Rattle.cb_exprs.specs.Terms.{term_of};
@@ -10,7 +11,6 @@ ghost use Rattle.cb_exprs.specs.declared.effect.Effect.TheVariants as kind;
 ghost use Rattle.cb_actions.specs.Printing.{printed};
 ghost use Rattle.cb_actions.specs.Went.{Quietly, Went};
 ghost use Rattle.cb_actions.specs.Worlds.{World as State, first_world, with_numbers, without_variables};
-ghost use Rattle.cb_functions.specs.Constants.{false_symbol};
 ghost use Rattle.cb_matches.specs.Networks.{empty_network};
 ghost use Rattle.cb_templates.specs.Building.{built, part_values};
 
@@ -20,10 +20,10 @@ use crate::print::{put_printed, put_values};
 use crate::watched::Watched;
 use cb_agenda::Agenda;
 use cb_eval::eval;
+use cb_eval::{Constants, apply, decides};
 use cb_exprs::{Channel, Env, Expr, FactShape};
 use cb_facts::{Fact, Name, Refused, Value};
 use cb_forms::{Fault, NoMemory, Out, Sink};
-use cb_functions::{Constants, apply, decides};
 use cb_io::put;
 use cb_matches::Matcher;
 use cb_rules::RuleTable;
@@ -176,7 +176,7 @@ impl<M: Matcher<Mark>> World<M> {
         ensures value { Returns result (value_of (term_of expr.now) self.old.env) }
         ensures same { self.new ≡ self.old }
     {
-        let constants = made(self.alloc, &mut self.constants)?;
+        let constants = Constants::made(self.alloc, &mut self.constants)?;
         eval(self.alloc, constants, expr, &self.env)
     }
 
@@ -185,7 +185,7 @@ impl<M: Matcher<Mark>> World<M> {
         ensures value { Returns result (value_of (term_of expr.now) env.now) }
         ensures same { self.new ≡ self.old }
     {
-        let constants = made(self.alloc, &mut self.constants)?;
+        let constants = Constants::made(self.alloc, &mut self.constants)?;
         eval(self.alloc, constants, expr, env)
     }
 
@@ -221,7 +221,7 @@ impl<M: Matcher<Mark>> World<M> {
         ensures value { IfOk result (λ value. value ≡ false_symbol) }
         ensures same { self.new ≡ self.old }
     {
-        made(self.alloc, &mut self.constants)?.truth(false)
+        Constants::made(self.alloc, &mut self.constants)?.truth(false)
     }
 
     /// No values yet.
@@ -239,7 +239,7 @@ impl<M: Matcher<Mark>> World<M> {
     ) -> Result<Option<Value>, Break>
         ensures { Quietly self.new result (called function values.now self.old) }
     {
-        let constants = made(self.alloc, &mut self.constants)?;
+        let constants = Constants::made(self.alloc, &mut self.constants)?;
         let value = apply(self.alloc, constants, function, values)?;
         Ok(Some(value))
     }
@@ -324,7 +324,7 @@ impl<M: Matcher<Mark>> World<M> {
                 return Ok(value);
             }
         }
-        let constants = made(self.alloc, &mut self.constants)?;
+        let constants = Constants::made(self.alloc, &mut self.constants)?;
         Ok(apply(self.alloc, constants, Function::Create, values.as_slice())?)
     }
 
@@ -368,14 +368,6 @@ impl<M: Matcher<Mark>> World<M> {
         put(b"\n", out)?;
         Ok(None)
     }
-}
-
-/// The symbols that functions return. They are made if they are not there yet.
-fn made(alloc: Global, constants: &mut Option<Constants>) -> Result<&Constants, NoMemory> {
-    if constants.is_none() {
-        *constants = Some(Constants::new(alloc)?);
-    }
-    constants.as_ref().ok_or(NoMemory)
 }
 
 /// The value of a constant.

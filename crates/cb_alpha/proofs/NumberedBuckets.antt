@@ -11,8 +11,8 @@ use Rattle.cb_alpha.specs.Buckets.{Filing, values_at, values_cmp}
 use Rattle.cb_alpha.specs.Internal.Mixes.{mix_of}
 use Rattle.cb_alpha.specs.Internal.Numbered.{AreInOrder, AreNumbered, IsMade, IsUnmade, are_those, filed_under, mix_in, number_in, number_with}
 use Rattle.cb_alpha.specs.declared.numbering.Numbers.{Numbers}
+use Rattle.cb_eval.specs.Comparison.{same}
 use Rattle.cb_facts.specs.declared.value.Value.{Value}
-use Rattle.cb_functions.specs.Comparison.{same}
 use Rattle.cb_number_map.specs.NumberMaps.{AreSameNumbers, Updates, number_at}
 use Rattle.cb_number_map.specs.declared.number_map.NumberMap.{NumberMap}
 

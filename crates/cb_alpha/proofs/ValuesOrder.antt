@@ -3,11 +3,11 @@ use Rattle.std.proofs.Common.{◌≡◌, ◌∙◌, true, List, Equal, ap, is_eq
 use Rattle.std.specs.Cmp.{tied_itself}
 use Rattle.std.specs.Cmp.Lexicographic.{lists_ties, lists_total, pointwise, pointwise_decides}
 use Rattle.cb_alpha.specs.Buckets.{values_cmp}
+use Rattle.cb_eval.specs.Comparison.{same}
 use Rattle.cb_facts.proofs.Equality.{value-Decides}
 use Rattle.cb_facts.specs.contracts.value.ValueOrd.TheImpl as value_ord
 use Rattle.cb_facts.specs.contracts.value.ValueOrd.TheImpl.Laws as value_laws
 use Rattle.cb_facts.specs.declared.value.Value.{Value}
-use Rattle.cb_functions.specs.Comparison.{same}
 
 pub are_same : (vs ws : List Value) → pointwise same vs ws ≡ true → vs ≡ ws
 are_same vs ws = (pointwise_decides value-Decides vs ws).0

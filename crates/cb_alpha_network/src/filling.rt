@@ -12,10 +12,10 @@ use cb_alpha::laws::{
     a_fact_that_is_not_selected_comes, an_alpha_memory_begins_over_no_facts,
 };
 use cb_alpha::{AlphaMemory, Candidate};
+use cb_eval::Constants;
 use cb_facts::{Fact, FactList};
 use cb_fit::{Meter, Pattern, Selection};
 use cb_forms::NoMemory;
-use cb_functions::Constants;
 use std::alloc::Global;
 
 /// What a pattern asks of a fact alone, and the facts that it selects. Growth is refused as `NoMemory`.

@@ -24,11 +24,11 @@ use cb_alpha::laws::{
     a_fact_that_is_not_selected_comes, a_fact_that_is_not_selected_goes,
     a_join_more_leaves_the_facts, an_alpha_memory_begins_over_no_facts,
 };
+use cb_eval::Constants;
 use cb_facts::{Fact, FactList};
 use cb_fit::laws::patterns_of_one_shape_are_equal_without_variables;
 use cb_fit::{JoinField, Meter, Pattern, Selection, Shape};
 use cb_forms::NoMemory;
-use cb_functions::Constants;
 use slab::Slab;
 use std::alloc::Global;
 use std::collections::{BTreeMap, BTreeSet};

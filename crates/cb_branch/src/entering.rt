@@ -8,10 +8,10 @@ ghost use Rattle.cb_branch.specs.Nodes.{flat_node, flat_nodes};
 
 use crate::node::Node;
 use cb_alpha_network::{AlphaNetwork, NodePlace};
+use cb_eval::Constants;
 use cb_facts::FactList;
 use cb_fit::{JoinField, Meter};
 use cb_forms::NoMemory;
-use cb_functions::Constants;
 use cb_join_node::JoinNode;
 use cb_lookup_node::LookupNode;
 use std::alloc::Global;

@@ -14,9 +14,9 @@ ghost use Rattle.cb_rule_keys.specs.Keys.{Tells, key_of};
 use crate::all_nodes::{change_nodes, end_change};
 use crate::branch::Branch;
 use cb_alpha::AlphaMemory;
+use cb_eval::Constants;
 use cb_fit::Meter;
 use cb_forms::NoMemory;
-use cb_functions::Constants;
 use cb_matches::Delta;
 use std::alloc::Global;
 

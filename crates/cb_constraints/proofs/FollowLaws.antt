@@ -7,9 +7,9 @@ use Rattle.cb_constraints.specs.Internal.Places.{binders_before}
 use Rattle.cb_constraints.specs.Constraints.{Test, constant, variable, predicate, return_value, Check, Demand, nothing, each, either, Constraint}
 use Rattle.cb_constraints.specs.Holding.{FollowFrom, Follows, after_check, after_test, after_variable, checks_in, opposite_if, provided, test_holds}
 use Rattle.cb_constraints.specs.Internal.Known.{given_to, given_to_all, bindings_after, bindings_before}
+use Rattle.cb_eval.specs.Comparison.{same}
 use Rattle.cb_exprs.specs.Bindings.{Bindings, value_at, with_variable}
 use Rattle.cb_facts.specs.declared.value.Value.{Value}
-use Rattle.cb_functions.specs.Comparison.{same}
 
 if-some : (o : Option Bindings) (P : Bindings → Type 0) → ((g : Bindings) → o ≡ Some g → P g) → IfSome o P
 if-some None P f = tt

@@ -5,9 +5,9 @@ use Rattle.std.specs.Option.{option_and_then, option_map_or}
 use Rattle.cb_constraints.specs.Constraints.{Test, constant, variable, predicate, return_value, Check, Demand, nothing, each, either}
 use Rattle.cb_constraints.specs.Holding.{Meets, after_check, after_checks, after_demand, after_test, check_holds, constant_holds, constants_hold, is_constant, may_hold, one_holds, opposite_if, provided, after_variable, test_holds}
 use Rattle.cb_constraints.specs.Internal.{are_of_constants, is_of_constants}
+use Rattle.cb_eval.specs.Comparison.{same}
 use Rattle.cb_exprs.specs.Bindings.{Bindings, value_at, with_variable}
 use Rattle.cb_facts.specs.declared.value.Value.{Value}
-use Rattle.cb_functions.specs.Comparison.{same}
 
 provided-if : (t : Bool) (env grown : Bindings) → provided t env ≡ Some grown → t ≡ true
 provided-if true env grown e = refl

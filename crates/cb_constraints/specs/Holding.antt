@@ -5,13 +5,13 @@ use Rattle.std.specs.Option.{option_and_then, option_map_or}
 use Rattle.cb_constraints.specs.Constraints.{Test, constant, variable, predicate, return_value, Check, Demand, nothing, each, either}
 use Rattle.cb_constraints.specs.declared.tested.Tested.{Tested}
 use Rattle.cb_constraints.specs.declared.tested.Tested.TheVariants as tested
+use Rattle.cb_eval.specs.Comparison.{same}
 use Rattle.cb_eval.specs.Evaluation.{value_of}
+use Rattle.cb_eval.specs.Logic.{is_true}
 use Rattle.cb_exprs.specs.Bindings.{Bindings, value_at, with_variable}
 use Rattle.cb_facts.specs.Values.{value_of_field}
 use Rattle.cb_facts.specs.declared.value.Value.{Value}
 use Rattle.cb_forms.specs.declared.fault.Fault.{Fault}
-use Rattle.cb_functions.specs.Comparison.{same}
-use Rattle.cb_functions.specs.Logic.{is_true}
 
 -- the value that stands in the place of a constraint
 abbrev pub tested_value : Tested → Value

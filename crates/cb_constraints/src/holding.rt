@@ -12,10 +12,10 @@ use crate::constraint::{Check, Demand, Test};
 use crate::known::{AtCheck, Known};
 use crate::tested::Tested;
 use cb_eval::eval;
+use cb_eval::{Constants, is_true};
 use cb_exprs::{Expr, Lookup};
 use cb_facts::{Name, Refused, Value};
 use cb_forms::NoMemory;
-use cb_functions::{Constants, is_true};
 use std::alloc::Global;
 
 /// Whether a constraint holds of the value in its place, where variables have these values (`docs/LANGUAGE.md`, "Patterns").

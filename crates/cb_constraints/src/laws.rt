@@ -4,13 +4,13 @@ ghost use Rattle.std.specs.Option.{option_and_then};
 ghost use Rattle.cb_constraints.specs.Constraints.{Check, Demand, Test, constant, each, either, nothing, predicate, return_value, variable};
 ghost use Rattle.cb_constraints.specs.Holding.{after_demand, may_hold, test_holds};
 ghost use Rattle.cb_constraints.specs.Laws.{OneHolds, any_of_these, only, opposite, plain};
+ghost use Rattle.cb_eval.specs.Comparison.{same};
 ghost use Rattle.cb_eval.specs.Evaluation.{value_of};
+ghost use Rattle.cb_eval.specs.Logic.{is_true};
 ghost use Rattle.cb_exprs.specs.Bindings.{Bindings, value_at, with_variable};
 ghost use Rattle.cb_exprs.specs.Terms.{Term};
 ghost use Rattle.cb_facts.specs.declared.value.Value.{Value};
 ghost use Rattle.cb_forms.specs.declared.fault.Fault.{Fault};
-ghost use Rattle.cb_functions.specs.Comparison.{same};
-ghost use Rattle.cb_functions.specs.Logic.{is_true};
 
 /// A wildcard holds of every value.
 pub fn a_wildcard_holds_of_all()

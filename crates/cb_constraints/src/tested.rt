@@ -1,8 +1,8 @@
 //! The value in the place of a constraint.
 ghost use Rattle.std.specs.Prelude.{◌≡◌, IfOk};
 ghost use Rattle.cb_constraints.specs.Holding.{tested_value};
+ghost use Rattle.cb_eval.specs.Comparison.{same};
 ghost use Rattle.cb_facts.specs.Values.{value_of_field};
-ghost use Rattle.cb_functions.specs.Comparison.{same};
 
 use cb_facts::{Single, Value, value_of};
 use cb_forms::NoMemory;

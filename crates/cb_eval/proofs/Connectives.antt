@@ -3,18 +3,18 @@ use Rattle.std.proofs.Common.{◌≡◌, ◌∙◌, ◌++◌, ◌&&◌, ◌||◌
 use Rattle.std.proofs.lemmas.List.{append-nil}
 use Rattle.std.specs.List.{list_all, list_any}
 use Rattle.cb_eval.proofs.Deciding.{are_taken}
+use Rattle.cb_eval.specs.Applied.{applied}
+use Rattle.cb_eval.specs.Constants.{truth}
 use Rattle.cb_eval.specs.Evaluation.{value_of, values_of}
 use Rattle.cb_eval.specs.Internal.{may_be_decided}
 use Rattle.cb_eval.specs.Laws.{all_values}
+use Rattle.cb_eval.specs.Logic.{decides, is_true}
 use Rattle.cb_exprs.specs.Bindings.{Bindings}
 use Rattle.cb_exprs.specs.Terms.{Term, Terms, no_terms, term}
 use Rattle.cb_facts.specs.Results.{and_then, with_first}
 use Rattle.cb_facts.specs.declared.value.Value.{Value}
 use Rattle.cb_forms.specs.declared.fault.Fault.{Fault}
 use Rattle.cb_forms.specs.declared.fault.Fault.TheVariants.{WrongType}
-use Rattle.cb_functions.specs.Applied.{applied}
-use Rattle.cb_functions.specs.Constants.{truth}
-use Rattle.cb_functions.specs.Logic.{decides, is_true}
 use Rattle.cb_words.specs.declared.words.Function.{Function}
 use Rattle.cb_words.specs.declared.words.Function.TheVariants as function
 

@@ -1,14 +1,14 @@
 -- The value of an expression without an effect.
 use Rattle.std.specs.Prelude.{List, [], ◌∷◌, ◌++◌, Result, Ok, Err, if◌then◌else◌}
 use Rattle.std.specs.Option.{ok_or}
+use Rattle.cb_eval.specs.Applied.{applied}
+use Rattle.cb_eval.specs.Logic.{decides}
 use Rattle.cb_exprs.specs.Bindings.{Bindings, value_at}
 use Rattle.cb_exprs.specs.Terms.{Term, constant, variable, global, call, effect, choose, repeat, actions, Terms, no_terms, term}
 use Rattle.cb_facts.specs.Results.{and_then}
 use Rattle.cb_facts.specs.declared.value.Value.{Value}
 use Rattle.cb_forms.specs.declared.fault.Fault.{Fault}
 use Rattle.cb_forms.specs.declared.fault.Fault.TheVariants.{UnboundVariable, UnknownGlobal, NotInProfile}
-use Rattle.cb_functions.specs.Applied.{applied}
-use Rattle.cb_functions.specs.Logic.{decides}
 use Rattle.cb_words.specs.declared.words.Function.{Function}
 
 abbrev mutual

@@ -1,3 +1,12 @@
+pub mod Applied
+pub mod Arguments
+pub mod Arithmetic
+pub mod Comparison
+pub mod Constants
 pub mod Evaluation
 pub mod Internal
+pub mod Joining
 pub mod Laws
+pub mod Logic
+pub mod Multifields
+pub mod TypeTests

@@ -1,26 +1,28 @@
 //! The value of an expression.
 ghost use Rattle.std.specs.Prelude.{◌≡◌, [], option_copied, true};
 ghost use Rattle.std.specs.Option.{ok_or};
+ghost use Rattle.cb_eval.specs.Applied.{applied};
 ghost use Rattle.cb_eval.specs.Evaluation.{value_of, values_of};
 ghost use Rattle.cb_eval.specs.Internal.{may_be_decided};
 ghost use Rattle.cb_eval.specs.Laws.{all_values};
 ghost use Rattle.cb_exprs.specs.Terms.{term_of, terms_of};
 ghost use Rattle.cb_exprs.specs.Terms as term;
 ghost use Rattle.cb_facts.specs.Results.{Returns, and_then};
-ghost use Rattle.cb_functions.specs.Applied.{applied};
 
+use crate::calls::apply;
+use crate::constants::Constants;
+use crate::logic::decides;
 use cb_exprs::{Expr, Lookup};
 use cb_facts::{Name, Refused, Value};
 use cb_forms::Fault;
-use cb_functions::{Constants, apply, decides};
 use cb_words::Function;
 use std::alloc::Global;
 
 /// The value of an expression without an effect, or its first fault (`docs/LANGUAGE.md`, "Expressions").
 ///
 /// The arguments of a call are evaluated from left to right, and those after one that decides it (see
-/// `cb_functions::decides`) are not. The faults are CB11 for a variable without a value, CB12 for a global variable without
-/// one, and those of `cb_functions::apply`. An expression with an effect has no value here: it is CB14. Growth is refused
+/// `decides`) are not. The faults are CB11 for a variable without a value, CB12 for a global variable without
+/// one, and those of `apply`. An expression with an effect has no value here: it is CB14. Growth is refused
 /// as `NoMemory`; a constant, a variable, `and`, `or` and a call of up to four arguments take no memory of their own.
 ///
 /// It calls itself as deep as the expression is nested.
@@ -183,7 +185,7 @@ fn call_with_many<L: Lookup>(
     apply(alloc, constants, function, values.as_slice())
 }
 
-/// Whether an argument may decide what a call of this function returns (see `cb_functions::decides`).
+/// Whether an argument may decide what a call of this function returns (see `decides`).
 fn may_be_decided(function: Function) -> bool
     ensures { result ≡ may_be_decided function }
 {

@@ -11,13 +11,13 @@ use Rattle.cb_constraints.specs.Holding.{after_check, after_checks, after_demand
 use Rattle.cb_constraints.specs.Internal.Known.{given_to, given_to_all}
 use Rattle.cb_constraints.specs.PatternValues.{PatternParts, PatternValue, SlotValue}
 use Rattle.cb_constraints.specs.PatternValues as pattern
+use Rattle.cb_eval.specs.Comparison.{same}
 use Rattle.cb_exprs.specs.Bindings.{Bindings, value_at, with_variable, with_variables}
 use Rattle.cb_exprs.proofs.ValueLaws.{value_at-with_value, value_at_set}
 use Rattle.cb_facts.specs.Facts.{FactContent, FactValue}
 use Rattle.cb_facts.specs.Facts as fact
 use Rattle.cb_facts.specs.declared.single.Single.{Single}
 use Rattle.cb_facts.specs.declared.value.Value.{Value}
-use Rattle.cb_functions.specs.Comparison.{same}
 use Rattle.cb_fit.proofs.Givings.{GivenSoFar, given_all, given_one, given_once, given_more}
 use Rattle.cb_fit.proofs.Segments.{then-some}
 use Rattle.cb_fit.proofs.WithoutVariables.{provided-if}

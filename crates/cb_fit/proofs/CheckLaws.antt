@@ -13,6 +13,7 @@ use Rattle.cb_constraints.specs.Binders.{binder, binders_of}
 use Rattle.cb_constraints.specs.Constraints.{Test, constant, variable, predicate, return_value, Check}
 use Rattle.cb_constraints.specs.Holding.{after_checks, after_test, after_variable, constants_hold, opposite_if, provided, test_holds}
 use Rattle.cb_constraints.specs.Internal.Known.{given_to, given_to_all}
+use Rattle.cb_eval.specs.Comparison.{same}
 use Rattle.cb_fit.proofs.Compared.{AreOwn, compares_known, limit_one, test_compares, test_limited}
 use Rattle.cb_fit.proofs.Given.{if_so, after_one, other_keeps}
 use Rattle.cb_fit.proofs.Leading.{AreWithin, HaveValues, Leads, given_leads, leads_on, settled_met, still_have}
@@ -26,7 +27,6 @@ use Rattle.cb_exprs.specs.Bindings.{Bindings, value_at, with_variable}
 use Rattle.cb_exprs.specs.Terms.{Term}
 use Rattle.cb_facts.proofs.Equality.{value-Decides}
 use Rattle.cb_facts.specs.declared.value.Value.{Value}
-use Rattle.cb_functions.specs.Comparison.{same}
 
 -- a variable has no value, or this one
 abbrev pub agree_one : Value → Bindings → List ℕ → Bool

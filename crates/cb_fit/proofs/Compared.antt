@@ -3,6 +3,10 @@ use Rattle.std.proofs.Common.{◌≡◌, ◌∙◌, ◌&&◌, ◌⊎◌, inl, in
 use Rattle.std.specs.Option.{ok_or, option_and_then, option_map_or, option_or}
 use Rattle.cb_constraints.specs.Constraints.{Test, constant, variable, predicate, return_value}
 use Rattle.cb_constraints.specs.Holding.{opposite_if, test_holds, value_if_any}
+use Rattle.cb_eval.specs.Applied.{applied}
+use Rattle.cb_eval.specs.Comparison.{Comparator, all_same, compared, first_differs, greater, greater_or_equal, less, less_or_equal, of_integers, same}
+use Rattle.cb_eval.specs.Constants.{truth}
+use Rattle.cb_eval.specs.Logic.{decides, is_true}
 use Rattle.cb_fit.specs.Comparisons.{WithConstant, WithVariable, both_integers, compared_call, compared_term, compared_test, compares, comparison_of, constant_of, integer_so, limited_arguments, limited_call, limited_term, limited_test, turned, variable_of, with_arguments, with_constant, with_other}
 use Rattle.cb_fit.specs.Plain.{is_named}
 use Rattle.cb_fit.specs.declared.comparison.Comparison.{Comparison}
@@ -17,10 +21,6 @@ use Rattle.cb_facts.specs.declared.value.Value.{Value}
 use Rattle.cb_facts.specs.declared.value.Value.TheVariants as v
 use Rattle.cb_forms.specs.declared.fault.Fault.{Fault}
 use Rattle.cb_forms.specs.declared.fault.Fault.TheVariants.{UnboundVariable}
-use Rattle.cb_functions.specs.Applied.{applied}
-use Rattle.cb_functions.specs.Comparison.{Comparator, all_same, compared, first_differs, greater, greater_or_equal, less, less_or_equal, of_integers, same}
-use Rattle.cb_functions.specs.Constants.{truth}
-use Rattle.cb_functions.specs.Logic.{decides, is_true}
 use Rattle.cb_words.specs.declared.words.Function.{Function}
 use Rattle.cb_words.specs.declared.words.Function.TheVariants as function
 

@@ -16,6 +16,7 @@ use Rattle.cb_constraints.specs.Bound.{each_once, given, newly_bound}
 use Rattle.cb_constraints.specs.Constraints.{Constraint, Demand}
 use Rattle.cb_constraints.specs.Holding.{may_hold, provided}
 use Rattle.cb_constraints.specs.PatternValues.{PatternValue}
+use Rattle.cb_eval.specs.Comparison.{same}
 use Rattle.cb_fit.proofs.AllGiven.{Step, both, bound-gives, gave-all, gives-none}
 use Rattle.cb_fit.proofs.Asked.{AreLong, Asked, after_all, are_single, asked_of, parts_in, parts_out}
 use Rattle.cb_fit.proofs.CheckLaws.{agree_one, alike, are_others, weaker}
@@ -42,7 +43,6 @@ use Rattle.cb_fit.specs.Related.{Fits}
 use Rattle.cb_fit.specs.Shapes.{HasShape, has_shape, is_selected, loose, loose_parts}
 use Rattle.cb_fit.specs.Ways.{WayValue, taken_way, ways}
 use Rattle.cb_fit.specs.declared.join_fields.JoinField.{JoinField}
-use Rattle.cb_functions.specs.Comparison.{same}
 
 -- the laws of ways
 pub record WaysAreKnown : Type 0 where

@@ -6,11 +6,11 @@ use Rattle.cb_constraints.specs.Binders.{binder, binders, binders_of}
 use Rattle.cb_constraints.specs.Constraints.{Test, constant, variable, predicate, return_value, Check, Demand, nothing, each, either}
 use Rattle.cb_constraints.specs.Holding.{after_check, after_checks, after_demand, after_test, one_holds, provided, after_variable}
 use Rattle.cb_constraints.specs.PatternValues.{PatternValue}
+use Rattle.cb_eval.specs.Comparison.{same}
 use Rattle.cb_exprs.specs.Bindings.{Bindings, value_at, with_variable}
 use Rattle.cb_facts.specs.Facts.{FactValue}
 use Rattle.cb_facts.proofs.Equality.{value-Decides}
 use Rattle.cb_facts.specs.declared.value.Value.{Value}
-use Rattle.cb_functions.specs.Comparison.{same}
 use Rattle.cb_fit.proofs.AllGiven.{test-gives}
 use Rattle.cb_fit.proofs.Listed.{Among, among-cases, among-contained, among-flat-back, among-map-back}
 use Rattle.cb_fit.proofs.Alone.{parts_hold}

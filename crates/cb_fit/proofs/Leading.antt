@@ -4,7 +4,9 @@ use Rattle.std.proofs.lemmas.Bool.{and_parts, both_ways}
 use Rattle.std.specs.Option.{ok_or, option_map_or, option_or}
 use Rattle.cb_constraints.specs.Holding.{value_if_any}
 use Rattle.cb_constraints.specs.Internal.Known.{given_to, given_to_all}
+use Rattle.cb_eval.specs.Applied.{applied}
 use Rattle.cb_eval.specs.Evaluation.{value_of, values_of}
+use Rattle.cb_eval.specs.Logic.{decides, is_true}
 use Rattle.cb_exprs.specs.Bindings.{Bindings, value_at, with_variable}
 use Rattle.cb_exprs.specs.Terms.{Term, constant, variable, global, call, effect, choose, repeat, actions, Terms, no_terms, term}
 use Rattle.cb_facts.specs.Results.{and_then}
@@ -17,8 +19,6 @@ use Rattle.cb_fit.specs.Plain.{is_named}
 use Rattle.cb_fit.specs.Settled.{are_settled, is_settled}
 use Rattle.cb_forms.specs.declared.fault.Fault.{Fault}
 use Rattle.cb_forms.specs.declared.fault.Fault.TheVariants.{UnboundVariable, UnknownGlobal}
-use Rattle.cb_functions.specs.Applied.{applied}
-use Rattle.cb_functions.specs.Logic.{decides, is_true}
 use Rattle.cb_words.specs.declared.words.Function.{Function}
 
 -- what follows a result is the same where what follows each value is

@@ -4,10 +4,10 @@ use Rattle.std.specs.List.{list_all, list_any}
 use Rattle.std.specs.Option.{option_and_then}
 use Rattle.cb_constraints.specs.Constraints.{Test, constant, variable, predicate, return_value, Check, Demand, nothing, each, either}
 use Rattle.cb_constraints.specs.Holding.{after_checks, after_demand, after_test, check_holds, constant_holds, constants_hold, may_hold, one_holds, opposite_if, provided}
+use Rattle.cb_eval.specs.Comparison.{same}
 use Rattle.cb_exprs.specs.Bindings.{Bindings}
 use Rattle.cb_facts.specs.declared.value.Value.{Value}
 use Rattle.cb_fit.specs.Shapes.{constants_in, loose_demand}
-use Rattle.cb_functions.specs.Comparison.{same}
 
 in-turn : (b rest : Bool) (next : Bindings → Option Bindings) (env : Bindings) → next env ≡ provided rest env → option_and_then next (provided b env) ≡ provided (b && rest) env
 in-turn true rest next env e = e

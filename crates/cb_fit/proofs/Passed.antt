@@ -7,6 +7,7 @@ use Rattle.std.specs.List.{list_all}
 use Rattle.std.specs.Option.{option_map_or, option_or}
 use Rattle.std.specs.Str.{bytes_eq}
 use Rattle.cb_constraints.specs.Internal.Known.{given_to_all}
+use Rattle.cb_eval.specs.Comparison.{same}
 use Rattle.cb_exprs.specs.Bindings.{Bindings, value_at}
 use Rattle.cb_facts.proofs.Equality.{value-Decides}
 use Rattle.cb_facts.specs.Facts.{FactContent}
@@ -24,7 +25,6 @@ use Rattle.cb_fit.specs.declared.comparison.Comparison.{Comparison}
 use Rattle.cb_fit.specs.declared.comparison.Comparison.TheVariants.{Same}
 use Rattle.cb_fit.specs.declared.field_place.FieldPlace.{FieldPlace}
 use Rattle.cb_fit.specs.declared.join_fields.JoinField.{JoinField}
-use Rattle.cb_functions.specs.Comparison.{same}
 
 -- orders in which tests are joined
 pub in_pairs : (a b c d : Bool) → (a && b) && (c && d) ≡ (a && c) && (b && d)

@@ -11,6 +11,7 @@ use Rattle.cb_constraints.specs.Binders.{binders}
 use Rattle.cb_constraints.specs.Constraints.{Demand}
 use Rattle.cb_constraints.specs.Holding.{may_hold, provided}
 use Rattle.cb_constraints.specs.Internal.Known.{given_to_all}
+use Rattle.cb_eval.specs.Comparison.{same}
 use Rattle.cb_fit.proofs.Asked.{Asked, after_all}
 use Rattle.cb_fit.proofs.CheckLaws.{agree_one, alike_where, are_others, at_left, in_turn}
 use Rattle.cb_fit.proofs.DemandLaws.{choose_one, demand_claim, demand_holds}
@@ -29,7 +30,6 @@ use Rattle.cb_fit.specs.declared.join_fields.JoinField.{JoinField}
 use Rattle.cb_exprs.specs.Bindings.{Bindings, value_at}
 use Rattle.cb_facts.specs.Facts.{FactContent}
 use Rattle.cb_facts.specs.declared.value.Value.{Value}
-use Rattle.cb_functions.specs.Comparison.{same}
 
 -- the variables of all that is asked
 abbrev pub names_of : Asked → List (List ℕ)

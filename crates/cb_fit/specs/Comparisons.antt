@@ -6,6 +6,7 @@ use Rattle.std.specs.Str.{bytes_eq}
 use Rattle.cb_constraints.specs.Binders.{binders, binders_in, binders_of, constraints_in}
 use Rattle.cb_constraints.specs.Constraints.{Test, constant, variable, predicate, return_value, Check, Demand, nothing, each, either, Constraint}
 use Rattle.cb_constraints.specs.PatternValues.{PatternParts, PatternValue}
+use Rattle.cb_eval.specs.Comparison.{Comparator, less, less_or_equal, greater, greater_or_equal, same}
 use Rattle.cb_fit.specs.JoinFields.{demand_join_fields, place_of}
 use Rattle.cb_fit.specs.Plain.{is_named, is_plain_test}
 use Rattle.cb_fit.specs.declared.comparison.ComparedField.{ComparedField}
@@ -24,7 +25,6 @@ use Rattle.cb_fit.specs.declared.join_fields.JoinField.{JoinField}
 use Rattle.cb_fit.specs.declared.own_field.Operand.{Operand}
 use Rattle.cb_fit.specs.declared.own_field.Operand.TheVariants as operand
 use Rattle.cb_fit.specs.declared.own_field.OwnField.{OwnField}
-use Rattle.cb_functions.specs.Comparison.{Comparator, less, less_or_equal, greater, greater_or_equal, same}
 use Rattle.cb_words.specs.declared.words.Function.{Function}
 use Rattle.cb_words.specs.declared.words.Function.TheVariants as function
 

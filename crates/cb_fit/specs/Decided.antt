@@ -7,6 +7,7 @@ use Rattle.cb_constraints.specs.Constraints.{Constraint}
 use Rattle.cb_constraints.specs.Holding.{value_if_any}
 use Rattle.cb_constraints.specs.PatternValues.{PatternValue}
 use Rattle.cb_eval.specs.Evaluation.{value_of}
+use Rattle.cb_eval.specs.Logic.{is_true}
 use Rattle.cb_fit.specs.Comparisons.{ChoiceFieldValue, choice_fields, compared_fields, compares, conditions}
 use Rattle.cb_fit.specs.declared.comparison.ComparedField.{ComparedField}
 use Rattle.cb_exprs.specs.Bindings.{Bindings, value_at, with_variables}
@@ -17,7 +18,6 @@ use Rattle.cb_fit.specs.FieldPlaces.{field_value}
 use Rattle.cb_fit.specs.JoinFields.{giving_fields, join_fields, value_in}
 use Rattle.cb_fit.specs.Ways.{WayValue}
 use Rattle.cb_fit.specs.declared.join_fields.JoinField.{JoinField}
-use Rattle.cb_functions.specs.Logic.{is_true}
 
 -- each of these fields has the value of its variable, if that has one
 abbrev pub AgreeWith : List JoinField → Bindings → FactContent → Type 0

@@ -19,10 +19,10 @@ use crate::search::Search;
 use crate::slots::may_take_slots;
 use crate::way::Way;
 use cb_constraints::{Body, Fields, PatternParts, Row, Segments, SlotRow};
+use cb_eval::Constants;
 use cb_exprs::Lookup;
 use cb_facts::{Content, Fact, Multifield};
 use cb_forms::NoMemory;
-use cb_functions::Constants;
 use smallvec::SmallVec;
 use std::alloc::Global;
 

@@ -10,10 +10,10 @@ use crate::open_choices::{OpenChoices, open_next, open_others};
 use crate::rest::Rest;
 use crate::way::Way;
 use cb_constraints::{Body, Segments};
+use cb_eval::Constants;
 use cb_exprs::Lookup;
 use cb_facts::{Content, Name, Value};
 use cb_forms::NoMemory;
-use cb_functions::Constants;
 use smallvec::SmallVec;
 use std::alloc::Global;
 

@@ -9,10 +9,10 @@ use crate::meter::Meter;
 use crate::own_field::{OwnField, all_hold};
 use crate::pattern::Pattern;
 use crate::shape::Shape;
+use cb_eval::Constants;
 use cb_exprs::Env;
 use cb_facts::Fact;
 use cb_forms::NoMemory;
-use cb_functions::Constants;
 use std::alloc::Global;
 use std::marker::Model;
 

@@ -1,10 +1,10 @@
 //! What decides whether a pattern fits, its shape, and what it asks of a fact alone, read from patterns.
 use cb_constraints::{Check, Constraint, Demand, PatternParts, Row, Test};
+use cb_eval::Constants;
 use cb_exprs::Expr;
 use cb_facts::{Fact, Multifield, Name, Single, Value};
 use cb_fit::{Comparison, Decision, Meter, Pattern, Selection, Shape};
 use cb_forms::NoMemory;
-use cb_functions::Constants;
 use cb_words::Function;
 use std::alloc::Global;
 

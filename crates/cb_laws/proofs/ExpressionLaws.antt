@@ -5,7 +5,10 @@ use Rattle.cb_actions.specs.Acts.{Act, become, give, give_or_fault, ◌>>=◌}
 use Rattle.cb_actions.specs.Definitions.{all_asserted, all_evaluated, globals_after, globals_defined, one_evaluated}
 use Rattle.cb_actions.specs.Effects.{asserted, bound, called, chosen, effected, ends, found, global_bound, joined, modified, retracted, truth_of, turn, turn_of, valued, wanted}
 use Rattle.cb_actions.specs.Worlds.{World}
+use Rattle.cb_eval.specs.Applied.{applied}
+use Rattle.cb_eval.specs.Constants.{false_symbol}
 use Rattle.cb_eval.specs.Evaluation.{value_of}
+use Rattle.cb_eval.specs.Logic.{is_true}
 use Rattle.cb_exprs.specs.Bindings.{Bindings, value_at, with_global, with_variable}
 use Rattle.cb_exprs.specs.FactTerms.{FactTerm}
 use Rattle.cb_exprs.specs.GlobalTerms.{GlobalTerm}
@@ -14,9 +17,6 @@ use Rattle.cb_exprs.specs.Terms.{Term, constant, variable, global, call, effect,
 use Rattle.cb_facts.specs.declared.value.Value.{Value}
 use Rattle.cb_forms.specs.declared.fault.Fault.{Fault}
 use Rattle.cb_forms.specs.declared.fault.Fault.TheVariants.{UnboundVariable, UnknownGlobal}
-use Rattle.cb_functions.specs.Applied.{applied}
-use Rattle.cb_functions.specs.Constants.{false_symbol}
-use Rattle.cb_functions.specs.Logic.{is_true}
 use Rattle.cb_laws.proofs.Keeping.{After, Keeps, keeps_then}
 use Rattle.cb_words.specs.declared.words.Function.{Function}
 use Rattle.cb_words.specs.declared.words.Function.TheVariants as function

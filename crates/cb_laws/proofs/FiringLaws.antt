@@ -10,8 +10,8 @@ use Rattle.cb_actions.specs.declared.act.EarlyEnd.{EarlyEnd}
 use Rattle.cb_actions.specs.declared.act.EarlyEnd.TheVariants as ended
 use Rattle.cb_actions.specs.declared.act.Limit.TheVariants.{Firings}
 use Rattle.cb_agenda.specs.Agendas.{popped}
+use Rattle.cb_eval.specs.Constants.{false_symbol}
 use Rattle.cb_facts.specs.declared.value.Value.{Value}
-use Rattle.cb_functions.specs.Constants.{false_symbol}
 use Rattle.cb_laws.proofs.ActLaws.{asserts_only}
 use Rattle.cb_laws.proofs.ExpressionLaws.{IsKept, all_keep}
 use Rattle.cb_laws.proofs.Keeping.{after_any, from_any}

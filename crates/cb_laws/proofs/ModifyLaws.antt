@@ -10,6 +10,7 @@ use Rattle.cb_actions.specs.Worlds.{World}
 use Rattle.cb_actions.specs.declared.act.EarlyEnd.{EarlyEnd}
 use Rattle.cb_actions.specs.declared.act.EarlyEnd.TheVariants as ended
 use Rattle.cb_actions.specs.declared.act.Limit.TheVariants.{Numbers}
+use Rattle.cb_eval.specs.Constants.{false_symbol}
 use Rattle.cb_exprs.specs.Shapes.{SlotCounts}
 use Rattle.cb_facts.specs.FactLists.{IsAbsent, fact_at}
 use Rattle.cb_facts.specs.Facts as content
@@ -18,7 +19,6 @@ use Rattle.cb_facts.specs.declared.value.Value.{Value}
 use Rattle.cb_facts.specs.declared.value.Value.TheVariants as value
 use Rattle.cb_forms.specs.declared.fault.Fault.{Fault}
 use Rattle.cb_forms.specs.declared.fault.Fault.TheVariants.{NoSuchFact}
-use Rattle.cb_functions.specs.Constants.{false_symbol}
 use Rattle.cb_laws.proofs.MemoryBasics.{base_of, not_found}
 use Rattle.cb_laws.proofs.MoveLaws.{Moved, memory_is, moved_so, quiet_line}
 use Rattle.cb_laws.proofs.PutLaws.{at_new, at_old, only_there, put_back_sound}

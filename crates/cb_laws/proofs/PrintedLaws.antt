@@ -9,6 +9,7 @@ use Rattle.std.specs.Fmt.{decimal}
 use Rattle.std.specs.Int.{IsInRange}
 use Rattle.std.specs.List.{flat_map, fold, list_all}
 use Rattle.std.specs.Prelude.{if◌then◌else◌, length, nat_le, nat_lt, neg_ℤ}
+use Rattle.cb_eval.specs.Arithmetic.{fits_64_bits}
 use Rattle.cb_facts.specs.Texts.{between_quotes, escaped_byte, quoted_bytes}
 use Rattle.cb_facts.specs.declared.value.Value.TheVariants as value
 use Rattle.cb_forms.specs.Bytes.{is_blank, is_connective, is_delimiter, is_digit, is_single, ampersand, bar, closing, dollar, minus, opening, plus, question_mark, quote, semicolon, tilde}
@@ -21,7 +22,6 @@ use Rattle.cb_forms.specs.Words.{after_digits, digits_value, integer_token, is_d
 use Rattle.cb_forms.proofs.ReadingLaws.{reads-one}
 use Rattle.cb_forms.specs.declared.fault.Fault.TheVariants.{FormNotClosed, IntegerOutOfRange}
 use Rattle.cb_forms.specs.declared.token.Token.TheVariants as token
-use Rattle.cb_functions.specs.Arithmetic.{fits_64_bits}
 use Rattle.cb_laws.specs.Words.{is_word}
 
 abbrev in_case : {X : Type 0} → Bool → X → X → X

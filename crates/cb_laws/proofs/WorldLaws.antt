@@ -13,10 +13,10 @@ use Rattle.cb_actions.specs.declared.act.EarlyEnd.TheVariants as ended
 use Rattle.cb_actions.specs.declared.act.Limit.TheVariants.{Firings, Numbers}
 use Rattle.cb_agenda.specs.Agendas.{changed, has_stamps, popped}
 use Rattle.cb_agenda.specs.declared.strategy.Strategy.{Strategy}
+use Rattle.cb_eval.specs.Constants.{false_symbol}
 use Rattle.cb_exprs.specs.Terms.{Term}
 use Rattle.cb_facts.specs.declared.value.Value.{Value}
 use Rattle.cb_facts.specs.declared.value.Value.TheVariants as value
-use Rattle.cb_functions.specs.Constants.{false_symbol}
 use Rattle.cb_laws.proofs.ActLaws.{asserts_only, asserts_proper}
 use Rattle.cb_laws.proofs.AgendaLaws.{changed_proper, moved_proper, popped_proper}
 use Rattle.cb_laws.proofs.ExpressionLaws.{IsKept, all_keep, expression_keeps, valued_keeps}

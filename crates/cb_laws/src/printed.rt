@@ -1,12 +1,12 @@
 //! What is shown reads back.
 ghost use Rattle.std.specs.Prelude.{◌≡◌, ◌∷◌, ◌^◌, ◌<◌, ℕ, ℤ, List, [], Ok, true, unsigned_abs};
+ghost use Rattle.cb_eval.specs.Arithmetic.{fits_64_bits};
 ghost use Rattle.cb_facts.specs.Texts.{quoted_bytes};
 ghost use Rattle.cb_facts.specs.declared.value.Value.TheVariants as value;
 ghost use Rattle.cb_forms.specs.Items.{items};
 ghost use Rattle.cb_forms.specs.Trees.{atom};
 ghost use Rattle.cb_forms.specs.Words.{token_of};
 ghost use Rattle.cb_forms.specs.declared.token.Token.TheVariants as token;
-ghost use Rattle.cb_functions.specs.Arithmetic.{fits_64_bits};
 ghost use Rattle.cb_laws.specs.Words.{is_word};
 
 /// A string as it is shown, between quotes, reads as one item, the string, whatever its bytes. So does an integer. A symbol

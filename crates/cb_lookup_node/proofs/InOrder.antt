@@ -1,14 +1,13 @@
 -- Lists of values of which the last is an integer, and how they compare.
 use Rattle.std.proofs.Common.{◌≡◌, ◌∙◌, ◌-◌, ◌++◌, ◌∷◌, ℤ, suc, true, false, List, [], Option, ap, arith, length, refl, slice_get, subst, sym}
 use Rattle.std.specs.Option.{option_map_or}
+use Rattle.cb_eval.specs.Comparison.{Comparator, less, less_or_equal, greater, greater_or_equal}
 use Rattle.cb_facts.specs.declared.value.Value.{Value}
 use Rattle.cb_facts.specs.declared.value.Value.TheVariants.{Symbol, Str, Int, Fact, Multi}
 use Rattle.cb_fit.specs.Comparisons.{both_integers, compares, integer_so}
 use Rattle.cb_fit.specs.declared.comparison.Comparison.{Comparison}
 use Rattle.cb_fit.specs.declared.comparison.Comparison.TheVariants.{Less, LessOrEqual, Greater, GreaterOrEqual, Equal, NotEqual, Same, Differs}
-use Rattle.cb_functions.specs.Comparison.{Comparator, less, less_or_equal, greater, greater_or_equal}
-use Rattle.cb_lookup_node.specs.LookupNodes.{AreInOrder, ends_in_integer}
-use Rattle.cb_lookup_node.specs.LookupNodes.{is_by_order}
+use Rattle.cb_lookup_node.specs.LookupNodes.{AreInOrder, ends_in_integer, is_by_order}
 
 -- what is in an order of integers are integers
 integers_of : (order : Comparator) (w v : Value) → both_integers order w v ≡ true → (n m : ℤ) × (w ≡ Int n) × (v ≡ Int m)

@@ -4,6 +4,7 @@ use Rattle.std.specs.List.{filter}
 use Rattle.std.specs.Option.{option_map_or}
 use Rattle.cb_constraints.specs.Holding.{value_if_any}
 use Rattle.cb_constraints.specs.PatternValues.{PatternValue}
+use Rattle.cb_eval.specs.Logic.{is_true}
 use Rattle.cb_rules.specs.Elements.{Element, pattern, test, group, Elements, no_elements, element}
 use Rattle.cb_eval.specs.Evaluation.{value_of}
 use Rattle.cb_exprs.specs.Bindings.{Bindings, no_bindings, with_variable, with_variables}
@@ -12,7 +13,6 @@ use Rattle.cb_facts.specs.FactLists.{IndexedFacts}
 use Rattle.cb_facts.specs.Facts.{FactValue}
 use Rattle.cb_facts.specs.declared.value.Value.TheVariants as value
 use Rattle.cb_fit.specs.Ways.{WayValue, ways}
-use Rattle.cb_functions.specs.Logic.{is_true}
 use Rattle.cb_matches.specs.Keys.{PartValue}
 
 -- a partial match: what each pattern so far took, from left to right, and what variables have by it

@@ -3,9 +3,10 @@ ghost use Rattle.std.specs.Prelude.{◌≡◌, ◌++◌, IfOk, OnOk};
 ghost use Rattle.cb_rules.specs.Elements.{branches_of};
 ghost use Rattle.cb_matches.specs.Networks.{all_matches, branch_matches};
 
+use crate::branch::{Match, match_branch};
+use crate::setting::Setting;
 use cb_fit::Meter;
 use cb_forms::NoMemory;
-use cb_partials::{Match, Setting, match_branch};
 use cb_rules::Ce;
 use std::marker::Model;
 

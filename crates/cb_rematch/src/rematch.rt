@@ -10,14 +10,16 @@ ghost use Rattle.cb_matches.specs.Keys.{key_eq};
 ghost use Rattle.cb_matches.specs.Networks.{Network, all_matches, with_rule};
 ghost use Rattle.cb_matches.specs.Matchers.{new_matcher};
 
+use crate::branch::Match;
+use crate::come::keys_come;
 use crate::matching::{NumberedRule, match_rules};
+use crate::setting::Setting;
+use cb_eval::Constants;
 use cb_exprs::Env;
 use cb_facts::{Fact, FactList};
 use cb_fit::Meter;
 use cb_forms::NoMemory;
-use cb_functions::Constants;
 use cb_matches::{Delta, Key, Matcher};
-use cb_partials::{Match, Setting, keys_come, made};
 use cb_rules::Ce;
 use std::alloc::Global;
 use std::marker::Model;
@@ -208,7 +210,7 @@ fn find_anew<T>(
 {
     let setting = Setting {
         alloc,
-        constants: made(alloc, constants)?,
+        constants: Constants::made(alloc, constants)?,
         facts,
     };
     let found = match_rules(&setting, rules, meter)?;

@@ -26,12 +26,11 @@ use crate::telling::tell_branches;
 use cb_alpha_network::{AlphaNetwork, NodePlace};
 use cb_branch::Branch;
 use cb_branch::laws::{each_pattern_may_be_tested, what_is_kept_can_be_filled, what_is_kept_stays};
+use cb_eval::Constants;
 use cb_facts::{Fact, FactList};
 use cb_fit::Meter;
 use cb_forms::NoMemory;
-use cb_functions::Constants;
 use cb_matches::{Delta, Key};
-use cb_partials::made;
 use std::alloc::Global;
 use std::collections::BTreeMap;
 
@@ -63,7 +62,7 @@ pub(crate) fn assert_fact<T>(
     each_pattern_may_be_tested();
     what_is_kept_stays::<T>();
     let _count = facts.len();
-    let constants = made(alloc, constants)?;
+    let constants = Constants::made(alloc, constants)?;
     alphas.assert(alloc, constants, ix, &fact, meter)?;
     facts.add(ix, fact)?;
     change_facts(alloc, constants, alphas, found, rules, meter)
@@ -95,7 +94,7 @@ pub(crate) fn retract_fact<T>(
     each_pattern_may_be_tested();
     what_is_kept_stays::<T>();
     let _count = facts.len();
-    let constants = made(alloc, constants)?;
+    let constants = Constants::made(alloc, constants)?;
     let Some(fact) = facts.get(ix) else {
         unreachable!()
     };
@@ -167,7 +166,7 @@ pub(crate) fn add_planned<T>(
 {
     what_is_kept_stays::<T>();
     let _count = facts.len();
-    let constants = made(alloc, constants)?;
+    let constants = Constants::made(alloc, constants)?;
     enter_rule(alloc, constants, facts, &mut rule, alphas, meter)?;
     let setting = Setting {
         alloc,
@@ -203,7 +202,7 @@ pub(crate) fn drop_rule<T>(
 {
     let _count = facts.len();
     let _rules = rules.len();
-    let constants = made(alloc, constants)?;
+    let constants = Constants::made(alloc, constants)?;
     let mut delta = no_delta(alloc);
     drop_numbered(alloc, constants, alphas, rules, id, &mut delta.gone)?;
     Ok(delta)
@@ -278,7 +277,7 @@ pub(crate) fn fill_anew<T>(
     ensures keys { IfOk result (λ keys. keys.items ≡ rule_keys (kept_rules (values rules.old)) []) }
 {
     what_is_kept_can_be_filled::<T>();
-    let constants = made(alloc, constants)?;
+    let constants = Constants::made(alloc, constants)?;
     alphas.clear();
     let setting = Setting {
         alloc,

@@ -12,10 +12,10 @@ ghost use Rattle.cb_rule_keys.specs.Sums.{branches_sum};
 use crate::rule::Rule;
 use cb_alpha_network::AlphaNetwork;
 use cb_branch::Branch;
+use cb_eval::Constants;
 use cb_facts::FactList;
 use cb_fit::Meter;
 use cb_forms::NoMemory;
-use cb_functions::Constants;
 use std::alloc::Global;
 
 /// Enters the patterns of a rule in the alpha network.

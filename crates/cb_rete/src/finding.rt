@@ -9,9 +9,9 @@ ghost use Rattle.cb_rete.specs.Rules.{AreRulesOver, kept_rule, kept_rules};
 ghost use Rattle.cb_rule_keys.specs.Numbers.{AreNamed};
 
 use crate::rule::Rule;
+use cb_eval::Constants;
 use cb_exprs::Env;
 use cb_forms::NoMemory;
-use cb_functions::Constants;
 use cb_matches::Key;
 use std::alloc::Global;
 use std::collections::BTreeMap;

@@ -11,11 +11,11 @@ use crate::changes::{add_planned, assert_fact, drop_rule, fill_anew, retract_fac
 use crate::finding::find_env;
 use crate::rule::{Rule, plan_rule};
 use cb_alpha_network::{AlphaNetwork, NodePlace};
+use cb_eval::Constants;
 use cb_exprs::Env;
 use cb_facts::{Fact, FactList};
 use cb_fit::Meter;
 use cb_forms::NoMemory;
-use cb_functions::Constants;
 use cb_matches::{Delta, Key, Matcher};
 use cb_rules::Ce;
 use std::alloc::Global;

@@ -1,6 +1,6 @@
 //! What branches need besides what is kept for them.
 use cb_alpha::AlphaMemory;
-use cb_functions::Constants;
+use cb_eval::Constants;
 use std::alloc::Global;
 
 /// What branches need besides what is kept for them.

@@ -7,8 +7,8 @@ ghost use Rattle.cb_rete.specs.Rules.{AreBranchesOver, kept_branches};
 ghost use Rattle.cb_rule_keys.specs.Keys.{branch_keys};
 
 use cb_branch::Branch;
+use cb_eval::Constants;
 use cb_forms::NoMemory;
-use cb_functions::Constants;
 use cb_matches::Key;
 use std::alloc::Global;
 

@@ -3,6 +3,7 @@ use Prim.Native.String.{String}
 use Rattle.std.proofs.Common.{◌≡◌, ◌++◌, ℕ, ℤ, pos, Bool, List, [], ◌∷◌, Option, Some, None, Result, Ok, map, codes, true, false, refl}
 use Rattle.cb_constraints.specs.Constraints.{variable, each}
 use Rattle.cb_constraints.specs.PatternValues.{PatternValue, fields}
+use Rattle.cb_eval.specs.Internal.Operations.{operator_of}
 use Rattle.cb_facts.specs.FaultLists.{first_of, unless_faulty}
 use Rattle.cb_exprs.specs.Bindings.{Bindings}
 use Rattle.cb_exprs.specs.Terms.{Term, terms}
@@ -13,7 +14,6 @@ use Rattle.cb_forms.specs.Trees.{Tree, atom, branch, trees_of}
 use Rattle.cb_forms.specs.declared.fault.Fault.{Fault}
 use Rattle.cb_forms.specs.declared.fault.Fault.TheVariants.{WrongArguments, MalformedForm, UnknownFunction, FactDoesNotFit, UnboundVariable, UnknownGlobal, NotOnLeftSide, NotInProfile, TooManyBranches, BadSalience}
 use Rattle.cb_forms.specs.declared.token.Token.TheVariants as token
-use Rattle.cb_functions.specs.Internal.Operations.{operator_of}
 use Rattle.cb_rule_forms.specs.Relations.{patterns_relations}
 use Rattle.cb_rule_forms.specs.Rules.{rule_faults, rule_of}
 use Rattle.cb_rules.specs.Elements.{pattern, test, group, Elements, elements, no_elements}

@@ -2,12 +2,12 @@
 use Prim.Native.String.{String}
 use Rattle.std.proofs.Common.{◌≡◌, ◌-◌, ℕ, ℤ, pos, negsuc, List, [], ◌∷◌, map, Some, Ok, codes, refl}
 use Rattle.std.specs.Fmt.{digits}
+use Rattle.cb_eval.specs.Internal.Operations.{operator_of}
 use Rattle.cb_forms.specs.Items.{whole, over, fitting, parts, is_open_list}
 use Rattle.cb_forms.specs.Pieces.{pieces}
 use Rattle.cb_forms.specs.Trees.{Tree, atom, branch, trees_of}
 use Rattle.cb_forms.specs.Words.{token_of}
 use Rattle.cb_forms.specs.declared.token.Token.TheVariants as token
-use Rattle.cb_functions.specs.Internal.Operations.{operator_of}
 use Rattle.cb_actions.specs.Changes.{moved}
 use Rattle.cb_agenda.specs.Agendas.{agenda_list, popped}
 use Rattle.cb_lines.specs.Lines.{agenda_line}

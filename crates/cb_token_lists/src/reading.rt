@@ -10,9 +10,9 @@ use crate::parts::parts_of;
 use crate::path::{Path, add_step};
 use crate::source::Source;
 use cb_beta::{BetaMemory, Token};
+use cb_eval::Constants;
 use cb_exprs::Env;
 use cb_forms::NoMemory;
-use cb_functions::Constants;
 use cb_matches::MatchParts;
 use std::alloc::Global;
 

@@ -5,10 +5,10 @@ ghost use Rattle.cb_matches.specs.Matches.{test_holds};
 
 use crate::reading::TokenLists;
 use cb_eval::eval;
+use cb_eval::is_true;
 use cb_exprs::{Expr, Lookup};
 use cb_facts::Refused;
 use cb_forms::NoMemory;
-use cb_functions::is_true;
 
 impl TokenLists<'_> {
     /// Whether a test holds, where variables have these values; one that faults doesn't. Growth is refused as `NoMemory`, and so is

@@ -1,11 +1,11 @@
 use Rattle.std.proofs.Common.{◌≡◌, ◌∙◌, ◌+◌, ap, drop, false, option_to_list, subst, sym}
 use Rattle.cb_eval.proofs.Connectives.{of_all, passes}
 use Rattle.cb_eval.proofs.Left.{next_term}
+use Rattle.cb_eval.specs.Applied.{applied}
 use Rattle.cb_eval.specs.Evaluation.{values_of}
+use Rattle.cb_eval.specs.Logic.{decides}
 use Rattle.cb_exprs.specs.Terms.{term, term_of, terms_of}
 use Rattle.cb_facts.specs.Results.{Returns, and_then}
-use Rattle.cb_functions.specs.Applied.{applied}
-use Rattle.cb_functions.specs.Logic.{decides}
 use Rattle.cb_eval.proofs.evaluation.+evaluation.Goals as goal
 
 pub call-returns : goal.call-returns

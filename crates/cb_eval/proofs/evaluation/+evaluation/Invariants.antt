@@ -1,10 +1,10 @@
 use Rattle.std.proofs.Common.{◌≡◌, ◌++◌, [], false, IfSome, Ok, drop, option_to_list}
+use Rattle.cb_eval.specs.Applied.{applied}
 use Rattle.cb_eval.specs.Evaluation.{values_of}
 use Rattle.cb_eval.specs.Laws.{all_values}
+use Rattle.cb_eval.specs.Logic.{decides}
 use Rattle.cb_exprs.specs.Terms.{terms_of}
 use Rattle.cb_facts.specs.Results.{and_then}
-use Rattle.cb_functions.specs.Applied.{applied}
-use Rattle.cb_functions.specs.Logic.{decides}
 use Rattle.cb_eval.proofs.evaluation.+evaluation.Given as goal
 
 abbrev pub invariant-call_until_decided-loop-arg : goal.invariant-call_until_decided-loop-arg

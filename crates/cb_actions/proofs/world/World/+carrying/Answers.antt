@@ -8,6 +8,8 @@ use Rattle.cb_actions.specs.Went.{Went, Quietly}
 use Rattle.cb_actions.specs.Worlds.{World}
 use Rattle.cb_actions.specs.declared.act.Break.TheVariants as break
 use Rattle.cb_actions.specs.declared.act.EarlyEnd.TheVariants as ended
+use Rattle.cb_eval.specs.Constants.{false_symbol}
+use Rattle.cb_eval.specs.Logic.{is_true}
 use Rattle.cb_io.specs.declared.stop.Stop.TheVariants as stop
 use Rattle.cb_actions.proofs.ActLaws.{went_then, went_off, went_quietly, went_as}
 use Rattle.cb_actions.proofs.CallLaws.{first_off, first_decides, second_off, both_then, call_off, call_then, effect_off, effect_then, only_off, only_then}
@@ -17,8 +19,6 @@ use Rattle.cb_exprs.specs.Terms.{constant, variable, global, call, effect, choos
 use Rattle.cb_exprs.proofs.TermLaws.{of_actions, of_call, of_constant, of_effect, of_global, of_if, of_variable, of_while}
 use Rattle.cb_facts.specs.declared.value.Value.{Value}
 use Rattle.cb_forms.specs.declared.fault.Fault.TheVariants.{WrongType}
-use Rattle.cb_functions.specs.Constants.{false_symbol}
-use Rattle.cb_functions.specs.Logic.{is_true}
 use Rattle.cb_actions.proofs.world.World.+carrying.Goals as goal
 
 pub carry_all-returns-in_err-no-clause-went : goal.carry_all-returns-in_err-no-clause-went

@@ -1,7 +1,0 @@
-pub mod ArithmeticLaws
-pub mod ComparisonLaws
-mod Examples
-pub mod FieldLaws
-pub mod Integers
-pub mod LeastLaws
-pub mod Steps

@@ -1,5 +1,0 @@
-use Rattle.cb_functions.proofs.ArithmeticLaws.{quotient_and_remainder}
-use Rattle.cb_functions.proofs.laws.quotient_and_remainder_give_the_dividend.Goals as goal
-
-pub returns : goal.returns
-returns c = quotient_and_remainder

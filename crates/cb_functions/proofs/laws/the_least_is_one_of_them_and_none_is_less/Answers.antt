@@ -1,5 +1,0 @@
-use Rattle.cb_functions.proofs.LeastLaws.{least_is_least}
-use Rattle.cb_functions.proofs.laws.the_least_is_one_of_them_and_none_is_less.Goals as goal
-
-pub returns : goal.returns
-returns c = least_is_least
