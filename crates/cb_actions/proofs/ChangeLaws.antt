@@ -6,6 +6,7 @@ use Rattle.cb_actions.specs.Effects.{added_beside, added_next, fact_added, fact_
 use Rattle.cb_actions.proofs.ActLaws.{went_as}
 use Rattle.cb_actions.specs.Went.{Went}
 use Rattle.cb_actions.specs.Worlds.{World}
+use Rattle.cb_knowledge_base.specs.KnowledgeBase.{Memory, greatest_index, index_of, restarted, with_next_rule, without}
 use Rattle.cb_rules.specs.RuleInfos.{RuleInfo}
 use Rattle.cb_actions.specs.declared.act.Break.{Break}
 use Rattle.cb_io.specs.Histories.{PastWrites}
@@ -26,7 +27,6 @@ use Rattle.cb_matches.specs.Keys.{KeyValue}
 use Rattle.cb_matches.specs.Networks.{all_keys}
 use Rattle.cb_actions.specs.Runs.{added_rule, defined_rule, numbered, replaced, started_anew, without_facts}
 use Rattle.cb_rules.specs.RuleTables.{rule_named}
-use Rattle.cb_working_memory.specs.WorkingMemory.{Memory, greatest_index, index_of, restarted, with_next_rule, without}
 
 moved_as : (s : World) (next : Memory) (line : List ℕ)
     → told line (keys_gone s.memory.network next.network) (keys_come s.memory.network next.network) (record s { memory = next }) ≡ moved next line s
@@ -51,7 +51,7 @@ with_room fact s n e = ap (λ o. added_beside fact o s) n ∙ rw (e) refl
 pub without_room : (fact : FactValue) (s : World) → index_of s.memory.network.facts fact ≡ None → nat_lt s.memory.last greatest_index ≡ false → fact_added fact s ≡ stop (ended.Limit Numbers) s
 without_room fact s n e = ap (λ o. added_beside fact o s) n ∙ rw (e) refl
 
--- a call that told a change of the rules or the facts, after the working memory had taken it
+-- a call that told a change of the rules or the facts, after the knowledge base had taken it
 pub went_moved : {K : Type 0} (writes : K → PastWrites) (o o1 : OutState K) (s t u : World) (r : Result (Unit {0}) Break) (next : Memory) (line bytes : List ℕ) (delta : Delta)
     → IsDelta s.memory.network next.network delta → t ≡ record s { memory = next } → bytes ≡ line → Went writes o o1 u r (told bytes delta.gone.items delta.come.items t)
     → Went writes o o1 u r (moved next line s)

@@ -15,9 +15,9 @@ use Rattle.cb_agenda.specs.Agendas.{has_stamps}
 use Rattle.cb_facts.proofs.MemberLaws.{is_at-Decides}
 use Rattle.cb_facts.specs.FactLists.{IndexedFacts, IsAbsent, IsFactBase, fact_at, without_fact}
 use Rattle.cb_facts.specs.Facts.{FactValue}
+use Rattle.cb_knowledge_base.specs.KnowledgeBase.{Memory, without}
 use Rattle.cb_matches.specs.Changes.{keys_come, keys_gone}
 use Rattle.cb_matches.specs.Keys.{KeyValue}
-use Rattle.cb_working_memory.specs.WorkingMemory.{Memory, without}
 
 -- a look-up where a fact is taken out
 left_at : (facts : IndexedFacts) (ix q : ℕ) → IsFactBase facts → fact_at (without_fact facts ix) q ≡ cond (is_at (nat_cmp ix) q) None (fact_at facts q)

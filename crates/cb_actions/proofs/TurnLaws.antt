@@ -11,6 +11,7 @@ use Rattle.cb_actions.specs.Internal.{Falls, turns_left}
 use Rattle.cb_eval.specs.Applied.{applied}
 use Rattle.cb_eval.specs.Constants.{false_symbol}
 use Rattle.cb_eval.specs.Logic.{is_true}
+use Rattle.cb_knowledge_base.specs.KnowledgeBase.{Memory, greatest_index, grown, index_of, put_back, restarted, with_next_rule, without, without_one_rule}
 use Rattle.cb_rules.specs.RuleTables.{rule_named, rule_numbered}
 use Rattle.cb_actions.specs.Runs.{acted, actions_of, added_rule, all_gone, cleared_world, defined_rule, dropped_rule, due_by, fire_line, fired, forgotten, in_scope, next_due, numbered, ran, replaced, restarted_world, run, spent, started_anew, unless_halted, with_variables_of, without_all, without_facts}
 use Rattle.cb_actions.specs.declared.act.Limit.TheVariants.{Firings}
@@ -35,14 +36,12 @@ use Rattle.cb_words.specs.declared.words.Function.{Function}
 use Rattle.cb_words.specs.declared.words.Function.TheVariants as function
 use Rattle.cb_exprs.specs.declared.effect.Effect.{Effect as Kind}
 use Rattle.cb_exprs.specs.declared.effect.Effect.TheVariants as kind
-use Rattle.cb_working_memory.specs.WorkingMemory.{greatest_index, index_of}
 use Rattle.cb_actions.specs.Changes.{activation_lines, moved, rescheduled, scheduled, tell, told, come_line, gone_line}
 use Rattle.cb_agenda.specs.Agendas.{has_stamps, popped}
 use Rattle.cb_facts.specs.Facts.{FactValue}
 use Rattle.cb_facts.specs.declared.value.Value.TheVariants as value
 use Rattle.cb_matches.specs.Changes.{keys_come, keys_gone}
 use Rattle.cb_matches.specs.Keys.{KeyValue}
-use Rattle.cb_working_memory.specs.WorkingMemory.{Memory, grown, put_back, restarted, with_next_rule, without, without_one_rule}
 use Rattle.cb_facts.specs.FactLists.{fact_at}
 use Rattle.std.specs.Map.{keys_of}
 use Rattle.cb_actions.specs.Effects.{is_retractable, parts_of}

@@ -2,6 +2,7 @@
 use Rattle.std.specs.Prelude.{ℕ, ℤ, Bool, true, false, List, [], ◌++◌, Option, Some, None, Ok, codes, length, map, flat_map, if◌then◌else◌}
 use Rattle.std.specs.List.{filter}
 use Rattle.cb_actions.specs.Acts.{Act, stop, ◌>>=◌}
+use Rattle.cb_knowledge_base.specs.KnowledgeBase.{Memory}
 use Rattle.cb_lines.specs.Lines.{activation_line, fact_line}
 use Rattle.cb_rules.specs.RuleTables.{rule_numbered, salience_of}
 use Rattle.cb_actions.specs.Worlds.{World}
@@ -12,7 +13,6 @@ use Rattle.cb_agenda.specs.Agendas.{changed, has_stamps, is_due}
 use Rattle.cb_facts.specs.Facts.{FactValue}
 use Rattle.cb_matches.specs.Changes.{keys_come, keys_gone}
 use Rattle.cb_matches.specs.Keys.{KeyValue}
-use Rattle.cb_working_memory.specs.WorkingMemory.{Memory}
 
 -- the salience of the rule of each key
 abbrev pub saliences : List RuleInfo → List KeyValue → List ℤ

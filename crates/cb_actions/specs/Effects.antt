@@ -23,10 +23,10 @@ use Rattle.cb_facts.specs.declared.value.Value.{Value}
 use Rattle.cb_facts.specs.declared.value.Value.TheVariants as value
 use Rattle.cb_forms.specs.declared.fault.Fault.{Fault}
 use Rattle.cb_forms.specs.declared.fault.Fault.TheVariants.{NoSuchFact, UnboundVariable, UnknownGlobal, WrongType}
+use Rattle.cb_knowledge_base.specs.KnowledgeBase.{greatest_index, grown, index_of, put_back, without}
 use Rattle.cb_templates.specs.Building.{Given, PartValues, field_values, slot_values, built, changed}
 use Rattle.cb_words.specs.declared.words.Function.{Function}
 use Rattle.cb_words.specs.declared.words.Function.TheVariants as function
-use Rattle.cb_working_memory.specs.WorkingMemory.{greatest_index, grown, index_of, put_back, without}
 
 -- a value that is there, or this fault
 abbrev pub found : Fault → Option Value → Act World (Option Value)

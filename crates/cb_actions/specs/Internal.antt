@@ -15,7 +15,7 @@ use Rattle.cb_exprs.specs.Bindings.{Bindings}
 use Rattle.cb_exprs.specs.Internal.Codes.{Piece}
 use Rattle.cb_facts.specs.declared.refused.Refused.{Refused}
 use Rattle.cb_facts.specs.declared.refused.Refused.TheVariants as refused
-use Rattle.cb_working_memory.specs.WorkingMemory.{Memory}
+use Rattle.cb_knowledge_base.specs.KnowledgeBase.{Memory}
 use Rattle.cb_rules.specs.Internal.Codes.{rule_code}
 use Rattle.cb_rules.specs.RuleInfos.{RuleInfo}
 use Rattle.cb_templates.specs.Templates.{Templates}

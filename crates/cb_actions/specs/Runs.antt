@@ -5,6 +5,7 @@ use Rattle.cb_actions.specs.Actions.{carried_all}
 use Rattle.cb_actions.specs.Acts.{Act, give, in_rule, stop, ◌>>=◌}
 use Rattle.cb_actions.specs.Changes.{if_watched, moved, rescheduled, tell}
 use Rattle.cb_eval.specs.Constants.{false_symbol}
+use Rattle.cb_knowledge_base.specs.KnowledgeBase.{cleared, greatest_index, restarted, with_next_rule, without_one_rule}
 use Rattle.cb_lines.specs.Lines.{fact_line, firing_line}
 use Rattle.cb_rules.specs.RuleTables.{rule_named, rule_numbered}
 use Rattle.cb_actions.specs.Worlds.{World}
@@ -19,7 +20,6 @@ use Rattle.cb_facts.specs.FactLists.{IndexedFacts}
 use Rattle.cb_facts.specs.declared.value.Value.{Value}
 use Rattle.cb_matches.specs.Keys.{KeyValue}
 use Rattle.cb_matches.specs.Networks.{all_keys, bindings_of}
-use Rattle.cb_working_memory.specs.WorkingMemory.{cleared, greatest_index, restarted, with_next_rule, without_one_rule}
 
 abbrev pub actions_of : Option RuleInfo → Terms
 actions_of None = no_terms

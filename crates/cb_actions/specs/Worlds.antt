@@ -3,8 +3,8 @@ use Rattle.std.specs.Prelude.{ℕ, Bool, false, List, []}
 use Rattle.cb_actions.specs.declared.watched.Watched.{Watched}
 use Rattle.cb_agenda.specs.Agendas.{AgendaValue, empty_agenda}
 use Rattle.cb_exprs.specs.Bindings.{Bindings, no_bindings}
+use Rattle.cb_knowledge_base.specs.KnowledgeBase.{Memory, empty_memory}
 use Rattle.cb_rules.specs.RuleInfos.{RuleInfo}
-use Rattle.cb_working_memory.specs.WorkingMemory.{Memory, empty_memory}
 use Rattle.cb_templates.specs.Templates.{Templates}
 
 abbrev pub unwatched : Watched

@@ -15,9 +15,9 @@ use cb_eval::{decides, is_true};
 use cb_exprs::{Effect, Expr};
 use cb_facts::Value;
 use cb_forms::{Fault, Out, Sink};
+use cb_knowledge_base::Mark;
 use cb_matches::Matcher;
 use cb_words::Function;
-use cb_working_memory::Mark;
 
 impl<M: Matcher<Mark>> World<M> {
     /// Carries out an expression. The answer is its value, if it has one.

@@ -3,11 +3,11 @@ ghost use Rattle.std.specs.Prelude.{◌≡◌, ◌<◌, ◌+◌, ◌++◌, Ok, I
 ghost use Rattle.std.specs.List.{filter};
 ghost use Rattle.cb_actions.specs.Changes.{activation_lines, come_line, rescheduled, scheduled, tell, told};
 ghost use Rattle.cb_actions.specs.Effects.{fact_added};
+ghost use Rattle.cb_knowledge_base.specs.KnowledgeBase.{Asserts, greatest_index};
 ghost use Rattle.cb_lines.specs.Lines.{activation_line};
 ghost use Rattle.cb_actions.specs.Went.{Quietly, Went};
 ghost use Rattle.cb_agenda.specs.Agendas.{is_due};
 ghost use Rattle.cb_actions.specs.Worlds.{World as State};
-ghost use Rattle.cb_working_memory.specs.WorkingMemory.{Asserts, greatest_index};
 
 use crate::act::{Break, EarlyEnd, Limit};
 use crate::rules::saliences;
@@ -16,10 +16,10 @@ use cb_agenda::{Agenda, ApplyFault};
 use cb_facts::{Fact, Value};
 use cb_forms::{NoMemory, Out, Sink};
 use cb_io::{Stop, put};
+use cb_knowledge_base::{Asserted, Mark};
 use cb_lines::{add_activation_line, add_fact_line};
 use cb_matches::{Delta, Key, Matcher};
 use cb_rules::RuleTable;
-use cb_working_memory::{Asserted, Mark};
 use std::alloc::Global;
 
 impl<M: Matcher<Mark>> World<M> {
@@ -66,7 +66,7 @@ impl<M: Matcher<Mark>> World<M> {
         Ok(line)
     }
 
-    /// Gives the working memory a fact.
+    /// Gives the knowledge base a fact.
     fn memorize(&mut self, fact: Fact) -> Result<Asserted, NoMemory>
         ensures memory { IfOk result (Asserts self.old.memory fact self.new.memory) }
         ensures others { OnOk result (self.new ≡ record self.old { memory = self.new.memory }) }

@@ -15,10 +15,10 @@ use cb_agenda::Strategy;
 use cb_exprs::Expr;
 use cb_facts::{Name, Value};
 use cb_forms::{Fault, NoMemory, Out, Sink};
+use cb_knowledge_base::Mark;
 use cb_matches::Matcher;
 use cb_rules::RuleTable;
 use cb_words::WatchItem;
-use cb_working_memory::Mark;
 use std::alloc::Global;
 
 impl<M: Matcher<Mark>> World<M> {

@@ -5,15 +5,15 @@ ghost use Rattle.cb_actions.specs.Definitions.{all_asserted};
 ghost use Rattle.cb_actions.specs.Went.{Went};
 ghost use Rattle.cb_exprs.specs.Terms.{effect};
 ghost use Rattle.cb_exprs.specs.declared.effect.Effect.TheVariants as kind;
-ghost use Rattle.cb_working_memory.specs.Deffacts.{kept_facts};
+ghost use Rattle.cb_knowledge_base.specs.Deffacts.{kept_facts};
 
 use crate::act::Break;
 use crate::world::World;
 use cb_exprs::FactExpr;
 use cb_facts::Value;
 use cb_forms::{Out, Sink};
+use cb_knowledge_base::{DeffactsTable, Mark};
 use cb_matches::Matcher;
-use cb_working_memory::{DeffactsTable, Mark};
 
 impl<M: Matcher<Mark>> World<M> {
     /// Asserts the facts of each `deffacts`, in order, up to the first that ends with a fault or at a limit. Returns no

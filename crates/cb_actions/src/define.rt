@@ -3,20 +3,20 @@ ghost use Rattle.std.specs.Prelude.{◌≡◌, ◌<◌, ◌∷◌, ◌++◌, [],
 ghost use Rattle.std.specs.List.{filter};
 ghost use Rattle.cb_actions.specs.Commands.{rule_defined};
 ghost use Rattle.cb_actions.specs.Runs.{added_rule, defined_rule, dropped_rule, numbered, replaced};
+ghost use Rattle.cb_knowledge_base.specs.KnowledgeBase.{greatest_index, with_next_rule, without_one_rule};
 ghost use Rattle.cb_rules.specs.RuleTables.{rule_named};
 ghost use Rattle.cb_actions.specs.Went.{Went};
 ghost use Rattle.cb_rules.specs.Elements.{branches_of};
 ghost use Rattle.cb_rules.specs.RuleValues.{rule_value};
 ghost use Rattle.cb_matches.specs.Changes.{IsDelta};
-ghost use Rattle.cb_working_memory.specs.WorkingMemory.{greatest_index, with_next_rule, without_one_rule};
 
 use crate::act::{Break, EarlyEnd, Limit};
 use crate::world::World;
 use cb_facts::{Name, Value};
 use cb_forms::{NoMemory, Out, Sink};
+use cb_knowledge_base::Mark;
 use cb_matches::{Delta, Matcher};
 use cb_rules::{Ce, DefinedRule, Rule, split_rule};
-use cb_working_memory::Mark;
 
 impl<M: Matcher<Mark>> World<M> {
     /// Defines a rule. It takes the last place, and the one with its name goes, if there is one. Returns no value.
@@ -91,7 +91,7 @@ impl<M: Matcher<Mark>> World<M> {
         Ok(())
     }
 
-    /// Takes a rule from the working memory.
+    /// Takes a rule from the knowledge base.
     fn take_rule(&mut self, id: u64) -> Result<Delta, NoMemory>
         ensures state { OnOk result
             (self.new ≡ record self.old { memory = without_one_rule id self.old.memory }) }
@@ -128,7 +128,7 @@ impl<M: Matcher<Mark>> World<M> {
         self.tell_and_apply(b"".as_slice(), &delta, out)
     }
 
-    /// Gives the working memory a rule, and keeps the rest of it.
+    /// Gives the knowledge base a rule, and keeps the rest of it.
     fn keep_rule(
         &mut self,
         rule: DefinedRule,

@@ -8,8 +8,8 @@ use crate::act::Break;
 use crate::world::World;
 use cb_exprs::{Env, GlobalExpr};
 use cb_facts::{Refused, Value};
+use cb_knowledge_base::Mark;
 use cb_matches::Matcher;
-use cb_working_memory::Mark;
 
 impl<M: Matcher<Mark>> World<M> {
     /// Gives global variables the values of their expressions, each evaluated with the values of those before it. Returns

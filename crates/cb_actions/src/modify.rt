@@ -5,9 +5,9 @@ ghost use Rattle.cb_actions.specs.Effects.{changed_to, fact_back, fact_replaced,
 ghost use Rattle.cb_actions.specs.Went.{Quietly, Went};
 ghost use Rattle.cb_actions.specs.Worlds.{World as State};
 ghost use Rattle.cb_facts.specs.FactLists.{IsAbsent, fact_at};
+ghost use Rattle.cb_knowledge_base.specs.KnowledgeBase.{put_back};
 ghost use Rattle.cb_matches.specs.Changes.{IsDelta};
 ghost use Rattle.cb_templates.specs.Building.{changed};
-ghost use Rattle.cb_working_memory.specs.WorkingMemory.{put_back};
 
 use crate::act::{Break, EarlyEnd};
 use crate::retract::index_named;
@@ -15,10 +15,10 @@ use crate::world::World;
 use cb_exprs::{ModifiedSlot, ModifiedSlots};
 use cb_facts::{Fact, Value};
 use cb_forms::{Fault, NoMemory, Out, Sink};
+use cb_knowledge_base::Mark;
+use cb_knowledge_base::laws::a_fact_is_found_at_its_index;
 use cb_matches::{Delta, Matcher};
 use cb_templates::{GivenSlot, change_fact};
-use cb_working_memory::Mark;
-use cb_working_memory::laws::a_fact_is_found_at_its_index;
 use std::alloc::Global;
 
 impl<M: Matcher<Mark>> World<M> {
@@ -143,7 +143,7 @@ impl<M: Matcher<Mark>> World<M> {
         self.tell_and_apply(line.as_slice(), &delta, out)
     }
 
-    /// Gives the working memory a fact under an index that it gave before.
+    /// Gives the knowledge base a fact under an index that it gave before.
     fn recall(&mut self, ix: u64, fact: Fact) -> Result<Delta, NoMemory>
         requires given { ix ≤ self.old.memory.last }
         requires free { fact_at self.old.memory.network.facts ix ≡ None }

@@ -8,8 +8,8 @@ use crate::world::World;
 use cb_exprs::{Channel, Effect};
 use cb_facts::Value;
 use cb_forms::{NoMemory, Out, Sink};
+use cb_knowledge_base::Mark;
 use cb_matches::Matcher;
-use cb_working_memory::Mark;
 
 impl<M: Matcher<Mark>> World<M> {
     /// What an effect does with these values.

@@ -3,8 +3,8 @@ ghost use Rattle.std.specs.Prelude.{◌≡◌, IfOk, OnOk, false};
 ghost use Rattle.cb_actions.specs.Changes.{if_watched};
 ghost use Rattle.cb_actions.specs.Runs.{all_gone, cleared_world, gone_lines, restarted_world, started_anew, without_all, without_facts};
 ghost use Rattle.cb_actions.specs.Went.{Went};
+ghost use Rattle.cb_knowledge_base.specs.KnowledgeBase.{restarted};
 ghost use Rattle.cb_matches.specs.Changes.{IsRestart};
-ghost use Rattle.cb_working_memory.specs.WorkingMemory.{restarted};
 
 use crate::act::Break;
 use crate::change::tell;
@@ -12,11 +12,11 @@ use crate::world::World;
 use cb_exprs::Env;
 use cb_facts::FactList;
 use cb_forms::{NoMemory, Out, Sink};
+use cb_knowledge_base::Mark;
 use cb_lines::add_fact_line;
 use cb_matches::{Delta, Matcher};
 use cb_rules::RuleTable;
 use cb_templates::Relations;
-use cb_working_memory::Mark;
 use std::alloc::Global;
 
 impl<M: Matcher<Mark>> World<M> {

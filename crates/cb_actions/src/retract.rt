@@ -7,15 +7,15 @@ ghost use Rattle.cb_actions.specs.Changes.{gone_line};
 ghost use Rattle.cb_actions.specs.Effects.{fact_gone, fact_taken, index_named, is_retractable, retracted, retracted_one, taken_by};
 ghost use Rattle.cb_actions.specs.Went.{Went};
 ghost use Rattle.cb_facts.specs.FactLists.{fact_at};
-ghost use Rattle.cb_working_memory.specs.WorkingMemory.{Retracts};
+ghost use Rattle.cb_knowledge_base.specs.KnowledgeBase.{Retracts};
 
 use crate::act::{Break, EarlyEnd};
 use crate::world::World;
 use cb_facts::{FactList, Value};
 use cb_forms::{Fault, NoMemory, Out, Sink};
+use cb_knowledge_base::Mark;
 use cb_lines::add_fact_line;
 use cb_matches::{Delta, Matcher};
-use cb_working_memory::Mark;
 use std::alloc::Global;
 
 impl<M: Matcher<Mark>> World<M> {
@@ -129,7 +129,7 @@ impl<M: Matcher<Mark>> World<M> {
         Ok(line)
     }
 
-    /// Takes the fact with an index from the working memory.
+    /// Takes the fact with an index from the knowledge base.
     fn forget(&mut self, ix: u64) -> Result<Option<Delta>, NoMemory>
         ensures memory { IfOk result (Retracts self.old.memory ix self.new.memory) }
         ensures others { OnOk result (self.new ≡ record self.old { memory = self.new.memory }) }

@@ -18,10 +18,10 @@ use crate::world::World;
 use cb_exprs::{Env, Expr};
 use cb_facts::Value;
 use cb_forms::{NoMemory, Out, Sink};
+use cb_knowledge_base::Mark;
 use cb_lines::add_firing_line;
 use cb_matches::{Key, Matcher};
 use cb_rules::RuleTable;
-use cb_working_memory::Mark;
 use std::alloc::Global;
 use std::rc::Rc;
 

@@ -25,11 +25,11 @@ use cb_exprs::{Channel, Env, Expr, FactShape};
 use cb_facts::{Fact, Name, Refused, Value};
 use cb_forms::{Fault, NoMemory, Out, Sink};
 use cb_io::put;
+use cb_knowledge_base::{Mark, KnowledgeBase};
 use cb_matches::Matcher;
 use cb_rules::RuleTable;
 use cb_templates::{GivenSlot, Parts, Relations, Template, build_fact};
 use cb_words::Function;
-use cb_working_memory::{Mark, WorkingMemory};
 use std::alloc::Global;
 use std::marker::Model;
 
@@ -41,7 +41,7 @@ pub struct World<M: Matcher<Mark>> {
     pub(crate) alloc: Global,
     /// The symbols that functions return, made when the first is wanted.
     constants: Option<Constants>,
-    pub(crate) memory: WorkingMemory<M>,
+    pub(crate) memory: KnowledgeBase<M>,
     pub(crate) agenda: Agenda,
     pub(crate) rules: RuleTable,
     pub(crate) watched: Watched,
@@ -56,7 +56,7 @@ impl<M: Matcher<Mark>> Model for World<M> {
     ghost use Rattle.std.specs.Coded.{codes};
     ghost use Rattle.cb_actions.specs.Worlds.{World as State};
     ghost use Rattle.cb_actions.specs.Internal.{AreRulesGiven, world_code};
-    ghost use Rattle.cb_working_memory.specs.Internal.WorkingMemories.{memory_code};
+    ghost use Rattle.cb_knowledge_base.specs.Internal.WorkingMemories.{memory_code};
 
     ghost Value = { State };
 
@@ -96,7 +96,7 @@ impl<M: Matcher<Mark>> World<M> {
         World {
             alloc,
             constants: None,
-            memory: WorkingMemory::starting_at(alloc, matcher, numbers.index, numbers.rule),
+            memory: KnowledgeBase::starting_at(alloc, matcher, numbers.index, numbers.rule),
             agenda: Agenda::starting_at(alloc, numbers.stamp),
             rules: RuleTable::new(alloc),
             watched: Watched {
@@ -118,7 +118,7 @@ impl<M: Matcher<Mark>> World<M> {
     }
 
     /// The rules and the facts.
-    pub fn memory(&self) -> &WorkingMemory<M>
+    pub fn memory(&self) -> &KnowledgeBase<M>
         ensures { result.now ≡ self.now.memory }
     {
         &self.memory

@@ -17,6 +17,7 @@ use Rattle.cb_agenda.specs.Internal.RankLaws.{rank_equiv, rank_tied, rank_total}
 use Rattle.cb_agenda.specs.Ranks.{fires_before, rank_cmp}
 use Rattle.cb_agenda.specs.declared.rank.Rank.{Rank}
 use Rattle.cb_agenda.specs.declared.strategy.Strategy.{Strategy}
+use Rattle.cb_knowledge_base.specs.KnowledgeBase.{Memory}
 use Rattle.cb_laws.proofs.EntryLaws.{before_others, others_rise, rising_filtered, rising_put, rising_taken}
 use Rattle.cb_laws.proofs.MoveLaws.{Moved, moved_so}
 use Rattle.cb_laws.specs.Firing.{AreOnce, HasCome, IsProper}
@@ -24,7 +25,6 @@ use Rattle.cb_matches.specs.Changes.{come_of, keys_come, keys_gone}
 use Rattle.cb_matches.specs.Internal.KeyLaws.{key_equiv, part_equiv}
 use Rattle.cb_matches.specs.Keys.{KeyValue, PartValue, key_eq, part_eq}
 use Rattle.cb_matches.specs.Networks.{Network, all_keys}
-use Rattle.cb_working_memory.specs.WorkingMemory.{Memory}
 
 -- keys that count as equal are the same
 part_same : (p q : PartValue) → part_eq p q ≡ true → p ≡ q

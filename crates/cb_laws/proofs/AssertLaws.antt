@@ -12,6 +12,8 @@ use Rattle.cb_facts.specs.Facts.{FactValue}
 use Rattle.cb_facts.proofs.MemberLaws.{contains_here, contains_there}
 use Rattle.cb_facts.specs.declared.value.Value.{Value}
 use Rattle.cb_facts.specs.declared.value.Value.TheVariants as value
+use Rattle.cb_knowledge_base.proofs.IndexOf.{index_of-absent, index_of-there}
+use Rattle.cb_knowledge_base.specs.KnowledgeBase.{Memory, greatest_index, grown, index_of}
 use Rattle.cb_laws.proofs.AgendaLaws.{moved_proper}
 use Rattle.cb_laws.proofs.Members.{first_or_other}
 use Rattle.cb_laws.proofs.MemoryBasics.{base_of, found_there, not_found}
@@ -19,8 +21,6 @@ use Rattle.cb_laws.proofs.MoveLaws.{Moved, added_cases, memory_is, quiet_line}
 use Rattle.cb_laws.proofs.PutLaws.{at_new, at_old, distinct_with, only_there, rising_with}
 use Rattle.cb_laws.specs.Firing.{IsProper}
 use Rattle.cb_laws.specs.Memories.{AreAsserted, ChangesFactsOnly, IsSound, IsThere, IsUnwatched, has_stamps_for}
-use Rattle.cb_working_memory.specs.WorkingMemory.{Memory, greatest_index, grown, index_of}
-use Rattle.cb_working_memory.proofs.IndexOf.{index_of-absent, index_of-there}
 
 -- A fact was asserted and has this index: it is there, the others are as before, and there are no more.
 pub record OneMore (m : Memory) (f : FactValue) (n : Memory) (ix : ℕ) : Type 0 where

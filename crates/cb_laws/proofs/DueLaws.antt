@@ -23,6 +23,7 @@ use Rattle.cb_facts.specs.declared.value.Value.{Value}
 use Rattle.cb_facts.specs.declared.value.Value.TheVariants as value
 use Rattle.cb_forms.specs.declared.fault.Fault.{Fault}
 use Rattle.cb_forms.specs.declared.fault.Fault.TheVariants.{NoSuchFact, WrongType}
+use Rattle.cb_knowledge_base.specs.KnowledgeBase.{Memory, restarted, without}
 use Rattle.cb_laws.proofs.AgendaLaws.{Among, among, due_changed, either, has, has_come, has_less, key_same, or_second, top_among}
 use Rattle.cb_laws.proofs.ExpressionLaws.{IsKept, expression_keeps}
 use Rattle.cb_laws.proofs.Keeping.{After, Keeps, follow_keeps, keeps_each, keeps_then}
@@ -35,7 +36,6 @@ use Rattle.cb_matches.specs.Internal.KeyLaws.{key_equiv}
 use Rattle.cb_matches.specs.Keys.{KeyValue, key_eq}
 use Rattle.cb_matches.specs.Networks.{Network, all_keys}
 use Rattle.cb_templates.specs.Building.{built}
-use Rattle.cb_working_memory.specs.WorkingMemory.{Memory, restarted, without}
 use Rattle.std.proofs.lemmas.Map.Views.{list_any-from_Contains}
 
 -- a match that did not go is there

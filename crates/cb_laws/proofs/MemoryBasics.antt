@@ -10,9 +10,9 @@ use Rattle.cb_facts.specs.FactLists.{IndexedFacts, fact_at, IsFactBase}
 use Rattle.cb_facts.specs.Facts.{FactValue, fact_eq}
 use Rattle.cb_facts.proofs.FactEquality.{fact-Decides}
 use Rattle.cb_facts.proofs.MemberLaws.{contains_here, contains_there}
+use Rattle.cb_knowledge_base.proofs.IndexOf.{index_of-there}
+use Rattle.cb_knowledge_base.specs.KnowledgeBase.{Memory, index_of}
 use Rattle.cb_laws.specs.Memories.{IsSound}
-use Rattle.cb_working_memory.specs.WorkingMemory.{Memory, index_of}
-use Rattle.cb_working_memory.proofs.IndexOf.{index_of-there}
 
 pub base_of : (m : Memory) → IsSound m → IsFactBase m.network.facts
 base_of m sound = record { rising = sound.rising; distinct = sound.distinct }

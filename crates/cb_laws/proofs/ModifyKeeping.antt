@@ -12,9 +12,9 @@ use Rattle.cb_facts.specs.declared.value.Value.{Value}
 use Rattle.cb_facts.specs.declared.value.Value.TheVariants as value
 use Rattle.cb_forms.specs.declared.fault.Fault.{Fault}
 use Rattle.cb_forms.specs.declared.fault.Fault.TheVariants.{NoSuchFact}
+use Rattle.cb_knowledge_base.specs.KnowledgeBase.{Memory, index_of, put_back, without}
 use Rattle.cb_laws.proofs.Keeping.{After, Keeps, keeps_then}
 use Rattle.cb_templates.specs.Building.{Given, changed}
-use Rattle.cb_working_memory.specs.WorkingMemory.{Memory, index_of, put_back, without}
 
 module _ (P Q : World → Type 0) where
   pub read_keeps : {A : Type 0} (r : Result A Fault) → Keeps P Q (give_or_fault r)

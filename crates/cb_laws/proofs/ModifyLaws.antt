@@ -19,6 +19,8 @@ use Rattle.cb_facts.specs.declared.value.Value.{Value}
 use Rattle.cb_facts.specs.declared.value.Value.TheVariants as value
 use Rattle.cb_forms.specs.declared.fault.Fault.{Fault}
 use Rattle.cb_forms.specs.declared.fault.Fault.TheVariants.{NoSuchFact}
+use Rattle.cb_knowledge_base.proofs.IndexOf.{index_of-absent, index_of-there}
+use Rattle.cb_knowledge_base.specs.KnowledgeBase.{Memory, greatest_index, index_of, put_back}
 use Rattle.cb_laws.proofs.MemoryBasics.{base_of, not_found}
 use Rattle.cb_laws.proofs.MoveLaws.{Moved, memory_is, moved_so, quiet_line}
 use Rattle.cb_laws.proofs.PutLaws.{at_new, at_old, only_there, put_back_sound}
@@ -29,8 +31,6 @@ use Rattle.cb_laws.specs.Modified.{IsReplaced}
 use Rattle.cb_laws.specs.Reached.{AreWellKept, HasItsSlots}
 use Rattle.cb_templates.specs.Building.{Given, changed, content_changed, slot_values, with_kept_slots}
 use Rattle.cb_templates.specs.Templates.{Templates}
-use Rattle.cb_working_memory.specs.WorkingMemory.{Memory, greatest_index, index_of, put_back}
-use Rattle.cb_working_memory.proofs.IndexOf.{index_of-absent, index_of-there}
 
 -- a fact that is there has an index up to the last
 given_by : (m : Memory) (ix : ℕ) (old : FactValue) → IsSound m → fact_at m.network.facts ix ≡ Some old → (m.last < ix) ⊎ (ix ≤ m.last) → ix ≤ m.last

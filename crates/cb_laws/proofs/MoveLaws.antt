@@ -12,10 +12,10 @@ use Rattle.cb_agenda.specs.Agendas.{changed, has_stamps, is_due}
 use Rattle.cb_facts.specs.Facts.{FactValue}
 use Rattle.cb_facts.specs.declared.value.Value.{Value}
 use Rattle.cb_facts.specs.declared.value.Value.TheVariants as value
+use Rattle.cb_knowledge_base.specs.KnowledgeBase.{Memory, greatest_index, grown, index_of}
 use Rattle.cb_lines.specs.Lines.{activation_line}
 use Rattle.cb_matches.specs.Changes.{keys_come, keys_gone}
 use Rattle.cb_matches.specs.Keys.{KeyValue}
-use Rattle.cb_working_memory.specs.WorkingMemory.{Memory, greatest_index, grown, index_of}
 
 -- The memory is the next one, whether there are stamps or not; else nothing has changed but the agenda.
 pub record Moved (s : World) (next : Memory) (line : List ℕ) (t : World) (w : List ℕ) (r : Result (Unit {0}) EarlyEnd) : Type 0 where

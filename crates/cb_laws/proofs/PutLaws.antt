@@ -9,9 +9,9 @@ use Rattle.std.specs.Ordering.{nat_cmp}
 use Rattle.cb_facts.specs.FactLists.{HasNoEqualFacts, IsAbsent, fact_at, with_fact}
 use Rattle.cb_facts.specs.Facts.{FactValue}
 use Rattle.cb_facts.proofs.MemberLaws.{is_at-Decides}
+use Rattle.cb_knowledge_base.specs.KnowledgeBase.{Memory, put_back}
 use Rattle.cb_laws.proofs.EntryLaws.{put_here, put_elsewhere, rising_put}
 use Rattle.cb_laws.specs.Memories.{IsSound}
-use Rattle.cb_working_memory.specs.WorkingMemory.{Memory, put_back}
 
 module _ (m : Memory) (f : FactValue) (new : ℕ) where
   pub at_new : fact_at (with_fact m.network.facts new f) new ≡ Some f

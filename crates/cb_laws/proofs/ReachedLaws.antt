@@ -19,6 +19,7 @@ use Rattle.cb_facts.specs.Results.{ok_then, with_first}
 use Rattle.cb_facts.specs.declared.value.Value.{Value}
 use Rattle.cb_facts.specs.declared.value.Value.TheVariants as value
 use Rattle.cb_forms.specs.declared.fault.Fault.{Fault}
+use Rattle.cb_knowledge_base.specs.KnowledgeBase.{Memory, greatest_index}
 use Rattle.cb_laws.proofs.AssertLaws.{added_stays, adds_alone}
 use Rattle.cb_laws.proofs.RetractedLaws.{retracted_takes}
 use Rattle.cb_laws.proofs.SlotLaws.{default_is, is_built, one_of}
@@ -27,7 +28,6 @@ use Rattle.cb_matches.specs.Networks.{Conditions}
 use Rattle.cb_templates.specs.Building.{Given, PartValues, built, built_by, field_values, filled, given_for, one_value, slot_values, value_or_default}
 use Rattle.cb_templates.specs.Slots.{SlotShape}
 use Rattle.cb_templates.specs.Templates.{Templates, slots_of}
-use Rattle.cb_working_memory.specs.WorkingMemory.{Memory, greatest_index}
 
 -- each relation that has a template has one whose slots are right
 abbrev pub AreTemplates : Templates → Type 0

@@ -21,6 +21,7 @@ use Rattle.cb_facts.proofs.MemberLaws.{is_at-Decides}
 use Rattle.cb_facts.specs.declared.value.Value.{Value}
 use Rattle.cb_facts.specs.declared.value.Value.TheVariants as value
 use Rattle.cb_forms.specs.declared.fault.Fault.TheVariants.{NoSuchFact}
+use Rattle.cb_knowledge_base.specs.KnowledgeBase.{Memory, without}
 use Rattle.cb_laws.proofs.AgendaLaws.{moved_proper}
 use Rattle.cb_laws.proofs.EntryLaws.{rising_taken}
 use Rattle.cb_laws.proofs.MemoryBasics.{fewer}
@@ -28,7 +29,6 @@ use Rattle.cb_laws.proofs.MoveLaws.{Moved, memory_is, moved_so, quiet_line}
 use Rattle.cb_laws.specs.Firing.{IsProper}
 use Rattle.cb_laws.specs.Memories.{ChangesFactsOnly, IsSound, IsUnwatched}
 use Rattle.cb_laws.specs.Naming.{IsMissing, LeavesUnnamed, LeavesUpToMissing, is_named, names_fact}
-use Rattle.cb_working_memory.specs.WorkingMemory.{Memory, without}
 
 -- what one index more or less has to do with the others
 left_without : (m : Memory) → IsSound m → (i ix : ℕ) → fact_at (without i m).network.facts ix ≡ (if i == ix then None else fact_at m.network.facts ix)

@@ -19,6 +19,8 @@ use Rattle.cb_forms.specs.Members.{call_of, head_and_rest}
 use Rattle.cb_forms.specs.Trees.{Reading, Tree, Trees}
 use Rattle.cb_forms.specs.declared.fault.Fault.{Fault}
 use Rattle.cb_forms.specs.declared.fault.Fault.TheVariants.{MalformedForm, TemplateInUse}
+use Rattle.cb_knowledge_base.specs.Deffacts.{kept_facts, is_named_in_deffacts}
+use Rattle.cb_knowledge_base.specs.KnowledgeBase.{greatest_index}
 use Rattle.cb_laws.proofs.DefaultLaws.{slots_suit}
 use Rattle.cb_laws.proofs.DefinedLaws.{other_template, put_template}
 use Rattle.cb_laws.proofs.DueLaws.{due_kept}
@@ -41,7 +43,6 @@ use Rattle.cb_session.specs.Deeds.{Deed, acts, acts_and_keeps, done, keep, keeps
 use Rattle.cb_session.specs.Setups.{Setup}
 use Rattle.cb_session.specs.States.{State, first_state}
 use Rattle.cb_session.specs.Transcripts.{Run, after, after_all, after_status, begun, complete, concluded, executed, so_far, too_long, too_long_status}
-use Rattle.cb_working_memory.specs.WorkingMemory.{greatest_index}
 use Rattle.cb_session.specs.declared.status.Status.{Status}
 use Rattle.cb_facts.specs.FaultLists.{unless, unless_faulty}
 use Rattle.cb_words.specs.Reserved.{is_reserved}
@@ -58,7 +59,6 @@ use Rattle.cb_words.specs.declared.words.Construct.{Construct}
 use Rattle.cb_words.specs.declared.words.Construct.TheVariants as construct
 use Rattle.cb_words.specs.declared.words.Head.{Head}
 use Rattle.cb_words.specs.declared.words.Head.TheVariants as head
-use Rattle.cb_working_memory.specs.Deffacts.{kept_facts, is_named_in_deffacts}
 
 -- the facts and the templates of a state are well kept
 abbrev Kept : State → Type 0

@@ -17,6 +17,7 @@ use Rattle.cb_eval.specs.Constants.{false_symbol}
 use Rattle.cb_exprs.specs.Terms.{Term}
 use Rattle.cb_facts.specs.declared.value.Value.{Value}
 use Rattle.cb_facts.specs.declared.value.Value.TheVariants as value
+use Rattle.cb_knowledge_base.specs.KnowledgeBase.{Memory, greatest_index, restarted, with_next_rule, without_one_rule}
 use Rattle.cb_laws.proofs.ActLaws.{asserts_only, asserts_proper}
 use Rattle.cb_laws.proofs.AgendaLaws.{changed_proper, moved_proper, popped_proper}
 use Rattle.cb_laws.proofs.ExpressionLaws.{IsKept, all_keep, expression_keeps, valued_keeps}
@@ -38,7 +39,6 @@ use Rattle.cb_rules.specs.RuleInfos.{RuleInfo, info_of}
 use Rattle.cb_rules.specs.RuleValues.{RuleValue}
 use Rattle.cb_templates.specs.Slots.{SlotShape}
 use Rattle.cb_templates.specs.Templates.{slots_of}
-use Rattle.cb_working_memory.specs.WorkingMemory.{Memory, greatest_index, restarted, with_next_rule, without_one_rule}
 
 -- What holds of a world in every run, where values, turns, `halt` and firings don't matter to it.
 if_keeps : (P Q : World → Type 0) (b : Bool) (p q : Act World (Unit {0})) → Keeps P Q p → Keeps P Q q → (s : World) → P s → After P Q (if b then p s else q s).state (if b then p s else q s).answer

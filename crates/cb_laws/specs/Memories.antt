@@ -9,9 +9,9 @@ use Rattle.cb_agenda.specs.Agendas.{has_stamps}
 use Rattle.cb_facts.specs.FactLists.{HasNoEqualFacts, fact_at}
 use Rattle.cb_facts.specs.Facts.{FactValue}
 use Rattle.cb_facts.specs.declared.value.Value.{Value}
+use Rattle.cb_knowledge_base.specs.KnowledgeBase.{Memory, grown}
+use Rattle.cb_knowledge_base.specs.Laws.{NoneAfter}
 use Rattle.cb_matches.specs.Changes.{keys_come}
-use Rattle.cb_working_memory.specs.Laws.{NoneAfter}
-use Rattle.cb_working_memory.specs.WorkingMemory.{Memory, grown}
 
 -- The indices of the facts rise, no two facts are equal, and none has an index after the one given last.
 pub record IsSound (m : Memory) : Type 0 where

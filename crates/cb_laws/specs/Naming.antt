@@ -8,7 +8,7 @@ use Rattle.cb_actions.specs.Worlds.{World}
 use Rattle.cb_facts.specs.FactLists.{fact_at}
 use Rattle.cb_facts.specs.declared.value.Value.{Value}
 use Rattle.cb_facts.specs.declared.value.Value.TheVariants as value
-use Rattle.cb_working_memory.specs.WorkingMemory.{Memory}
+use Rattle.cb_knowledge_base.specs.KnowledgeBase.{Memory}
 
 -- an argument names the fact with this index: it is its address or its index, or `*`
 abbrev pub names_fact : ℕ → Value → Bool

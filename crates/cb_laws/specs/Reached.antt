@@ -7,10 +7,10 @@ use Rattle.cb_facts.specs.Facts as content
 use Rattle.cb_facts.specs.Facts.{FactContent, FactValue}
 use Rattle.cb_facts.specs.Values.{is_multifield}
 use Rattle.cb_facts.specs.declared.value.Value.{Value}
+use Rattle.cb_knowledge_base.specs.KnowledgeBase.{Memory, greatest_index}
 use Rattle.cb_laws.specs.Memories.{IsSound}
 use Rattle.cb_templates.specs.Slots.{SlotShape, names}
 use Rattle.cb_templates.specs.Templates.{Templates, slots_of}
-use Rattle.cb_working_memory.specs.WorkingMemory.{Memory, greatest_index}
 
 -- the default of a slot, if it has one, is a multifield exactly in a multislot
 abbrev pub HasItsDefault : SlotShape → Type 0

@@ -10,8 +10,8 @@ ghost use Rattle.cb_facts.specs.FactLists.{IsAbsent, fact_at, with_fact};
 ghost use Rattle.cb_facts.specs.Facts.{FactValue};
 ghost use Rattle.cb_facts.specs.declared.value.Value.{Value};
 ghost use Rattle.cb_facts.specs.declared.value.Value.TheVariants as value;
+ghost use Rattle.cb_knowledge_base.specs.KnowledgeBase.{greatest_index};
 ghost use Rattle.cb_laws.specs.Memories.{AreAsserted, IsSound, IsThere, has_stamps_for};
-ghost use Rattle.cb_working_memory.specs.WorkingMemory.{greatest_index};
 
 /// Where a fact is asserted and its address is the answer, it is there under that index. If it was there, that is the index
 /// that it had, and nothing changes; else it is the next, which is then the one given last. An index is left as long as the

@@ -9,11 +9,11 @@ ghost use Rattle.cb_actions.specs.declared.act.EarlyEnd.TheVariants as ended;
 ghost use Rattle.cb_actions.specs.declared.act.Limit.TheVariants.{Firings, Numbers};
 ghost use Rattle.cb_agenda.specs.Agendas.{AgendaValue, changed, is_due, popped};
 ghost use Rattle.cb_exprs.specs.Terms.{Term};
+ghost use Rattle.cb_knowledge_base.specs.KnowledgeBase.{Memory};
 ghost use Rattle.cb_laws.specs.Firing.{AreMatches, HasCome, IsProper, IsThere};
 ghost use Rattle.cb_matches.specs.Keys.{KeyValue};
 ghost use Rattle.cb_session.specs.Setups.{Setup};
 ghost use Rattle.cb_session.specs.Transcripts.{complete, so_far};
-ghost use Rattle.cb_working_memory.specs.WorkingMemory.{Memory};
 
 /// A run never leaves more firings than there were, and each match that fires takes one of them: no action gives one back. Of
 /// the firings that are left, `(run n)` takes at most n. Where none is left and a match is due, `(run)` ends at the limit of

@@ -1,11 +1,11 @@
 //! What holds of every state that a script can reach.
 ghost use Rattle.std.specs.Prelude.{◌≤◌, ℕ, List};
 ghost use Rattle.cb_forms.specs.Trees.{Reading};
+ghost use Rattle.cb_knowledge_base.specs.KnowledgeBase.{greatest_index};
 ghost use Rattle.cb_laws.specs.Reached.{AreWellKept};
 ghost use Rattle.cb_session.specs.Setups.{Setup};
 ghost use Rattle.cb_session.specs.States.{State};
 ghost use Rattle.cb_session.specs.Transcripts.{complete, executed, so_far};
-ghost use Rattle.cb_working_memory.specs.WorkingMemory.{greatest_index};
 
 /// Whatever the limits, the numbers given before, the script and how far it has come: no two facts are equal, their indices rise, and none comes after
 /// the index given last. No two slots of a template have one name. A fact of a relation with a template has the template's

@@ -2,9 +2,9 @@
 use Rattle.std.specs.Prelude.{◌||◌, ℕ, Bool, List}
 use Rattle.std.specs.List.{list_any}
 use Rattle.std.specs.Str.{bytes_eq}
+use Rattle.cb_knowledge_base.specs.Deffacts.{DeffactsTable, is_named_in_deffacts}
+use Rattle.cb_knowledge_base.specs.KnowledgeBase.{Memory}
 use Rattle.cb_rules.specs.RuleInfos.{RuleInfo}
-use Rattle.cb_working_memory.specs.Deffacts.{DeffactsTable, is_named_in_deffacts}
-use Rattle.cb_working_memory.specs.WorkingMemory.{Memory}
 
 -- the name is among these
 abbrev pub has_name : List ℕ → List (List ℕ) → Bool

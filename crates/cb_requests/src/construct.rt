@@ -14,12 +14,12 @@ use cb_eval::Constants;
 use cb_exprs::Env;
 use cb_facts::{Names, Refused};
 use cb_forms::{Fault, Form, split_head};
+use cb_knowledge_base::Mark;
 use cb_matches::Matcher;
 use cb_rule_forms::read_rule;
 use cb_rules::Rule;
 use cb_templates::{Relations, read_template, without_comment};
 use cb_words::Construct;
-use cb_working_memory::Mark;
 
 /// What a construct asks for by the forms after its word, or their first fault.
 pub(crate) fn read_construct<M: Matcher<Mark>>(

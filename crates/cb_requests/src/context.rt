@@ -5,10 +5,10 @@ ghost use Rattle.cb_requests.specs.Uses.{has_name, is_in_use, is_named_in_rules}
 use cb_exprs::Env;
 use cb_facts::Name;
 use cb_forms::NoMemory;
+use cb_knowledge_base::{DeffactsTable, Mark, KnowledgeBase};
 use cb_matches::Matcher;
 use cb_rules::RuleTable;
 use cb_templates::Relations;
-use cb_working_memory::{DeffactsTable, Mark, WorkingMemory};
 
 /// The state that reading an item depends on.
 #[derive(Drop)]
@@ -18,7 +18,7 @@ pub struct Context<'a, M: Matcher<Mark>> {
     /// The variables and the globals that have a value.
     pub env: &'a Env,
     /// The facts.
-    pub memory: &'a WorkingMemory<M>,
+    pub memory: &'a KnowledgeBase<M>,
     /// What is kept of the rules besides their conditions.
     pub rules: &'a RuleTable,
     /// The facts of each `deffacts`.
@@ -28,7 +28,7 @@ pub struct Context<'a, M: Matcher<Mark>> {
 impl<M: Matcher<Mark>> Context<'_, M> {
     /// Whether a relation is in use, so that no template may be defined for it: a fact that is there, a rule or a fact of a
     /// `deffacts` names it. It looks at each relation that the rules name, and takes logarithmic time besides. `NoMemory`
-    /// comes only where the working memory was refused memory before.
+    /// comes only where the knowledge base was refused memory before.
     pub(crate) fn is_in_use(&self, relation: &Name) -> Result<bool, NoMemory>
         ensures { IfOk result (λ it. it ≡ is_in_use self.now.memory.now self.now.rules.now
             self.now.deffacts.now relation.now) }

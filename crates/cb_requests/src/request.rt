@@ -15,11 +15,11 @@ use cb_agenda::Strategy;
 use cb_exprs::{Env, Expr, FactExpr, GlobalExpr};
 use cb_facts::{Name, Names, Refused};
 use cb_forms::{Fault, Form, Item};
+use cb_knowledge_base::Mark;
 use cb_matches::Matcher;
 use cb_rules::Rule;
 use cb_templates::{Relations, Template};
 use cb_words::{Command, Head, WatchItem, read_head};
-use cb_working_memory::Mark;
 
 /// What an item asks for.
 #[derive(Drop)]

@@ -12,6 +12,8 @@ use Rattle.cb_facts.specs.declared.value.Value.{Value}
 use Rattle.cb_forms.specs.declared.fault.Fault.{Fault}
 use Rattle.cb_io.specs.Histories.{PastWrites}
 use Rattle.cb_io.specs.Output.{OutState}
+use Rattle.cb_knowledge_base.specs.Deffacts.{DeffactsTable}
+use Rattle.cb_knowledge_base.specs.KnowledgeBase.{Memory}
 use Rattle.cb_requests.specs.Requests.{Request, request_by, request_of}
 use Rattle.cb_requests.specs.Uses.{is_in_use}
 use Rattle.cb_requests.specs.declared.request.Request as program
@@ -19,8 +21,6 @@ use Rattle.cb_rules.specs.RuleInfos.{RuleInfo}
 use Rattle.cb_session.specs.Actions.{performed, requested}
 use Rattle.cb_session.specs.States.{State}
 use Rattle.cb_templates.specs.Templates.{Templates}
-use Rattle.cb_working_memory.specs.Deffacts.{DeffactsTable}
-use Rattle.cb_working_memory.specs.WorkingMemory.{Memory}
 
 module _ (s : State) (r : Reading) (templates : Templates) (env : Bindings) (memory : Memory) (rules : List RuleInfo) (deffacts : DeffactsTable)
     (a : templates ≡ s.world.templates) (b : env ≡ s.world.env) (c : memory ≡ s.world.memory) (d : rules ≡ s.world.rules) (e : deffacts ≡ s.deffacts) where

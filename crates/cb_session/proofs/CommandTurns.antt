@@ -7,6 +7,7 @@ use Rattle.cb_actions.specs.Commands.{asked_by, exited, exited_with, ran_as, rul
 use Rattle.cb_actions.specs.Effects.{valued, wanted}
 use Rattle.cb_actions.specs.Internal.{Falls, turns_left}
 use Rattle.cb_actions.specs.Runs.{defined_rule, dropped_rule, forgotten, run}
+use Rattle.cb_knowledge_base.specs.KnowledgeBase.{Memory, without_one_rule}
 use Rattle.cb_rules.specs.RuleTables.{rule_named}
 use Rattle.cb_actions.specs.Worlds.{World}
 use Rattle.cb_actions.proofs.FallLaws.{falls_then}
@@ -19,7 +20,6 @@ use Rattle.cb_matches.specs.Changes.{keys_come, keys_gone}
 use Rattle.cb_matches.specs.Keys.{KeyValue}
 use Rattle.cb_rules.specs.RuleInfos.{info_of}
 use Rattle.cb_rules.specs.RuleValues.{RuleValue}
-use Rattle.cb_working_memory.specs.WorkingMemory.{Memory, without_one_rule}
 
 if_falls : {A : Type 0} (b : Bool) (p q : Effect World A) (s : World) → p.state.turns ≤ s.turns → q.state.turns ≤ s.turns → (if b then p else q).state.turns ≤ s.turns
 if_falls true p q s f g = f

@@ -10,6 +10,7 @@ use Rattle.cb_forms.specs.Words.{token_of}
 use Rattle.cb_forms.specs.declared.token.Token.TheVariants as token
 use Rattle.cb_actions.specs.Changes.{moved}
 use Rattle.cb_agenda.specs.Agendas.{agenda_list, popped}
+use Rattle.cb_knowledge_base.specs.KnowledgeBase.{greatest_index}
 use Rattle.cb_lines.specs.Lines.{agenda_line}
 use Rattle.cb_matches.specs.Changes.{keys_come, keys_gone}
 use Rattle.cb_matches.specs.Matches.{matches_of}
@@ -19,7 +20,6 @@ use Rattle.cb_session.specs.Actions.{acted}
 use Rattle.cb_session.specs.Setups.{Setup}
 use Rattle.cb_session.specs.States.{State, first_state}
 use Rattle.cb_session.specs.Transcripts.{begun, after_all, complete, executed, limit_status, so_far, status_of, transcript}
-use Rattle.cb_working_memory.specs.WorkingMemory.{greatest_index}
 use Rattle.cb_session.specs.declared.status.Ending.TheVariants.{Done, Exit}
 use Rattle.cb_words.specs.Reserved.{is_reserved}
 use Rattle.cb_words.specs.Words.{head_of}

@@ -10,6 +10,7 @@ use Rattle.cb_exprs.specs.Bindings.{Bindings}
 use Rattle.cb_exprs.specs.FactTerms.{FactTerm}
 use Rattle.cb_exprs.specs.GlobalTerms.{GlobalTerm}
 use Rattle.cb_forms.specs.declared.fault.Fault.{Fault}
+use Rattle.cb_knowledge_base.specs.Deffacts.{kept_facts}
 use Rattle.cb_requests.specs.Requests as asked
 use Rattle.cb_requests.specs.Requests.{Request}
 use Rattle.cb_session.proofs.CommandTurns.{exited_falls, ran_falls, rule_defined_falls, undefined_falls}
@@ -18,7 +19,6 @@ use Rattle.cb_session.specs.Actions.{deed_of, initials_kept, performed, reset_to
 use Rattle.cb_session.specs.Deeds.{keep, on_world}
 use Rattle.cb_session.specs.Laws.{KeepsDefinitions}
 use Rattle.cb_session.specs.States.{State}
-use Rattle.cb_working_memory.specs.Deffacts.{kept_facts}
 
 -- an effect that ends with a fault leaves this state
 abbrev pub FaultLeaves : {A : Type 0} → State → Effect State A → Type 0

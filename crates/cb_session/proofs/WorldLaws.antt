@@ -12,9 +12,9 @@ use Rattle.cb_io.specs.Output.{OutState}
 use Rattle.cb_exprs.specs.GlobalTerms.{GlobalTerm}
 use Rattle.cb_exprs.specs.Terms.{term_of}
 use Rattle.cb_exprs.specs.declared.expr.Expr.{Expr}
+use Rattle.cb_knowledge_base.specs.Deffacts.{DeffactsTable}
 use Rattle.cb_session.specs.Deeds.{in_state, keep, no_definitions, on_world}
 use Rattle.cb_session.specs.States.{State}
-use Rattle.cb_working_memory.specs.Deffacts.{DeffactsTable}
 
 -- an act on the world that went so
 pub went_on_world : {K A : Type 0} (writes : K → PastWrites) (o o1 : OutState K) (s : State) (w : World) (r : Result A Break) (act : Act World A) → Went writes o o1 w r (act s.world)

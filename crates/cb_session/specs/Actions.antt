@@ -13,15 +13,15 @@ use Rattle.cb_exprs.specs.GlobalTerms.{GlobalTerm}
 use Rattle.cb_facts.specs.declared.value.Value.{Value}
 use Rattle.cb_forms.specs.Trees.{Reading}
 use Rattle.cb_forms.specs.declared.fault.Fault.{Fault}
+use Rattle.cb_knowledge_base.specs.Deffacts.{kept_facts, with_deffacts}
+use Rattle.cb_knowledge_base.specs.Globals.{with_initials}
 use Rattle.cb_requests.specs.Requests as request
 use Rattle.cb_requests.specs.Requests.{Request, request_of}
 use Rattle.cb_requests.specs.Uses.{is_in_use}
-use Rattle.cb_working_memory.specs.Globals.{with_initials}
 use Rattle.cb_session.specs.Deeds.{Deed, Definitions, acts, acts_and_keeps, done, keeps, lists, no_definitions, sets}
 use Rattle.cb_session.specs.Lines.{value_line}
 use Rattle.cb_session.specs.Listings.{agenda_lines, fact_lines, rule_lines}
 use Rattle.cb_session.specs.States.{State}
-use Rattle.cb_working_memory.specs.Deffacts.{kept_facts, with_deffacts}
 
 -- what an item asks for, by the templates and the values that there are and the relations in use, or its first fault
 abbrev pub requested : State → Reading → Result Request Fault

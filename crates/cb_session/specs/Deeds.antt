@@ -6,8 +6,8 @@ use Rattle.cb_actions.specs.declared.watched.Watched.{Watched}
 use Rattle.cb_agenda.specs.declared.strategy.Strategy.{Strategy}
 use Rattle.cb_exprs.specs.GlobalTerms.{GlobalTerm}
 use Rattle.cb_facts.specs.declared.value.Value.{Value}
+use Rattle.cb_knowledge_base.specs.Deffacts.{DeffactsTable}
 use Rattle.cb_session.specs.States.{State}
-use Rattle.cb_working_memory.specs.Deffacts.{DeffactsTable}
 
 -- an effect on the world, as one on the whole state
 abbrev pub in_state : {A : Type 0} → State → Effect World A → Effect State A

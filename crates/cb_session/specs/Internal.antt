@@ -2,6 +2,8 @@
 pub mod Executing
 pub mod Scripts
 use Rattle.std.specs.Prelude.{◌≡◌, ◌++◌, ℕ, List, Result, OnOk, Bool, refl}
+use Rattle.cb_knowledge_base.specs.Deffacts.{DeffactsTable}
+use Rattle.cb_knowledge_base.specs.Internal.{table_code}
 use Rattle.cb_session.specs.Transcripts.{so_far}
 use Rattle.cb_io.specs.declared.stop.Stop.{Stop}
 use Rattle.cb_session.specs.Sessions.{SessionState, session_after}
@@ -11,8 +13,6 @@ use Rattle.cb_exprs.specs.Internal.Codes.{Piece}
 use Rattle.cb_exprs.specs.GlobalTerms.{GlobalTerm}
 use Rattle.cb_exprs.specs.Internal.{global_code}
 use Rattle.cb_exprs.specs.Shapes.{Shape}
-use Rattle.cb_working_memory.specs.Deffacts.{DeffactsTable}
-use Rattle.cb_working_memory.specs.Internal.{table_code}
 use Rattle.cb_session.specs.States.{State}
 
 -- a session was fed these bytes, where the call answers so

@@ -2,8 +2,8 @@
 use Rattle.std.specs.Prelude.{Bool, false, List, []}
 use Rattle.cb_actions.specs.Worlds.{World, first_world, with_numbers}
 use Rattle.cb_exprs.specs.GlobalTerms.{GlobalTerm}
+use Rattle.cb_knowledge_base.specs.Deffacts.{DeffactsTable}
 use Rattle.cb_session.specs.Setups.{Setup}
-use Rattle.cb_working_memory.specs.Deffacts.{DeffactsTable}
 
 -- What is kept from item to item: what actions see and change, the facts of each `deffacts`, the initial expression of each
 -- global in the order of definition, and whether a fault line was written.

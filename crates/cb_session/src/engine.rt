@@ -21,9 +21,9 @@ use cb_actions::{Break, EarlyEnd, Numbers, World};
 use cb_facts::{Name, Names, Value};
 use cb_forms::{Cut, Fault, Item, NoMemory, Out, Sink, Token};
 use cb_io::{Stop, put, put_text};
+use cb_knowledge_base::{DeffactsTable, GlobalTable, Mark};
 use cb_matches::Matcher;
 use cb_requests::{Context, read_request};
-use cb_working_memory::{DeffactsTable, GlobalTable, Mark};
 use std::alloc::Global;
 use std::marker::Model;
 
@@ -45,9 +45,9 @@ pub(crate) struct Engine<M: Matcher<Mark>> {
 impl<M: Matcher<Mark>> Model for Engine<M> {
     ghost use Rattle.std.specs.Coded.{codes};
     ghost use Rattle.cb_actions.specs.Internal.{world_code};
+    ghost use Rattle.cb_knowledge_base.specs.Internal.WorkingMemories.{memory_code};
     ghost use Rattle.cb_session.specs.States.{State};
     ghost use Rattle.cb_session.specs.Internal.{state_code};
-    ghost use Rattle.cb_working_memory.specs.Internal.WorkingMemories.{memory_code};
 
     ghost Value = { State };
 

@@ -14,7 +14,7 @@ mod status; // how a script goes on and ends
 
 pub use cb_actions::Numbers;
 pub use cb_io::Stop;
-pub use cb_working_memory::Mark;
+pub use cb_knowledge_base::Mark;
 pub use limits::Limits;
 pub use places::{Place, Places};
 pub use session::Session;

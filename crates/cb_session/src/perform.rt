@@ -15,12 +15,12 @@ use cb_agenda::Strategy;
 use cb_exprs::{Expr, FactExpr, GlobalExpr};
 use cb_facts::{Name, Names, Value};
 use cb_forms::{Out, Sink};
+use cb_knowledge_base::{DeffactsTable, GlobalTable, Mark};
 use cb_matches::Matcher;
 use cb_requests::Request;
 use cb_rules::Rule;
 use cb_templates::Template;
 use cb_words::WatchItem;
-use cb_working_memory::{DeffactsTable, GlobalTable, Mark};
 
 impl<M: Matcher<Mark>> Engine<M> {
     /// Does what a request asks for.

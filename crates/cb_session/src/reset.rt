@@ -1,15 +1,15 @@
 //! What `reset` does.
 ghost use Rattle.std.specs.Prelude.{◌≡◌, false};
 ghost use Rattle.cb_actions.specs.Went.{Went};
+ghost use Rattle.cb_knowledge_base.specs.Deffacts.{kept_facts};
 ghost use Rattle.cb_session.specs.Actions.{reset_to};
-ghost use Rattle.cb_working_memory.specs.Deffacts.{kept_facts};
 
 use cb_actions::{Break, World};
 use cb_exprs::GlobalExpr;
 use cb_facts::Value;
 use cb_forms::{Out, Sink};
+use cb_knowledge_base::{DeffactsTable, Mark};
 use cb_matches::Matcher;
-use cb_working_memory::{DeffactsTable, Mark};
 
 /// Gives each global its initial value anew, drops the variables and the facts, and asserts the facts of each `deffacts`.
 /// Growth is refused as `NoMemory`.

@@ -4,11 +4,11 @@ use cb_actions::{Break, EarlyEnd, Limit, World};
 use cb_exprs::Expr;
 use cb_facts::{Names, Refused, Value, quoted_text};
 use cb_forms::{Fault, Form, Item, MemSink, NoMemory, Out, read_items};
+use cb_knowledge_base::Mark;
 use cb_matches::Matcher;
 use cb_rematch::Rematch;
 use cb_templates::read_template;
 use cb_words::WatchItem;
-use cb_working_memory::Mark;
 use std::alloc::Global;
 
 /// Forms, the turns that there are for them, and what comes of each: what it writes, and then its value on a line, or the

@@ -6,9 +6,9 @@ use Rattle.cb_actions.specs.Worlds.{World}
 use Rattle.cb_actions.proofs.ActLaws.{went_as, went_off, went_quietly, went_then}
 use Rattle.cb_facts.specs.declared.value.Value.{Value}
 use Rattle.cb_io.proofs.PutLaws.{puts_fine}
+use Rattle.cb_knowledge_base.specs.Deffacts.{DeffactsTable, kept_facts}
 use Rattle.cb_session.proofs.WorldLaws.{quietly_off}
 use Rattle.cb_session.specs.Actions.{variables_dropped}
-use Rattle.cb_working_memory.specs.Deffacts.{DeffactsTable, kept_facts}
 use Rattle.cb_session.proofs.reset.reset_world.Goals as goal
 
 -- what follows the restart, and what follows the globals

@@ -12,9 +12,9 @@ use Rattle.cb_actions.proofs.RunLaws.{went_at}
 use Rattle.cb_actions.proofs.WentLaws.{went_fine, went_result, went_unbegun}
 use Rattle.cb_facts.specs.declared.value.Value.{Value}
 use Rattle.cb_facts.specs.declared.value.Value.TheVariants as value
-use Rattle.cb_working_memory.specs.WorkingMemory.{Asserts, grown}
-use Rattle.cb_working_memory.specs.declared.asserted.Asserted.{Asserted}
 use Rattle.cb_actions.proofs.world.World.add.Goals as goal
+use Rattle.cb_knowledge_base.specs.KnowledgeBase.{Asserts, grown}
+use Rattle.cb_knowledge_base.specs.declared.asserted.Asserted.{Asserted}
 
 pub returns-in_err-line : goal.returns-in_err-line
 returns-in_err-line g c =

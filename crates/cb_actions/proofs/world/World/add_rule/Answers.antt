@@ -8,9 +8,8 @@ use Rattle.cb_actions.specs.declared.act.Limit.TheVariants.{Numbers}
 use Rattle.cb_io.specs.declared.stop.Stop.TheVariants as stop
 use Rattle.cb_actions.proofs.ChangeLaws.{rule_added, rule_refused, went_moved}
 use Rattle.cb_actions.proofs.WentLaws.{went_result}
+use Rattle.cb_knowledge_base.specs.KnowledgeBase.{greatest_index, with_next_rule}
 use Rattle.cb_rules.specs.Elements.{branches_of}
-use Rattle.cb_working_memory.specs.WorkingMemory.{with_next_rule}
-use Rattle.cb_working_memory.specs.WorkingMemory.{greatest_index}
 use Rattle.cb_actions.proofs.world.World.add_rule.Goals as goal
 
 pub returns-then-not-has_rule_number : goal.returns-then-not-has_rule_number

@@ -2,6 +2,7 @@ use Rattle.std.proofs.Common.{◌≡◌, ◌∙◌, Err, ap, false, nat_lt, opti
 use Rattle.cb_actions.specs.Acts.{Act, ◌>>=◌}
 use Rattle.cb_actions.proofs.ActLaws.{went_then, went_off, went_quietly, went_as}
 use Rattle.cb_actions.specs.Runs.{added_rule, replaced}
+use Rattle.cb_knowledge_base.specs.KnowledgeBase.{greatest_index}
 use Rattle.cb_rules.specs.RuleTables.{rule_named}
 use Rattle.cb_actions.specs.Worlds.{World}
 use Rattle.cb_rules.specs.RuleInfos.{RuleInfo}
@@ -11,7 +12,6 @@ use Rattle.cb_actions.specs.declared.act.Limit.TheVariants.{Numbers}
 use Rattle.cb_actions.proofs.ChangeLaws.{definition_is, definition_refused}
 use Rattle.cb_actions.proofs.WentLaws.{went_fine}
 use Rattle.cb_rules.specs.Elements.{branches_of}
-use Rattle.cb_working_memory.specs.WorkingMemory.{greatest_index}
 use Rattle.cb_actions.proofs.world.World.define_rule.Goals as goal
 
 pub returns-then-not-has_rule_number : goal.returns-then-not-has_rule_number

@@ -8,8 +8,8 @@ use Rattle.cb_actions.proofs.ChangeLaws.{gone_some, in_memory, went_moved}
 use Rattle.cb_actions.proofs.RunLaws.{went_at}
 use Rattle.cb_actions.proofs.WentLaws.{went_result, went_unbegun}
 use Rattle.cb_facts.specs.FactLists.{fact_at}
+use Rattle.cb_knowledge_base.specs.KnowledgeBase.{Retracts, without}
 use Rattle.cb_matches.specs.declared.delta.Delta.{Delta}
-use Rattle.cb_working_memory.specs.WorkingMemory.{Retracts, without}
 use Rattle.cb_actions.proofs.world.World.drop_fact.Goals as goal
 
 pub returns-in_err-line : goal.returns-in_err-line

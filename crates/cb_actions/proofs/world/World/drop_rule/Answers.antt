@@ -7,8 +7,8 @@ use Rattle.cb_actions.specs.declared.act.Break.TheVariants as break
 use Rattle.cb_io.specs.declared.stop.Stop.TheVariants as stop
 use Rattle.cb_actions.proofs.ChangeLaws.{went_moved}
 use Rattle.cb_actions.proofs.WentLaws.{went_fine, went_unbegun, went_result}
-use Rattle.cb_working_memory.specs.WorkingMemory.{without_one_rule}
 use Rattle.cb_actions.proofs.world.World.drop_rule.Goals as goal
+use Rattle.cb_knowledge_base.specs.KnowledgeBase.{without_one_rule}
 
 pub returns-in_err-delta-clause-went : goal.returns-in_err-delta-clause-went
 returns-in_err-delta-clause-went g c =

@@ -5,8 +5,8 @@ use Rattle.cb_actions.specs.declared.act.Break.TheVariants as break
 use Rattle.cb_io.specs.declared.stop.Stop.TheVariants as stop
 use Rattle.cb_actions.proofs.ChangeLaws.{in_memory, went_moved}
 use Rattle.cb_actions.proofs.WentLaws.{went_result, went_unbegun}
-use Rattle.cb_working_memory.specs.WorkingMemory.{put_back}
 use Rattle.cb_actions.proofs.world.World.put_back.Goals as goal
+use Rattle.cb_knowledge_base.specs.KnowledgeBase.{put_back}
 
 pub returns-in_err-line : goal.returns-in_err-line
 returns-in_err-line g c =

@@ -8,8 +8,8 @@ use Rattle.cb_actions.specs.Worlds.{World}
 use Rattle.cb_facts.specs.FactLists.{IsAbsent, IsFactBase, fact_at}
 use Rattle.cb_facts.specs.declared.value.Value.{Value}
 use Rattle.cb_facts.specs.declared.value.Value.TheVariants as value
-use Rattle.cb_working_memory.specs.WorkingMemory.{Memory, without}
 use Rattle.cb_actions.proofs.world.World.replace.Goals as goal
+use Rattle.cb_knowledge_base.specs.KnowledgeBase.{Memory, without}
 
 pub returns-in_err-drop_fact : goal.returns-in_err-drop_fact
 returns-in_err-drop_fact g c =

@@ -2,8 +2,8 @@ use Rattle.std.proofs.Common.{◌≡◌, Some, None, ap, refl, rules}
 use Rattle.cb_actions.specs.Effects.{replaced_beside}
 use Rattle.cb_actions.proofs.ActLaws.{went_quietly, went_as}
 use Rattle.cb_facts.specs.FactLists.{IsAbsent, IsFactBase, fact_at}
-use Rattle.cb_working_memory.specs.WorkingMemory.{index_of}
 use Rattle.cb_actions.proofs.world.World.replace_unless_there.Goals as goal
+use Rattle.cb_knowledge_base.specs.KnowledgeBase.{index_of}
 
 pub returns-in-Some : goal.returns-in-Some
 returns-in-Some g c =

@@ -1,10 +1,10 @@
 use Rattle.std.proofs.Common.{refl, ap, sym}
 use Rattle.cb_actions.proofs.ActLaws.{went_as}
+use Rattle.cb_knowledge_base.specs.Deffacts.{kept_facts}
 use Rattle.cb_session.proofs.WorldLaws.{went_on_world}
 use Rattle.cb_session.specs.Actions.{reset_to}
 use Rattle.cb_session.specs.Deeds.{on_world}
 use Rattle.cb_session.specs.States.{State}
-use Rattle.cb_working_memory.specs.Deffacts.{kept_facts}
 use Rattle.cb_session.proofs.engine.Engine.reset.Goals as goal
 
 pub returns : goal.returns

@@ -1,9 +1,0 @@
-use Rattle.std.proofs.Common.{◌∙◌, ap, nat_lt}
-use Rattle.cb_working_memory.specs.Deffacts.{is_named_in_deffacts}
-use Rattle.cb_working_memory.proofs.GroupCountLaws.{group_any}
-use Rattle.cb_working_memory.proofs.deffacts.DeffactsTable.mentions.Goals as goal
-
-pub returns : goal.returns
-returns c =
-    ap (nat_lt 0) c.count.ensures ∙ group_any c.self.inside.groups c.self.inside.counts c.args.relation.now c.self.invariant
-    ∙ ap (is_named_in_deffacts c.args.relation.now) c.self.view_is

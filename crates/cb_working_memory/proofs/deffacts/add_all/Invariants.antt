@@ -1,8 +1,0 @@
-use Rattle.std.proofs.Common.{◌≡◌, ◌+◌, ℕ, List, drop}
-use Rattle.cb_facts.specs.RelationCounts.{count_of}
-use Rattle.cb_working_memory.specs.Internal.Namings.{naming}
-use Rattle.cb_working_memory.proofs.deffacts.add_all.Given as goal
-
-abbrev pub invariant-loop-fact : goal.invariant-loop-fact
-invariant-loop-fact l =
-    (q : List ℕ) → count_of l.counts q + naming (λ e. e.shape.relation) (drop l.fact-index l.facts) q ≡ count_of l.initial.counts q + naming (λ e. e.shape.relation) l.facts q

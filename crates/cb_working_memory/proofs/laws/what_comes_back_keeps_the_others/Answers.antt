@@ -1,8 +1,0 @@
-use Rattle.cb_working_memory.proofs.KeepLaws.{changes_there, none_comes_after}
-use Rattle.cb_working_memory.proofs.laws.what_comes_back_keeps_the_others.Goals as goal
-
-pub returns-clause-only : goal.returns-clause-only
-returns-clause-only c = changes_there
-
-pub returns-clause-none_after : goal.returns-clause-none_after
-returns-clause-none_after c = none_comes_after
