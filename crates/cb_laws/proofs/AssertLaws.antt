@@ -4,23 +4,23 @@ use Rattle.cb_actions.specs.Acts.{Effect, follow, give, stop}
 use Rattle.cb_actions.specs.Changes.{come_line}
 use Rattle.cb_actions.specs.Effects.{added_beside, fact_added}
 use Rattle.cb_actions.specs.Worlds.{World}
-use Rattle.cb_actions.specs.declared.act.EarlyEnd.{EarlyEnd}
 use Rattle.cb_actions.specs.declared.act.EarlyEnd.TheVariants as ended
+use Rattle.cb_actions.specs.declared.act.EarlyEnd.{EarlyEnd}
 use Rattle.cb_actions.specs.declared.act.Limit.TheVariants.{Numbers}
+use Rattle.cb_facts.proofs.MemberLaws.{contains_here, contains_there}
 use Rattle.cb_facts.specs.FactLists.{IsAbsent, fact_at}
 use Rattle.cb_facts.specs.Facts.{FactValue}
-use Rattle.cb_facts.proofs.MemberLaws.{contains_here, contains_there}
-use Rattle.cb_facts.specs.declared.value.Value.{Value}
 use Rattle.cb_facts.specs.declared.value.Value.TheVariants as value
+use Rattle.cb_facts.specs.declared.value.Value.{Value}
 use Rattle.cb_knowledge_base.proofs.IndexOf.{index_of-absent, index_of-there}
 use Rattle.cb_knowledge_base.specs.KnowledgeBase.{Memory, greatest_index, grown, index_of}
 use Rattle.cb_laws.proofs.AgendaLaws.{moved_proper}
-use Rattle.cb_laws.proofs.Members.{first_or_other}
 use Rattle.cb_laws.proofs.MemoryBasics.{base_of, found_there, not_found}
 use Rattle.cb_laws.proofs.MoveLaws.{Moved, added_cases, memory_is, quiet_line}
 use Rattle.cb_laws.proofs.PutLaws.{at_new, at_old, distinct_with, only_there, rising_with}
 use Rattle.cb_laws.specs.Firing.{IsProper}
 use Rattle.cb_laws.specs.Memories.{AreAsserted, ChangesFactsOnly, IsSound, IsThere, IsUnwatched, has_stamps_for}
+use Rattle.cb_templates.proofs.Members.{first_or_other}
 
 -- A fact was asserted and has this index: it is there, the others are as before, and there are no more.
 pub record OneMore (m : Memory) (f : FactValue) (n : Memory) (ix : ℕ) : Type 0 where

@@ -3,18 +3,18 @@ use Rattle.std.proofs.Common.{◌≡◌, ◌≢◌, ◌∙◌, ◌++◌, ℕ, Bo
 use Rattle.std.specs.Cmp.Lexicographic.{bytes_decides, slice_cmp, texts_ties}
 use Rattle.std.specs.Ordering.{nat_cmp}
 use Rattle.std.specs.Str.{bytes_eq}
+use Rattle.cb_facts.specs.FaultLists.{unless}
 use Rattle.cb_forms.specs.Members.{head_and_rest}
 use Rattle.cb_forms.specs.Trees.{Trees}
-use Rattle.cb_forms.specs.declared.fault.Fault.{Fault}
 use Rattle.cb_forms.specs.declared.fault.Fault.TheVariants.{MalformedForm, TemplateInUse}
+use Rattle.cb_forms.specs.declared.fault.Fault.{Fault}
 use Rattle.cb_laws.proofs.EntryLaws.{put_elsewhere, put_here}
-use Rattle.cb_laws.specs.SlotValues.{Defines}
-use Rattle.cb_facts.specs.FaultLists.{unless}
-use Rattle.cb_words.specs.Reserved.{is_reserved}
+use Rattle.cb_templates.specs.SlotValues.{Defines}
 use Rattle.cb_templates.specs.Slots.{SlotShape}
 use Rattle.cb_templates.specs.TemplateFaults.{named_template_faults, slots_form_faults, template_faults}
 use Rattle.cb_templates.specs.TemplateShapes.{slots_said, template_said, template_shape}
 use Rattle.cb_templates.specs.Templates.{Templates, slots_of, with_template, without_comment}
+use Rattle.cb_words.specs.Reserved.{is_reserved}
 
 names_level : (a b : List ℕ) → Decides (is_eq (slice_cmp nat_cmp a b)) (a ≡ b)
 names_level a b = (λ e. (bytes_decides a b).0 (texts_ties a b ∙ e), λ e. sym (texts_ties a b) ∙ (bytes_decides a b).1 e)

@@ -3,20 +3,20 @@ use Rattle.std.proofs.Common.{◌≡◌, ◌∙◌, ◌++◌, ℕ, List, [], ◌
 use Rattle.cb_actions.specs.Actions.{carried}
 use Rattle.cb_actions.specs.Acts.{fault_of, follow, give_or_fault, ◌>>=◌}
 use Rattle.cb_actions.specs.Worlds.{World}
-use Rattle.cb_actions.specs.declared.act.EarlyEnd.{EarlyEnd}
 use Rattle.cb_actions.specs.declared.act.EarlyEnd.TheVariants as ended
+use Rattle.cb_actions.specs.declared.act.EarlyEnd.{EarlyEnd}
 use Rattle.cb_actions.specs.declared.act.Limit.{Limit}
 use Rattle.cb_expr_forms.specs.ExprFaults.{faults_of}
 use Rattle.cb_expr_forms.specs.ExprForms.{assertion, assertions, expr_of, exprs_of, fact_of, fact_with, one_of, slot_expr, slot_exprs, slot_names}
 use Rattle.cb_expr_forms.specs.Laws.{fact_giving, list_of}
 use Rattle.cb_exprs.specs.Terms.{Term, actions, call, effect, terms}
 use Rattle.cb_exprs.specs.declared.effect.Effect.TheVariants as kind
+use Rattle.cb_facts.specs.FaultLists.{first_of, unless_faulty}
 use Rattle.cb_facts.specs.Results.{ok_then}
 use Rattle.cb_facts.specs.declared.value.Value.{Value}
 use Rattle.cb_forms.specs.Trees.{Reading, Tree, Trees, trees_of}
 use Rattle.cb_forms.specs.declared.fault.Fault.{Fault}
 use Rattle.cb_laws.proofs.DefinedLaws.{is_defined}
-use Rattle.cb_laws.specs.SlotValues.{Defines}
 use Rattle.cb_requests.specs.Reads.{top_scope}
 use Rattle.cb_requests.specs.Requests as asked
 use Rattle.cb_requests.specs.Requests.{Request, act_request, headed_request, template_request}
@@ -25,14 +25,14 @@ use Rattle.cb_session.specs.Actions.{acted, performed_and_shown, requested, show
 use Rattle.cb_session.specs.Lines.{fault_line, limit_line}
 use Rattle.cb_session.specs.States.{State}
 use Rattle.cb_session.specs.Transcripts.{Run, concluded, executed}
-use Rattle.cb_facts.specs.FaultLists.{first_of, unless_faulty}
+use Rattle.cb_templates.specs.SlotValues.{Defines}
 use Rattle.cb_templates.specs.Slots.{SlotShape, slot_named}
 use Rattle.cb_templates.specs.TemplateFaults.{template_faults}
 use Rattle.cb_templates.specs.TemplateShapes.{template_shape}
 use Rattle.cb_templates.specs.Templates.{Templates, slots_of, with_template}
 use Rattle.cb_words.specs.Words.{head_of}
-use Rattle.cb_words.specs.declared.words.Function.TheVariants as function
 use Rattle.cb_words.specs.declared.words.Action.{Action}
+use Rattle.cb_words.specs.declared.words.Function.TheVariants as function
 use Rattle.cb_words.specs.declared.words.Head.TheVariants as head
 
 -- what an item does that asks for this, or that has this fault

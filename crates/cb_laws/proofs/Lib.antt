@@ -1,5 +1,4 @@
 mod EntryLaws
-mod Members
 mod MemoryBasics
 mod MoveLaws
 mod PutLaws
@@ -8,7 +7,6 @@ mod ModifyLaws
 mod AssertLaws
 mod RetractLaws
 mod RetractedLaws
-mod SlotLaws
 mod DefinedLaws
 mod SlotFormLaws
 mod ReachedLaws
@@ -19,14 +17,8 @@ mod DueLaws
 mod FiringLaws
 mod AgendaLaws
 mod ScriptLaws
-mod OpenTexts
-mod OpenLaws
-mod OneOpen
 mod ActLaws
 mod DefaultLaws
-mod FitLaws
-mod FieldLaws
-mod OnlyFitLaws
 mod ItemLaws
 mod PrintedLaws
 mod RunningLaws

@@ -14,17 +14,17 @@ use Rattle.cb_exprs.specs.Shapes.{Shape}
 use Rattle.cb_facts.specs.FactLists.{IndexedFacts, fact_at}
 use Rattle.cb_facts.specs.Facts as content
 use Rattle.cb_facts.specs.Facts.{FactValue, ordered_fact}
-use Rattle.cb_facts.specs.Values.{is_multifield, spliced}
 use Rattle.cb_facts.specs.Results.{ok_then, with_first}
-use Rattle.cb_facts.specs.declared.value.Value.{Value}
+use Rattle.cb_facts.specs.Values.{is_multifield, spliced}
 use Rattle.cb_facts.specs.declared.value.Value.TheVariants as value
+use Rattle.cb_facts.specs.declared.value.Value.{Value}
 use Rattle.cb_forms.specs.declared.fault.Fault.{Fault}
 use Rattle.cb_knowledge_base.specs.KnowledgeBase.{Memory, greatest_index}
 use Rattle.cb_laws.proofs.AssertLaws.{added_stays, adds_alone}
 use Rattle.cb_laws.proofs.RetractedLaws.{retracted_takes}
-use Rattle.cb_laws.proofs.SlotLaws.{default_is, is_built, one_of}
 use Rattle.cb_laws.specs.Reached.{AreSlotsOf, AreWellKept, FillSlots, HasItsDefault, HasItsSlots, IsTemplate}
 use Rattle.cb_matches.specs.Networks.{Conditions}
+use Rattle.cb_templates.proofs.SlotValueLaws.{default_is, is_built, one_of}
 use Rattle.cb_templates.specs.Building.{Given, PartValues, built, built_by, field_values, filled, given_for, one_value, slot_values, value_or_default}
 use Rattle.cb_templates.specs.Slots.{SlotShape}
 use Rattle.cb_templates.specs.Templates.{Templates, slots_of}

@@ -1,11 +1,11 @@
 -- Items are carried out one after another.
 use Rattle.std.proofs.Common.{◌≡◌, ◌∙◌, ◌++◌, ◌∷◌, ℕ, Bool, List, [], None, false, true, ap, refl, sym}
 use Rattle.std.proofs.lemmas.Bool.{true≢false}
+use Rattle.cb_forms.proofs.FittingLaws.{fitting-items, over-kept_all}
 use Rattle.cb_forms.specs.Items.{items, over, whole}
 use Rattle.cb_forms.specs.Trees.{Reading}
-use Rattle.cb_forms.proofs.FittingLaws.{fitting-items, over-kept_all}
-use Rattle.cb_laws.proofs.OpenLaws.{complete_by, so_far_by}
 use Rattle.cb_laws.specs.Running.{IsCarriedOut}
+use Rattle.cb_session.proofs.OpenLaws.{complete_by, so_far_by}
 use Rattle.cb_session.specs.Setups.{Setup}
 use Rattle.cb_session.specs.Transcripts.{Run, after, after_all, after_status, begun, complete, so_far}
 

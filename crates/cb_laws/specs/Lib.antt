@@ -2,7 +2,6 @@ pub mod Memories
 pub mod Modified
 pub mod Naming
 pub mod Running
-pub mod SlotValues
 pub mod Reached
 pub mod Words
 pub mod Firing

@@ -9,10 +9,10 @@ ghost use Rattle.cb_expr_forms.specs.ExprForms.{expr_of, fact_of, slot_expr};
 ghost use Rattle.cb_expr_forms.specs.Laws.{fact_giving, list_of};
 ghost use Rattle.cb_exprs.specs.Terms.{Term, actions, call, effect, terms};
 ghost use Rattle.cb_exprs.specs.declared.effect.Effect.TheVariants as kind;
+ghost use Rattle.cb_facts.specs.FaultLists.{first_of};
 ghost use Rattle.cb_facts.specs.declared.value.Value.{Value};
 ghost use Rattle.cb_forms.specs.Trees.{Reading, Tree, Trees, trees_of};
 ghost use Rattle.cb_forms.specs.declared.fault.Fault.{Fault};
-ghost use Rattle.cb_laws.specs.SlotValues.{Defines};
 ghost use Rattle.cb_requests.specs.Reads.{top_scope};
 ghost use Rattle.cb_requests.specs.Requests as request;
 ghost use Rattle.cb_requests.specs.Uses.{is_in_use};
@@ -20,13 +20,13 @@ ghost use Rattle.cb_session.specs.Actions.{requested, shown_line};
 ghost use Rattle.cb_session.specs.Lines.{fault_line, limit_line};
 ghost use Rattle.cb_session.specs.States.{State};
 ghost use Rattle.cb_session.specs.Transcripts.{executed};
-ghost use Rattle.cb_facts.specs.FaultLists.{first_of};
+ghost use Rattle.cb_templates.specs.SlotValues.{Defines};
 ghost use Rattle.cb_templates.specs.Slots.{SlotShape, slot_named};
 ghost use Rattle.cb_templates.specs.TemplateFaults.{template_faults};
 ghost use Rattle.cb_templates.specs.Templates.{Templates, slots_of};
 ghost use Rattle.cb_words.specs.Words.{head_of};
-ghost use Rattle.cb_words.specs.declared.words.Function.TheVariants.{Create};
 ghost use Rattle.cb_words.specs.declared.words.Action.{Action};
+ghost use Rattle.cb_words.specs.declared.words.Function.TheVariants.{Create};
 ghost use Rattle.cb_words.specs.declared.words.Head.TheVariants as head;
 
 /// An item that asks for an expression leaves the facts, the templates and the values as the expression leaves them. What

@@ -9,9 +9,7 @@ pub mod equality; // what counts as equal is the same
 pub mod firing; // how many firings a run takes, that a rule fires once for one match, and that what is due is one
 pub mod items; // an item does what is written: an expression, an `assert`, a `deftemplate`
 pub mod modifying; // what a `modify` does, with its answers and faults
-pub mod open_item; // what is not carried out of a script is its open item
 pub mod printed; // what is shown reads back as what it is
 pub mod reached; // what holds of every state that a script can reach
 pub mod retracting; // what is retracted is gone, and nothing else
 pub mod running; // items are carried out one after another
-pub mod slots; // a slot has the values that it is given, or its default

@@ -8,6 +8,9 @@ mod ItemLaws
 mod ItemLineLaws
 mod KeptPlaces
 mod ListingLaws
+mod OneOpen
+pub mod OpenLaws
+pub mod OpenTexts
 pub mod PlaceLaws
 mod RequestLaws
 pub mod ScriptLaws

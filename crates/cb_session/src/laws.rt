@@ -1,19 +1,19 @@
 //! Laws of the transcript and of faults. Each is the contract of a function that does nothing.
-ghost use Rattle.std.specs.Prelude.{◌≡◌, ◌≢◌, ◌≤◌, true, false, ℕ, List, [], ◌∷◌, ◌++◌, Some, Ok, Err, map};
-ghost use Rattle.cb_forms.specs.Items.{items, over, whole, fitting};
+ghost use Rattle.std.specs.Prelude.{◌≡◌, ◌≢◌, ◌≤◌, true, false, ℕ, List, [], ◌∷◌, ◌++◌, Some, Ok, Err, map, ◌<◌, length};
+ghost use Rattle.cb_exprs.specs.GlobalTerms.{GlobalTerm};
+ghost use Rattle.cb_forms.specs.Items.{items, over, whole, fitting, rest};
 ghost use Rattle.cb_forms.specs.Laws.{BeginsWith};
 ghost use Rattle.cb_forms.specs.Lines.{open_line};
-ghost use Rattle.cb_exprs.specs.GlobalTerms.{GlobalTerm};
 ghost use Rattle.cb_forms.specs.Trees.{Reading};
 ghost use Rattle.cb_forms.specs.declared.fault.Fault.{Fault};
 ghost use Rattle.cb_requests.specs.Requests as request;
-ghost use Rattle.cb_session.specs.Setups.{Setup};
-ghost use Rattle.cb_session.specs.States.{State};
 ghost use Rattle.cb_session.specs.Actions.{acted, requested};
 ghost use Rattle.cb_session.specs.ItemLines.{all_on, placed_fitting, placed_whole, too_long_at};
 ghost use Rattle.cb_session.specs.Laws.{EndsWithFault, KeepsDefinitions};
 ghost use Rattle.cb_session.specs.Places.{all_places, places_so_far};
-ghost use Rattle.cb_session.specs.Transcripts.{added, added_at_end, begun, so_far, complete, executed, transcript};
+ghost use Rattle.cb_session.specs.Setups.{Setup};
+ghost use Rattle.cb_session.specs.States.{State};
+ghost use Rattle.cb_session.specs.Transcripts.{added, added_at_end, begun, so_far, complete, executed, transcript, too_long};
 ghost use Rattle.cb_session.specs.declared.status.Ending.TheVariants as ending;
 ghost use Rattle.cb_session.specs.declared.status.Status.{Status};
 ghost use Rattle.cb_templates.specs.Slots.{SlotShape};
@@ -124,4 +124,16 @@ pub fn no_turn_comes_back()
         → (executed s r).state.world.turns ≤ s.world.turns }
     ensures script { (setup : Setup) (script : List ℕ)
         → (complete setup script).state.world.turns ≤ setup.max_turns }
+{}
+
+/// As far as it has come, a script is the same as the whole script of the bytes before its open item, which is one item. If
+/// that item has more bytes than an item may have, the line of the limit follows, unless the script has ended before.
+pub fn what_is_not_carried_out_is_open()
+    ensures fits { (setup : Setup) (p before : List ℕ)
+        → p ≡ before ++ rest p → length (rest p) ≤ setup.max_form
+        → so_far setup p ≡ complete setup before }
+    ensures too_long { (setup : Setup) (p before : List ℕ)
+        → p ≡ before ++ rest p → setup.max_form < length (rest p)
+        → so_far setup p ≡ too_long (complete setup before) }
+    ensures one { (p : List ℕ) → rest p ≢ [] → (r : Reading) × (items (rest p) ≡ r ∷ []) }
 {}

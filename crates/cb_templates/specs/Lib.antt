@@ -2,6 +2,7 @@ pub mod Building
 pub mod Internal
 pub mod Laws
 pub mod SlotForms
+pub mod SlotValues
 pub mod Slots
 pub mod TemplateFaults
 pub mod TemplateShapes

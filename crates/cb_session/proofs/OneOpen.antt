@@ -15,7 +15,7 @@ use Rattle.cb_forms.specs.declared.fault.Fault.TheVariants.{FormNotClosed, Unmat
 use Rattle.cb_forms.specs.declared.lexeme.Lexeme.TheVariants.{Atom, Closing, Gap, Opening}
 use Rattle.cb_forms.specs.declared.token.Token.{Token}
 use Rattle.cb_forms.specs.declared.token.Token.TheVariants.{And, Not, Or}
-use Rattle.cb_laws.proofs.OpenTexts.{rest_none, rest_open}
+use Rattle.cb_session.proofs.OpenTexts.{rest_none, rest_open}
 
 -- the last part of a cut is a cut by itself
 cut_alone : (ws : List (List ℕ)) → AreCut part_takes ws → is_open (last_part ws) ≡ true → AreCut part_takes (last_part ws ∷ [])

@@ -1,5 +1,5 @@
-use Rattle.cb_laws.proofs.SlotLaws as laws
-use Rattle.cb_laws.proofs.slots.a_slot_has_what_it_is_given.Goals as goal
+use Rattle.cb_templates.proofs.SlotValueLaws as laws
+use Rattle.cb_templates.proofs.laws.a_slot_has_what_it_is_given.Goals as goal
 
 pub returns-clause-multislot : goal.returns-clause-multislot
 returns-clause-multislot c = laws.multi_slot

@@ -8,16 +8,16 @@ use Rattle.std.specs.List.{AllByRecursion, IsDistinct, list_all}
 use Rattle.std.specs.Option.{ok_or}
 use Rattle.std.specs.Str.{bytes_eq}
 use Rattle.std.proofs.lemmas.Bool.{and_from}
+use Rattle.cb_facts.proofs.MemberLaws.{contains_here, contains_there}
 use Rattle.cb_facts.specs.Facts.{FactValue, template_fact}
 use Rattle.cb_facts.specs.Results.{ok_then, with_first}
 use Rattle.cb_facts.specs.Values.{is_multifield, spliced}
-use Rattle.cb_facts.proofs.MemberLaws.{contains_here, contains_there}
-use Rattle.cb_facts.specs.declared.value.Value.{Value}
 use Rattle.cb_facts.specs.declared.value.Value.TheVariants as value
+use Rattle.cb_facts.specs.declared.value.Value.{Value}
 use Rattle.cb_forms.specs.declared.fault.Fault.TheVariants.{FactDoesNotFit, OneValueWanted}
-use Rattle.cb_laws.proofs.SlotLaws.{found_given, given_found}
-use Rattle.cb_laws.specs.SlotValues.{CanTake, FitsSlots, IsGiven, IsLeftOut}
+use Rattle.cb_templates.proofs.SlotValueLaws.{found_given, given_found}
 use Rattle.cb_templates.specs.Building.{Given, are_distinct, built, built_by, filled, fits, given_for, given_names, is_one_value, one_value, slot_values, can_take, value_or_default}
+use Rattle.cb_templates.specs.SlotValues.{CanTake, FitsSlots, IsGiven, IsLeftOut}
 use Rattle.cb_templates.specs.Slots.{SlotShape, slot_named}
 use Rattle.cb_templates.specs.Templates.{Templates, slots_of}
 

@@ -8,13 +8,13 @@ use Rattle.std.specs.Str.{bytes_eq}
 use Rattle.cb_facts.specs.Facts.{FactValue}
 use Rattle.cb_facts.specs.Results.{ok_then, with_first}
 use Rattle.cb_facts.specs.Values.{is_multifield, spliced}
-use Rattle.cb_facts.specs.declared.value.Value.{Value}
 use Rattle.cb_facts.specs.declared.value.Value.TheVariants as value
+use Rattle.cb_facts.specs.declared.value.Value.{Value}
 use Rattle.cb_forms.specs.declared.fault.Fault.{Fault}
-use Rattle.cb_laws.proofs.Members.{first_or_other, none_among}
-use Rattle.cb_laws.proofs.SlotLaws.{default_is, given_found, is_built, left_out, one_of}
-use Rattle.cb_laws.specs.SlotValues.{CanTake, FitsSlots, IsGiven}
+use Rattle.cb_templates.proofs.Members.{first_or_other, none_among}
+use Rattle.cb_templates.proofs.SlotValueLaws.{default_is, given_found, is_built, left_out, one_of}
 use Rattle.cb_templates.specs.Building.{Given, are_distinct, built, filled, given_for, given_names, one_value, slot_values, can_take, value_or_default}
+use Rattle.cb_templates.specs.SlotValues.{CanTake, FitsSlots, IsGiven}
 use Rattle.cb_templates.specs.Slots.{GivenValues, SlotShape, slot_named}
 use Rattle.cb_templates.specs.Templates.{Templates, slots_of}
 

@@ -1,6 +1,6 @@
-use Rattle.cb_laws.proofs.OneOpen.{open_is_one}
-use Rattle.cb_laws.proofs.OpenLaws.{what_fits, what_is_too_long}
-use Rattle.cb_laws.proofs.open_item.what_is_not_carried_out_is_open.Goals as goal
+use Rattle.cb_session.proofs.OneOpen.{open_is_one}
+use Rattle.cb_session.proofs.OpenLaws.{what_fits, what_is_too_long}
+use Rattle.cb_session.proofs.laws.what_is_not_carried_out_is_open.Goals as goal
 
 pub returns-clause-fits : goal.returns-clause-fits
 returns-clause-fits c = what_fits

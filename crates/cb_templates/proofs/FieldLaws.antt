@@ -4,8 +4,8 @@ use Rattle.std.proofs.lemmas.List.Elements.{All-head, All-tail}
 use Rattle.cb_facts.specs.Facts.{ordered_fact}
 use Rattle.cb_facts.specs.Values.{fields_in, is_multifield, spliced, value_of_field}
 use Rattle.cb_facts.specs.declared.single.Single.{Single}
-use Rattle.cb_facts.specs.declared.value.Value.{Value}
 use Rattle.cb_facts.specs.declared.value.Value.TheVariants as value
+use Rattle.cb_facts.specs.declared.value.Value.{Value}
 use Rattle.cb_forms.specs.declared.fault.Fault.TheVariants.{FactDoesNotFit}
 use Rattle.cb_templates.specs.Building.{Given, built, built_by, field_values, slot_values}
 use Rattle.cb_templates.specs.Slots.{SlotShape}

@@ -1,5 +1,5 @@
-use Rattle.cb_laws.proofs.FieldLaws.{each_value, fields_only, multifield_spliced, no_slots_built, no_fields_built}
-use Rattle.cb_laws.proofs.slots.an_ordered_fact_has_what_it_is_given.Goals as goal
+use Rattle.cb_templates.proofs.FieldLaws.{each_value, fields_only, multifield_spliced, no_slots_built, no_fields_built}
+use Rattle.cb_templates.proofs.laws.an_ordered_fact_has_what_it_is_given.Goals as goal
 
 pub returns-clause-fields : goal.returns-clause-fields
 returns-clause-fields c = fields_only

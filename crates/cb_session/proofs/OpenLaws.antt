@@ -3,7 +3,7 @@ use Rattle.std.proofs.Common.{◌≡◌, ◌∙◌, ◌<◌, ◌≤◌, ◌||◌
 use Rattle.cb_forms.specs.Items.{fitting, is_longer, is_open, last_part, over, parts, rest, whole}
 use Rattle.cb_forms.specs.Trees.{Reading}
 use Rattle.cb_forms.proofs.FittingLaws.{fitting-items, fitting-kept, over-kept_all}
-use Rattle.cb_laws.proofs.OpenTexts.{before_open, fitting_before, is_longer_open, not_longer, over_before, rest_none, rest_open, whole_before, whole_ended}
+use Rattle.cb_session.proofs.OpenTexts.{before_open, fitting_before, is_longer_open, not_longer, over_before, rest_none, rest_open, whole_before, whole_ended}
 use Rattle.cb_session.specs.Setups.{Setup}
 use Rattle.cb_session.specs.Transcripts.{Run, after_all, begun, complete, so_far, too_long, too_long_status}
 use Rattle.cb_session.specs.declared.status.Status.{Status}

@@ -6,17 +6,17 @@ use Rattle.std.specs.List.{list_all}
 use Rattle.std.specs.Map.{lookup}
 use Rattle.std.specs.Option.{ok_or}
 use Rattle.std.specs.Str.{bytes_eq}
+use Rattle.cb_facts.proofs.MemberLaws.{contains_here, contains_there}
 use Rattle.cb_facts.specs.Facts.{FactValue, template_fact}
 use Rattle.cb_facts.specs.Results.{ok_then, with_first}
 use Rattle.cb_facts.specs.Values.{is_multifield, spliced}
-use Rattle.cb_facts.proofs.MemberLaws.{contains_here, contains_there}
-use Rattle.cb_facts.specs.declared.value.Value.{Value}
 use Rattle.cb_facts.specs.declared.value.Value.TheVariants as value
-use Rattle.cb_forms.specs.declared.fault.Fault.{Fault}
+use Rattle.cb_facts.specs.declared.value.Value.{Value}
 use Rattle.cb_forms.specs.declared.fault.Fault.TheVariants.{FactDoesNotFit, OneValueWanted}
-use Rattle.cb_laws.proofs.Members.{first_or_other, none_among}
-use Rattle.cb_laws.specs.SlotValues.{IsGiven, IsLeftOut, slot_value}
+use Rattle.cb_forms.specs.declared.fault.Fault.{Fault}
+use Rattle.cb_templates.proofs.Members.{first_or_other, none_among}
 use Rattle.cb_templates.specs.Building.{Given, are_distinct, built, built_by, filled, fits, given_for, one_value, slot_values, can_take, value_or_default}
+use Rattle.cb_templates.specs.SlotValues.{IsGiven, IsLeftOut, slot_value}
 use Rattle.cb_templates.specs.Slots.{GivenValues, SlotShape, slot_named}
 use Rattle.cb_templates.specs.Templates.{Templates, slots_of}
 
