@@ -6,6 +6,7 @@
 
 mod fact; // a fact: its relation, its content and the number that it is hashed by; the order of facts
 mod fact_list; // the facts of a working memory, by their indices and by themselves
+pub mod laws; // what counts as equal is the same
 mod multifield; // the fields of a multifield: a part of a shared slice
 mod name; // the bytes of a symbol, a string or a relation, shared by all that hold them
 mod names; // the names that were read, each found by its bytes, so that one that is read again is shared

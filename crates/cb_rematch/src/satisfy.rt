@@ -8,8 +8,7 @@ ghost use Rattle.cb_matches.specs.Matches.{after, after_all, group_holds, test_h
 use crate::join::join;
 use crate::partial::Partial;
 use crate::setting::Setting;
-use cb_eval::eval;
-use cb_eval::is_true;
+use cb_eval::{eval, is_true};
 use cb_exprs::{Env, Expr};
 use cb_facts::Refused;
 use cb_fit::Meter;

@@ -5,7 +5,7 @@ ghost use Rattle.cb_requests.specs.Uses.{has_name, is_in_use, is_named_in_rules}
 use cb_exprs::Env;
 use cb_facts::Name;
 use cb_forms::NoMemory;
-use cb_knowledge_base::{DeffactsTable, Mark, KnowledgeBase};
+use cb_knowledge_base::{DeffactsTable, KnowledgeBase, Mark};
 use cb_matches::Matcher;
 use cb_rules::RuleTable;
 use cb_templates::Relations;

@@ -13,8 +13,7 @@ ghost use Rattle.cb_rule_forms.specs.Declarations.{declaration_faults, has_other
 ghost use Rattle.cb_rule_forms.specs.Internal.{IsSalience};
 
 use crate::sections::{members_after, only_of};
-use cb_eval::Constants;
-use cb_eval::eval;
+use cb_eval::{Constants, eval};
 use cb_expr_forms::{NameList, Scope, Side, read_expr};
 use cb_exprs::{Env, Expr};
 use cb_facts::{Names, Refused, Value};

@@ -4,8 +4,7 @@ ghost use Rattle.cb_exprs.specs.Terms.{term_of};
 ghost use Rattle.cb_matches.specs.Matches.{test_holds};
 
 use crate::reading::TokenLists;
-use cb_eval::eval;
-use cb_eval::is_true;
+use cb_eval::{eval, is_true};
 use cb_exprs::{Expr, Lookup};
 use cb_facts::Refused;
 use cb_forms::NoMemory;

@@ -1,4 +1,4 @@
-//! What counts as equal is equal.
+//! A law of equality: the contract of a function that does nothing.
 ghost use Rattle.std.specs.Prelude.{◌≡◌, ◌↔◌, ℕ, List, IsTrue};
 ghost use Rattle.cb_facts.specs.Facts.{FactValue, fact_eq};
 ghost use Rattle.cb_facts.specs.contracts.name.NamePartialEq.TheImpl as names;

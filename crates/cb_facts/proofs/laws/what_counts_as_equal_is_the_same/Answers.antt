@@ -1,7 +1,7 @@
 use Rattle.std.specs.Cmp.Lexicographic.{bytes_decides}
 use Rattle.cb_facts.proofs.Equality.{value-Decides}
 use Rattle.cb_facts.proofs.FactEquality.{fact-Decides}
-use Rattle.cb_laws.proofs.equality.what_counts_as_equal_is_the_same.Goals as goal
+use Rattle.cb_facts.proofs.laws.what_counts_as_equal_is_the_same.Goals as goal
 
 pub returns-clause-names : goal.returns-clause-names
 returns-clause-names c = bytes_decides
