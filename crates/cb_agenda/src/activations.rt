@@ -192,7 +192,7 @@ fn unfile(filed: &mut NumberMap, aside: &mut BTreeMap<Key, usize>, key: &Key, nu
     aside.remove(key);
     let mix = mix_of(key);
     if has_filed(filed, mix, number) {
-        filed.remove(mix);
+        filed.take_out(mix);
     }
 }
 

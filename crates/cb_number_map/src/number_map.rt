@@ -69,18 +69,25 @@ impl NumberMap {
         self.add(key, number)
     }
 
-    /// Takes a key out, if the map has it.
-    #[tactic(auto, unfolding(crate::specs::NumberMaps::number_at))]
+    /// Takes a key out, if the map has it. A long table is given back with the last key.
     pub fn remove(&mut self, key: u64)
+        ensures { Updates self.old self.new key None }
+    {
+        self.take_out(key);
+        if self.taken == 0 {
+            self.release();
+        }
+    }
+
+    /// Takes a key out, if the map has it. The table keeps its memory for the keys that come next.
+    #[tactic(auto, unfolding(crate::specs::NumberMaps::number_at))]
+    pub fn take_out(&mut self, key: u64)
         ensures { Updates self.old self.new key None }
     {
         if clear(self.slots.as_mut_slice(), key) {
             self.taken = self.taken.saturating_sub(1);
         }
         self.aside.remove(&key);
-        if self.taken == 0 {
-            self.release();
-        }
     }
 
     /// Gives the memory of a long table back, if there is no key. This takes as many steps as the table has slots, and fewer than were

@@ -1,6 +1,7 @@
 -- What is taken on the way down from a token. No public clause cites this module.
-use Rattle.std.specs.Prelude.{List, [], ◌∷◌, Option, Some, None}
-use Rattle.cb_beta.specs.Tokens.{with_taken}
+use Rattle.std.specs.Prelude.{◌++◌, List, [], ◌∷◌, Option, Some, None}
+use Rattle.cb_beta.specs.Tokens.{TakenValue, with_taken}
+use Rattle.cb_matches.specs.Keys.{PartValue}
 use Rattle.cb_matches.specs.Matches.{Partial}
 use Rattle.cb_token_lists.specs.declared.path.Step.{Step}
 
@@ -13,3 +14,12 @@ with_step (Some s) m = with_taken s.address.now (Some s.taken.now) m
 abbrev pub with_path : List (Option Step) → Partial → Partial
 with_path [] m = m
 with_path (s ∷ ss) m = with_step s (with_path ss m)
+
+-- the part of what was taken, if anything was
+abbrev pub parts_taken : Option TakenValue → List PartValue
+parts_taken None = []
+parts_taken (Some t) = record { index = t.index; cuts = t.way.cuts } ∷ []
+
+-- the parts of what was taken last, and of what was taken before it
+abbrev pub last_parts : Option TakenValue → Option TakenValue → List PartValue
+last_parts first last = parts_taken first ++ parts_taken last

@@ -1,7 +1,8 @@
 //! The parts of the partial match at the end of a path.
-ghost use Rattle.std.specs.Prelude.{◌≡◌, IfOk, OnOk};
+ghost use Rattle.std.specs.Prelude.{◌≡◌, ◌++◌, IfOk, List, MatchOption, OnOk, ⊤, option_copied};
+ghost use Rattle.cb_matches.specs.Keys.{PartValue};
 ghost use Rattle.cb_matches.specs.Matches.{Partial, no_parts};
-ghost use Rattle.cb_token_lists.specs.Internal.{with_path, with_step};
+ghost use Rattle.cb_token_lists.specs.Internal.{last_parts, parts_taken, with_path, with_step};
 
 use crate::path::{Path, Step};
 use cb_beta::Taken;
@@ -9,48 +10,51 @@ use cb_forms::NoMemory;
 use cb_matches::{MatchParts, Part};
 use std::alloc::Global;
 
-/// How many parts stand in the value itself.
-const FEW: usize = 2;
+/// What was taken last on the way down from a token, before the others and behind them; nothing for what isn't there.
+pub(crate) type LastTaken<'a> = (Option<&'a Taken>, Option<&'a Taken>);
 
-/// The parts of what was taken in the steps of a path. Growth is refused as `NoMemory`, and so is a count of sharers that is full.
-pub(crate) fn parts_of(alloc: Global, path: Path<'_>) -> Result<MatchParts, NoMemory>
-    ensures { IfOk result (λ parts. parts ≡ (with_path path.entry.items no_parts).parts) }
+/// The same with what the token before took; nothing where that makes three.
+pub(crate) fn one_earlier<'a>(
+    taken: &'a Option<Taken>,
+    known: LastTaken<'a>,
+) -> Option<LastTaken<'a>>
+    ensures { MatchOption result ⊤ (λ all. (before : List PartValue)
+        → (before ++ parts_taken taken.now) ++ last_parts (option_copied known.entry.0) (option_copied known.entry.1)
+        ≡ before ++ last_parts (option_copied all.0) (option_copied all.1)) }
 {
-    if path.len() <= FEW {
-        return few_parts(alloc, path);
+    match (taken, known.0, known.1) {
+        (None, ..) => Some(known),
+        (Some(taken), None, None) => Some((None, Some(taken))),
+        (Some(taken), None, Some(last)) => Some((Some(taken), Some(last))),
+        _ => None,
     }
-    many_parts(alloc, path)
 }
 
-/// The same by copies, each with one part more, which take no memory while there are few.
-fn few_parts(alloc: Global, path: Path<'_>) -> Result<MatchParts, NoMemory>
-    ensures { IfOk result (λ parts. parts ≡ (with_path path.entry.items no_parts).parts) }
+/// The parts of what was taken. They take no memory, and are refused as `NoMemory` only where a count of sharers is full.
+pub(crate) fn few_parts(alloc: Global, taken: LastTaken<'_>) -> Result<MatchParts, NoMemory>
+    ensures { IfOk result (λ parts. parts ≡ last_parts (option_copied taken.entry.0) (option_copied taken.entry.1)) }
 {
-    let mut path = path;
-    let mut parts = MatchParts::none();
-    while let Some(step) = path.pop() {
-        parts = and_part(alloc, parts, step)?;
-    }
-    Ok(parts)
+    let parts = and_part(alloc, MatchParts::none(), taken.0)?;
+    and_part(alloc, parts, taken.1)
 }
 
-/// These parts, and then that of a step.
+/// These parts, and then that of what was taken, if anything was. Growth is refused as `NoMemory`, and so is a count of sharers that is
+/// full.
 fn and_part(
     alloc: Global,
     before: MatchParts,
-    step: Option<Step<'_>>,
+    taken: Option<&Taken>,
 ) -> Result<MatchParts, NoMemory>
-    ensures { IfOk result (λ parts. (m : Partial) → m.parts ≡ before
-        → parts ≡ (with_step step.entry m).parts) }
+    ensures { IfOk result (λ parts. parts ≡ before ++ parts_taken (option_copied taken.entry)) }
 {
-    match step {
-        Some(step) => before.and(alloc, part_of(step.taken)?),
+    match taken {
+        Some(taken) => before.and(alloc, part_of(taken)?),
         None => Ok(before),
     }
 }
 
-/// The same as `few_parts` by a vector of them.
-fn many_parts(alloc: Global, path: Path<'_>) -> Result<MatchParts, NoMemory>
+/// The parts of what was taken in the steps of a path. Growth is refused as `NoMemory`, and so is a count of sharers that is full.
+pub(crate) fn many_parts(alloc: Global, path: Path<'_>) -> Result<MatchParts, NoMemory>
     ensures { IfOk result (λ parts. parts ≡ (with_path path.entry.items no_parts).parts) }
 {
     let mut path = path;

@@ -1,12 +1,12 @@
 //! What variables have by the partial match that a token stands for, and its parts.
-ghost use Rattle.std.specs.Prelude.{◌≡◌, ℕ, IfOk, MatchOption, suc};
+ghost use Rattle.std.specs.Prelude.{◌≡◌, ℕ, IfOk, MatchOption, suc, ⊤, option_copied};
 ghost use Rattle.cb_beta.specs.Tokens.{with_taken};
 ghost use Rattle.cb_matches.specs.Matches.{no_parts};
-ghost use Rattle.cb_token_lists.specs.Internal.{with_path};
+ghost use Rattle.cb_token_lists.specs.Internal.{last_parts, with_path};
 ghost use Rattle.cb_token_lists.specs.Partials.{partial_at, partial_in};
 
 use crate::binding::bind_path;
-use crate::parts::parts_of;
+use crate::parts::{LastTaken, few_parts, many_parts, one_earlier};
 use crate::path::{Path, add_step};
 use crate::source::Source;
 use cb_beta::{BetaMemory, Token};
@@ -46,7 +46,29 @@ impl<'a> TokenLists<'a> {
         ensures { IfOk result (λ parts. parts
             ≡ (partial_at self.now.sources.now self.now.lists.now list number).parts) }
     {
-        parts_of(self.alloc, self.path(list, number)?)
+        match self.last_taken(list, number) {
+            Some(taken) => few_parts(self.alloc, taken),
+            None => many_parts(self.alloc, self.path(list, number)?),
+        }
+    }
+
+    /// What was taken on the way down from a token, if that are no more than two.
+    fn last_taken(&self, list: usize, number: u32) -> Option<LastTaken<'a>>
+        ensures { MatchOption result ⊤ (λ all. last_parts (option_copied all.0) (option_copied all.1)
+            ≡ (partial_at self.now.sources.now self.now.lists.now list number).parts) }
+    {
+        let mut known = (None, None);
+        let mut reached = list;
+        let mut met = number;
+        for _ in 0..=list {
+            let Some((source, token)) = self.read(reached, met) else {
+                return Some(known);
+            };
+            known = one_earlier(&token.taken, known)?;
+            reached = source.from as usize;
+            met = token.parent;
+        }
+        Some(known)
     }
 
     /// What was taken on the way down from a token. Growth is refused as `NoMemory`.

@@ -8,8 +8,8 @@ use Rattle.cb_agenda.proofs.activations.unfile.Goals as goal
 pub returns-then-has_filed : goal.returns-then-has_filed
 returns-then-has_filed c = λ keys less was there change.
     let filed : number_at c.args.filed.now (mix_of c.args.key.now) ≡ Some c.args.number = search rules in
-    let updates : numbers.Updates c.args.filed.now c.remove-then-has_filed.new.self (mix_of c.args.key.now) None = search rules in
-    forgot_filed keys less c.args.number c.args.key.now there change c.args.filed.now c.remove-then-has_filed.new.self c.args.aside.now c.remove.new.self was filed updates c.remove.ensures.updates
+    let updates : numbers.Updates c.args.filed.now c.take_out.new.self (mix_of c.args.key.now) None = search rules in
+    forgot_filed keys less c.args.number c.args.key.now there change c.args.filed.now c.take_out.new.self c.args.aside.now c.remove.new.self was filed updates c.remove.ensures.updates
 
 pub returns-else-has_filed : goal.returns-else-has_filed
 returns-else-has_filed c = λ keys less was there change.
