@@ -10,7 +10,6 @@ LINE are added, if it is given: a line of that form.
 """
 import fcntl
 import os
-import re
 import resource
 import signal
 import socket
@@ -21,6 +20,7 @@ import time
 from collections import namedtuple
 
 import large
+from tally import tally
 
 TOP = os.path.dirname(os.path.dirname(os.path.abspath(__file__)))
 
@@ -433,16 +433,7 @@ def take_too_long(signal, frame):
 
 def main(words):
     signal.signal(signal.SIGALRM, take_too_long)
-    passed = failed = 0
-    if words[:1] == ["--after"]:
-        passed, failed = map(int, re.match(r"(\d+) passed, (\d+) failed", words[1]).groups())
-        words = words[2:]
-    for program in words or [f"{TOP}/crates/clipsbatch/out/clipsbatch"]:
-        results = [goes(os.path.abspath(program), *it) for it in cases()]
-        print(f"edge: {os.path.relpath(program)}: {sum(results)} of {len(results)} cases went as they should")
-        passed, failed = passed + sum(results), failed + len(results) - sum(results)
-    print(f"{passed} passed, {failed} failed")
-    return 1 if failed else 0
+    return tally(words, "edge", cases, goes)
 
 
 if __name__ == "__main__":

@@ -20,6 +20,8 @@ import subprocess
 import sys
 from pathlib import Path
 
+from tally import tally
+
 TOP = Path(__file__).resolve().parent.parent
 MAN = "docs/clipsbatch.1"
 LANGUAGE = "docs/LANGUAGE.md"
@@ -225,20 +227,10 @@ def goes(program, name, script, written):
 
 
 def main(words):
-    passed = failed = 0
-    if words[:1] == ["--after"]:
-        passed, failed = map(int, re.match(r"(\d+) passed, (\d+) failed", words[1]).groups())
-        words = words[2:]
     wrong = list(wrong_lengths())
     for line in wrong:
         print(line)
-    failed += len(wrong)
-    for program in words or [f"{TOP}/crates/clipsbatch/out/clipsbatch"]:
-        results = [goes(os.path.abspath(program), *each) for each in all_scripts()]
-        print(f"pages: {os.path.relpath(program)}: {sum(results)} of {len(results)} scripts went as they should")
-        passed, failed = passed + sum(results), failed + len(results) - sum(results)
-    print(f"{passed} passed, {failed} failed")
-    return 1 if failed else 0
+    return tally(words, "pages", all_scripts, goes, len(wrong))
 
 
 if __name__ == "__main__":
