@@ -5,7 +5,7 @@ use Rattle.std.specs.BTreeMap as tree
 use Rattle.std.specs.BTreeMap.{is_at, BTreeMap}
 use Rattle.std.specs.Cmp.{unsigned_Decides}
 use Rattle.cb_agenda.proofs.Equality.{key-Decides, key-cases}
-use Rattle.cb_agenda.specs.Internal.{AreFound, first_of, is_key, number_in, with_own_key}
+use Rattle.cb_agenda.specs.Internal.{AreFound, LeavesAside, first_of, is_key, number_in, with_own_key}
 use Rattle.cb_agenda.specs.Mixes.{mix_of}
 use Rattle.cb_facts.specs.FactLists.{ChangesOnly}
 use Rattle.cb_matches.specs.Internal.KeyLaws.{key_tied}
@@ -47,7 +47,7 @@ some_none {A} {a} o e f = let no : Some a ≡ None = sym e ∙ f in cc
 other_mix : (m n : Filed) (i j : ℕ) (r : Option ℕ) → Updates m n i r → i ≢ j → number_at n j ≡ number_at m j
 other_mix m n i j r u apart = u.others j (λ e. apart (sym e))
 
-other_key : (a b : Aside) (k q : KeyValue) (r : Option ℕ) → tree.Updates key_cmp a b k r → k ≢ q → tree.get key_cmp b q ≡ tree.get key_cmp a q
+pub other_key : (a b : Aside) (k q : KeyValue) (r : Option ℕ) → tree.Updates key_cmp a b k r → k ≢ q → tree.get key_cmp b q ≡ tree.get key_cmp a q
 other_key a b k q r u apart = u.2 q (false_from_ne_true (is_at (key_cmp k) q) (λ e. apart ((key-Decides k q).0 (key_tied k q ∙ e))))
 
 -- a number that is filed, and the key of its activation
@@ -171,11 +171,11 @@ module _ (keys less : Keys) (n : ℕ) (k : KeyValue) (there : keys n ≡ Some k)
   ]
 
   -- its number was filed
-  filed_less : (m m' : Filed) (a b : Aside) → number_at m (mix_of k) ≡ Some n → Updates m m' (mix_of k) None → tree.Updates key_cmp a b k None → ChangesOnly (number_in keys m a) (number_in less m' b) k None
+  filed_less : (m m' : Filed) (a b : Aside) → number_at m (mix_of k) ≡ Some n → Updates m m' (mix_of k) None → LeavesAside a b k → ChangesOnly (number_in keys m a) (number_in less m' b) k None
   filed_less m m' a b filed u v = record {
-    here = ap (λ o. first_of (with_own_key less o k) (tree.get key_cmp b k)) u.changed ∙ v.1;
+    here = ap (λ o. first_of (with_own_key less o k) (tree.get key_cmp b k)) u.changed ∙ v.gone;
     others = λ q apart.
-        ap (first_of (with_own_key less (number_at m' (mix_of q)) q)) (other_key a b k q None v apart)
+        ap (first_of (with_own_key less (number_at m' (mix_of q)) q)) (v.others q apart)
         ∙ ap (λ o. first_of o (tree.get key_cmp a q)) (elim (number-cases (mix_of k) (mix_of q)) as (λ _. with_own_key less (number_at m' (mix_of q)) q ≡ with_own_key keys (number_at m (mix_of q)) q) [
           | inl e ↦
               let now : with_own_key less (number_at m' (mix_of q)) q ≡ None = ap (λ i. with_own_key less (number_at m' i) q) (sym e) ∙ ap (λ o. with_own_key less o q) u.changed in
@@ -185,7 +185,7 @@ module _ (keys less : Keys) (n : ℕ) (k : KeyValue) (there : keys n ≡ Some k)
         ]);
   }
 
-  pub forgot_filed : (m m' : Filed) (a b : Aside) → AreFound (number_in keys m a) keys → number_at m (mix_of k) ≡ Some n → Updates m m' (mix_of k) None → tree.Updates key_cmp a b k None → AreFound (number_in less m' b) less
+  pub forgot_filed : (m m' : Filed) (a b : Aside) → AreFound (number_in keys m a) keys → number_at m (mix_of k) ≡ Some n → Updates m m' (mix_of k) None → LeavesAside a b k → AreFound (number_in less m' b) less
   forgot_filed m m' a b was filed u v = found_less (number_in keys m a) (number_in less m' b) was (filed_less m m' a b filed u v)
 
   -- it stood aside
@@ -198,10 +198,10 @@ module _ (keys less : Keys) (n : ℕ) (k : KeyValue) (there : keys n ≡ Some k)
         other (same_some (find k) ((was k n).1 there) one))
   ]
 
-  pub forgot_aside : (m : Filed) (a b : Aside) → AreFound (number_in keys m a) keys → number_at m (mix_of k) ≢ Some n → tree.Updates key_cmp a b k None → AreFound (number_in less m b) less
+  pub forgot_aside : (m : Filed) (a b : Aside) → AreFound (number_in keys m a) keys → number_at m (mix_of k) ≢ Some n → LeavesAside a b k → AreFound (number_in less m b) less
   forgot_aside m a b was other v = found_less (number_in keys m a) (number_in less m b) was (record {
-    here = ap (λ o. first_of o (tree.get key_cmp b k)) (own_gone (number_in keys m a) was (number_at m (mix_of k)) other) ∙ v.1;
-    others = λ q apart. ap (first_of (with_own_key less (number_at m (mix_of q)) q)) (other_key a b k q None v apart)
+    here = ap (λ o. first_of o (tree.get key_cmp b k)) (own_gone (number_in keys m a) was (number_at m (mix_of k)) other) ∙ v.gone;
+    others = λ q apart. ap (first_of (with_own_key less (number_at m (mix_of q)) q)) (v.others q apart)
         ∙ ap (λ o. first_of o (tree.get key_cmp a q)) (own_less q apart (number_at m (mix_of q)));
   })
 

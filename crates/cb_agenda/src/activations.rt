@@ -2,7 +2,7 @@
 ghost use Rattle.std.specs.Prelude.{◌≡◌, ◌≢◌, ◌↔◌, ℕ, [], IfOk, List, None, OnErr, OnOk, Option, Some, false, true};
 ghost use Rattle.std.specs.Option.{option_copied};
 ghost use Rattle.cb_agenda.specs.Agendas.{without_key};
-ghost use Rattle.cb_agenda.specs.Internal.{AreFound, IsFiled, Numbered, current, current_key, entry_at, key_at, number_in, with_own_key};
+ghost use Rattle.cb_agenda.specs.Internal.{AreFound, IsFiled, LeavesAside, Numbered, current, current_key, entry_at, key_at, number_in, with_own_key};
 ghost use Rattle.cb_agenda.specs.Mixes.{mix_of, mixed};
 ghost use Rattle.cb_facts.specs.FactLists.{ChangesOnly};
 ghost use Rattle.cb_matches.specs.Keys.{KeyValue};
@@ -189,10 +189,19 @@ fn unfile(filed: &mut NumberMap, aside: &mut BTreeMap<Key, usize>, key: &Key, nu
         → keys number ≡ Some key.now → ChangesOnly keys less number None
         → AreFound (number_in less filed.new aside.new) less }
 {
-    aside.remove(key);
+    forget_aside(aside, key);
     let mix = mix_of(key);
     if has_filed(filed, mix, number) {
         filed.take_out(mix);
+    }
+}
+
+/// Takes a key out of those that stand aside. Mostly none does.
+fn forget_aside(aside: &mut BTreeMap<Key, usize>, key: &Key)
+    ensures { LeavesAside aside.old aside.new key.now }
+{
+    if !aside.is_empty() {
+        aside.remove(key);
     }
 }
 

@@ -1,5 +1,5 @@
 //! What a token gives variables.
-ghost use Rattle.std.specs.Prelude.{◌≡◌, IfOk, OnOk, option_copied};
+ghost use Rattle.std.specs.Prelude.{◌≡◌, ◌++◌, IfOk, None, OnOk, false, option_copied};
 ghost use Rattle.std.specs.Rc.{rc_value};
 ghost use Rattle.cb_beta.specs.GivenValues.{way_by_fields};
 ghost use Rattle.cb_exprs.specs.Bindings.{no_bindings, value_at, with_variables};
@@ -7,7 +7,6 @@ ghost use Rattle.cb_fit.specs.WayValues.{way_of};
 
 use crate::marks::Sought;
 use crate::taken_fields::TakenFields;
-use cb_exprs::Env;
 use cb_facts::{Fact, Name, Value};
 use cb_fit::{Cuts, Way};
 use cb_forms::NoMemory;
@@ -88,13 +87,24 @@ impl Given {
         }
     }
 
-    /// Gives variables their values, one after another. Growth is refused as `NoMemory`, and so is a count of sharers that is full.
-    pub fn bind(&self, env: &mut Env) -> Result<(), NoMemory>
-        ensures { OnOk result (env.new ≡ with_variables self.now.bound env.old) }
+    /// Whether it may give a variable a value. Where it doesn't, that is mostly seen, and without a look at names.
+    pub fn may_give(&self, name: &Sought<'_>) -> bool
+        ensures { result ≡ false
+            → value_at name.now (with_variables self.now.bound no_bindings).variables ≡ None }
     {
         match &self.held {
-            Held::Found(way) => bind_all(env, way.bound.as_slice()),
-            Held::Fields(taken, fact) => taken.bind(env, fact),
+            Held::Found(way) => !way.bound.is_empty(),
+            Held::Fields(taken, _) => taken.may_give(name),
+        }
+    }
+
+    /// Adds what it gives variables behind these, in order. Growth is refused as `NoMemory`, and so is a count of sharers that is full.
+    pub fn add_to(&self, bindings: &mut Vec<(Name, Value)>) -> Result<(), NoMemory>
+        ensures { OnOk result (bindings.new.items ≡ bindings.old.items ++ self.now.bound) }
+    {
+        match &self.held {
+            Held::Found(way) => add_all(bindings, way.bound.as_slice()),
+            Held::Fields(taken, fact) => taken.add_to(bindings, fact),
         }
     }
 }
@@ -124,12 +134,12 @@ fn copied(found: Option<&Value>) -> Result<Option<Value>, NoMemory>
     }
 }
 
-/// Gives variables these values, one after another.
-fn bind_all(env: &mut Env, bound: &[(Name, Value)]) -> Result<(), NoMemory>
-    ensures { OnOk result (env.new ≡ with_variables bound.now env.old) }
+/// Adds variables and their values behind these.
+fn add_all(bindings: &mut Vec<(Name, Value)>, bound: &[(Name, Value)]) -> Result<(), NoMemory>
+    ensures { OnOk result (bindings.new.items ≡ bindings.old.items ++ bound.now) }
 {
     for (name, value) in bound.iter() {
-        env.set(name, value.clone()?)?;
+        bindings.push((name.clone()?, value.clone()?))?;
     }
     Ok(())
 }

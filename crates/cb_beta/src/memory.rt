@@ -190,6 +190,9 @@ impl BetaMemory {
     pub fn end_change(&mut self)
         ensures { IsEnded self.old self.new }
     {
+        if self.gone.is_empty() && self.come.is_empty() {
+            return;
+        }
         free(&mut self.tokens, self.gone.as_slice());
         self.gone.clear();
         self.gone.shrink_to(ROOM);

@@ -1,11 +1,11 @@
 //! The fields of a fact that give variables their values.
-ghost use Rattle.std.specs.Prelude.{◌≡◌, IfOk, OnOk};
+ghost use Rattle.std.specs.Prelude.{◌≡◌, ◌++◌, IfOk, None, OnOk, false};
 ghost use Rattle.cb_beta.specs.GivenValues.{values_taken};
 ghost use Rattle.cb_exprs.specs.Bindings.{no_bindings, value_at, with_variables};
+ghost use Rattle.cb_facts.specs.Facts.{FactValue};
 ghost use Rattle.cb_fit.specs.Decided.{taken_by};
 
 use crate::marks::{Sought, marks_of};
-use cb_exprs::Env;
 use cb_facts::{Fact, Name, Value};
 use cb_fit::{Cuts, JoinField};
 use cb_forms::NoMemory;
@@ -53,6 +53,14 @@ impl TakenFields {
         &self.cuts
     }
 
+    /// Whether the fields may give a variable a value: whether its mark is among theirs.
+    pub(crate) fn may_give(&self, name: &Sought<'_>) -> bool
+        ensures { (f : FactValue) → result ≡ false → value_at name.now
+            (with_variables (values_taken self.now.fields f.content) no_bindings).variables ≡ None }
+    {
+        name.is_marked(self.marks)
+    }
+
     /// The value that the fields give a variable in a fact, of which the last counts. Where they don't give it, that is mostly seen
     /// without a look at their names.
     pub(crate) fn value(&self, fact: &Fact, name: &Sought<'_>) -> Result<Option<Value>, NoMemory>
@@ -65,12 +73,16 @@ impl TakenFields {
         value_of_fields(self.fields.as_slice(), fact, name.name())
     }
 
-    /// Gives the variables of the fields their values in a fact, one after another.
-    pub(crate) fn bind(&self, env: &mut Env, fact: &Fact) -> Result<(), NoMemory>
-        ensures { OnOk result
-            (env.new ≡ with_variables (values_taken self.now.fields fact.now.content) env.old) }
+    /// Adds the variables of the fields and their values in a fact behind these, in order.
+    pub(crate) fn add_to(
+        &self,
+        bindings: &mut Vec<(Name, Value)>,
+        fact: &Fact,
+    ) -> Result<(), NoMemory>
+        ensures { OnOk result (bindings.new.items
+            ≡ bindings.old.items ++ values_taken self.now.fields fact.now.content) }
     {
-        bind_fields(env, self.fields.as_slice(), fact)
+        add_fields(bindings, self.fields.as_slice(), fact)
     }
 }
 
@@ -105,24 +117,32 @@ fn value_of_field(field: &JoinField, fact: &Fact, name: &Name) -> Result<Option<
     }
 }
 
-/// Gives the variables of these fields their values in a fact, one after another.
-fn bind_fields(env: &mut Env, fields: &[JoinField], fact: &Fact) -> Result<(), NoMemory>
-    ensures { OnOk result
-        (env.new ≡ with_variables (values_taken fields.now fact.now.content) env.old) }
+/// Adds the variables of these fields and their values in a fact behind these, in order.
+fn add_fields(
+    bindings: &mut Vec<(Name, Value)>,
+    fields: &[JoinField],
+    fact: &Fact,
+) -> Result<(), NoMemory>
+    ensures { OnOk result (bindings.new.items
+        ≡ bindings.old.items ++ values_taken fields.now fact.now.content) }
 {
     for field in fields {
-        bind_field(env, field, fact)?;
+        add_field(bindings, field, fact)?;
     }
     Ok(())
 }
 
-/// Gives the variable of a field its value in a fact, if that has such a field.
-fn bind_field(env: &mut Env, field: &JoinField, fact: &Fact) -> Result<(), NoMemory>
-    ensures { OnOk result (env.new
-        ≡ with_variables (taken_by no_bindings fact.now.content field.now) env.old) }
+/// Adds the variable of a field and its value in a fact behind these, if that has such a field.
+fn add_field(
+    bindings: &mut Vec<(Name, Value)>,
+    field: &JoinField,
+    fact: &Fact,
+) -> Result<(), NoMemory>
+    ensures { OnOk result (bindings.new.items
+        ≡ bindings.old.items ++ taken_by no_bindings fact.now.content field.now) }
 {
-    match field.value_in(fact)? {
-        Some(value) => env.set(&field.variable, value),
-        None => Ok(()),
+    if let Some(value) = field.value_in(fact)? {
+        bindings.push((field.variable.clone()?, value))?;
     }
+    Ok(())
 }

@@ -104,6 +104,9 @@ impl Groups {
         ensures groups { OnOk result (Releases self.old self.new group) }
         ensures err { OnErr result ((self.new ≡ self.old) × (all.new.items ≡ all.old.items)) }
     {
+        if !self.has_any(group) {
+            return Ok(()); // nothing is written, so nothing but the list is read
+        }
         all.extend_from_slice(members_of(&self.lists, group))?;
         clear_places(&mut self.places, members_of(&self.lists, group));
         clear_list(self.alloc, &mut self.lists, group);

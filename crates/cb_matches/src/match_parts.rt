@@ -10,7 +10,7 @@ use std::rc::Rc;
 /// The parts of a partial match, which never change.
 ///
 /// Up to two stand in the value itself, and clones share more: a clone takes no memory, and is refused only where a count of
-/// sharers is full. Contracts see the list of the parts.
+/// sharers is full. Three and four take one block, more take two. Contracts see the list of the parts.
 #[derive(Drop)]
 pub struct MatchParts {
     held: Held,
@@ -22,6 +22,8 @@ enum Held {
     None,
     One([Part; 1]),
     Two([Part; 2]),
+    Three(Rc<[Part; 3]>),
+    Four(Rc<[Part; 4]>),
     More(Rc<Vec<Part>>),
 }
 
@@ -47,11 +49,47 @@ impl MatchParts {
     pub fn new(alloc: Global, parts: Vec<Part>) -> Result<MatchParts, NoMemory>
         ensures { IfOk result (λ all. all ≡ parts.items) }
     {
-        if parts.len() <= 2 {
+        if parts.len() <= 4 {
             return MatchParts::of(alloc, parts.as_slice());
         }
         Ok(MatchParts {
             held: Held::More(Rc::new(alloc, parts)?),
+        })
+    }
+
+    /// One part. It takes no memory.
+    pub fn one(part: Part) -> MatchParts
+        ensures { result ≡ part ∷ [] }
+    {
+        MatchParts {
+            held: Held::One([part]),
+        }
+    }
+
+    /// These two parts. They take no memory.
+    pub fn two(parts: [Part; 2]) -> MatchParts
+        ensures { result ≡ parts }
+    {
+        MatchParts {
+            held: Held::Two(parts),
+        }
+    }
+
+    /// These three parts, taken over, in one block. Growth is refused as `NoMemory`.
+    pub fn three(alloc: Global, parts: [Part; 3]) -> Result<MatchParts, NoMemory>
+        ensures { IfOk result (λ all. all ≡ parts) }
+    {
+        Ok(MatchParts {
+            held: Held::Three(Rc::new(alloc, parts)?),
+        })
+    }
+
+    /// These four parts, taken over, in one block. Growth is refused as `NoMemory`.
+    pub fn four(alloc: Global, parts: [Part; 4]) -> Result<MatchParts, NoMemory>
+        ensures { IfOk result (λ all. all ≡ parts) }
+    {
+        Ok(MatchParts {
+            held: Held::Four(Rc::new(alloc, parts)?),
         })
     }
 
@@ -64,6 +102,14 @@ impl MatchParts {
             [] => Held::None,
             [only] => Held::One([only.clone()?]),
             [first, last] => Held::Two([first.clone()?, last.clone()?]),
+            [a, b, c] => {
+                let parts = [a.clone()?, b.clone()?, c.clone()?];
+                return MatchParts::three(alloc, parts);
+            }
+            [a, b, c, d] => {
+                let parts = [a.clone()?, b.clone()?, c.clone()?, d.clone()?];
+                return MatchParts::four(alloc, parts);
+            }
             more => Held::More(Rc::new(alloc, more.to_vec(alloc)?)?),
         };
         Ok(MatchParts { held })
@@ -77,6 +123,8 @@ impl MatchParts {
             Held::None => &[],
             Held::One(parts) => parts.as_slice(),
             Held::Two(parts) => parts.as_slice(),
+            Held::Three(parts) => parts.as_slice(),
+            Held::Four(parts) => parts.as_slice(),
             Held::More(parts) => parts.as_slice(),
         }
     }
@@ -89,7 +137,7 @@ impl MatchParts {
         let held = match self.as_slice() {
             [] => Held::One([last]),
             [first] => Held::Two([first.clone()?, last]),
-            before => Held::More(Rc::new(alloc, with_last(alloc, before, last)?)?),
+            before => return MatchParts::new(alloc, with_last(alloc, before, last)?),
         };
         Ok(MatchParts { held })
     }
@@ -113,6 +161,8 @@ impl Clone for MatchParts {
             Held::None => Held::None,
             Held::One([only]) => Held::One([only.clone()?]),
             Held::Two([first, last]) => Held::Two([first.clone()?, last.clone()?]),
+            Held::Three(parts) => Held::Three(parts.clone()?),
+            Held::Four(parts) => Held::Four(parts.clone()?),
             Held::More(parts) => Held::More(parts.clone()?),
         };
         Ok(MatchParts { held })

@@ -1,7 +1,7 @@
 -- What variables have where they are looked for one by one.
-use Rattle.std.proofs.Common.{◌≡◌, ◌∙◌, ℕ, zero, suc, List, [], ◌∷◌, Option, Some, None, ap, refl, slice_get, sym}
+use Rattle.std.proofs.Common.{◌≡◌, ◌∙◌, ◌++◌, ℕ, zero, suc, List, [], ◌∷◌, Option, Some, None, ap, refl, slice_get, sym}
 use Rattle.std.specs.Option.{option_map_or, option_or}
-use Rattle.cb_beta.proofs.Values.{by_one, by_way, three}
+use Rattle.cb_beta.proofs.Values.{both_given, by_one, by_way, three}
 use Rattle.cb_beta.specs.BetaMemories.{BetaMemoryValue}
 use Rattle.cb_beta.specs.Tokens.{TakenValue, TokenValue, token_at, with_taken}
 use Rattle.cb_exprs.specs.Bindings.{Bindings, Values, no_bindings, value_at, with_variable, with_variables}
@@ -48,6 +48,14 @@ pub value_further : (sources : List SourceValue) (lists : List BetaMemoryValue) 
     → start ≡ option_or found (value_at q (partial_in sources lists n s.from t.parent).env.variables)
 value_further sources lists q start n list i s t found is goes gives =
     is ∙ (ap (λ (it : Partial). value_at q it.env.variables) goes ∙ gives (partial_in sources lists n s.from t.parent))
+
+-- what a step adds to the values that variables got before
+pub step_binds : (x : Option (List ℕ)) (t : TakenValue) (m : Partial) (old middle new : Values) → m.env ≡ with_variables old no_bindings
+    → ((env : Bindings) → with_variables middle env ≡ with_address x t.index (with_variables old env)) → new ≡ middle ++ t.way.bound
+    → with_variables new no_bindings ≡ (with_taken x (Some t) m).env
+step_binds x t m old middle new is address added =
+    ap (λ it. with_variables it no_bindings) added
+    ∙ (both_given middle t.way.bound no_bindings ∙ ap (with_variables t.way.bound) (address no_bindings ∙ ap (with_address x t.index) (sym is)))
 
 -- ---- a partial match has no globals
 

@@ -1,5 +1,6 @@
 //! What variables have after a way.
 ghost use Rattle.std.specs.Prelude.{◌≡◌, IfOk, OnOk};
+ghost use Rattle.cb_exprs.specs.Bindings.{Bindings, no_bindings, with_variables};
 ghost use Rattle.cb_matches.specs.Matches.{Partial, no_parts, with_address};
 ghost use Rattle.cb_token_lists.specs.Internal.{with_path, with_step};
 
@@ -9,39 +10,46 @@ use cb_facts::{Name, Value};
 use cb_forms::NoMemory;
 use std::alloc::Global;
 
-/// Gives a variable the address of the fact with an index, if there is such a variable. Growth is refused as `NoMemory`.
-fn bind_address(env: &mut Env, address: &Option<Name>, index: u64) -> Result<(), NoMemory>
-    ensures { OnOk result (env.new ≡ with_address address.now index env.old) }
-{
-    match address {
-        Some(name) => env.set(name, Value::Fact(index)),
-        None => Ok(()),
-    }
-}
-
-/// What variables have by the steps of a path. Growth is refused as `NoMemory`, and so is a count of sharers that is full.
+/// What variables have by the steps of a path. They take one frame. Growth is refused as `NoMemory`, and so is a count of sharers that
+/// is full.
 pub(crate) fn bind_path(alloc: Global, path: Path<'_>) -> Result<Env, NoMemory>
     ensures { IfOk result (λ env. env ≡ (with_path path.entry.items no_parts).env) }
 {
     let mut path = path;
-    let mut env = Env::new(alloc);
+    let mut bindings = Vec::with_capacity(alloc, path.len() * 2)?;
     while let Some(step) = path.pop() {
-        bind_step(&mut env, step)?;
+        bind_step(&mut bindings, step)?;
     }
-    Ok(env)
+    Env::new(alloc).with(bindings)
 }
 
-/// Gives variables the values that they have after a step. Growth is refused as `NoMemory`, and so is a count of sharers that is full.
-fn bind_step(env: &mut Env, step: Option<Step<'_>>) -> Result<(), NoMemory>
-    ensures { OnOk result ((m : Partial) → m.env ≡ env.old
-        → env.new ≡ (with_step step.entry m).env) }
+/// Adds the values that variables get in a step behind those that they got before. Growth is refused as `NoMemory`, and so is a count of
+/// sharers that is full.
+fn bind_step(bindings: &mut Vec<(Name, Value)>, step: Option<Step<'_>>) -> Result<(), NoMemory>
+    ensures { OnOk result ((m : Partial) → m.env ≡ with_variables bindings.old.items no_bindings
+        → with_variables bindings.new.items no_bindings ≡ (with_step step.entry m).env) }
 {
     match step {
         Some(step) => {
             let taken = step.taken;
-            bind_address(env, step.address, taken.index)?;
-            taken.given.bind(env)
+            bind_address(bindings, step.address, taken.index)?;
+            taken.given.add_to(bindings)
         }
         None => Ok(()),
     }
+}
+
+/// Adds the address of the fact with an index as the value of a variable, if there is such a variable. Growth is refused as `NoMemory`.
+fn bind_address(
+    bindings: &mut Vec<(Name, Value)>,
+    address: &Option<Name>,
+    index: u64,
+) -> Result<(), NoMemory>
+    ensures { OnOk result ((env : Bindings) → with_variables bindings.new.items env
+        ≡ with_address address.now index (with_variables bindings.old.items env)) }
+{
+    if let Some(name) = address {
+        bindings.push((name.clone()?, Value::Fact(index)))?;
+    }
+    Ok(())
 }

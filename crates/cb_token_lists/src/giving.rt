@@ -23,7 +23,13 @@ pub(crate) fn given_by_token(
         ≡ option_or found (value_at name.now m.env.variables)) }
 {
     match &token.taken {
-        Some(taken) => given(&taken.given, &source.address, taken.index, name),
+        Some(taken) => {
+            // mostly it doesn't, which is seen at once
+            if source.address.is_none() && !taken.given.may_give(name) {
+                return Ok(None);
+            }
+            given(&taken.given, &source.address, taken.index, name)
+        }
         None => Ok(None),
     }
 }
@@ -40,7 +46,12 @@ pub(crate) fn given_with(
         ≡ option_or found (value_at name.now env.variables)) }
 {
     match way {
-        Some(way) => given(way, address, index, name),
+        Some(way) => {
+            if address.is_none() && !way.may_give(name) {
+                return Ok(None);
+            }
+            given(way, address, index, name)
+        }
         None => Ok(given_by_address(address, index, name)),
     }
 }

@@ -1,5 +1,5 @@
 //! The parts of the partial match at the end of a path.
-ghost use Rattle.std.specs.Prelude.{◌≡◌, ◌++◌, IfOk, List, MatchOption, OnOk, ⊤, option_copied};
+ghost use Rattle.std.specs.Prelude.{◌≡◌, ◌++◌, IfOk, List, MatchOption, OnOk, Some, ⊤, option_copied};
 ghost use Rattle.cb_matches.specs.Keys.{PartValue};
 ghost use Rattle.cb_matches.specs.Matches.{Partial, no_parts};
 ghost use Rattle.cb_token_lists.specs.Internal.{last_parts, parts_taken, with_path, with_step};
@@ -31,30 +31,61 @@ pub(crate) fn one_earlier<'a>(
 }
 
 /// The parts of what was taken. They take no memory, and are refused as `NoMemory` only where a count of sharers is full.
-pub(crate) fn few_parts(alloc: Global, taken: LastTaken<'_>) -> Result<MatchParts, NoMemory>
+pub(crate) fn few_parts(taken: LastTaken<'_>) -> Result<MatchParts, NoMemory>
     ensures { IfOk result (λ parts. parts ≡ last_parts (option_copied taken.entry.0) (option_copied taken.entry.1)) }
 {
-    let parts = and_part(alloc, MatchParts::none(), taken.0)?;
-    and_part(alloc, parts, taken.1)
-}
-
-/// These parts, and then that of what was taken, if anything was. Growth is refused as `NoMemory`, and so is a count of sharers that is
-/// full.
-fn and_part(
-    alloc: Global,
-    before: MatchParts,
-    taken: Option<&Taken>,
-) -> Result<MatchParts, NoMemory>
-    ensures { IfOk result (λ parts. parts ≡ before ++ parts_taken (option_copied taken.entry)) }
-{
     match taken {
-        Some(taken) => before.and(alloc, part_of(taken)?),
-        None => Ok(before),
+        (None, None) => Ok(MatchParts::none()),
+        (Some(only), None) | (None, Some(only)) => Ok(MatchParts::one(part_of(only)?)),
+        (Some(first), Some(last)) => Ok(MatchParts::two([part_of(first)?, part_of(last)?])),
     }
 }
 
 /// The parts of what was taken in the steps of a path. Growth is refused as `NoMemory`, and so is a count of sharers that is full.
 pub(crate) fn many_parts(alloc: Global, path: Path<'_>) -> Result<MatchParts, NoMemory>
+    ensures { IfOk result (λ parts. parts ≡ (with_path path.entry.items no_parts).parts) }
+{
+    let steps = path.as_slice();
+    if steps.len() == 3 {
+        if let (Some(c), Some(b), Some(a)) = (steps[0], steps[1], steps[2]) {
+            return three_parts(alloc, a.taken, b.taken, c.taken);
+        }
+    }
+    if steps.len() == 4 {
+        if let (Some(d), Some(c), Some(b), Some(a)) = (steps[0], steps[1], steps[2], steps[3]) {
+            return four_parts(alloc, a.taken, b.taken, c.taken, d.taken);
+        }
+    }
+    all_parts(alloc, path)
+}
+
+/// The parts of what was taken by three patterns, from left to right. They take one block; growth is refused as `NoMemory`, and so is a
+/// count of sharers that is full.
+fn three_parts(alloc: Global, a: &Taken, b: &Taken, c: &Taken) -> Result<MatchParts, NoMemory>
+    ensures { IfOk result (λ parts. parts
+        ≡ parts_taken (Some a.now) ++ parts_taken (Some b.now) ++ parts_taken (Some c.now)) }
+{
+    let parts = [part_of(a)?, part_of(b)?, part_of(c)?];
+    MatchParts::three(alloc, parts)
+}
+
+/// The same of four.
+fn four_parts(
+    alloc: Global,
+    a: &Taken,
+    b: &Taken,
+    c: &Taken,
+    d: &Taken,
+) -> Result<MatchParts, NoMemory>
+    ensures { IfOk result (λ parts. parts ≡ parts_taken (Some a.now) ++ parts_taken (Some b.now)
+        ++ parts_taken (Some c.now) ++ parts_taken (Some d.now)) }
+{
+    let parts = [part_of(a)?, part_of(b)?, part_of(c)?, part_of(d)?];
+    MatchParts::four(alloc, parts)
+}
+
+/// The same of any number of steps, one after another.
+fn all_parts(alloc: Global, path: Path<'_>) -> Result<MatchParts, NoMemory>
     ensures { IfOk result (λ parts. parts ≡ (with_path path.entry.items no_parts).parts) }
 {
     let mut path = path;

@@ -47,7 +47,7 @@ impl<'a> TokenLists<'a> {
             ≡ (partial_at self.now.sources.now self.now.lists.now list number).parts) }
     {
         match self.last_taken(list, number) {
-            Some(taken) => few_parts(self.alloc, taken),
+            Some(taken) => few_parts(taken),
             None => many_parts(self.alloc, self.path(list, number)?),
         }
     }

@@ -9,9 +9,9 @@ pub returns-then-has_filed : goal.returns-then-has_filed
 returns-then-has_filed c = λ keys less was there change.
     let filed : number_at c.args.filed.now (mix_of c.args.key.now) ≡ Some c.args.number = search rules in
     let updates : numbers.Updates c.args.filed.now c.take_out.new.self (mix_of c.args.key.now) None = search rules in
-    forgot_filed keys less c.args.number c.args.key.now there change c.args.filed.now c.take_out.new.self c.args.aside.now c.remove.new.self was filed updates c.remove.ensures.updates
+    forgot_filed keys less c.args.number c.args.key.now there change c.args.filed.now c.take_out.new.self c.args.aside.now c.forget_aside.new.aside was filed updates c.forget_aside.ensures
 
 pub returns-else-has_filed : goal.returns-else-has_filed
 returns-else-has_filed c = λ keys less was there change.
     let other : number_at c.args.filed.now (mix_of c.args.key.now) ≢ Some c.args.number = search rules in
-    forgot_aside keys less c.args.number c.args.key.now there change c.args.filed.now c.args.aside.now c.remove.new.self was other c.remove.ensures.updates
+    forgot_aside keys less c.args.number c.args.key.now there change c.args.filed.now c.args.aside.now c.forget_aside.new.aside was other c.forget_aside.ensures

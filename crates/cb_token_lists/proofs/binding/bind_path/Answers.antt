@@ -1,12 +1,17 @@
-use Rattle.std.proofs.Common.{◌∙◌, List, Option, ap, refl, sym}
+use Rattle.std.proofs.Common.{◌≡◌, ◌∙◌, Err, IfOk, List, Ok, Result, Option, ap, refl, sym}
+use Rattle.cb_exprs.specs.Bindings.{no_bindings, with_variables}
 use Rattle.cb_matches.specs.Matches.{Partial, no_parts}
 use Rattle.cb_token_lists.proofs.Paths.{nothing_left, with_last}
 use Rattle.cb_token_lists.specs.Internal.{with_path, with_step}
 use Rattle.cb_token_lists.specs.declared.path.Step.{Step}
 use Rattle.cb_token_lists.proofs.binding.bind_path.Goals as goal
 
+if_ok : {T E : Type 0} (P Q : T → Type 0) (r : Result T E) → ((x : T) → P x → Q x) → IfOk r P → IfOk r Q
+if_ok P Q (Ok x) from h = from x h
+if_ok P Q (Err e) from h = tt
+
 pub loop-step-init : goal.loop-step-init
-loop-step-init c = (no_parts, sym c.new-env.ensures, refl)
+loop-step-init c = (no_parts, ap (λ it. with_variables it no_bindings) (sym c.in_ok-bindings.ensures.items), refl)
 
 pub loop-step-preserved : goal.loop-step-preserved
 loop-step-preserved c =
@@ -20,4 +25,7 @@ pub returns : goal.returns
 returns c =
     let before = c.loop-step.invariant in
     let empty = nothing_left c.loop-step.path.items c.in_default.ensures.variant.1 in
-    sym before.1 ∙ ap (λ (it : Partial). it.env) (ap (λ (it : List (Option Step)). with_path it before.0) (sym empty) ∙ before.2)
+    let env = sym before.1 ∙ ap (λ (it : Partial). it.env) (ap (λ (it : List (Option Step)). with_path it before.0) (sym empty) ∙ before.2) in
+    if_ok (λ e. e ≡ with_variables c.loop-step.bindings.items c.new.result) (λ e. e ≡ (with_path c.args.path.items no_parts).env) c.with-2.result
+    (λ e is. is ∙ (ap (with_variables c.loop-step.bindings.items) c.new.ensures ∙ env))
+    c.with-2.ensures.ok

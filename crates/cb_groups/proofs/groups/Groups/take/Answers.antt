@@ -1,9 +1,23 @@
-use Rattle.std.proofs.Common.{◌∙◌, ◌++◌, ap, subst}
+use Rattle.std.proofs.Common.{◌∙◌, ◌++◌, [], ap, append-nil, arith, nat_eq, rules, subst, sym}
+use Rattle.std.proofs.lemmas.Map.Keys.{IsDistinct-from_apart}
 use Rattle.std.specs.List.{Contains}
 use Rattle.cb_groups.proofs.Places.{have_places, members_are, taken_places, taken_releases}
-use Rattle.cb_groups.specs.Groups.{AreMembers, Releases}
+use Rattle.cb_groups.specs.Groups.{AreMembers, HasMember, Releases}
 use Rattle.cb_groups.specs.Internal.{AreWithout, members_at, membership}
 use Rattle.cb_groups.proofs.groups.Groups.take.Goals as goal
+
+-- no member has the group
+pub returns-then-not-has_any-clause-all : goal.returns-then-not-has_any-clause-all
+returns-then-not-has_any-clause-all c =
+    let is_none : HasMember c.args.self.now c.args.group → ⊥ = search rules in
+    record {
+      members = [];
+      is = sym (append-nil c.args.all.now.items);
+      are = record {
+        are = λ m. (λ h. absurd (omega (arith, h.1)), λ e. absurd (is_none (m, e)));
+        once = IsDistinct-from_apart nat_eq [] (λ i j d l w. absurd (omega (arith, l, w)));
+      };
+    }
 
 pub clear_places-requires : goal.clear_places-requires
 clear_places-requires c m h =

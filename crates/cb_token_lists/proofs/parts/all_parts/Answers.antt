@@ -3,7 +3,7 @@ use Rattle.cb_matches.specs.Matches.{no_parts}
 use Rattle.cb_token_lists.proofs.Paths.{with_last}
 use Rattle.cb_token_lists.specs.Internal.{with_path, with_step}
 use Rattle.cb_token_lists.specs.declared.path.Step.{Step}
-use Rattle.cb_token_lists.proofs.parts.many_parts.Goals as goal
+use Rattle.cb_token_lists.proofs.parts.all_parts.Goals as goal
 
 pub loop-step-init : goal.loop-step-init
 loop-step-init c = (no_parts, sym c.in_ok-parts.ensures.items, refl)
