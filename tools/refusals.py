@@ -13,7 +13,7 @@ from pathlib import Path
 TOP = Path(__file__).resolve().parent.parent
 LISTED = {
     "a call of the kit was refused, and what was done before it is taken back": """cb_branch/bound.rt:add
-        cb_facts/fact_list.rt:add cb_rules/rule_table.rt:push cb_knowledge_base/globals.rt:push cb_knowledge_base/groups.rt:push""",
+        cb_rules/rule_table.rt:push cb_knowledge_base/globals.rt:push cb_knowledge_base/groups.rt:push""",
     "an error that can only be a refusal is handed on": """cb_io/putting.rt:put_text cb_session/session.rt:execute_last
         cb_command_line/arguments.rt:given_words cb_command_line/arguments.rt:given_words
         cb_command_line/arguments.rt:run_and_report cb_command_line/reports.rt:no_memory cb_command_line/reports.rt:refused""",

@@ -5,14 +5,15 @@ use Rattle.std.specs.BTreeMap.{insert_entry, is_at}
 use Rattle.std.specs.List.{AllByRecursion}
 use Rattle.cb_agenda.proofs.EntryLaws.{above_all, all_weaker, at_same, front}
 use Rattle.cb_agenda.proofs.Equality.{key-Decides, rank-Decides}
-use Rattle.cb_agenda.proofs.NumberLaws.{differs, number-cases}
+use Rattle.cb_agenda.proofs.NumberLaws.{differs}
+use Rattle.cb_number_map.proofs.Filed.{number_cases}
 use Rattle.cb_agenda.specs.Agendas.{Activation, Entries, without_key}
 use Rattle.cb_agenda.specs.Internal.{In, Numbered, Rises, current, current_key, key_in, with_current}
 use Rattle.cb_agenda.specs.Internal.RankLaws.{rank_tied}
 use Rattle.cb_agenda.specs.Ranks.{rank_cmp, rank_eq}
 use Rattle.cb_agenda.specs.declared.activations.Entry.{Entry}
 use Rattle.cb_agenda.specs.declared.rank.Rank.{Rank}
-use Rattle.cb_facts.specs.FactLists.{ChangesOnly}
+use Rattle.cb_number_map.specs.Filed.{ChangesAt}
 use Rattle.cb_matches.specs.Keys.{KeyValue, key_eq}
 
 abbrev pub Find : Type 0
@@ -99,12 +100,12 @@ without_absent find k absent (x ∷ xs) =
     ap (with_current (key_of find x) x.0) (without_absent find k absent xs)
     ∙ kept_by (key_of find x) x.0 k (current find xs) (λ q h same. absent x.1 (key_is (find x.1) x.0 q h ∙ ap (λ (l : KeyValue). Some l) (sym same)))
 
-module _ (find found : Find) (n : ℕ) (k : KeyValue) (there : key_in (find n) ≡ Some k) (only : (m : ℕ) → key_in (find m) ≡ Some k → n ≡ m) (change : ChangesOnly find found n None) where
+module _ (find found : Find) (n : ℕ) (k : KeyValue) (there : key_in (find n) ≡ Some k) (only : (m : ℕ) → key_in (find m) ≡ Some k → n ≡ m) (change : ChangesAt find found n None) where
   same_key : (q : KeyValue) → Some k ≡ Some q → k ≡ q
   same_key q h = cc
 
   removed_at : (x : Numbered) (es : Entries) → with_current (key_of found x) x.0 (without_key es k) ≡ without_key (with_current (key_of find x) x.0 es) k
-  removed_at x es = elim (number-cases n x.1) as (λ _. with_current (key_of found x) x.0 (without_key es k) ≡ without_key (with_current (key_of find x) x.0 es) k) [
+  removed_at x es = elim (number_cases n x.1) as (λ _. with_current (key_of found x) x.0 (without_key es k) ≡ without_key (with_current (key_of find x) x.0 es) k) [
     | inl same ↦ ap (λ o. with_current (current_key o x.0) x.0 (without_key es k)) (ap found (sym same) ∙ change.here)
         ∙ out_by (key_of find x) x.0 k es (λ q h. same_key q (sym there ∙ (ap (λ m. key_in (find m)) same ∙ key_is (find x.1) x.0 q h)))
     | inr other ↦ ap (λ o. with_current (current_key o x.0) x.0 (without_key es k)) (change.others x.1 other)
@@ -125,9 +126,9 @@ apart_older t x below = false_from_ne_true (is_at (rank_cmp t) x.0) (λ h.
     let stamps : t.stamp ≡ x.0.stamp = ap (λ (u : Rank). u.stamp) same in
     omega (arith, below))
 
-module _ (find found : Find) (n : ℕ) (k : KeyValue) (t : Rank) (free : find n ≡ None) (change : ChangesOnly find found n (Some (record { key = k; rank = t }))) where
+module _ (find found : Find) (n : ℕ) (k : KeyValue) (t : Rank) (free : find n ≡ None) (change : ChangesAt find found n (Some (record { key = k; rank = t }))) where
   same_before : (x : Numbered) → Older t x → key_of found x ≡ key_of find x
-  same_before x older = elim (number-cases n x.1) as (λ _. key_of found x ≡ key_of find x) [
+  same_before x older = elim (number_cases n x.1) as (λ _. key_of found x ≡ key_of find x) [
     | inl same ↦
         let now : key_of found x ≡ None = ap (λ o. current_key o x.0) (ap found (sym same) ∙ change.here) ∙ key_other k t x.0 (rank_tied t x.0 ∙ apart_older t x older) in
         let was : key_of find x ≡ None = ap (λ o. current_key o x.0) (ap find (sym same) ∙ free) in

@@ -8,7 +8,7 @@ use Rattle.cb_agenda.proofs.CurrentLaws.{Find, Older, all_current, apart_older, 
 use Rattle.cb_agenda.proofs.EntryLaws.{all_append, all_filter, all_first, all_more, all_second, all_weaker, at_itself, here_more, in_filter, in_more, not_at, rises_filter, rises_more, rises_second, rises_without}
 use Rattle.cb_agenda.proofs.Equality.{key-Decides}
 use Rattle.cb_agenda.proofs.Firing.{breadth_fires, level}
-use Rattle.cb_agenda.proofs.NumberLaws.{number-cases, same_some, some_none}
+use Rattle.cb_number_map.proofs.Filed.{number_cases, same_some, some_none}
 use Rattle.cb_agenda.proofs.PopLaws.{last_is_top, last_removed}
 use Rattle.cb_agenda.specs.Agendas.{Activation, Entries, first_to_fire, top_of}
 use Rattle.cb_agenda.specs.Internal.{In, IsFiled, IsFirst, IsNext, IsStampedUpTo, Numbered, Rises, Thinned, current, current_key, is_current, key_in, left_and_key, stays, with_current}
@@ -18,14 +18,14 @@ use Rattle.cb_agenda.specs.declared.activations.Entry.{Entry}
 use Rattle.cb_agenda.specs.declared.rank.Rank.{Rank}
 use Rattle.cb_agenda.specs.declared.strategy.Strategy.{Strategy}
 use Rattle.cb_agenda.specs.declared.strategy.Strategy.TheVariants.{Breadth, Depth}
-use Rattle.cb_facts.specs.FactLists.{ChangesOnly}
+use Rattle.cb_number_map.specs.Filed.{ChangesAt}
 use Rattle.cb_matches.specs.Keys.{KeyValue, key_eq}
 
 -- an activation goes
-pub filed_less : (xs : List Numbered) (find found : Find) (n : ℕ) → ChangesOnly find found n None → IsFiled xs find → IsFiled xs found
+pub filed_less : (xs : List Numbered) (find found : Find) (n : ℕ) → ChangesAt find found n None → IsFiled xs find → IsFiled xs found
 filed_less xs find found n change was = record {
   rising = was.rising;
-  has = λ m e h. elim (number-cases n m) as (λ _. In (e.rank, m) xs) [
+  has = λ m e h. elim (number_cases n m) as (λ _. In (e.rank, m) xs) [
     | inl same ↦ absurd (some_none (found m) h (ap found (sym same) ∙ change.here))
     | inr other ↦ was.has m e (sym (change.others m other) ∙ h)
   ];
@@ -67,10 +67,10 @@ filed_thinned xs ys find was thin up = record { rising = up; has = λ n e h. thi
 all_apart : (t : Rank) (xs : List Numbered) → AllByRecursion (Older t) xs → AllByRecursion (λ (x : Numbered). is_at (rank_cmp t) x.0 ≡ false) xs
 all_apart t xs h = all_weaker (Older t) (λ (x : Numbered). is_at (rank_cmp t) x.0 ≡ false) (apart_older t) xs h
 
-pub filed_more : (xs : List Numbered) (find found : Find) (n : ℕ) (e : Entry) → ChangesOnly find found n (Some e) → AllByRecursion (Older e.rank) xs → IsFiled xs find → IsFiled (insert_entry rank_cmp xs e.rank n) found
+pub filed_more : (xs : List Numbered) (find found : Find) (n : ℕ) (e : Entry) → ChangesAt find found n (Some e) → AllByRecursion (Older e.rank) xs → IsFiled xs find → IsFiled (insert_entry rank_cmp xs e.rank n) found
 filed_more xs find found n e change older was = record {
   rising = rises_more e.rank n xs was.rising;
-  has = λ m f h. elim (number-cases n m) as (λ _. In (f.rank, m) (insert_entry rank_cmp xs e.rank n)) [
+  has = λ m f h. elim (number_cases n m) as (λ _. In (f.rank, m) (insert_entry rank_cmp xs e.rank n)) [
     | inl same ↦
         let is : e ≡ f = same_some (found m) (ap found (sym same) ∙ change.here) h in
         subst (λ (i : ℕ). In (f.rank, i) (insert_entry rank_cmp xs e.rank n)) same (subst (λ (g : Entry). In (g.rank, n) (insert_entry rank_cmp xs e.rank n)) is (here_more e.rank n xs (all_apart e.rank xs older)))
@@ -199,9 +199,9 @@ fires Breadth find xs ys x k first up =
     first_fires (current find xs) (current find ys) (x.0, k) up (all_current (λ (t : Rank). int_cmp t.salience x.0.salience ≡ Less) find xs first.0) (all_current (λ (t : Rank). t.salience ≡ x.0.salience) find ys first.1)
 
 -- it was current
-module _ (st : Strategy) (xs fs : List Numbered) (x : Numbered) (k : KeyValue) (next : IsNext st xs x fs) (find found : Find) (was : IsFiled xs find) (there : key_of find x ≡ Some k) (change : ChangesOnly find found x.1 None) where
+module _ (st : Strategy) (xs fs : List Numbered) (x : Numbered) (k : KeyValue) (next : IsNext st xs x fs) (find found : Find) (was : IsFiled xs find) (there : key_of find x ≡ Some k) (change : ChangesAt find found x.1 None) where
   gone_same : (y : Numbered) → rank_eq x.0 y.0 ≡ false → key_of found y ≡ key_of find y
-  gone_same y apart = elim (number-cases x.1 y.1) as (λ _. key_of found y ≡ key_of find y) [
+  gone_same y apart = elim (number_cases x.1 y.1) as (λ _. key_of found y ≡ key_of find y) [
     | inl same ↦
         let now : key_of found y ≡ None = ap (λ o. current_key o y.0) (ap found (sym same) ∙ change.here) in
         let old : key_of find y ≡ None = ap (λ o. current_key o y.0) (ap find (sym same) ∙ entry_of (find x.1) x.0 k there) ∙ key_other k x.0 y.0 apart in
@@ -237,7 +237,7 @@ module _ (st : Strategy) (xs fs : List Numbered) (x : Numbered) (k : KeyValue) (
   pub filed_left : IsFiled fs found
   filed_left = record {
     rising = left_rises st xs fs x next was.rising;
-    has = λ n e h. elim (number-cases x.1 n) as (λ _. In (e.rank, n) fs) [
+    has = λ n e h. elim (number_cases x.1 n) as (λ _. In (e.rank, n) fs) [
       | inl same ↦ absurd (some_none (found n) h (ap found (sym same) ∙ change.here))
       | inr other ↦ left_in st xs fs x next (e.rank, n) (λ is. other (ap (λ (z : Numbered). z.1) (sym is))) (was.has n e (sym (change.others n other) ∙ h))
     ];

@@ -1,5 +1,5 @@
 -- Mixes of keys: numbers that depend on the key alone, and that few other keys have.
-use Rattle.std.specs.Prelude.{◌+◌, ◌*◌, ◌^◌, ◌%◌, ℕ, List, [], ◌∷◌}
+use Rattle.std.specs.Prelude.{◌+◌, ◌*◌, ◌^◌, ◌/◌, ◌%◌, ℕ, List, [], ◌∷◌}
 use Rattle.cb_matches.specs.Keys.{KeyValue, PartValue}
 
 -- one more number mixed in
@@ -11,6 +11,6 @@ abbrev pub mixed_parts : ℕ → List PartValue → ℕ
 mixed_parts mix [] = mix
 mixed_parts mix (p ∷ ps) = mixed_parts (mixed mix p.index) ps
 
--- the mix of a key: of its rule, its branch and the indices of its parts
+-- the mix of a key: of its rule, its branch and the indices of its parts; in 32 bits
 unfoldable pub mix_of : KeyValue → ℕ
-mix_of k = mixed_parts (mixed k.rule k.branch) k.parts
+mix_of k = mixed (mixed_parts (mixed k.rule k.branch) k.parts) 0 / 2 ^ 32

@@ -2,10 +2,10 @@
 ghost use Rattle.std.specs.Prelude.{◌≡◌, ◌≢◌, ◌↔◌, ℕ, [], IfOk, List, None, OnErr, OnOk, Option, Some, false, true};
 ghost use Rattle.std.specs.Option.{option_copied};
 ghost use Rattle.cb_agenda.specs.Agendas.{without_key};
-ghost use Rattle.cb_agenda.specs.Internal.{AreFound, IsFiled, LeavesAside, Numbered, current, current_key, entry_at, key_at, number_in, with_own_key};
+ghost use Rattle.cb_agenda.specs.Internal.{IsFiled, Numbered, current, current_key, entry_at, key_at, number_of};
 ghost use Rattle.cb_agenda.specs.Mixes.{mix_of, mixed};
-ghost use Rattle.cb_facts.specs.FactLists.{ChangesOnly};
-ghost use Rattle.cb_matches.specs.Keys.{KeyValue};
+ghost use Rattle.cb_matches.specs.Keys.{KeyValue, key_cmp, key_eq};
+ghost use Rattle.cb_number_map.specs.Filed.{AreFound, ChangesAt, LeavesAside, with_own_key};
 ghost use Rattle.cb_number_map.specs.NumberMaps.{number_at};
 
 use crate::rank::Rank;
@@ -42,13 +42,14 @@ pub(crate) struct Activations {
 }
 
 impl Model for Activations {
-    ghost use Rattle.cb_agenda.specs.Internal.{AreFound, Held, key_at, number_in};
+    ghost use Rattle.cb_agenda.specs.Internal.{Held, key_at, number_of};
+    ghost use Rattle.cb_number_map.specs.Filed.{AreFound};
 
     ghost Value = { Held };
 
     ghost view = { λ a. a.entries.slots };
 
-    ghost invariant = { λ a. AreFound (number_in (key_at a.entries.slots) a.filed a.aside) (key_at a.entries.slots) };
+    ghost invariant = { λ a. AreFound (number_of (key_at a.entries.slots) a.filed a.aside) (key_at a.entries.slots) };
 }
 
 impl Activations {
@@ -95,7 +96,7 @@ impl Activations {
     pub(crate) fn add(&mut self, key: Key, rank: Rank) -> Result<usize, NoMemory>
         requires { (n : ℕ) → key_at self.old n ≢ Some key }
         ensures free { IfOk result (λ n. entry_at self.old n ≡ None) }
-        ensures ok { IfOk result (λ n. ChangesOnly (entry_at self.old) (entry_at self.new)
+        ensures ok { IfOk result (λ n. ChangesAt (entry_at self.old) (entry_at self.new)
             n (Some (record { key = key; rank = rank }))) }
         ensures err { OnErr result ((n : ℕ) → entry_at self.new n ≡ entry_at self.old n) }
     {
@@ -109,7 +110,7 @@ impl Activations {
     /// Takes the activation with this number out, if there is one. It takes logarithmic time.
     pub(crate) fn remove(&mut self, number: usize) -> Option<Entry>
         ensures before { result ≡ entry_at self.old number }
-        ensures after { ChangesOnly (entry_at self.old) (entry_at self.new) number None }
+        ensures after { ChangesAt (entry_at self.old) (entry_at self.new) number None }
     {
         let entry = self.entries.try_remove(number)?;
         unfile(&mut self.filed, &mut self.aside, &entry.key, number);
@@ -120,7 +121,7 @@ impl Activations {
     pub(crate) fn take(&mut self, number: usize, rank: Rank) -> Option<Key>
         ensures before { result ≡ current_key (entry_at self.old number) rank }
         ensures none { result ≡ None → self.new ≡ self.old }
-        ensures some { result ≢ None → ChangesOnly (entry_at self.old) (entry_at self.new) number None }
+        ensures some { result ≢ None → ChangesAt (entry_at self.old) (entry_at self.new) number None }
     {
         self.current_key(number, rank)?;
         let entry = self.remove(number)?;
@@ -143,7 +144,7 @@ impl Activations {
 
 /// The number that is filed under the mix of this key, if its activation has the key.
 fn filed_with(filed: &NumberMap, entries: &Slab<Entry>, key: &Key) -> Option<usize>
-    ensures { result ≡ with_own_key (key_at entries.now.slots)
+    ensures { result ≡ with_own_key key_eq (key_at entries.now.slots)
         (number_at filed.now (mix_of key.now)) key.now }
 {
     let number = filed.get(mix_of(key))? as usize;
@@ -163,13 +164,13 @@ fn file(
     number: usize,
 ) -> Result<(), NoMemory>
     ensures ok { OnOk result ((keys more : ℕ → Option KeyValue)
-        → AreFound (number_in keys filed.old aside.old) keys
+        → AreFound (number_of keys filed.old aside.old) keys
         → ((n : ℕ) → keys n ≢ Some key.now) → keys number ≡ None
-        → ChangesOnly keys more number (Some key.now)
-        → AreFound (number_in more filed.new aside.new) more) }
+        → ChangesAt keys more number (Some key.now)
+        → AreFound (number_of more filed.new aside.new) more) }
     ensures err { OnErr result ((keys : ℕ → Option KeyValue)
-        → AreFound (number_in keys filed.old aside.old) keys
-        → AreFound (number_in keys filed.new aside.new) keys) }
+        → AreFound (number_of keys filed.old aside.old) keys
+        → AreFound (number_of keys filed.new aside.new) keys) }
 {
     let mix = mix_of(key);
     match u32::try_from(number) {
@@ -185,9 +186,9 @@ fn file(
 /// Forgets the number of an activation with this key.
 fn unfile(filed: &mut NumberMap, aside: &mut BTreeMap<Key, usize>, key: &Key, number: usize)
     ensures { (keys less : ℕ → Option KeyValue)
-        → AreFound (number_in keys filed.old aside.old) keys
-        → keys number ≡ Some key.now → ChangesOnly keys less number None
-        → AreFound (number_in less filed.new aside.new) less }
+        → AreFound (number_of keys filed.old aside.old) keys
+        → keys number ≡ Some key.now → ChangesAt keys less number None
+        → AreFound (number_of less filed.new aside.new) less }
 {
     forget_aside(aside, key);
     let mix = mix_of(key);
@@ -198,7 +199,7 @@ fn unfile(filed: &mut NumberMap, aside: &mut BTreeMap<Key, usize>, key: &Key, nu
 
 /// Takes a key out of those that stand aside. Mostly none does.
 fn forget_aside(aside: &mut BTreeMap<Key, usize>, key: &Key)
-    ensures { LeavesAside aside.old aside.new key.now }
+    ensures { LeavesAside key_cmp aside.old aside.new key.now }
 {
     if !aside.is_empty() {
         aside.remove(key);
@@ -206,7 +207,7 @@ fn forget_aside(aside: &mut BTreeMap<Key, usize>, key: &Key)
 }
 
 /// Whether this number is filed under a mix.
-fn has_filed(filed: &NumberMap, mix: u64, number: usize) -> bool
+fn has_filed(filed: &NumberMap, mix: u32, number: usize) -> bool
     ensures yes { result ≡ true → number_at filed.now mix ≡ Some number }
     ensures no { result ≡ false → number_at filed.now mix ≢ Some number }
 {
@@ -218,14 +219,14 @@ fn has_filed(filed: &NumberMap, mix: u64, number: usize) -> bool
 
 /// The mix of a key: of its rule, its branch and the indices of its parts.
 #[tactic(auto, unfolding(crate::specs::Mixes::mix_of))]
-fn mix_of(key: &Key) -> u64
+fn mix_of(key: &Key) -> u32
     ensures { result ≡ mix_of key.now }
 {
     let mut mix = mixed(key.rule(), key.branch());
     for part in key.parts() {
         mix = mixed(mix, part.index);
     }
-    mix
+    (mixed(mix, 0) >> 32) as u32
 }
 
 /// One more number mixed in.

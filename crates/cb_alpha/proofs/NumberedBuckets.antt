@@ -8,7 +8,7 @@ use Rattle.std.specs.Map.{lookup}
 use Rattle.std.specs.Option.{option_or}
 use Rattle.cb_alpha.proofs.ValuesOrder.{are_same, same_are, tied_same}
 use Rattle.cb_alpha.specs.Buckets.{Filing, values_at, values_cmp}
-use Rattle.cb_alpha.specs.Internal.Mixes.{mix_of}
+use Rattle.cb_alpha.specs.Mixes.{mix_of}
 use Rattle.cb_alpha.specs.Internal.Numbered.{AreInOrder, AreNumbered, IsMade, IsUnmade, are_those, filed_under, mix_in, number_in, number_with}
 use Rattle.cb_alpha.specs.declared.numbering.Numbers.{Numbers}
 use Rattle.cb_eval.specs.Comparison.{same}

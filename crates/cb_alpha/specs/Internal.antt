@@ -1,7 +1,5 @@
 -- Where the values stand that facts and partial matches are joined on. Numbers by their keys: Numbered. How facts are found: Joined.
--- Mixes of values: Mixes.
 pub mod Joined
-pub mod Mixes
 pub mod Numbered
 use Rattle.std.specs.Prelude.{List}
 use Rattle.cb_facts.specs.declared.value.Value.{Value}

@@ -1,6 +1,7 @@
 //! The values of the variables that facts and partial matches are joined on.
 ghost use Rattle.std.specs.Prelude.{◌≡◌, ◌∷◌, [], IfOk};
 ghost use Rattle.std.specs.Cmp.Lexicographic.{pointwise, slice_cmp, slice_partial_cmp, lists_equiv, lists_agrees, lists_total, lists_ties, lists_per, lists_po};
+ghost use Rattle.cb_alpha.specs.Mixes.{mix_of};
 ghost use Rattle.cb_facts.specs.contracts.value.ValuePartialEq.TheImpl.Laws as value_partial_eq;
 ghost use Rattle.cb_facts.specs.contracts.value.ValueEq.TheImpl.Laws as value_eq;
 ghost use Rattle.cb_facts.specs.contracts.value.ValuePartialOrd.TheImpl.Laws as value_partial_ord;
@@ -10,6 +11,7 @@ use cb_facts::Value;
 use cb_forms::NoMemory;
 use std::alloc::Global;
 use std::cmp::Ordering;
+use std::hash::{FoldHasher, Hash, Hasher};
 use std::marker::Model;
 
 /// Where the values stand: one in place, as most patterns are joined on one variable.
@@ -54,6 +56,16 @@ impl JoinValues {
         JoinValues {
             kept: Kept::Many(values),
         }
+    }
+
+    /// A number that depends on the values alone, and that few other values have: half of their hash.
+    #[tactic(auto, unfolding(crate::specs::Mixes::mix_of))]
+    pub fn mix(&self) -> u32
+        ensures { result ≡ mix_of self.now }
+    {
+        let mut hasher = FoldHasher::default();
+        Value::hash_slice(self.as_slice(), &mut hasher);
+        (hasher.finish() >> 32) as u32
     }
 
     /// The same values. Growth is refused as `NoMemory`.

@@ -3,21 +3,18 @@ ghost use Rattle.std.specs.Prelude.{◌≡◌, ◌≢◌, ◌↔◌, ℕ, [], If
 ghost use Rattle.std.specs.BTreeMap as tree;
 ghost use Rattle.std.specs.Option.{option_or};
 ghost use Rattle.cb_alpha.specs.Buckets.{AreSameFilings, Filing, values_at, values_cmp};
-ghost use Rattle.cb_alpha.specs.Internal.Mixes.{mix_of};
 ghost use Rattle.cb_alpha.specs.Internal.Numbered.{AreNumbered, IsMade, IsUnmade, KeepsValues, are_those, filed_under, mix_in, number_in, number_with};
 ghost use Rattle.cb_facts.specs.declared.value.Value.{Value as Joined};
 ghost use Rattle.cb_groups.specs.Groups.{AreMembers, HasMember};
 ghost use Rattle.cb_number_map.specs.NumberMaps.{Updates, number_at};
 
 use crate::join_values::JoinValues;
-use cb_facts::Value;
 use cb_forms::NoMemory;
 use cb_groups::Groups;
 use cb_number_map::NumberMap;
 use slab::Slab;
 use std::alloc::Global;
 use std::collections::BTreeMap;
-use std::hash::{FoldHasher, Hash, Hasher};
 
 /// How buckets are found by their values: the number of each.
 ///
@@ -81,7 +78,7 @@ impl Numbers {
         &mut self,
         alloc: Global,
         buckets: &mut Slab<JoinValues>,
-        mix: Option<u64>,
+        mix: Option<u32>,
         values: JoinValues,
     ) -> Result<u32, NoMemory>
         requires is { AreNumbered self.old buckets.old.slots }
@@ -109,7 +106,7 @@ impl Numbers {
     fn insert(
         &mut self,
         alloc: Global,
-        mix: Option<u64>,
+        mix: Option<u32>,
         values: &JoinValues,
         number: u32,
     ) -> Result<(), NoMemory>
@@ -137,18 +134,18 @@ impl Numbers {
     }
 
     /// The mix under which a bucket with these values may be filed, where buckets aren't kept in order.
-    fn mix(&self, values: &JoinValues) -> Option<u64>
+    fn mix(&self, values: &JoinValues) -> Option<u32>
         ensures { result ≡ mix_in self.now values.now }
     {
         if self.is_ordered {
             None
         } else {
-            Some(mix_of(values.as_slice()))
+            Some(values.mix())
         }
     }
 
     /// The number that is filed under a mix, if one is given.
-    fn filed_under(&self, mix: Option<u64>) -> Option<u32>
+    fn filed_under(&self, mix: Option<u32>) -> Option<u32>
         ensures { result ≡ filed_under self.now.filed mix }
     {
         self.filed.get(mix?)
@@ -193,7 +190,7 @@ fn has_values(buckets: &Slab<JoinValues>, number: u32, values: &JoinValues) -> b
 }
 
 /// A mix, if none is filed under it.
-fn free_mix(mix: Option<u64>, filed: Option<u32>) -> Option<u64>
+fn free_mix(mix: Option<u32>, filed: Option<u32>) -> Option<u32>
     ensures mix { (m : ℕ) → result ≡ Some m → mix ≡ Some m }
     ensures free { (m : ℕ) → result ≡ Some m → filed ≡ None }
 {
@@ -204,7 +201,7 @@ fn free_mix(mix: Option<u64>, filed: Option<u32>) -> Option<u64>
 }
 
 /// Drops what is filed under a mix, if it is this number.
-fn drop_filed(filed: &mut NumberMap, mix: Option<u64>, number: u32)
+fn drop_filed(filed: &mut NumberMap, mix: Option<u32>, number: u32)
     ensures gone { (m : ℕ) → mix ≡ Some m → number_at filed.old m ≡ Some number → Updates filed.old filed.new m None }
     ensures other { filed_under filed.old mix ≢ Some number → filed.new ≡ filed.old }
 {
@@ -214,16 +211,6 @@ fn drop_filed(filed: &mut NumberMap, mix: Option<u64>, number: u32)
     if filed.get(mix) == Some(number) {
         filed.remove(mix);
     }
-}
-
-/// The mix of values: their hash.
-#[tactic(auto, unfolding(crate::specs::Internal::Mixes::mix_of))]
-fn mix_of(values: &[Value]) -> u64
-    ensures { result ≡ mix_of values.now }
-{
-    let mut hasher = FoldHasher::default();
-    Value::hash_slice(values, &mut hasher);
-    hasher.finish()
 }
 
 /// Drops a bucket in which no member stands.

@@ -11,4 +11,5 @@ mod Pieces
 mod Rest
 mod Searched
 mod Shapes
+mod SpotLaws
 mod Users

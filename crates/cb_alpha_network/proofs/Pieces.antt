@@ -4,6 +4,7 @@ use Rattle.std.proofs.lemmas.Map.Keys.{sorted_head, sorted_tail}
 use Rattle.std.specs.BTreeMap.Range.{range_contains}
 use Rattle.std.specs.BTreeSet.{insert_key}
 use Rattle.std.specs.Cmp.{IsTotalOrder, tied_itself}
+use Rattle.std.specs.Cmp.Lexicographic.{slice_cmp}
 use Rattle.std.specs.List.{AllByRecursion}
 use Rattle.std.specs.List.Sorted.{IsStrictlySortedBy}
 use Rattle.std.specs.Ordering.{match_ordering, ordering_reverse, ordering_then}
@@ -23,6 +24,16 @@ pub then_equal : (r s : Ordering) → ordering_then r s ≡ Equal → (r ≡ Equ
 then_equal Less s h = cc
 then_equal Equal s h = (refl, h)
 then_equal Greater s h = cc
+
+pub then_assoc : (r s o : Ordering) → ordering_then r (ordering_then s o) ≡ ordering_then (ordering_then r s) o
+then_assoc Less s o = refl
+then_assoc Equal s o = refl
+then_assoc Greater s o = refl
+
+-- no list is less than one without members
+pub nothing_least : {A : Type 0} (R : A → A → Ordering) (xs : List A) → is_le (slice_cmp R [] xs) ≡ true
+nothing_least R [] = refl
+nothing_least R (x ∷ xs) = refl
 
 then_le : (r s : Ordering) → is_le (ordering_then r s) ≡ true → is_le r ≡ true
 then_le Less s h = refl

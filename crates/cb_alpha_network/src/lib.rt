@@ -17,6 +17,7 @@ mod filling; // the facts that have a shape
 mod memories; // alpha memories by number
 mod network; // the alpha network
 mod node_place; // the place of a pattern among the rules
+mod spots; // where the patterns for one relation ask for values
 mod user; // a node that uses a shape
 mod wanted; // what a pattern asks for
 

@@ -159,7 +159,7 @@ impl<T> AlphaNetwork<T> {
             alpha: number,
             place,
         })?;
-        self.asked.add(alloc, pattern, number)?;
+        self.asked.add(pattern, number)?;
         self.memories.put(number, memory)?;
         self.numbers.insert(shape, number)?;
         self.shapes.insert_reserved(selection);
@@ -210,7 +210,7 @@ impl<T> AlphaNetwork<T> {
         self.numbers.remove(&shape);
         self.memories.reset(number);
         match self.shapes.try_remove(number as usize) {
-            Some(selection) => self.asked.remove(alloc, selection.shape(), number),
+            Some(selection) => self.asked.remove(selection.shape(), number),
             None => Ok(()),
         }
     }
@@ -233,7 +233,7 @@ impl<T> AlphaNetwork<T> {
     {
         a_fact_that_comes_turns_an_alpha_memory();
         a_fact_that_is_not_selected_comes();
-        self.asked.numbers_for(alloc, fact, &mut self.found)?;
+        self.asked.numbers_for(fact, &mut self.found)?;
         assert_found(
             alloc,
             constants,
@@ -256,7 +256,7 @@ impl<T> AlphaNetwork<T> {
         a_fact_that_goes_turns_an_alpha_memory();
         a_fact_that_is_absent_goes();
         a_fact_that_is_not_selected_goes();
-        self.asked.numbers_for(alloc, fact, &mut self.found)?;
+        self.asked.numbers_for(fact, &mut self.found)?;
         retract_found(&mut self.memories, self.found.as_slice(), index)
     }
 

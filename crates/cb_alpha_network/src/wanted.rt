@@ -1,44 +1,58 @@
 //! What a pattern asks for.
-ghost use Rattle.std.specs.Prelude.{◌≡◌, IfOk};
-ghost use Rattle.cb_alpha_network.specs.Wanted.{wanted_of};
+ghost use Rattle.std.specs.Prelude.{◌≡◌, [], IfOk};
+ghost use Rattle.cb_alpha_network.specs.Wanted.{sought_in, wanted_of};
 
 use crate::field_places::FieldPlaces;
 use cb_alpha::JoinValues;
 use cb_facts::Name;
 use cb_fit::Pattern;
 use cb_forms::NoMemory;
-use std::alloc::{AllocError, Global};
+use std::alloc::Global;
 
-/// The places at which patterns for a relation ask for values; without any they ask for each fact of the relation.
-#[derive(PartialEq, Eq, PartialOrd, Ord, Drop)]
-pub(crate) struct Spot {
+/// The facts of a relation with these values at these places; without any places, each fact of the relation.
+#[derive(Drop)]
+pub(crate) struct Wanted {
     pub(crate) relation: Name,
     pub(crate) places: FieldPlaces,
-}
-
-impl Clone for Spot {
-    ghost use Rattle.std.specs.Prelude.{◌≡◌};
-
-    ghost is_clone = { λ spot copy. copy ≡ spot };
-
-    fn clone(&self) -> Result<Spot, AllocError> {
-        let relation = self.relation.clone()?;
-        let places = self.places.clone()?;
-        Ok(Spot { relation, places })
-    }
-}
-
-/// The facts of a relation with these values at these places.
-#[derive(PartialEq, Eq, PartialOrd, Ord, Drop)]
-pub(crate) struct Wanted {
-    pub(crate) spot: Spot,
     pub(crate) values: JoinValues,
+}
+
+/// Where patterns ask for values, by its number, and the values. Their mix stands in front of them, so that mostly numbers are compared.
+#[derive(PartialEq, Eq, PartialOrd, Ord, Drop)]
+pub(crate) struct Sought {
+    pub(crate) spot: u32,
+    mix: u32,
+    values: JoinValues,
+}
+
+impl Sought {
+    /// These values there.
+    pub(crate) fn new(spot: u32, values: JoinValues) -> Sought
+        ensures { result ≡ sought_in spot values }
+    {
+        Sought {
+            spot,
+            mix: values.mix(),
+            values,
+        }
+    }
+
+    /// What stands before all that is sought there.
+    pub(crate) fn first(alloc: Global, spot: u32) -> Sought
+        ensures { result ≡ record { spot = spot; mix = 0; values = [] } }
+    {
+        Sought {
+            spot,
+            mix: 0,
+            values: JoinValues::many(Vec::new(alloc)),
+        }
+    }
 }
 
 /// What the pattern with a number asks for.
 #[derive(PartialEq, Eq, PartialOrd, Ord, Drop)]
 pub(crate) struct Entry {
-    pub(crate) wanted: Wanted,
+    pub(crate) sought: Sought,
     pub(crate) number: u32,
 }
 
@@ -53,9 +67,9 @@ pub(crate) fn wanted_of<T>(alloc: Global, pattern: &Pattern<T>) -> Result<Wanted
         places.push(field.place)?;
         values.push(field.value)?;
     }
-    let places = FieldPlaces::from_vec(places)?;
     Ok(Wanted {
-        spot: Spot { relation, places },
+        relation,
+        places: FieldPlaces::from_vec(places)?,
         values: JoinValues::many(values),
     })
 }

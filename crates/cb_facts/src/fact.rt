@@ -5,7 +5,7 @@ ghost use Rattle.std.specs.Hash.FoldHasher as folding;
 ghost use Rattle.std.specs.Cmp.{partial_equiv_from_equiv, po};
 ghost use Rattle.std.specs.Ordering.{as_partial_cmp};
 ghost use Rattle.cb_facts.specs.Facts.{ordered_fact, template_fact, content_of, fact_eq};
-ghost use Rattle.cb_facts.specs.Internal.FactOrder.{content_writes, content_cmp, fact_cmp, hash_of, rest_cmp};
+ghost use Rattle.cb_facts.specs.Internal.FactOrder.{content_writes, content_cmp, fact_cmp, hash_of, mix_of, rest_cmp};
 ghost use Rattle.cb_facts.specs.Internal.{body_fact};
 ghost use Rattle.cb_facts.specs.Internal.FactLaws.{fact_equiv, fact_fed, fact_tied, fact_total};
 
@@ -58,6 +58,7 @@ impl Content {
 
 #[derive(Debug, Drop)]
 struct Body {
+    hash: u64,
     relation: Name,
     content: Content,
 }
@@ -83,7 +84,6 @@ impl Body {
 /// Contracts see its relation's bytes and its content.
 #[derive(Drop)]
 pub struct Fact {
-    hash: u64,
     body: Rc<Body>,
 }
 
@@ -97,7 +97,7 @@ impl Model for Fact {
 
     ghost view = { λ f. body_fact (rc_value f.body) };
 
-    ghost invariant = { λ f. IsHashOf f.hash (rc_value f.body) };
+    ghost invariant = { λ f. IsHashOf (rc_value f.body).hash (rc_value f.body) };
 }
 
 impl Fact {
@@ -125,8 +125,21 @@ impl Fact {
             (λ fact. fact ≡ record { relation = relation; content = content_of content }) }
     {
         let hash = hash_of(&relation, &content);
-        let body = Rc::new(alloc, Body { relation, content })?;
-        Ok(Fact { hash, body })
+        let body = Body {
+            hash,
+            relation,
+            content,
+        };
+        Ok(Fact {
+            body: Rc::new(alloc, body)?,
+        })
+    }
+
+    /// A number that depends on the fact alone, and that few other facts have: half of its hash. It takes constant time.
+    pub(crate) fn mix(&self) -> u32
+        ensures { result ≡ mix_of self.now }
+    {
+        (self.body.hash >> 32) as u32
     }
 
     /// The relation's bytes.
@@ -167,10 +180,7 @@ impl Clone for Fact {
 
     fn clone(&self) -> Result<Fact, AllocError> {
         let body = self.body.clone()?;
-        Ok(Fact {
-            hash: self.hash,
-            body,
-        })
+        Ok(Fact { body })
     }
 }
 
@@ -180,7 +190,7 @@ impl PartialEq for Fact {
     ghost laws = { partial_equiv_from_equiv fact_equiv };
 
     fn eq(&self, other: &Fact) -> bool {
-        if self.hash != other.hash {
+        if self.body.hash != other.body.hash {
             return false;
         }
         self.body.relation == other.body.relation && self.body.content == other.body.content
@@ -211,7 +221,7 @@ impl Ord for Fact {
     ghost matches_eq = { fact_tied };
 
     fn cmp(&self, other: &Fact) -> Ordering {
-        match self.hash.cmp(&other.hash) {
+        match self.body.hash.cmp(&other.body.hash) {
             Ordering::Equal => self.body.order(&other.body),
             unequal => unequal,
         }
@@ -224,7 +234,7 @@ impl Hash for Fact {
     ghost respects_eq = { fact_fed };
 
     fn hash<H: Hasher>(&self, state: &mut H) {
-        state.write_u64(self.hash);
+        state.write_u64(self.body.hash);
     }
 }
 

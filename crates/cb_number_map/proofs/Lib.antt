@@ -1,2 +1,3 @@
+pub mod Filed
 mod Windows
 mod Maps

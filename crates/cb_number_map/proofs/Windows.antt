@@ -4,7 +4,7 @@ use Rattle.std.proofs.lemmas.Bool.{cases_eq}
 use Rattle.std.proofs.lemmas.List.{at_drop_more, get_or-replicate, get_or-set_other, get_or-set_same, length-drop, length-replicate, length-set, take_min}
 use Rattle.std.specs.Cmp.{unsigned_Decides}
 use Rattle.std.specs.Option.{is_some, option_or}
-use Rattle.cb_number_map.specs.Slots.{HasRoom, TableUpdates, first_number, first_slot, free, number_for, number_in}
+use Rattle.cb_number_map.specs.Slots.{HasRoom, TableUpdates, first_number, first_slot, free, number_for, number_in, number_of}
 use Rattle.cb_number_map.specs.declared.slots.Slot.{Slot}
 
 -- ---- one slot
@@ -17,21 +17,21 @@ either_none : (b : Bool) (o : Option ℕ) → o ≡ None → (if b then o else N
 either_none true o e = e
 either_none false o e = refl
 
-pub slot_here : (key : ℕ) (s : Slot) → s.key ≡ key → number_for key s ≡ s.number
-slot_here key s e = ap (λ b. if b then s.number else None) ((unsigned_Decides s.key key).1 e)
+pub slot_here : (key : ℕ) (s : Slot) → s.key ≡ key → number_for key s ≡ number_of s
+slot_here key s e = ap (λ b. if b then number_of s else None) ((unsigned_Decides s.key key).1 e)
 
 pub slot_other : (key : ℕ) (s : Slot) → s.key ≢ key → number_for key s ≡ None
 slot_other key s d = by_test (nat_eq s.key key)
     (λ t. absurd (d ((unsigned_Decides s.key key).0 t)))
-    (λ f. ap (λ b. if b then s.number else None) f)
+    (λ f. ap (λ b. if b then number_of s else None) f)
 
-pub slot_free : (key : ℕ) (s : Slot) → s.number ≡ None → number_for key s ≡ None
-slot_free key s e = either_none (nat_eq s.key key) s.number e
+pub slot_free : (key : ℕ) (s : Slot) → number_of s ≡ None → number_for key s ≡ None
+slot_free key s e = either_none (nat_eq s.key key) (number_of s) e
 
-pub slot_has : (key n : ℕ) (s : Slot) → number_for key s ≡ Some n → (s.key ≡ key) × (s.number ≡ Some n)
+pub slot_has : (key n : ℕ) (s : Slot) → number_for key s ≡ Some n → (s.key ≡ key) × (number_of s ≡ Some n)
 slot_has key n s h = by_test (nat_eq s.key key)
-    (λ t. ((unsigned_Decides s.key key).0 t, sym (ap (λ b. if b then s.number else None) t) ∙ h))
-    (λ f. absurd (let no : None ≡ Some n = sym (ap (λ b. if b then s.number else None) f) ∙ h in cc))
+    (λ t. ((unsigned_Decides s.key key).0 t, sym (ap (λ b. if b then number_of s else None) t) ∙ h))
+    (λ f. absurd (let no : None ≡ Some n = sym (ap (λ b. if b then number_of s else None) f) ∙ h in cc))
 
 or_none : (o p : Option ℕ) → option_or o p ≡ None → (o ≡ None) × (p ≡ None)
 or_none None p e = (refl, e)
@@ -85,11 +85,17 @@ module _ (key n : ℕ) (v : Slot) (some : number_for key v ≡ Some n) where
       ap (λ c. first_number key (take 8 (drop (first_slot key c) (set xs i v)))) (length-set xs i v)
       ∙ there_window xs (first_slot key (length xs)) 8 i room.behind room.before room.within h
 
-pub put_updates : (xs : List Slot) (key n i : ℕ) → HasRoom xs key i → number_in xs key ≡ None → TableUpdates xs (set xs i (record { key = key; number = Some n })) key (Some n)
-put_updates xs key n i room absent =
-    let v : Slot = record { key = key; number = Some n } in
+-- the slot whose number is before this one
+number_next : (key n next : ℕ) → next ≡ n + 1 → number_of (record { key = key; next = next }) ≡ Some n
+number_next key n next e = by_test (nat_eq next 0)
+    (λ t. absurd (let zero : next ≡ 0 = (unsigned_Decides next 0).0 t in omega (arith, e, zero)))
+    (λ f. ap (λ b. if b then None else Some (next - 1)) f ∙ ap Some (let same : next - 1 ≡ n = omega (arith, e) in same))
+
+pub put_updates : (xs : List Slot) (key n next i : ℕ) → next ≡ n + 1 → HasRoom xs key i → number_in xs key ≡ None → TableUpdates xs (set xs i (record { key = key; next = next })) key (Some n)
+put_updates xs key n next i e room absent =
+    let v : Slot = record { key = key; next = next } in
     record {
-      changed = there_table key n v (slot_here key v refl) xs i room absent;
+      changed = there_table key n v (slot_here key v refl ∙ number_next key n next e) xs i room absent;
       others = λ other d. same_table other v (slot_other other v (λ e. d (sym e))) xs i (slot_free other (get_or xs i free) room.room);
     }
 
@@ -124,7 +130,7 @@ module _ (key from i : ℕ) (xs : List Slot) (so_far : (j : ℕ) → from ≤ j 
     | inr d ↦ so_far j f (omega (arith, l, d))
   ]
 
-  pub cleared_more : (v : Slot) → v.number ≡ None → i < length xs → (j : ℕ) → from ≤ j → j < i + 1 → number_for key (get_or (set xs i v) j free) ≡ None
+  pub cleared_more : (v : Slot) → number_of v ≡ None → i < length xs → (j : ℕ) → from ≤ j → j < i + 1 → number_for key (get_or (set xs i v) j free) ≡ None
   cleared_more v empty w j f l = elim (cases_eq j i) as (λ _. number_for key (get_or (set xs i v) j free) ≡ None) [
     | inl e ↦ ap (λ k. number_for key (get_or (set xs i v) k free)) e ∙ (ap (number_for key) (get_or-set_same xs i v free w) ∙ slot_free key v empty)
     | inr d ↦ ap (number_for key) (get_or-set_other xs i j v free d) ∙ so_far j f (omega (arith, l, d))
@@ -136,11 +142,11 @@ or_there : (o p : Option ℕ) → is_some o ≡ true → option_or o p ≡ o
 or_there None p e = absurd (let no : false ≡ true = e in cc)
 or_there (Some n) p e = refl
 
-pub seen_here : (key : ℕ) (xs : List Slot) (i : ℕ) → i < length xs → (get_or xs i free).key ≡ key → is_some (get_or xs i free).number ≡ true → first_number key (drop i xs) ≡ (get_or xs i free).number
+pub seen_here : (key : ℕ) (xs : List Slot) (i : ℕ) → i < length xs → (get_or xs i free).key ≡ key → is_some (number_of (get_or xs i free)) ≡ true → first_number key (drop i xs) ≡ number_of (get_or xs i free)
 seen_here key xs i l e some =
     at_drop_more (first_number key) xs i free l
     ∙ (ap (λ o. option_or o (first_number key (drop (i + 1) xs))) (slot_here key (get_or xs i free) e)
-    ∙ or_there (get_or xs i free).number (first_number key (drop (i + 1) xs)) some)
+    ∙ or_there (number_of (get_or xs i free)) (first_number key (drop (i + 1) xs)) some)
 
 pub window_seen : (key from to : ℕ) (xs : List Slot) → from ≡ first_slot key (length xs) → to ≡ min (first_slot key (length xs) + 8) (length xs) → first_number key (take (to - from) (drop from xs)) ≡ number_in xs key
 unfolding number_in

@@ -1,3 +1,4 @@
 pub mod NumberMaps
 pub mod Slots
+pub mod Filed
 pub mod Internal

@@ -1,15 +1,19 @@
 -- The slots of a table, and where a key stands.
-use Rattle.std.specs.Prelude.{◌≡◌, ◌≢◌, ◌+◌, ◌-◌, ◌*◌, ◌/◌, ◌%◌, ◌^◌, ◌<◌, ◌≤◌, ℕ, List, [], ◌∷◌, Option, None, bit_xor, drop, if◌then◌else◌, length, min, nat_eq, slice_index_or, take}
+use Rattle.std.specs.Prelude.{◌≡◌, ◌≢◌, ◌+◌, ◌-◌, ◌*◌, ◌/◌, ◌%◌, ◌^◌, ◌<◌, ◌≤◌, ℕ, List, [], ◌∷◌, Option, None, Some, drop, if◌then◌else◌, length, min, nat_eq, slice_index_or, take}
 use Rattle.std.specs.Option.{option_or}
 use Rattle.cb_number_map.specs.declared.slots.Slot.{Slot}
 
 -- a slot without a key
 abbrev pub free : Slot
-free = record { key = 0; number = None }
+free = record { key = 0; next = 0 }
+
+-- the number of a slot, if it has a key
+abbrev pub number_of : Slot → Option ℕ
+number_of slot = if nat_eq slot.next 0 then None else Some (slot.next - 1)
 
 -- the number that a slot has for a key
 abbrev pub number_for : ℕ → Slot → Option ℕ
-number_for key slot = if nat_eq slot.key key then slot.number else None
+number_for key slot = if nat_eq slot.key key then number_of slot else None
 
 -- the first number that slots have for a key
 abbrev pub first_number : ℕ → List Slot → Option ℕ
@@ -18,7 +22,7 @@ first_number key (slot ∷ slots) = option_or (number_for key slot) (first_numbe
 
 -- a key spread over 32 bits
 abbrev pub spread : ℕ → ℕ
-spread key = ((bit_xor key (key / 2 ^ 32) * 11400714819323198485) % 2 ^ 64) / 2 ^ 32
+spread key = ((key * 11400714819323198485) % 2 ^ 64) / 2 ^ 32
 
 -- the place at which the window of a key begins, of a table of so many slots
 unfoldable pub start_of : ℕ → ℕ → ℕ
@@ -41,4 +45,4 @@ pub record HasRoom (slots : List Slot) (key index : ℕ) : Type 0 where
   pub behind : first_slot key (length slots) ≤ index
   pub before : index < first_slot key (length slots) + 8
   pub within : index < length slots
-  pub room : (slice_index_or slots index free).number ≡ None
+  pub room : number_of (slice_index_or slots index free) ≡ None

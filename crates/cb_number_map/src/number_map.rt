@@ -17,7 +17,7 @@ const KEPT: usize = 64;
 /// It is a table, in which a key may stand in one of eight slots, and an ordered map for the keys that find no room there. Where a key
 /// finds no room and the table is half full, it is made anew with twice as many slots. So a call takes constant time where few keys
 /// want the same slots, and logarithmic time whatever the keys are, but for the growth of the table. A few keys take a few slots, of
-/// 16 bytes each; a long table is taken to a quarter or more when it has grown.
+/// 8 bytes each; a long table is taken to a quarter or more when it has grown.
 ///
 /// Contracts see the number of each key.
 #[derive(Drop)]
@@ -27,7 +27,7 @@ pub struct NumberMap {
     /// How many keys stand in the table, by which it is chosen when it grows.
     taken: usize,
     /// The keys that found no room in the table.
-    aside: BTreeMap<u64, u32>,
+    aside: BTreeMap<u32, u32>,
 }
 
 impl NumberMap {
@@ -45,7 +45,7 @@ impl NumberMap {
 
     /// The number of a key, if the map has the key.
     #[tactic(auto, unfolding(crate::specs::NumberMaps::number_at))]
-    pub fn get(&self, key: u64) -> Option<u32>
+    pub fn get(&self, key: u32) -> Option<u32>
         ensures { result ≡ number_at self.now key }
     {
         match number_in(self.slots.as_slice(), key) {
@@ -55,7 +55,7 @@ impl NumberMap {
     }
 
     /// Adds a key that the map doesn't have, with its number. Growth is refused as `NoMemory`, and then nothing has changed.
-    pub fn insert(&mut self, key: u64, number: u32) -> Result<(), NoMemory>
+    pub fn insert(&mut self, key: u32, number: u32) -> Result<(), NoMemory>
         requires { number_at self.old key ≡ None }
         ensures ok { OnOk result (Updates self.old self.new key (Some number)) }
         ensures err { OnErr result (AreSameNumbers self.old self.new) }
@@ -70,7 +70,7 @@ impl NumberMap {
     }
 
     /// Takes a key out, if the map has it. A long table is given back with the last key.
-    pub fn remove(&mut self, key: u64)
+    pub fn remove(&mut self, key: u32)
         ensures { Updates self.old self.new key None }
     {
         self.take_out(key);
@@ -81,7 +81,7 @@ impl NumberMap {
 
     /// Takes a key out, if the map has it. The table keeps its memory for the keys that come next.
     #[tactic(auto, unfolding(crate::specs::NumberMaps::number_at))]
-    pub fn take_out(&mut self, key: u64)
+    pub fn take_out(&mut self, key: u32)
         ensures { Updates self.old self.new key None }
     {
         if clear(self.slots.as_mut_slice(), key) {
@@ -101,7 +101,7 @@ impl NumberMap {
     }
 
     /// Puts a key that the map doesn't have into the table. The answer is whether there is room for it.
-    fn put(&mut self, key: u64, number: u32) -> bool
+    fn put(&mut self, key: u32, number: u32) -> bool
         requires { number_at self.old key ≡ None }
         ensures put { result ≡ true → Updates self.old self.new key (Some number) }
         ensures full { result ≡ false → AreSameNumbers self.old self.new }
@@ -115,7 +115,7 @@ impl NumberMap {
 
     /// Adds a key that the map doesn't have, aside if there is no room for it in the table. Growth is refused as `NoMemory`, and then
     /// nothing has changed.
-    fn add(&mut self, key: u64, number: u32) -> Result<(), NoMemory>
+    fn add(&mut self, key: u32, number: u32) -> Result<(), NoMemory>
         requires { number_at self.old key ≡ None }
         ensures ok { OnOk result (Updates self.old self.new key (Some number)) }
         ensures err { OnErr result (AreSameNumbers self.old self.new) }
@@ -150,7 +150,7 @@ impl NumberMap {
             → number_at self.new key ≡ number_at other.now key) }
     {
         for slot in other.slots.as_slice() {
-            if slot.number.is_some() {
+            if slot.number().is_some() {
                 self.take_over(other, slot.key)?;
             }
         }
@@ -171,7 +171,7 @@ impl NumberMap {
     }
 
     /// Takes over what another map has for a key. Growth is refused as `NoMemory`.
-    fn take_over(&mut self, other: &NumberMap, key: u64) -> Result<(), NoMemory>
+    fn take_over(&mut self, other: &NumberMap, key: u32) -> Result<(), NoMemory>
         requires { AreAmong self.old other.now }
         ensures { OnOk result (TakesOver self.old self.new other.now key) }
     {

@@ -1,6 +1,6 @@
 //! The slots of a table, and where a key stands.
 ghost use Rattle.std.specs.Prelude.{◌≡◌, ◌≤◌, ◌+◌, ◌-◌, ℕ, IfOk, IfSome, None, Some, false, min, true};
-ghost use Rattle.cb_number_map.specs.Slots.{HasRoom, TableUpdates, first_slot, number_in, start_of};
+ghost use Rattle.cb_number_map.specs.Slots.{HasRoom, TableUpdates, first_slot, number_in, number_of, start_of};
 
 use cb_forms::NoMemory;
 use std::alloc::Global;
@@ -12,16 +12,23 @@ pub(crate) const WINDOW: usize = 8;
 const MULTIPLIER: u64 = 11_400_714_819_323_198_485;
 
 /// A slot without a key.
-const FREE: Slot = Slot {
-    key: 0,
-    number: None,
-};
+const FREE: Slot = Slot { key: 0, next: 0 };
 
 /// A slot: a key with its number, or none.
 #[derive(Clone, Copy)]
 pub(crate) struct Slot {
-    pub(crate) key: u64,
-    pub(crate) number: Option<u32>,
+    pub(crate) key: u32,
+    /// The number after the key's, or 0 where there is no key.
+    next: u32,
+}
+
+impl Slot {
+    /// The number, if the slot has a key.
+    pub(crate) fn number(self) -> Option<u32>
+        ensures { result ≡ number_of self }
+    {
+        self.next.checked_sub(1)
+    }
 }
 
 /// So many free slots. Growth is refused as `NoMemory`.
@@ -49,42 +56,42 @@ pub(crate) fn longer(length: usize) -> usize {
 }
 
 /// The number that a table has for a key. It takes constant time.
-pub(crate) fn number_in(slots: &[Slot], key: u64) -> Option<u32>
+pub(crate) fn number_in(slots: &[Slot], key: u32) -> Option<u32>
     ensures { result ≡ number_in slots.now key }
 {
     let (from, to) = window(slots.len(), key);
     for slot in &slots[from..to] {
-        if slot.key == key && slot.number.is_some() {
-            return slot.number;
+        if slot.key == key && slot.number().is_some() {
+            return slot.number();
         }
     }
     None
 }
 
-/// Puts a key, which the table doesn't have, into the first free slot of its window. The answer is whether there is one. It takes
-/// constant time.
-pub(crate) fn put(slots: &mut [Slot], key: u64, number: u32) -> bool
+/// Puts a key, which the table doesn't have, into the first free slot of its window. The answer is whether there is one, and the number
+/// isn't the greatest of 32 bits. It takes constant time.
+pub(crate) fn put(slots: &mut [Slot], key: u32, number: u32) -> bool
     requires { number_in slots.old key ≡ None }
     ensures put { result ≡ true → TableUpdates slots.old slots.new key (Some number) }
     ensures full { result ≡ false → slots.new ≡ slots.old }
 {
+    let Some(next) = number.checked_add(1) else {
+        return false;
+    };
     let Some(index) = free_slot(slots, key) else {
         return false;
     };
-    slots[index] = Slot {
-        key,
-        number: Some(number),
-    };
+    slots[index] = Slot { key, next };
     true
 }
 
 /// The first free slot of a key's window.
-fn free_slot(slots: &[Slot], key: u64) -> Option<usize>
+fn free_slot(slots: &[Slot], key: u32) -> Option<usize>
     ensures { IfSome result (HasRoom slots.now key) }
 {
     let (from, to) = window(slots.len(), key);
     for index in from..to {
-        if slots[index].number.is_none() {
+        if slots[index].number().is_none() {
             return Some(index);
         }
     }
@@ -92,15 +99,15 @@ fn free_slot(slots: &[Slot], key: u64) -> Option<usize>
 }
 
 /// Frees the slot of a key, if there is one. The answer is whether there was. It takes constant time.
-pub(crate) fn clear(slots: &mut [Slot], key: u64) -> bool
+pub(crate) fn clear(slots: &mut [Slot], key: u32) -> bool
     ensures { TableUpdates slots.old slots.new key None }
 {
     let mut found = false;
     let (from, to) = window(slots.len(), key);
     for index in from..to {
         if slots[index].key == key {
-            found = found || slots[index].number.is_some();
-            slots[index].number = None;
+            found = found || slots[index].number().is_some();
+            slots[index].next = 0;
         }
     }
     found
@@ -111,7 +118,7 @@ pub(crate) fn are_free(slots: &[Slot]) -> bool
     ensures { result ≡ true → (key : ℕ) → number_in slots.now key ≡ None }
 {
     for slot in slots {
-        if slot.number.is_some() {
+        if slot.number().is_some() {
             return false;
         }
     }
@@ -119,7 +126,7 @@ pub(crate) fn are_free(slots: &[Slot]) -> bool
 }
 
 /// The slots in which a key may stand, of a table of so many: from the first number on, before the second.
-fn window(length: usize, key: u64) -> (usize, usize)
+fn window(length: usize, key: u32) -> (usize, usize)
     ensures from { result.0 ≡ first_slot key length }
     ensures to { result.1 ≡ min (first_slot key length + 8) length }
     ensures order { result.0 ≤ result.1 }
@@ -131,9 +138,9 @@ fn window(length: usize, key: u64) -> (usize, usize)
 
 /// The place at which the window of a key begins, of a table of so many slots.
 #[tactic(auto, unfolding(crate::specs::Slots::start_of))]
-fn start_of(length: usize, key: u64) -> usize
+fn start_of(length: usize, key: u32) -> usize
     ensures { result ≡ start_of key length }
 {
-    let spread = (key ^ (key >> 32)).wrapping_mul(MULTIPLIER) >> 32;
+    let spread = u64::from(key).wrapping_mul(MULTIPLIER) >> 32;
     (spread.wrapping_mul(places(length) as u64) >> 32) as usize
 }

@@ -11,13 +11,13 @@ const CALLS: u64 = 3000;
 const KEYS: u64 = 150;
 
 /// Keys that are so many times this all want the same slots.
-const SAME_SLOTS: u64 = 17428512612931826493;
+const SAME_SLOTS: u32 = 832_040;
 
 #[derive(Clone, Copy)]
 enum Call {
     /// The key has this number from now on.
-    Set(u64, u32),
-    Remove(u64),
+    Set(u32, u32),
+    Remove(u32),
 }
 
 /// The next state of the generator, a linear congruential one.
@@ -28,13 +28,12 @@ fn next(state: u64) -> u64 {
 }
 
 /// A key: of those near each other, or of those that all want the same slots.
-fn key_of(drawn: u64) -> u64 {
-    let number = drawn / 2 % KEYS;
+fn key_of(drawn: u64) -> u32 {
+    let number = (drawn / 2 % KEYS) as u32;
     if drawn % 2 == 0 {
         return number;
     }
-    let wanted = number.wrapping_mul(SAME_SLOTS);
-    wanted ^ (wanted >> 32)
+    number.wrapping_mul(SAME_SLOTS)
 }
 
 /// The call that a state of the generator stands for. In the first half most keys come, in the second most go.
@@ -52,7 +51,7 @@ fn call_of(state: u64, number: u64) -> Call {
 /// Makes a call of both.
 fn make(
     numbers: &mut NumberMap,
-    wanted: &mut BTreeMap<u64, u32>,
+    wanted: &mut BTreeMap<u32, u32>,
     call: &Call,
 ) -> Result<(), NoMemory> {
     match call {
@@ -70,7 +69,7 @@ fn make(
 }
 
 /// Whether both have the same number for each key.
-fn are_alike(numbers: &NumberMap, wanted: &BTreeMap<u64, u32>) -> bool {
+fn are_alike(numbers: &NumberMap, wanted: &BTreeMap<u32, u32>) -> bool {
     for drawn in 0..2 * KEYS {
         let key = key_of(drawn);
         if numbers.get(key) != wanted.get(&key).copied() {

@@ -6,7 +6,7 @@ use Rattle.std.specs.Cmp.Lexicographic.{pointwise}
 use Rattle.std.specs.Option.{option_and_then, option_or}
 use Rattle.std.specs.declared.cmp.Ordering.{Ordering}
 use Rattle.cb_alpha.specs.Buckets.{Filing, IsWithin, values_at, values_cmp}
-use Rattle.cb_alpha.specs.Internal.Mixes.{mix_of}
+use Rattle.cb_alpha.specs.Mixes.{mix_of}
 use Rattle.cb_alpha.specs.declared.numbering.Numbers.{Numbers}
 use Rattle.cb_facts.specs.contracts.value.ValuePartialEq.TheImpl as value_eq
 use Rattle.cb_facts.specs.declared.value.Value.{Value}

@@ -1,5 +1,5 @@
 -- The hash of a fact, and in which order tables have facts.
-use Rattle.std.specs.Prelude.{◌++◌, ℕ, List, [], ◌∷◌, fold}
+use Rattle.std.specs.Prelude.{◌++◌, ◌/◌, ◌^◌, ℕ, List, [], ◌∷◌, fold}
 use Rattle.std.specs.Cmp.Lexicographic.{slice_cmp}
 use Rattle.std.specs.Hash as fed
 use Rattle.std.specs.Hash.{HashWrites}
@@ -30,6 +30,10 @@ hash_from relation writes = folding.finish (fold folding.write (folding.write fo
 -- the hash of a fact
 abbrev pub hash_of : FactValue → ℕ
 hash_of f = hash_from f.relation (content_writes f.content)
+
+-- half of it: a number of 32 bits
+abbrev pub mix_of : FactValue → ℕ
+mix_of f = hash_of f / 2 ^ 32
 
 -- slots in order: by their names, then by their values
 abbrev pub slot_cmp : List ℕ × Value → List ℕ × Value → Ordering

@@ -1,7 +1,7 @@
 use Rattle.std.proofs.Common.{◌≡◌, ℕ, None, Some, rules, subst, sym, ◌∙◌}
 use Rattle.cb_agenda.proofs.CurrentLaws.{key_of}
 use Rattle.cb_agenda.proofs.DueLaws.{current_left, filed_left, stale_left, stamped_left}
-use Rattle.cb_agenda.proofs.NumberLaws.{some_none}
+use Rattle.cb_number_map.proofs.Filed.{some_none}
 use Rattle.cb_agenda.specs.Agendas.{Entries, top_of}
 use Rattle.cb_agenda.specs.Internal.{Held, IsFiled, IsNext, IsStampedUpTo, Numbered, current, entry_at, left_and_key}
 use Rattle.cb_agenda.proofs.due.pop_current.Goals as goal

@@ -6,7 +6,7 @@ use Rattle.cb_agenda.proofs.LaneCalls.{ok_of, on_err, on_ok}
 use Rattle.cb_agenda.specs.Agendas.{Entries}
 use Rattle.cb_agenda.specs.Internal.{IsFiled, IsStampedUpTo, Numbered, current, entry_at}
 use Rattle.cb_agenda.specs.Ranks.{rank_cmp}
-use Rattle.cb_facts.specs.FactLists.{ChangesOnly}
+use Rattle.cb_number_map.specs.Filed.{ChangesAt}
 use Rattle.cb_matches.specs.Keys.{KeyValue}
 use Rattle.cb_agenda.proofs.due.put_in.Goals as goal
 
@@ -25,7 +25,7 @@ returns-else-is_err-clause-filed c =
     let t = c.args.rank in
     let n = c.in_ok-number.number in
     let own : c.in_ok-own.own ≡ k = search rules in
-    let change : ChangesOnly find found n (Some (record { key = k; rank = t })) = subst (λ (l : KeyValue). ChangesOnly find found n (Some (record { key = l; rank = t }))) own c.in_ok-number.ensures.ok in
+    let change : ChangesAt find found n (Some (record { key = k; rank = t })) = subst (λ (l : KeyValue). ChangesAt find found n (Some (record { key = l; rank = t }))) own c.in_ok-number.ensures.ok in
     let older = older_all c.requires.above.0 t es c.requires.above.2 (c.remove_from.ensures.stamped c.requires.above.0 c.requires.above.1) in
     let is : c.push-pushed.new.self ≡ insert_entry rank_cmp es t n = ok_of _ c.push-pushed.result (search rules) c.push-pushed.ensures.ok in
     subst (λ (xs : List Numbered). IsFiled xs found) (sym is) (filed_more es find found n (record { key = k; rank = t }) change older c.remove_from.ensures.filed)
@@ -39,7 +39,7 @@ returns-else-is_err-clause-due c =
     let t = c.args.rank in
     let n = c.in_ok-number.number in
     let own : c.in_ok-own.own ≡ k = search rules in
-    let change : ChangesOnly find found n (Some (record { key = k; rank = t })) = subst (λ (l : KeyValue). ChangesOnly find found n (Some (record { key = l; rank = t }))) own c.in_ok-number.ensures.ok in
+    let change : ChangesAt find found n (Some (record { key = k; rank = t })) = subst (λ (l : KeyValue). ChangesAt find found n (Some (record { key = l; rank = t }))) own c.in_ok-number.ensures.ok in
     let older = older_all c.requires.above.0 t es c.requires.above.2 (c.remove_from.ensures.stamped c.requires.above.0 c.requires.above.1) in
     on_ok _ _ c.push-pushed.result
     (λ is. ap (current found) is ∙ (put find found n k t c.in_ok-number.ensures.free change es older c.remove_from.ensures.filed.rising ∙ ap (λ (fs : Entries). insert_entry rank_cmp fs t k) c.remove_from.ensures.due))

@@ -1,4 +1,4 @@
-use Rattle.std.proofs.Common.{◌≡◌, ◌∙◌, None, ap, arith, get_or, length, refl, sym}
+use Rattle.std.proofs.Common.{◌≡◌, ◌∙◌, ap, arith, get_or, length, refl, sym}
 use Rattle.cb_number_map.proofs.Windows.{cleared_more, none_more, none_table, same_table, slot_other}
 use Rattle.cb_number_map.specs.Slots.{first_slot, free, number_for, number_in}
 use Rattle.cb_number_map.specs.declared.slots.Slot.{Slot}
@@ -13,7 +13,7 @@ loop-index-preserved c =
     let from = first_slot key (length c.args.slots.now) in
     elim c.if-slots-index.branch [
       | then-slots-index w ↦
-          let v : Slot = record { key = (get_or xs i free).key; number = None } in
+          let v : Slot = record { key = (get_or xs i free).key; next = 0 } in
           let is : v.key ≡ key = w.if-slots-index.true in
           record {
             others = λ other d.

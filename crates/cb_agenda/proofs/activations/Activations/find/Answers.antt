@@ -1,7 +1,8 @@
 use Rattle.std.proofs.Common.{◌≡◌, Some, ap, rules, subst, sym, ◌∙◌}
 use Rattle.std.specs.BTreeMap.{get}
 use Rattle.cb_agenda.proofs.NumberLaws.{found_as}
-use Rattle.cb_agenda.specs.Internal.{Held, first_of, key_at, number_in}
+use Rattle.std.specs.Option.{option_or}
+use Rattle.cb_agenda.specs.Internal.{Held, key_at, number_of}
 use Rattle.cb_matches.specs.Keys.{key_cmp}
 use Rattle.cb_agenda.proofs.activations.Activations.find.Goals as goal
 
@@ -9,15 +10,15 @@ pub returns-in-Some : goal.returns-in-Some
 returns-in-Some c = λ n.
     let own = c.self.inside in
     let k = c.args.key.now in
-    let found : number_in (key_at own.entries.slots) own.filed own.aside k ≡ Some c.in-Some.number = ap (λ o. first_of o (get key_cmp own.aside k)) (sym c.filed_with.ensures ∙ c.in-Some.is) in
+    let found : number_of (key_at own.entries.slots) own.filed own.aside k ≡ Some c.in-Some.number = ap (λ o. option_or o (get key_cmp own.aside k)) (sym c.filed_with.ensures ∙ c.in-Some.is) in
     subst (λ (held : Held). (Some c.in-Some.number ≡ Some n → key_at held n ≡ Some k) × (key_at held n ≡ Some k → Some c.in-Some.number ≡ Some n)) c.self.view_is
-    (found_as (number_in (key_at own.entries.slots) own.filed own.aside) (key_at own.entries.slots) k (Some c.in-Some.number) c.self.invariant found n)
+    (found_as (number_of (key_at own.entries.slots) own.filed own.aside) (key_at own.entries.slots) k (Some c.in-Some.number) c.self.invariant found n)
 
 pub returns-in-None : goal.returns-in-None
 returns-in-None c = λ n.
     let own = c.self.inside in
     let k = c.args.key.now in
     let aside : c.copied.result ≡ get key_cmp own.aside k = search rules in
-    let found : number_in (key_at own.entries.slots) own.filed own.aside k ≡ c.copied.result = ap (λ o. first_of o (get key_cmp own.aside k)) (sym c.filed_with.ensures ∙ c.in-None.is) ∙ sym aside in
+    let found : number_of (key_at own.entries.slots) own.filed own.aside k ≡ c.copied.result = ap (λ o. option_or o (get key_cmp own.aside k)) (sym c.filed_with.ensures ∙ c.in-None.is) ∙ sym aside in
     subst (λ (held : Held). (c.copied.result ≡ Some n → key_at held n ≡ Some k) × (key_at held n ≡ Some k → c.copied.result ≡ Some n)) c.self.view_is
-    (found_as (number_in (key_at own.entries.slots) own.filed own.aside) (key_at own.entries.slots) k c.copied.result c.self.invariant found n)
+    (found_as (number_of (key_at own.entries.slots) own.filed own.aside) (key_at own.entries.slots) k c.copied.result c.self.invariant found n)

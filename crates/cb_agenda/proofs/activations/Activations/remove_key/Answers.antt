@@ -1,6 +1,6 @@
 use Rattle.std.proofs.Common.{◌≡◌, None, Some, rules}
 use Rattle.cb_agenda.proofs.CurrentLaws.{removed, without_absent}
-use Rattle.cb_agenda.proofs.NumberLaws.{same_some, some_none}
+use Rattle.cb_number_map.proofs.Filed.{same_some, some_none}
 use Rattle.cb_agenda.specs.Internal.{entry_at}
 use Rattle.cb_agenda.proofs.activations.Activations.remove_key.Goals as goal
 

@@ -1,66 +1,52 @@
-use Rattle.std.proofs.Common.{◌≡◌, ◌⊎◌, ◌∙◌, ◌∷◌, ℕ, List, [], false, filter, inl, inr, rules, subst, sym}
-use Rattle.std.specs.BTreeMap.Range.{range_contains}
-use Rattle.std.specs.declared.ops.Bound.TheVariants.{Included, Unbounded}
-use Rattle.cb_alpha_network.proofs.Found.{AreAdded, has_relation, in_relation}
-use Rattle.cb_alpha_network.proofs.Order.{not_so, spot_cmp}
-use Rattle.cb_alpha_network.proofs.Pieces.{none_further, one_further, run}
+use Rattle.std.proofs.Common.{◌≡◌, ◌⊎◌, ◌∙◌, ◌+◌, suc, ℕ, List, [], None, Some, ap, arith, drop, inl, inr, length, rules, subst, sym}
+use Rattle.std.proofs.lemmas.List.{at_drop_all}
+use Rattle.std.specs.BTreeMap.{get}
+use Rattle.cb_alpha_network.proofs.Found.{AreAdded}
+use Rattle.cb_alpha_network.proofs.SpotLaws.{no_answer, one_answer, one_less_ahead, spot_with}
 use Rattle.cb_alpha_network.proofs.asked.Asked.add_numbers.Goals as goal
-use Rattle.cb_alpha_network.specs.declared.wanted.Spot.{Spot}
-use Rattle.cb_fit.specs.declared.field_place.FieldPlace.{FieldPlace}
+use Rattle.cb_alpha_network.specs.Asked.{name_cmp}
+use Rattle.cb_alpha_network.specs.declared.spots.Spot.{Spot}
 use Rattle.cb_matches.specs.Chains.{In}
-
--- from where the look-up starts
-from : (r : List ℕ) (places : List FieldPlace) (keys : List Spot) (s : Spot) → [] ≡ places
-    → In s (run (has_relation r) (filter (range_contains spot_cmp (Included (record { relation = r; places = [] })) Unbounded) keys))
-    → In s (run (has_relation r) (filter (range_contains spot_cmp (Included (record { relation = r; places = places })) Unbounded) keys))
-from r places keys s none h = subst (λ (ps : List FieldPlace). In s (run (has_relation r) (filter (range_contains spot_cmp (Included (record { relation = r; places = ps })) Unbounded) keys))) none h
-
-pub returns-then-ne : goal.returns-then-ne
-returns-then-ne c =
-    λ entry there wants.
-    let r = c.in_ok-clone.field-0 in
-    let is : r ≡ c.args.fact.now.relation = search rules in
-    let keys = c.args.self.now.spots.keys in
-    let spot : Spot = entry.wanted.spot in
-    let begun = from r c.none.result keys spot (sym c.none.ensures) (in_relation keys c.range-spot-items.ensures.ordered r spot there.1 (wants.0 ∙ sym is)) in
-    let at : Spot = c.in-Some.spot.now in
-    let rest : List Spot = c.next.new.self in
-    let cut : c.loop-spot.spot-iterator ≡ at ∷ rest = search rules in
-    let differs : has_relation r at ≡ false = not_so (has_relation r at) (sym c.ne.ensures ∙ c.if-ne.true) in
-    elim (c.loop-spot.invariant spot begun) as (λ _. In entry.number c.loop-spot.found.items) [
-      | inl added ↦ added entry there.0 (cc) wants
-      | inr more ↦ absurd (none_further (has_relation r) at rest differs spot (subst (λ it. In spot (run (has_relation r) it)) cut more))
-    ]
 
 pub loop-spot-preserved : goal.loop-spot-preserved
 loop-spot-preserved c =
     λ s h.
-    let r = c.in_ok-clone.field-0 in
+    let all = c.as_slice-spot-items.result.now in
+    let i = c.loop-spot.spot-index in
+    let at : Spot = c.spot-item.result in
     let table = c.args.self.now in
     let f = c.args.fact.now in
     let numbers = c.add_numbers_at.new.found.items in
-    let at : Spot = c.in-Some.spot.now in
-    let rest : List Spot = c.next.new.self in
-    let cut : c.loop-spot.spot-iterator ≡ at ∷ rest = search rules in
     let now = c.in_ok-add_numbers_at.ensures in
-    elim (c.loop-spot.invariant s h) as (λ _. AreAdded table f numbers s ⊎ In s (run (has_relation r) rest)) [
-      | inl done ↦ inl (λ e i same wants. now.stay e.number (done e i same wants))
-      | inr more ↦ elim (one_further (has_relation r) at rest s (subst (λ it. In s (run (has_relation r) it)) cut more)) as (λ _. AreAdded table f numbers s ⊎ In s (run (has_relation r) rest)) [
-        | inl is ↦ inl (λ e i same wants. now.added e i (same ∙ is) wants)
-        | inr later ↦ inr later
+    let next : suc i ≡ i + 1 = omega arith in
+    elim (c.loop-spot.invariant s h) as (λ _. AreAdded table f numbers s ⊎ In s (drop (i + 1) all)) [
+      | inl done ↦ inl (λ values n is there. now.stay n (done values n is there))
+      | inr more ↦ elim (one_less_ahead all i at s more) as (λ _. AreAdded table f numbers s ⊎ In s (drop (i + 1) all)) [
+        | inl e ↦ inl (subst (AreAdded table f numbers) (c.spot-item.is ∙ sym e) now.added)
+        | inr later ↦ inr (subst (λ n. In s (drop n all)) next later)
       ]
     ]
 
 pub returns : goal.returns
 returns c =
-    λ entry there wants.
-    let r = c.in_ok-clone.field-0 in
-    let is : r ≡ c.args.fact.now.relation = search rules in
-    let keys = c.args.self.now.spots.keys in
-    let spot : Spot = entry.wanted.spot in
-    let begun = from r c.none.result keys spot (sym c.none.ensures) (in_relation keys c.range-spot-items.ensures.ordered r spot there.1 (wants.0 ∙ sym is)) in
-    let none : c.loop-spot.spot-iterator ≡ [] = search rules in
-    elim (c.loop-spot.invariant spot begun) as (λ _. In entry.number c.loop-spot.found.items) [
-      | inl added ↦ added entry there.0 (cc) wants
-      | inr more ↦ absurd (subst (λ it. In spot (run (has_relation r) it)) none more)
+    λ wanted n there wants.
+    let spots = c.args.self.now.spots in
+    let relation = c.relation_name.result.now in
+    let here : relation ≡ wanted.relation = c.relation_name.ensures ∙ sym wants.0 in
+    let found : get name_cmp spots relation ≡ Some c.in-Some.spots.now = sym c.in-Some.ensures.value in
+    let spot : Spot = spot_with wanted.places there.0 in
+    let all = c.as_slice-spot-items.result.now in
+    let same : there.1.0 ≡ all = one_answer (get name_cmp spots wanted.relation) there.1.1 (ap (get name_cmp spots) (sym here) ∙ found) ∙ sym c.as_slice-spot-items.ensures in
+    elim (c.loop-spot.invariant spot (subst (In spot) same there.1.2)) as (λ _. In n c.loop-spot.found.items) [
+      | inl added ↦ added wanted.values n wants.1 there.2
+      | inr more ↦ absurd (subst (In spot) (at_drop_all (λ (it : List Spot). it) all c.loop-spot.spot-index (omega arith)) more)
     ]
+
+pub returns-in_default : goal.returns-in_default
+returns-in_default c =
+    λ wanted n there wants.
+    let spots = c.args.self.now.spots in
+    let relation = c.relation_name.result.now in
+    let here : relation ≡ wanted.relation = c.relation_name.ensures ∙ sym wants.0 in
+    let none : get name_cmp spots relation ≡ None = search rules in
+    no_answer (get name_cmp spots wanted.relation) there.1.1 (ap (get name_cmp spots) (sym here) ∙ none)

@@ -1,20 +1,13 @@
-use Rattle.std.proofs.Common.{◌≡◌, ◌∙◌, Some, ap, sym}
+use Rattle.std.proofs.Common.{◌≡◌, ◌∙◌, Some, ap, rules, sym}
 use Rattle.std.proofs.lemmas.Result.{on_ok_weaker}
-use Rattle.cb_alpha_network.proofs.Order.{both_wanted}
 use Rattle.cb_alpha_network.proofs.asked.Asked.add_numbers_at.Goals as goal
-use Rattle.cb_alpha_network.specs.Wanted.{values_at}
-use Rattle.cb_alpha_network.specs.declared.wanted.Spot.{Spot}
-use Rattle.cb_alpha_network.specs.declared.wanted.Wanted.{Wanted}
+use Rattle.cb_alpha_network.specs.Wanted.{sought_in}
 
-pub returns-in_ok-clone-in-Some-clause-added : goal.returns-in_ok-clone-in-Some-clause-added
-returns-in_ok-clone-in-Some-clause-added c =
-    let content = c.args.fact.now.content in
-    let spot : Spot = c.args.spot.now in
-    let wanted : Wanted = record { spot = c.in_ok-clone-in-Some.field-0; values = c.in-Some.values } in
-    on_ok_weaker c.add_wanted.result
-    (λ added entry i e wants.
-    let all : Some c.in-Some.values ≡ Some entry.wanted.values =
-    sym c.in-Some.is ∙ (c.in_ok-values.ensures ∙ (ap (λ (s : Spot). values_at s.places content) (sym e) ∙ wants.1)) in
-    let values : entry.wanted.values ≡ wanted.values = cc in
-    added entry i (both_wanted entry.wanted wanted (e ∙ sym c.in_ok-clone-in-Some.ensures.cases) values))
-    c.add_wanted.ensures.added
+pub returns-in-Some-clause-added : goal.returns-in-Some-clause-added
+returns-in-Some-clause-added c =
+    on_ok_weaker c.add_sought.result
+    (λ added values number at there.
+    let all : Some c.in-Some.values ≡ Some values = sym c.in-Some.is ∙ (c.in_ok-values.ensures ∙ at) in
+    let same : c.in-Some.values ≡ values = cc in
+    added (record { sought = sought_in c.args.spot.now.number values; number = number }) there (ap (sought_in c.args.spot.now.number) (sym same) ∙ sym c.new.ensures))
+    c.add_sought.ensures.added

@@ -1,15 +1,18 @@
 use Rattle.std.proofs.Common.{◌≡◌, sym, subst}
-use Rattle.std.specs.BTreeMap.{get}
-use Rattle.cb_facts.specs.Internal.FactOrder.{fact_cmp}
-use Rattle.cb_facts.specs.FactLists.{IsFactBase}
-use Rattle.cb_facts.specs.Internal.{IsIndexed}
-use Rattle.cb_facts.proofs.FactListLaws.{fact_base, indexed-remove}
+use Rattle.cb_facts.specs.FactLists.{IsFactBase, fact_at}
+use Rattle.cb_facts.specs.Internal.{IsIndexed, index_in}
+use Rattle.cb_facts.proofs.FactListLaws.{fact_base, facts-change}
 use Rattle.cb_facts.proofs.fact_list.FactList.remove.Goals as goal
+use Rattle.std.proofs.Common.{None}
 
-indexed : (c : goal.After-drop-fact-inside) → IsIndexed c.remove.new.self.entries (get fact_cmp c.remove-in-Some.new.self)
+indexed : (c : goal.After-drop-fact-inside) → IsIndexed c.remove.new.self.entries (index_in (fact_at c.remove.new.self.entries) c.unfile.new.filed c.unfile.new.aside)
 indexed c =
-    indexed-remove c.self.inside.facts c.remove.new.self c.self.inside.indices c.remove-in-Some.new.self c.args.ix c.in-Some.fact
-    c.self.invariant (sym c.in-Some.ensures.value) c.remove.ensures.updates c.remove-in-Some.ensures.updates c.remove.ensures.ordered
+    let old = c.self.inside.facts in
+    let new = c.remove.new.self in
+    record {
+      rising = c.remove.ensures.ordered;
+      agree = c.unfile.ensures (fact_at old.entries) (fact_at new.entries) c.self.invariant.agree (sym c.in-Some.ensures.value) (facts-change old new c.args.ix None c.remove.ensures.updates);
+    }
 
 pub invariant_of-self : goal.invariant_of-self
 invariant_of-self c = indexed c
