@@ -21,9 +21,10 @@ use std::marker::Model;
 
 /// Facts by their indices, no two of them equal.
 ///
-/// An equal fact is found, and a fact is added and removed, in logarithmic time, whatever the facts are. The index of a fact is filed
-/// under half of the fact's hash, so that a look-up mostly takes constant time. A fact that comes when an index is filed there stands
-/// aside, in the order of facts, and so does one whose index has more than 32 bits.
+/// An equal fact is found, and a fact is added and removed, in logarithmic time, whatever the facts are, but for the growth of a table.
+/// There the index of a fact is filed under half of the fact's hash, so that it is mostly seen in constant time that no fact is equal.
+/// A fact that comes when another index is filed under the same half stands aside, in the order of facts, and so does one whose index
+/// has more than 32 bits.
 ///
 /// Contracts see the list of the pairs of an index and its fact, in rising order of the indices.
 #[derive(Drop)]
