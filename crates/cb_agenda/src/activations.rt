@@ -224,7 +224,7 @@ fn mix_of(key: &Key) -> u32
 {
     let mut mix = mixed(key.rule(), key.branch());
     for part in key.parts() {
-        mix = mixed(mix, part.index);
+        mix = mixed(mixed(mix, part.index), part.cuts.mix());
     }
     (mixed(mix, 0) >> 32) as u32
 }

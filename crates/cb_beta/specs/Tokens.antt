@@ -1,6 +1,10 @@
 -- Tokens: partial matches by number, each of which names the one that it goes on from in a list before.
 use Rattle.std.specs.Prelude.{ℕ, List, Option, Some, None, slice_index_or}
 use Rattle.std.specs.Option.{option_map, option_map_or}
+use Rattle.cb_beta.specs.GivenValues.{values_read, way_in}
+use Rattle.cb_beta.specs.declared.given.Held.{Held}
+use Rattle.cb_beta.specs.declared.given.Held.TheVariants.{Nothing, Found, Fields}
+use Rattle.cb_beta.specs.declared.token.Taken.{Taken}
 use Rattle.cb_fit.specs.Ways.{WayValue}
 use Rattle.cb_matches.specs.Matches.{Partial, grown, no_parts}
 
@@ -14,6 +18,16 @@ pub record TakenValue : Type 0 where
 pub record TokenValue : Type 0 where
   pub parent : ℕ
   pub taken : Option TakenValue
+
+-- what was taken, where it is kept so
+abbrev pub taken_in : ℕ → ℕ → Held → Option TakenValue
+taken_in candidate index Nothing = None
+taken_in candidate index (Found way) = Some (record { candidate = candidate; index = index; way = way_in (Found way) })
+taken_in candidate index (Fields taken fact) = Some (record { candidate = candidate; index = index; way = way_in (Fields taken fact) })
+
+-- what is read of what was taken
+abbrev pub taken_value : Taken → TakenValue
+taken_value t = record { candidate = t.candidate; index = t.index; way = record { cuts = t.cuts.now; bound = values_read t.given } }
 
 -- tokens by number
 abbrev pub Tokens : Type 0

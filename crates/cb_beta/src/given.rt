@@ -1,20 +1,20 @@
 //! What a token gives variables.
 ghost use Rattle.std.specs.Prelude.{◌≡◌, ◌++◌, IfOk, None, OnOk, false, option_copied};
 ghost use Rattle.std.specs.Rc.{rc_value};
-ghost use Rattle.cb_beta.specs.GivenValues.{way_by_fields};
+ghost use Rattle.cb_beta.specs.GivenValues.{IsTaken, values_read, way_by_fields, way_in};
 ghost use Rattle.cb_exprs.specs.Bindings.{no_bindings, value_at, with_variables};
 ghost use Rattle.cb_fit.specs.WayValues.{way_of};
 
 use crate::marks::Sought;
 use crate::taken_fields::TakenFields;
 use cb_facts::{Fact, Name, Value};
-use cb_fit::{Cuts, Way};
+use cb_fit::Way;
 use cb_forms::NoMemory;
 use std::alloc::Global;
 use std::marker::Model;
 use std::rc::Rc;
 
-/// What a token gives variables by the fact that it took, and the lengths of the segments.
+/// What a token gives variables by the fact that it takes, and the lengths of the segments.
 ///
 /// Where a pattern is joined by values, all its tokens share the list of the fields, and the values are read in the fact. Contracts see
 /// the way.
@@ -25,7 +25,9 @@ pub struct Given {
 
 /// Where the values are.
 #[derive(Drop)]
-enum Held {
+pub(crate) enum Held {
+    /// Nowhere: no fact is taken.
+    Nothing,
     /// In a way that a test of the pattern found, in a block of its own, so that a token of the other kind has no place for it.
     Found(Box<Way>),
     /// In these fields of the fact.
@@ -33,12 +35,14 @@ enum Held {
 }
 
 impl Model for Given {
-    ghost use Rattle.cb_beta.specs.GivenValues.{way_in};
+    ghost use Rattle.cb_beta.specs.GivenValues.{IsTaken, way_in};
     ghost use Rattle.cb_fit.specs.Ways.{WayValue};
 
     ghost Value = { WayValue };
 
     ghost view = { λ g. way_in g.held };
+
+    ghost invariant = { λ g. IsTaken g.held };
 }
 
 impl Given {
@@ -65,44 +69,60 @@ impl Given {
         })
     }
 
-    /// The lengths of the segments.
-    pub fn cuts(&self) -> &Cuts
-        ensures { result.now ≡ self.now.cuts }
+    /// The values, to read.
+    pub fn read(&self) -> Gives<'_>
+        ensures { values_read result ≡ self.now.bound }
     {
-        match &self.held {
-            Held::Found(way) => &way.cuts,
-            Held::Fields(taken, _) => taken.cuts(),
-        }
+        Gives { held: &self.held }
     }
 
+    /// Where the values are.
+    pub(crate) fn into_held(self) -> Held
+        ensures way { way_in result ≡ self }
+        ensures taken { IsTaken result }
+    {
+        self.held
+    }
+}
+
+/// What a token gives variables, to read.
+#[derive(Clone, Copy)]
+pub struct Gives<'a> {
+    pub(crate) held: &'a Held,
+}
+
+impl Gives<'_> {
     /// The value that it gives a variable, of which the last counts, or `None` where it gives none. The value shares its bytes or
     /// fields. It is refused as `NoMemory` only where a count of sharers is full.
-    pub fn value(&self, name: &Sought<'_>) -> Result<Option<Value>, NoMemory>
+    pub fn value(self, name: &Sought<'_>) -> Result<Option<Value>, NoMemory>
         ensures { IfOk result (λ found. found
-            ≡ value_at name.now (with_variables self.now.bound no_bindings).variables) }
+            ≡ value_at name.now (with_variables (values_read self.entry) no_bindings).variables) }
     {
-        match &self.held {
+        match self.held {
+            Held::Nothing => Ok(None),
             Held::Found(way) => copied(value_in(way.bound.as_slice(), name.name())),
             Held::Fields(taken, fact) => taken.value(fact, name),
         }
     }
 
     /// Whether it may give a variable a value. Where it doesn't, that is mostly seen, and without a look at names.
-    pub fn may_give(&self, name: &Sought<'_>) -> bool
+    pub fn may_give(self, name: &Sought<'_>) -> bool
         ensures { result ≡ false
-            → value_at name.now (with_variables self.now.bound no_bindings).variables ≡ None }
+            → value_at name.now (with_variables (values_read self.entry) no_bindings).variables ≡ None }
     {
-        match &self.held {
+        match self.held {
+            Held::Nothing => false,
             Held::Found(way) => !way.bound.is_empty(),
             Held::Fields(taken, _) => taken.may_give(name),
         }
     }
 
     /// Adds what it gives variables behind these, in order. Growth is refused as `NoMemory`, and so is a count of sharers that is full.
-    pub fn add_to(&self, bindings: &mut Vec<(Name, Value)>) -> Result<(), NoMemory>
-        ensures { OnOk result (bindings.new.items ≡ bindings.old.items ++ self.now.bound) }
+    pub fn add_to(self, bindings: &mut Vec<(Name, Value)>) -> Result<(), NoMemory>
+        ensures { OnOk result (bindings.new.items ≡ bindings.old.items ++ values_read self.entry) }
     {
-        match &self.held {
+        match self.held {
+            Held::Nothing => Ok(()),
             Held::Found(way) => add_all(bindings, way.bound.as_slice()),
             Held::Fields(taken, fact) => taken.add_to(bindings, fact),
         }

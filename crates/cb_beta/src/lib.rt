@@ -13,7 +13,7 @@ mod memory; // the tokens of a list of partial matches
 mod taken_fields; // the fields of a fact that give variables their values
 mod token; // a token
 
-pub use given::Given;
+pub use given::{Given, Gives};
 pub use marks::Sought;
 pub use memory::BetaMemory;
 pub use taken_fields::TakenFields;

@@ -109,7 +109,7 @@ impl BetaMemory {
         ensures ok { IfOk result (λ number. Gains self.old self.new number token) }
         ensures err { OnErr result (IsSame self.old self.new) }
     {
-        let parent = token.parent;
+        let parent = token.parent();
         let candidate = token.candidate();
         let number = insert(&mut self.tokens, token)?;
         let filed = file(

@@ -13,9 +13,6 @@ pub(crate) fn add_first(lists: &mut [BetaMemory]) -> Result<(), NoMemory>
         return Ok(());
     }
     let first = &mut lists[0];
-    first.add(Token {
-        parent: 0,
-        taken: None,
-    })?;
+    first.add(Token::bare(0))?;
     Ok(())
 }

@@ -22,6 +22,7 @@ mod Having
 mod InTurn
 mod Joined
 mod Leading
+mod LengthsAt
 mod Listed
 mod Looked
 mod LooseDecided

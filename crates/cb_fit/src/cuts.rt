@@ -1,11 +1,13 @@
 //! The lengths of the segments into which a pattern cuts a fact.
-ghost use Rattle.std.specs.Prelude.{◌≡◌, [], IfOk, nat_eq, refl, replicate};
+ghost use Rattle.std.specs.Prelude.{◌≡◌, ◌+◌, ◌<◌, ◌^◌, [], IfOk, IfSome, nat_eq, refl};
 ghost use Rattle.std.specs.Cmp.{partial_equiv_from_equiv, po};
 ghost use Rattle.std.specs.Cmp.Lexicographic.{nat_list_cmp_total, nat_list_eq_equiv, pointwise, slice_cmp, texts_ties};
 ghost use Rattle.std.specs.List.{list_all};
 ghost use Rattle.std.specs.Ordering.{as_partial_cmp, nat_cmp};
-ghost use Rattle.cb_fit.specs.Internal.Lengths.{lengths_in};
+ghost use Rattle.cb_fit.specs.CutsMixes.{cuts_mix, mixed};
+ghost use Rattle.cb_fit.specs.Internal.Lengths.{length_at, lengths_in};
 
+use crate::short_lengths::ShortLengths;
 use cb_constraints::Segments;
 use cb_forms::NoMemory;
 use smallvec::SmallVec;
@@ -14,11 +16,14 @@ use std::cmp::Ordering;
 use std::marker::Model;
 use std::rc::Rc;
 
+/// By this the mix is multiplied where a length is mixed in.
+const MULTIPLIER: u64 = 11_400_714_819_323_198_485;
+
 /// The lengths of the segments into which a pattern cuts a fact, one for each constraint in the order in which they are written.
 ///
-/// Where each is 1, as where no constraint takes a multifield, only their number is kept, which takes no memory. Clones share the
-/// others: a clone takes no memory, and is refused only where the count of sharers is full. They are in the order of the lengths,
-/// from left to right. Contracts see the list of the lengths.
+/// Where each is 1, as where no constraint takes a multifield, only their number is kept. That takes no memory, and neither do up to
+/// seven lengths of at most 255. Clones share others: a clone takes no memory, and is refused only where the count of sharers is full.
+/// They are in the order of the lengths, from left to right. Contracts see the list of the lengths.
 #[derive(Drop)]
 pub struct Cuts {
     lengths: Lengths,
@@ -29,13 +34,15 @@ pub struct Cuts {
 enum Lengths {
     /// There are so many, and each is 1.
     Ones(u64),
+    /// These few, none of which is long.
+    Short(ShortLengths),
     /// In a list that clones share. It takes one block where there are up to six.
     Listed(Rc<SmallVec<u64, 6>>),
 }
 
 impl Model for Cuts {
     ghost use Rattle.std.specs.Prelude.{List, ℕ};
-    ghost use Rattle.cb_fit.specs.Internal.Lengths.{lengths_in};
+    ghost use Rattle.cb_fit.specs.Internal.Lengths.{length_at, lengths_in};
 
     ghost Value = { List ℕ };
 
@@ -68,13 +75,17 @@ impl Cuts {
                 lengths: Lengths::Ones(lengths.len() as u64),
             });
         }
+        if let Some(short) = ShortLengths::new(lengths.as_slice()) {
+            return Ok(Cuts {
+                lengths: Lengths::Short(short),
+            });
+        }
         Ok(Cuts {
             lengths: Lengths::Listed(Rc::new(alloc, lengths)?),
         })
     }
 
-    /// Those of segments that constraints took. Where no constraint takes a multifield it takes no memory; else growth is refused as
-    /// `NoMemory`.
+    /// Those of segments that constraints took. Growth is refused as `NoMemory`.
     pub(crate) fn of(alloc: Global, segments: &Segments) -> Result<Cuts, NoMemory>
         ensures { IfOk result (λ cuts. cuts ≡ segments.now) }
     {
@@ -92,7 +103,20 @@ impl Cuts {
     {
         match &self.lengths {
             Lengths::Ones(count) => Ok(Vec::from_elem(alloc, 1, *count as usize)?),
+            Lengths::Short(lengths) => lengths.to_vec(alloc),
             Lengths::Listed(lengths) => Ok(lengths.as_slice().to_vec(alloc)?),
+        }
+    }
+
+    /// A number that depends on the lengths alone, and that few other lengths have. Lengths of 1 alone have 0, which takes constant time;
+    /// others take a step for each.
+    pub fn mix(&self) -> u64
+        ensures { result ≡ cuts_mix self.now }
+    {
+        match &self.lengths {
+            Lengths::Ones(_) => 0,
+            Lengths::Short(lengths) => lengths.mix(),
+            Lengths::Listed(lengths) => mix_of(lengths.as_slice()),
         }
     }
 }
@@ -103,6 +127,7 @@ impl Clone for Cuts {
     fn clone(&self) -> Result<Cuts, AllocError> {
         let lengths = match &self.lengths {
             Lengths::Ones(count) => Lengths::Ones(*count),
+            Lengths::Short(lengths) => Lengths::Short(lengths.copy()),
             Lengths::Listed(lengths) => Lengths::Listed(lengths.clone()?),
         };
         Ok(Cuts { lengths })
@@ -143,9 +168,24 @@ impl Ord for Cuts {
     ghost matches_eq = { texts_ties };
 
     fn cmp(&self, other: &Cuts) -> Ordering {
-        match &self.lengths {
-            Lengths::Ones(count) => order_of_ones(*count, &other.lengths),
-            Lengths::Listed(lengths) => order_of_listed(lengths.as_slice(), &other.lengths),
+        match (&self.lengths, &other.lengths) {
+            (Lengths::Ones(count), Lengths::Ones(others)) => count.cmp(others),
+            (Lengths::Short(lengths), Lengths::Short(others)) => lengths.cmp(others),
+            (lengths, others) => in_turn(lengths, others),
+        }
+    }
+}
+
+impl Lengths {
+    /// The length at a place, if there are so many.
+    fn get(&self, at: usize) -> Option<u64>
+        ensures length { result ≡ length_at (lengths_in self.now) at }
+        ensures next { IfSome result (λ _. at + 1 < 2 ^ 64) }
+    {
+        match self {
+            Lengths::Ones(count) => { if (at as u64) < *count { Some(1) } else { None } }
+            Lengths::Short(lengths) => lengths.get(at),
+            Lengths::Listed(lengths) => lengths.as_slice().get(at).copied(),
         }
     }
 }
@@ -162,39 +202,43 @@ fn are_ones(lengths: &[u64]) -> bool
     true
 }
 
-/// The order of so many lengths, each 1, and others.
-fn order_of_ones(count: u64, others: &Lengths) -> Ordering
-    ensures { result ≡ slice_cmp nat_cmp (replicate count 1) (lengths_in others.now) }
+/// The order of lengths, by the first place where they differ.
+fn in_turn(lengths: &Lengths, others: &Lengths) -> Ordering
+    ensures { result ≡ slice_cmp nat_cmp (lengths_in lengths.now) (lengths_in others.now) }
 {
-    match others {
-        Lengths::Ones(others) => count.cmp(others),
-        Lengths::Listed(others) => ones_before(count, others.as_slice()),
-    }
-}
-
-/// The order of listed lengths and others.
-fn order_of_listed(lengths: &[u64], others: &Lengths) -> Ordering
-    ensures { result ≡ slice_cmp nat_cmp lengths.now (lengths_in others.now) }
-{
-    match others {
-        Lengths::Ones(count) => ones_before(*count, lengths).reverse(),
-        Lengths::Listed(others) => lengths.cmp(others.as_slice()),
-    }
-}
-
-/// The order of so many lengths, each 1, and listed ones.
-fn ones_before(count: u64, lengths: &[u64]) -> Ordering
-    ensures { result ≡ slice_cmp nat_cmp (replicate count 1) lengths.now }
-{
-    let mut left = count;
-    for length in lengths {
-        if left == 0 {
-            return Ordering::Less;
-        }
-        match 1.cmp(length) {
-            Ordering::Equal => left -= 1,
+    let mut at = 0;
+    while let Some(length) = lengths.get(at) {
+        let Some(other) = others.get(at) else {
+            return Ordering::Greater;
+        };
+        match length.cmp(&other) {
+            Ordering::Equal => at += 1,
             unequal => return unequal,
         }
     }
-    left.cmp(&0)
+    match others.get(at) {
+        Some(_) => Ordering::Less,
+        None => Ordering::Equal,
+    }
+}
+
+/// The mix of listed lengths.
+fn mix_of(lengths: &[u64]) -> u64
+    ensures { result ≡ cuts_mix lengths.now }
+{
+    let mut mix = 0;
+    for length in lengths {
+        mix = mixed(mix, *length);
+    }
+    mix
+}
+
+/// One more length mixed in.
+#[tactic(auto, unfolding(crate::specs::CutsMixes::mixed))]
+pub(crate) fn mixed(mix: u64, length: u64) -> u64
+    ensures { result ≡ mixed mix length }
+{
+    mix.wrapping_add(length)
+        .wrapping_add(u64::MAX)
+        .wrapping_mul(MULTIPLIER)
 }

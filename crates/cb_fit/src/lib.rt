@@ -36,6 +36,7 @@ mod search; // the search for all ways, which takes up one choice at a time
 mod selection; // what a pattern asks of a fact alone
 mod settled; // whether the conditions of a pattern can be evaluated behind it
 mod shape; // the shapes of patterns, as keys
+mod short_lengths; // a few lengths, none of which is long
 mod slots; // whether the rows of all slots may take what a fact has
 mod standing_alone; // whether a pattern asks by constants and lengths alone
 mod taking; // whether the constraint that comes next holds; constraints that take fields, from a place on

@@ -28,7 +28,7 @@ pub fn outer(lists: &TokenLists<'_>, from: usize, inner: usize, number: u32) -> 
             return None;
         }
         list = source.from as usize;
-        current = token.parent;
+        current = token.parent();
     }
     if list == from { Some(current) } else { None }
 }

@@ -73,9 +73,6 @@ fn pass_one(
     if !holds(positive, inside, number) {
         return Ok(());
     }
-    own.add(Token {
-        parent: number,
-        taken: None,
-    })?;
+    own.add(Token::bare(number))?;
     Ok(())
 }

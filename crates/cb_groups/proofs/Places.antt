@@ -8,7 +8,6 @@ use Rattle.std.proofs.lemmas.Map.Keys.{IsDistinct-from_apart}
 use Rattle.std.proofs.lemmas.Option.{get_or_from_slice_get, slice_get-get_or, slice_get_within}
 use Rattle.std.specs.Bool.{Decides}
 use Rattle.std.specs.List.{Contains, IsDistinct}
-use Rattle.smallvec.specs.SmallVec.{SmallVec}
 use Rattle.cb_groups.specs.Groups.{AreMembers, AreSameGroups, HasMember, Membership, Releases, Updates, group_of}
 use Rattle.cb_groups.specs.Internal.{ArePlaces, AreWithout, IsOut, IsPushed, group_in, member_at, members_at, membership, standing}
 use Rattle.cb_groups.specs.declared.lists.Place.{Place}
@@ -56,7 +55,7 @@ in_group None g e = absurd (cc)
 in_group (Some p) g e = (p, refl, cc)
 
 -- what the lists say of the groups
-module _ (ls : List (SmallVec ℕ)) (ps : List (Option Place)) (is : ArePlaces ls ps) where
+module _ (ls : List (List ℕ)) (ps : List (Option Place)) (is : ArePlaces ls ps) where
   pub members_are : (g : ℕ) → AreMembers (membership ps) g (members_at ls g)
   members_are g = record {
     are = λ m. (
@@ -95,7 +94,7 @@ pub no_place : (ps : List (Option Place)) (m : ℕ) → group_of (membership ps)
 no_place ps m e = by_option (standing ps m) (λ none. none) (λ p some. some_none (group_of (membership ps) m) (seen ps m ∙ ap group_in some) e)
 
 -- the same places
-pub same_places : (ls ls' : List (SmallVec ℕ)) (ps ps' : List (Option Place)) → ((h : ℕ) → members_at ls' h ≡ members_at ls h) → ((m : ℕ) → standing ps' m ≡ standing ps m)
+pub same_places : (ls ls' : List (List ℕ)) (ps ps' : List (Option Place)) → ((h : ℕ) → members_at ls' h ≡ members_at ls h) → ((m : ℕ) → standing ps' m ≡ standing ps m)
     → ArePlaces ls ps → ArePlaces ls' ps'
 same_places ls ls' ps ps' lists places is = record {
   placed = λ m p e. ap (λ ms. slice_get ms p.position) (lists p.group) ∙ is.placed m p (sym (places m) ∙ e);
@@ -103,7 +102,7 @@ same_places ls ls' ps ps' lists places is = record {
 }
 
 -- one empty list more, and one empty place more
-pub list_more : (ls : List (SmallVec ℕ)) (v : SmallVec ℕ) → v.items ≡ [] → (h : ℕ) → members_at (ls ++ v ∷ []) h ≡ members_at ls h
+pub list_more : (ls : List (List ℕ)) (v : List ℕ) → v ≡ [] → (h : ℕ) → members_at (ls ++ v ∷ []) h ≡ members_at ls h
 list_more [] v e zero = e
 list_more [] v e (suc h) = refl
 list_more (x ∷ xs) v e zero = refl
@@ -131,7 +130,7 @@ still_in [] m k n e = absurd (cc)
 still_in (x ∷ xs) m zero n e = e
 still_in (x ∷ xs) m (suc k) n e = still_in xs m k n e
 
-module _ (ls ls' : List (SmallVec ℕ)) (ps : List (Option Place)) (is : ArePlaces ls ps) (group member position : ℕ) (free : standing ps member ≡ None) (wide : member < length ps)
+module _ (ls ls' : List (List ℕ)) (ps : List (Option Place)) (is : ArePlaces ls ps) (group member position : ℕ) (free : standing ps member ≡ None) (wide : member < length ps)
     (pushed : IsPushed ls ls' group member position) where
   abbrev pub now : List (Option Place)
   now = set ps member (Some (make_place group position))
@@ -184,7 +183,7 @@ is_it (Some n) m = elim (cases_eq n m) as (λ _. (Some n ≡ Some m) ⊎ (Some n
 ]
 
 -- one member is taken out, and the last one of its group stands in its place
-module _ (ls ls' : List (SmallVec ℕ)) (ps : List (Option Place)) (is : ArePlaces ls ps) (member : ℕ) (at : Place) (was : standing ps member ≡ Some at)
+module _ (ls ls' : List (List ℕ)) (ps : List (Option Place)) (is : ArePlaces ls ps) (member : ℕ) (at : Place) (was : standing ps member ≡ Some at)
     (out : IsOut (members_at ls at.group) (members_at ls' at.group) at.position) (others : (h : ℕ) → h ≢ at.group → members_at ls' h ≡ members_at ls h) where
   abbrev xs : List ℕ
   xs = members_at ls at.group
@@ -272,7 +271,7 @@ module _ (ls ls' : List (SmallVec ℕ)) (ps : List (Option Place)) (is : ArePlac
     }
 
 -- all members of a group are taken out
-module _ (ls ls' : List (SmallVec ℕ)) (ps ps' : List (Option Place)) (is : ArePlaces ls ps) (group : ℕ) (without : AreWithout ps ps' (members_at ls group))
+module _ (ls ls' : List (List ℕ)) (ps ps' : List (Option Place)) (is : ArePlaces ls ps) (group : ℕ) (without : AreWithout ps ps' (members_at ls group))
     (cleared : members_at ls' group ≡ []) (others : (h : ℕ) → h ≢ group → members_at ls' h ≡ members_at ls h) where
   inside : (m : ℕ) (p : Place) → standing ps m ≡ Some p → p.group ≡ group → Contains (members_at ls group) m
   inside m p e s = contains (members_at ls group) p.position m (subst (λ g. member_at ls g p.position ≡ Some m) s (is.placed m p e))

@@ -1,16 +1,24 @@
 -- The members of each group in a list, and the place of each member.
 use Rattle.std.specs.Prelude.{◌<◌, ◌≡◌, ◌≢◌, ◌++◌, ℕ, suc, Contains, List, [], ◌∷◌, Option, Some, None, length, map, slice_get, slice_index_or}
 use Rattle.std.specs.Option.{option_map, option_map_or}
-use Rattle.smallvec.specs.SmallVec.{SmallVec}
 use Rattle.cb_groups.specs.Groups.{Membership}
 use Rattle.cb_groups.specs.declared.lists.Place.{Place}
+use Rattle.cb_groups.specs.declared.members.Held.{Held}
+use Rattle.cb_groups.specs.declared.members.Held.TheVariants as held
+
+-- those that are held
+abbrev pub members_in : Held → List ℕ
+members_in held.None = []
+members_in (held.One m) = m ∷ []
+members_in (held.Two ms) = ms
+members_in (held.Many ms) = ms.value.items
 
 -- the members that a group has
-abbrev pub members_at : List (SmallVec ℕ) → ℕ → List ℕ
-members_at lists group = option_map_or (λ (v : SmallVec ℕ). v.items) (slice_get lists group) []
+abbrev pub members_at : List (List ℕ) → ℕ → List ℕ
+members_at lists group = option_map_or (λ (ms : List ℕ). ms) (slice_get lists group) []
 
 -- the member at a position among those of a group
-abbrev pub member_at : List (SmallVec ℕ) → ℕ → ℕ → Option ℕ
+abbrev pub member_at : List (List ℕ) → ℕ → ℕ → Option ℕ
 member_at lists group position = slice_get (members_at lists group) position
 
 -- the place of a member
@@ -26,12 +34,12 @@ abbrev pub membership : List (Option Place) → Membership
 membership places = map group_in places
 
 -- each member stands at its place, and at no other
-pub record ArePlaces (lists : List (SmallVec ℕ)) (places : List (Option Place)) : Type 0 where
+pub record ArePlaces (lists : List (List ℕ)) (places : List (Option Place)) : Type 0 where
   pub placed : (m : ℕ) (p : Place) → standing places m ≡ Some p → member_at lists p.group p.position ≡ Some m
   pub listed : (g k m : ℕ) → member_at lists g k ≡ Some m → standing places m ≡ Some (record { group = g; position = k })
 
 -- a member stands behind those of a group
-pub record IsPushed (old new : List (SmallVec ℕ)) (group member position : ℕ) : Type 0 where
+pub record IsPushed (old new : List (List ℕ)) (group member position : ℕ) : Type 0 where
   pub position_is : position ≡ length (members_at old group)
   pub changed : members_at new group ≡ members_at old group ++ member ∷ []
   pub others : (h : ℕ) → h ≢ group → members_at new h ≡ members_at old h

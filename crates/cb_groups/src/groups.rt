@@ -7,8 +7,8 @@ use crate::lists::{
     Place, clear_list, clear_places, members_of, move_place, place_of, push_to, reach_list,
     reach_place, take_out,
 };
+use crate::members::Members;
 use cb_forms::NoMemory;
-use smallvec::SmallVec;
 use std::alloc::Global;
 use std::marker::Model;
 
@@ -20,8 +20,8 @@ use std::marker::Model;
 #[derive(Drop)]
 pub struct Groups {
     alloc: Global,
-    /// The members of each group, in any order; up to four take no block.
-    lists: Vec<SmallVec<u32, 4>>,
+    /// The members of each group.
+    lists: Vec<Members>,
     /// The place of each member.
     places: Vec<Option<Place>>,
 }
@@ -55,9 +55,9 @@ impl Groups {
         ensures ok { OnOk result (Updates self.old self.new member (Some group)) }
         ensures err { OnErr result (AreSameGroups self.old self.new) }
     {
-        reach_list(self.alloc, &mut self.lists, group)?;
+        reach_list(&mut self.lists, group)?;
         reach_place(&mut self.places, member)?;
-        let position = push_to(&mut self.lists, group, member)?;
+        let position = push_to(self.alloc, &mut self.lists, group, member)?;
         self.places[member as usize] = Some(Place { group, position });
         Ok(())
     }
@@ -109,7 +109,7 @@ impl Groups {
         }
         all.extend_from_slice(members_of(&self.lists, group))?;
         clear_places(&mut self.places, members_of(&self.lists, group));
-        clear_list(self.alloc, &mut self.lists, group);
+        clear_list(&mut self.lists, group);
         Ok(())
     }
 }

@@ -5,5 +5,6 @@
 
 mod groups; // the groups
 mod lists; // the members of each group in a list, and the place of each member
+mod members; // the members of one group
 
 pub use groups::Groups;

@@ -2,8 +2,8 @@
 ghost use Rattle.std.specs.Prelude.{◌≡◌, ◌≢◌, ◌<◌, ℕ, [], Contains, IfOk, None, OnErr, OnOk, Some, length};
 ghost use Rattle.cb_groups.specs.Internal.{AreWithout, IsOut, IsPushed, member_at, members_at, standing};
 
+use crate::members::Members;
 use cb_forms::NoMemory;
-use smallvec::SmallVec;
 use std::alloc::Global;
 
 /// Where a member stands.
@@ -15,7 +15,7 @@ pub(crate) struct Place {
 }
 
 /// The members of a group.
-pub(crate) fn members_of<'a>(lists: &'a Vec<SmallVec<u32, 4>>, group: u32) -> &'a [u32]
+pub(crate) fn members_of<'a>(lists: &'a Vec<Members>, group: u32) -> &'a [u32]
     ensures { result.now ≡ members_at lists.now.items group }
 {
     match lists.get(group as usize) {
@@ -35,16 +35,12 @@ pub(crate) fn place_of(places: &Vec<Option<Place>>, member: u32) -> Option<Place
 }
 
 /// Adds empty lists up to that of a group. Growth is refused as `NoMemory`.
-pub(crate) fn reach_list(
-    alloc: Global,
-    lists: &mut Vec<SmallVec<u32, 4>>,
-    group: u32,
-) -> Result<(), NoMemory>
+pub(crate) fn reach_list(lists: &mut Vec<Members>, group: u32) -> Result<(), NoMemory>
     ensures long { OnOk result (group < length lists.new.items) }
     ensures same { (h : ℕ) → members_at lists.new.items h ≡ members_at lists.old.items h }
 {
     for _turn in lists.len()..group as usize + 1 {
-        lists.push(SmallVec::new(alloc))?;
+        lists.push(Members::none())?;
     }
     Ok(())
 }
@@ -62,7 +58,8 @@ pub(crate) fn reach_place(places: &mut Vec<Option<Place>>, member: u32) -> Resul
 
 /// Puts a member behind those of a group, and returns its position. Growth is refused as `NoMemory`.
 pub(crate) fn push_to(
-    lists: &mut Vec<SmallVec<u32, 4>>,
+    alloc: Global,
+    lists: &mut Vec<Members>,
     group: u32,
     member: u32,
 ) -> Result<u32, NoMemory>
@@ -71,30 +68,24 @@ pub(crate) fn push_to(
     ensures same { OnErr result ((h : ℕ) → members_at lists.new.items h ≡ members_at lists.old.items h) }
 {
     let list = &mut lists[group as usize];
-    let Ok(position) = u32::try_from(list.len()) else {
+    let Ok(position) = u32::try_from(list.as_slice().len()) else {
         return Err(NoMemory);
     };
-    list.push(member)?;
+    list.push(alloc, member)?;
     Ok(position)
 }
 
 /// Takes out the member that stands at a place. Returns the one that stands there now: the last one of its group, if it was
 /// another. A list that got much shorter gives memory back.
-pub(crate) fn take_out(lists: &mut Vec<SmallVec<u32, 4>>, place: Place) -> Option<u32>
+pub(crate) fn take_out(lists: &mut Vec<Members>, place: Place) -> Option<u32>
     requires { place.position < length (members_at lists.old.items place.group) }
     ensures out { IsOut (members_at lists.old.items place.group) (members_at lists.new.items place.group) place.position }
     ensures moved { result ≡ member_at lists.new.items place.group place.position }
     ensures others { (h : ℕ) → h ≢ place.group → members_at lists.new.items h ≡ members_at lists.old.items h }
 {
     let list = &mut lists[place.group as usize];
-    list.swap_remove(place.position as usize);
-    if list.len() < list.capacity() / 4 {
-        let _never_fails = list.grow(list.len() * 2);
-    }
-    match list.get(place.position as usize) {
-        Some(member) => Some(*member),
-        None => None,
-    }
+    list.take_out(place.position as usize);
+    list.as_slice().get(place.position as usize).copied()
 }
 
 /// A member has no place any more, and the one that moved, if one did, has this.
@@ -127,11 +118,11 @@ pub(crate) fn clear_places(places: &mut Vec<Option<Place>>, members: &[u32])
 }
 
 /// A group has no members any more. Its list gives its memory back.
-pub(crate) fn clear_list(alloc: Global, lists: &mut Vec<SmallVec<u32, 4>>, group: u32)
+pub(crate) fn clear_list(lists: &mut Vec<Members>, group: u32)
     ensures cleared { members_at lists.new.items group ≡ [] }
     ensures others { (h : ℕ) → h ≢ group → members_at lists.new.items h ≡ members_at lists.old.items h }
 {
     if let Some(list) = lists.get_mut(group as usize) {
-        *list = SmallVec::new(alloc);
+        *list = Members::none();
     }
 }

@@ -15,7 +15,7 @@ ghost use Rattle.cb_token_lists.specs.Partials.{partial_at};
 use crate::by_values::ByValues;
 use crate::known_values::{KnownValues, compare_known, read_values};
 use cb_alpha::{AlphaMemory, Candidate};
-use cb_beta::{BetaMemory, Given, Taken, Token};
+use cb_beta::{BetaMemory, Given, Token};
 use cb_exprs::{Expr, Lookup};
 use cb_facts::Name;
 use cb_fit::laws::{a_pattern_is_decided_by_values, the_ways_rise_by_their_cuts};
@@ -273,15 +273,7 @@ fn add_given<T>(
     if !hold_after(lists, from, asked, tests, number, index, &given)? {
         return Ok(());
     }
-    let taken = Taken {
-        candidate,
-        index,
-        given,
-    };
-    own.add(Token {
-        parent: number,
-        taken: Some(taken),
-    })?;
+    own.add(Token::with(number, candidate, index, given))?;
     Ok(())
 }
 

@@ -45,10 +45,7 @@ pub(crate) fn pass_all(numbers: &[u32], own: &mut BetaMemory) -> Result<(), NoMe
     ensures keeps { OnOk result (KeepsTokens own.old own.new) }
 {
     for number in numbers {
-        own.add(Token {
-            parent: *number,
-            taken: None,
-        })?;
+        own.add(Token::bare(*number))?;
     }
     Ok(())
 }

@@ -27,10 +27,7 @@ pub(crate) fn pass_all(numbers: &[u32], own: &mut BetaMemory) -> Result<(), NoMe
     ensures keeps { OnOk result (KeepsTokens own.old own.new) }
 {
     for number in numbers {
-        own.add(Token {
-            parent: *number,
-            taken: None,
-        })?;
+        own.add(Token::bare(*number))?;
     }
     Ok(())
 }
@@ -108,9 +105,6 @@ fn pass_if(passes: bool, number: u32, own: &mut BetaMemory) -> Result<(), NoMemo
     if !passes {
         return Ok(());
     }
-    own.add(Token {
-        parent: number,
-        taken: None,
-    })?;
+    own.add(Token::bare(number))?;
     Ok(())
 }

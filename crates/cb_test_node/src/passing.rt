@@ -70,9 +70,6 @@ fn pass_one(
     if !lists.holds(test, &lists.reading(from, number))? {
         return Ok(());
     }
-    own.add(Token {
-        parent: number,
-        taken: None,
-    })?;
+    own.add(Token::bare(number))?;
     Ok(())
 }

@@ -1,10 +1,13 @@
 //! What variables have after a way.
 ghost use Rattle.std.specs.Prelude.{◌≡◌, IfOk, OnOk};
+ghost use Rattle.std.specs.Option.{option_map};
+ghost use Rattle.cb_beta.specs.Tokens.{taken_value, with_taken};
 ghost use Rattle.cb_exprs.specs.Bindings.{Bindings, no_bindings, with_variables};
 ghost use Rattle.cb_matches.specs.Matches.{Partial, no_parts, with_address};
 ghost use Rattle.cb_token_lists.specs.Internal.{with_path, with_step};
 
 use crate::path::{Path, Step};
+use cb_beta::Taken;
 use cb_exprs::Env;
 use cb_facts::{Name, Value};
 use cb_forms::NoMemory;
@@ -30,9 +33,24 @@ fn bind_step(bindings: &mut Vec<(Name, Value)>, step: Option<Step<'_>>) -> Resul
         → with_variables bindings.new.items no_bindings ≡ (with_step step.entry m).env) }
 {
     match step {
-        Some(step) => {
-            let taken = step.taken;
-            bind_address(bindings, step.address, taken.index)?;
+        Some(step) => bind_taken(bindings, step.address, step.token.taken()),
+        None => Ok(()),
+    }
+}
+
+/// The same of what was taken, if a fact was, where this is the variable of its address.
+fn bind_taken(
+    bindings: &mut Vec<(Name, Value)>,
+    address: &Option<Name>,
+    taken: Option<Taken<'_>>,
+) -> Result<(), NoMemory>
+    ensures { OnOk result ((m : Partial) → m.env ≡ with_variables bindings.old.items no_bindings
+        → with_variables bindings.new.items no_bindings
+        ≡ (with_taken address.now (option_map taken_value taken.entry) m).env) }
+{
+    match taken {
+        Some(taken) => {
+            bind_address(bindings, address, taken.index)?;
             taken.given.add_to(bindings)
         }
         None => Ok(()),

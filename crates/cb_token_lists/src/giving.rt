@@ -1,13 +1,13 @@
 //! Which value a token gives a variable.
 ghost use Rattle.std.specs.Prelude.{◌≡◌, IfOk, option_copied};
 ghost use Rattle.std.specs.Option.{option_or};
-ghost use Rattle.cb_beta.specs.GivenValues.{values_given};
+ghost use Rattle.cb_beta.specs.GivenValues.{values_given, values_read};
 ghost use Rattle.cb_beta.specs.Tokens.{with_taken};
 ghost use Rattle.cb_exprs.specs.Bindings.{Bindings, no_bindings, value_at, with_variables};
 ghost use Rattle.cb_matches.specs.Matches.{Partial, with_address};
 
 use crate::source::Source;
-use cb_beta::{Given, Sought, Token};
+use cb_beta::{Given, Gives, Sought, Token};
 use cb_facts::{Name, Value};
 use cb_forms::NoMemory;
 
@@ -22,13 +22,13 @@ pub(crate) fn given_by_token(
         → value_at name.now (with_taken source.now.address token.now.taken m).env.variables
         ≡ option_or found (value_at name.now m.env.variables)) }
 {
-    match &token.taken {
+    match token.taken() {
         Some(taken) => {
             // mostly it doesn't, which is seen at once
             if source.address.is_none() && !taken.given.may_give(name) {
                 return Ok(None);
             }
-            given(&taken.given, &source.address, taken.index, name)
+            given(taken.given, &source.address, taken.index, name)
         }
         None => Ok(None),
     }
@@ -47,6 +47,7 @@ pub(crate) fn given_with(
 {
     match way {
         Some(way) => {
+            let way = way.read();
             if address.is_none() && !way.may_give(name) {
                 return Ok(None);
             }
@@ -58,13 +59,13 @@ pub(crate) fn given_with(
 
 /// The same by a fact with an index and by its way: the way counts before the variable of the fact's address.
 fn given(
-    way: &Given,
+    way: Gives<'_>,
     address: &Option<Name>,
     index: u64,
     name: &Sought<'_>,
 ) -> Result<Option<Value>, NoMemory>
     ensures { IfOk result (λ found. (env : Bindings)
-        → value_at name.now (with_variables way.now.bound (with_address address.now index env)).variables
+        → value_at name.now (with_variables (values_read way.entry) (with_address address.now index env)).variables
         ≡ option_or found (value_at name.now env.variables)) }
 {
     match way.value(name)? {

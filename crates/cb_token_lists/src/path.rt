@@ -5,21 +5,21 @@ ghost use Rattle.cb_matches.specs.Matches.{Partial};
 ghost use Rattle.cb_token_lists.specs.Internal.{with_path};
 
 use crate::source::Source;
-use cb_beta::{Taken, Token};
+use cb_beta::Token;
 use cb_facts::Name;
 use cb_forms::NoMemory;
 use smallvec::SmallVec;
 
-/// What a token took, and the variable of the fact's address.
+/// A token that took a fact, and the variable of the fact's address.
 #[derive(Clone, Copy)]
 pub(crate) struct Step<'a> {
     pub(crate) address: &'a Option<Name>,
-    pub(crate) taken: &'a Taken,
+    pub(crate) token: &'a Token,
 }
 
-/// What is taken in the steps down from a token, from the last to the first. Four steps take no memory. They are in a vector, since a
+/// What is taken in the steps down from a token, from the last to the first. Eight steps take no memory. They are in a vector, since a
 /// branch may have more lists than a stack has room for calls. Each is an `Option`, since a free place of the vector holds one too.
-pub(crate) type Path<'a> = SmallVec<Option<Step<'a>>, 4>;
+pub(crate) type Path<'a> = SmallVec<Option<Step<'a>>, 8>;
 
 /// Adds the step from a token to its parent; one that took nothing adds none. Growth is refused as `NoMemory`.
 pub(crate) fn add_step<'a>(
@@ -30,14 +30,12 @@ pub(crate) fn add_step<'a>(
     ensures { OnOk result ((m : Partial) → with_path path.new.items m
         ≡ with_path path.old.items (with_taken source.now.address token.now.taken m)) }
 {
-    match &token.taken {
-        Some(taken) => {
-            path.push(Some(Step {
-                address: &source.address,
-                taken,
-            }))?;
-            Ok(())
-        }
-        None => Ok(()),
+    if token.taken().is_none() {
+        return Ok(());
     }
+    path.push(Some(Step {
+        address: &source.address,
+        token,
+    }))?;
+    Ok(())
 }

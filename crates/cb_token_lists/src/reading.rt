@@ -1,8 +1,8 @@
 //! What variables have by the partial match that a token stands for, and its parts.
-ghost use Rattle.std.specs.Prelude.{◌≡◌, ℕ, IfOk, MatchOption, suc, ⊤, option_copied};
+ghost use Rattle.std.specs.Prelude.{◌≡◌, ℕ, IfOk, MatchOption, suc, ⊤};
 ghost use Rattle.cb_beta.specs.Tokens.{with_taken};
 ghost use Rattle.cb_matches.specs.Matches.{no_parts};
-ghost use Rattle.cb_token_lists.specs.Internal.{last_parts, with_path};
+ghost use Rattle.cb_token_lists.specs.Internal.{last_taken_parts, with_path};
 ghost use Rattle.cb_token_lists.specs.Partials.{partial_at, partial_in};
 
 use crate::binding::bind_path;
@@ -31,7 +31,7 @@ pub struct TokenLists<'a> {
 
 impl<'a> TokenLists<'a> {
     /// What variables have by the partial match with a number in a list. Growth is refused as `NoMemory`, and so is a count of
-    /// sharers that is full. It takes some steps for each list that is gone down to, and no memory of its own where up to four
+    /// sharers that is full. It takes some steps for each list that is gone down to, and no memory of its own where up to eight
     /// facts were taken.
     pub fn env(&self, list: usize, number: u32) -> Result<Env, NoMemory>
         ensures { IfOk result (λ env. env
@@ -54,7 +54,7 @@ impl<'a> TokenLists<'a> {
 
     /// What was taken on the way down from a token, if that are no more than two.
     fn last_taken(&self, list: usize, number: u32) -> Option<LastTaken<'a>>
-        ensures { MatchOption result ⊤ (λ all. last_parts (option_copied all.0) (option_copied all.1)
+        ensures { MatchOption result ⊤ (λ all. last_taken_parts all
             ≡ (partial_at self.now.sources.now self.now.lists.now list number).parts) }
     {
         let mut known = (None, None);
@@ -64,9 +64,9 @@ impl<'a> TokenLists<'a> {
             let Some((source, token)) = self.read(reached, met) else {
                 return Some(known);
             };
-            known = one_earlier(&token.taken, known)?;
+            known = one_earlier(token.taken(), known)?;
             reached = source.from as usize;
-            met = token.parent;
+            met = token.parent();
         }
         Some(known)
     }
@@ -85,7 +85,7 @@ impl<'a> TokenLists<'a> {
             };
             add_step(&mut path, source, token)?;
             reached = source.from as usize;
-            met = token.parent;
+            met = token.parent();
         }
         Ok(path)
     }

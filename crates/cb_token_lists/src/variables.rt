@@ -33,7 +33,7 @@ impl<'a> TokenLists<'a> {
                 return Ok(Some(value));
             }
             reached = source.from as usize;
-            met = token.parent;
+            met = token.parent();
         }
         Ok(None)
     }

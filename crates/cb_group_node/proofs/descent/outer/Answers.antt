@@ -1,4 +1,4 @@
-use Rattle.std.proofs.Common.{◌≡◌, ◌≢◌, ◌∙◌, ◌-◌, ◌<◌, [], Some, None, ap, arith, slice_get, sym}
+use Rattle.std.proofs.Common.{◌≡◌, ◌≢◌, ◌∙◌, ◌-◌, ◌<◌, ℕ, [], Some, None, ap, arith, slice_get, sym}
 use Rattle.std.specs.Option.{option_map_or}
 use Rattle.cb_beta.proofs.Live.{some_none}
 use Rattle.cb_beta.specs.BetaMemories.{BetaMemoryValue}
@@ -56,9 +56,9 @@ loop-list-preserved c below found finds =
     let ls = c.args.lists.now.lists.now in
     let list = c.loop-list.list in
     let current = c.loop-list.current in
-    let inside = c.token-in-loop-list.inside in
+    let read = c.in-Some-token.token.now in
     let s : SourceValue = record { from = c.source.inside.from; address = c.source.inside.address } in
-    let token : TokenValue = record { parent = inside.parent; taken = inside.taken } in
+    let token : TokenValue = record { parent = c.parent-current.result; taken = read.taken } in
     let apart : list ≢ c.args.from = λ e. absurd (omega (arith, c.loop-list-test.true, e)) in
     let more : list ≢ 0 = λ e. absurd (omega (arith, c.loop-list-test.true, e)) in
     let l = c.in-Some.ensures.lookup in
@@ -66,7 +66,7 @@ loop-list-preserved c below found finds =
     let h = c.in-Some-get.ensures.lookup in
     let there : token_at (tokens_in ls list) current ≡ Some token =
     token_in ls list current c.in-Some-get.memory.now c.in-Some-token.token.now (got ls list c.in-Some-get.memory.now h.3.0 (h.3.1 c.in-Some-get.memory.now)) c.in-Some-token.ensures
-    ∙ ap Some (sym c.token-in-loop-list.view_is) in
+    ∙ ap (λ (parent : ℕ). Some (record { parent = parent; taken = read.taken })) (sym c.parent-current.ensures) in
     c.loop-list.invariant below found (found_below ss ls c.args.from list current s token found apart more is there finds)
 
 pub returns-then-list-from : goal.returns-then-list-from

@@ -1,5 +1,6 @@
 use Rattle.std.proofs.Common.{◌≡◌, ◌∙◌, List, ℕ, ap, arith, get_or, length, subst, sym, take}
 use Rattle.std.proofs.Math.Seq.{take-length}
+use Rattle.cb_beta.specs.BetaMemories.{Gains}
 use Rattle.cb_beta.specs.Tokens.{TokenValue}
 use Rattle.cb_lone_node.proofs.passing.pass_all.Goals as goal
 use Rattle.cb_lone_node.specs.Internal.{AreOf}
@@ -18,7 +19,7 @@ loop-number-preserved c =
     let own' = c.add.new.self in
     let number = get_or c.args.numbers.now c.loop-number.number-index 0 in
     let inv = c.loop-number.invariant in
-    let came : Comes own own' (λ t. t ≡ passed_alone number) = one_comes own own' c.in_ok-add.field-0 (passed_alone number) c.in_ok-add.ensures.ok in (
+    let came : Comes own own' (λ t. t ≡ passed_alone number) = one_comes own own' c.in_ok-add.field-0 (passed_alone number) (subst (Gains own own' c.in_ok-add.field-0) c.bare.ensures c.in_ok-add.ensures.ok) in (
       λ once.
           one_more_comes c.args.own.now own own' (λ k t. t ≡ passed_alone k) (λ j k t e d. ap (λ (it : TokenValue). it.parent) (sym e ∙ d)) c.args.numbers.now c.loop-number.number-index (omega arith)
           once (inv.0 once) came,

@@ -1,9 +1,10 @@
 use Rattle.std.proofs.Common.{rules}
+use Rattle.cb_beta.specs.GivenValues.{values_read}
 use Rattle.cb_token_lists.proofs.Values.{address_gives, way_gives}
 use Rattle.cb_token_lists.proofs.giving.given.Goals as goal
 
 pub returns-in-Some : goal.returns-in-Some
-returns-in-Some c = way_gives c.args.name.now c.args.way.now.bound c.args.address.now c.args.index c.in-Some.value (search rules)
+returns-in-Some c = way_gives c.args.name.now (values_read c.args.way) c.args.address.now c.args.index c.in-Some.value (search rules)
 
 pub returns-in-None : goal.returns-in-None
-returns-in-None c = address_gives c.args.name.now c.args.way.now.bound c.args.address.now c.args.index c.given_by_address.result (search rules) c.given_by_address.ensures
+returns-in-None c = address_gives c.args.name.now (values_read c.args.way) c.args.address.now c.args.index c.given_by_address.result (search rules) c.given_by_address.ensures

@@ -1,5 +1,5 @@
 use Rattle.std.proofs.Common.{◌≡◌, ◌∙◌, List, ℕ, Option, Some, None, ap, refl, rules, sym}
-use Rattle.cb_beta.specs.Tokens.{TakenValue, with_taken}
+use Rattle.cb_beta.specs.Tokens.{TakenValue, taken_value, with_taken}
 use Rattle.cb_exprs.specs.Bindings.{no_bindings, value_at, with_variables}
 use Rattle.cb_token_lists.proofs.Values.{address_gives}
 use Rattle.cb_token_lists.proofs.giving.given_by_token.Goals as goal
@@ -7,7 +7,7 @@ use Rattle.cb_token_lists.proofs.giving.given_by_token.Goals as goal
 pub returns-then-not-may_give : goal.returns-then-not-may_give
 returns-then-not-may_give c = λ m.
     let name = c.args.name.now in
-    let taken = c.in-Some.taken in
+    let taken = taken_value c.in-Some.taken in
     let no_address : c.args.source.now.address ≡ None = search rules in
     let took : c.args.token.now.taken ≡ Some taken = search rules in
     let none : value_at name (with_variables taken.way.bound no_bindings).variables ≡ None = search rules in

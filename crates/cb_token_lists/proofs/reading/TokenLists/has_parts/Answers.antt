@@ -1,4 +1,4 @@
-use Rattle.std.proofs.Common.{◌≡◌, ◌∙◌, ◌==◌, ◌+◌, ◌-◌, ap, ap₂, arith, length, refl, suc, sym}
+use Rattle.std.proofs.Common.{◌≡◌, ◌↔◌, ◌∙◌, ◌==◌, ◌+◌, ◌-◌, ℕ, ap, arith, length, refl, subst, suc, sym}
 use Rattle.cb_beta.specs.Tokens.{TokenValue, with_taken}
 use Rattle.cb_matches.specs.Matches.{Partial}
 use Rattle.cb_token_lists.proofs.SameParts.{none_left, parts_further}
@@ -36,7 +36,7 @@ returns-in_default-before_taken c =
       λ e. absurd (cc),
       λ h. absurd
           (c.in_default-before_taken.ensures s.address m
-          (ap (λ (t : TokenValue). (with_taken s.address t.taken m).parts) c.token.view_is
+          (ap (λ k. (with_taken s.address k m).parts) c.taken.ensures
           ∙ (ap (λ (it : Partial). it.parts) (sym (c.in-Some.ensures n)) ∙ (c.loop.invariant (suc n) left).0 h))),
     )
 
@@ -46,12 +46,15 @@ loop-preserved c n e =
     let ls = c.args.self.now.lists.now in
     let before : suc n + c.loop.counter ≡ suc c.args.list = omega (arith, e) in
     let s : SourceValue = record { from = c.source.inside.from; address = c.source.inside.address } in
-    let t : TokenValue = record { parent = c.token.inside.parent; taken = c.token.inside.taken } in
-    parts_further ss ls ((partial_at ss ls c.args.list c.args.number).parts ≡ c.args.parts.now) n c.loop.reached c.loop.met s t c.loop.left.now c.in-Some-before_taken.before.now
+    let t : TokenValue = c.in-Some.token.now in
+    let P : Type 0 = (partial_at ss ls c.args.list c.args.number).parts ≡ c.args.parts.now in
+    let left = c.in-Some-before_taken.before.now in
+    let m = partial_in ss ls n s.from t.parent in
+    subst (λ (p : ℕ). P ↔ ((partial_in ss ls n s.from p).parts ≡ left)) (sym c.parent-met.ensures)
+    (parts_further ss ls P n c.loop.reached c.loop.met s t c.loop.left.now left
     (c.loop.invariant (suc n) before)
-    (c.in-Some.ensures n
-    ∙ ap₂ (λ (s : SourceValue) (t : TokenValue). with_taken s.address t.taken (partial_in ss ls n s.from t.parent)) (sym c.source.view_is) (sym c.token.view_is))
-    (c.in-Some-before_taken.ensures s.address (partial_in ss ls n s.from t.parent))
+    (c.in-Some.ensures n ∙ ap (λ (s : SourceValue). with_taken s.address t.taken (partial_in ss ls n s.from t.parent)) (sym c.source.view_is))
+    (subst (λ k. ((with_taken s.address k m).parts ≡ c.loop.left.now) ↔ (m.parts ≡ left)) c.taken.ensures (c.in-Some-before_taken.ensures s.address m)))
 
 pub returns : goal.returns
 returns c =
@@ -66,12 +69,13 @@ returns c =
       | then-loop-test+in-Some+in-Some-before_taken+else-counter-list w ↦
           let before : suc 0 + c.loop.counter ≡ suc c.args.list = omega (arith, w) in
           let s : SourceValue = record { from = w.source.inside.from; address = w.source.inside.address } in
-          let t : TokenValue = record { parent = w.token.inside.parent; taken = w.token.inside.taken } in
-          none_left P (partial_in ss ls 0 s.from t.parent) w.in-Some-before_taken.before.now c.is_empty-2.result refl
+          let t : TokenValue = w.in-Some.token.now in
+          let m = partial_in ss ls 0 s.from t.parent in
+          none_left P m w.in-Some-before_taken.before.now c.is_empty-2.result refl
           (c.is_empty-2.ensures ∙ ap (λ it. length it.now == 0) w.left-is)
           (parts_further ss ls P 0 c.loop.reached c.loop.met s t c.loop.left.now w.in-Some-before_taken.before.now
           (c.loop.invariant (suc 0) before)
-          (w.in-Some.ensures 0
-          ∙ ap₂ (λ (s : SourceValue) (t : TokenValue). with_taken s.address t.taken (partial_in ss ls 0 s.from t.parent)) (sym w.source.view_is) (sym w.token.view_is))
-          (w.in-Some-before_taken.ensures s.address (partial_in ss ls 0 s.from t.parent)))
+          (w.in-Some.ensures 0 ∙ ap (λ (s : SourceValue). with_taken s.address t.taken (partial_in ss ls 0 s.from t.parent)) (sym w.source.view_is))
+          (subst (λ k. ((with_taken s.address k m).parts ≡ c.loop.left.now) ↔ (m.parts ≡ w.in-Some-before_taken.before.now)) w.taken.ensures
+          (w.in-Some-before_taken.ensures s.address m)))
     ]

@@ -1,5 +1,4 @@
-use Rattle.std.proofs.Common.{◌≡◌, ◌∙◌, ◌+◌, ◌-◌, ap, ap₂, arith, suc, sym}
-use Rattle.cb_beta.specs.Tokens.{TokenValue}
+use Rattle.std.proofs.Common.{◌≡◌, ◌∙◌, ◌+◌, ◌-◌, ℕ, ap, ap₂, arith, suc, sym}
 use Rattle.cb_matches.specs.Matches.{no_parts}
 use Rattle.cb_token_lists.proofs.Paths.{one_further}
 use Rattle.cb_token_lists.specs.Internal.{with_path}
@@ -26,7 +25,7 @@ loop-preserved c n e =
     let before : suc n + c.loop.counter ≡ suc c.args.list = omega (arith, e) in
     one_further ss ls c.loop.path.items c.add_step.new.path.items (partial_at ss ls c.args.list c.args.number) n c.loop.reached c.loop.met c.in-Some.source.now c.in-Some.token.now
     (c.loop.invariant (suc n) before) (c.in-Some.ensures n) c.in_ok-add_step.ensures
-    ∙ ap₂ (λ (s : SourceValue) (t : TokenValue). with_path c.add_step.new.path.items (partial_in ss ls n s.from t.parent)) (sym c.source.view_is) (sym c.token.view_is)
+    ∙ ap₂ (λ (s : SourceValue) (p : ℕ). with_path c.add_step.new.path.items (partial_in ss ls n s.from p)) (sym c.source.view_is) (sym c.parent-met.ensures)
 
 pub returns : goal.returns
 returns c =

@@ -1,6 +1,5 @@
-use Rattle.std.proofs.Common.{◌≡◌, ◌∙◌, ◌+◌, ◌-◌, Some, None, ap, ap₂, arith, suc, sym}
+use Rattle.std.proofs.Common.{◌≡◌, ◌∙◌, ◌+◌, ◌-◌, ℕ, Some, None, ap, ap₂, arith, suc, sym}
 use Rattle.std.specs.Option.{option_or}
-use Rattle.cb_beta.specs.Tokens.{TokenValue}
 use Rattle.cb_exprs.specs.Bindings.{value_at}
 use Rattle.cb_matches.specs.Matches.{Partial}
 use Rattle.cb_token_lists.proofs.Values.{value_further}
@@ -43,7 +42,7 @@ loop-preserved c n e =
     value_further ss ls name (value_at name (partial_at ss ls c.args.list c.args.number).env.variables) n c.loop.reached c.loop.met c.in-Some.source.now c.in-Some.token.now None
     (c.loop.invariant (suc n) left) (c.in-Some.ensures n)
     (λ (m : Partial). c.in_ok-value.ensures m ∙ ap (λ o. option_or o (value_at name m.env.variables)) c.in_default-2.is)
-    ∙ ap₂ (λ (s : SourceValue) (t : TokenValue). value_at name (partial_in ss ls n s.from t.parent).env.variables) (sym c.source.view_is) (sym c.token.view_is)
+    ∙ ap₂ (λ (s : SourceValue) (p : ℕ). value_at name (partial_in ss ls n s.from p).env.variables) (sym c.source.view_is) (sym c.parent-met.ensures)
 
 pub returns : goal.returns
 returns c =
