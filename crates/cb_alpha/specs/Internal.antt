@@ -4,8 +4,9 @@ pub mod Numbered
 use Rattle.std.specs.Prelude.{List}
 use Rattle.cb_facts.specs.declared.value.Value.{Value}
 use Rattle.cb_alpha.specs.declared.join_values.Kept.{Kept}
-use Rattle.cb_alpha.specs.declared.join_values.Kept.TheVariants.{One, Many}
+use Rattle.cb_alpha.specs.declared.join_values.Kept.TheVariants.{One, Two, Many}
 
 abbrev pub values_in : Kept → List Value
 values_in (One value) = value
+values_in (Two values) = values
 values_in (Many values) = values.items

@@ -21,6 +21,9 @@ pub(crate) fn insert(candidates: &mut Slab<Candidate>, fact: Candidate) -> Resul
     let Ok(number) = u32::try_from(candidates.vacant_key()) else {
         return Err(NoMemory);
     };
+    if candidates.capacity() == 0 {
+        candidates.reserve_exact(1)?;
+    }
     candidates.insert(fact)?;
     Ok(number)
 }

@@ -16,10 +16,22 @@ pub fn values_of_fact(
 ) -> Result<Option<JoinValues>, NoMemory>
     ensures { IfOk result (λ found. found ≡ field_values fields.now fact.now.content) }
 {
-    if fields.len() == 1 {
-        return value_of_fact(&fields[0], fact);
+    match fields {
+        [field] => value_of_fact(field, fact),
+        [first, second] => values_of_two(first, second, fact),
+        _ => values_of_many(alloc, fields, fact),
     }
-    let mut values = Vec::new(alloc);
+}
+
+/// The same of any number of fields.
+fn values_of_many(
+    alloc: Global,
+    fields: &[JoinField],
+    fact: &Fact,
+) -> Result<Option<JoinValues>, NoMemory>
+    ensures { IfOk result (λ found. found ≡ field_values fields.now fact.now.content) }
+{
+    let mut values = Vec::with_capacity(alloc, fields.len())?;
     for field in fields {
         match field.value_in(fact)? {
             Some(value) => values.push(value)?,
@@ -35,6 +47,24 @@ fn value_of_fact(field: &JoinField, fact: &Fact) -> Result<Option<JoinValues>, N
 {
     match field.value_in(fact)? {
         Some(value) => Ok(Some(JoinValues::one(value))),
+        None => Ok(None),
+    }
+}
+
+/// The same of two fields.
+fn values_of_two(
+    first: &JoinField,
+    second: &JoinField,
+    fact: &Fact,
+) -> Result<Option<JoinValues>, NoMemory>
+    ensures { IfOk result (λ found. found
+        ≡ field_values (first.now ∷ second.now ∷ []) fact.now.content) }
+{
+    let Some(first) = first.value_in(fact)? else {
+        return Ok(None);
+    };
+    match second.value_in(fact)? {
+        Some(second) => Ok(Some(JoinValues::two([first, second]))),
         None => Ok(None),
     }
 }

@@ -14,16 +14,17 @@ use std::cmp::Ordering;
 use std::hash::{FoldHasher, Hash, Hasher};
 use std::marker::Model;
 
-/// Where the values stand: one in place, as most patterns are joined on one variable.
+/// Where the values stand: one or two in place, as most patterns are joined on one variable or two.
 #[derive(Drop)]
 enum Kept {
     One([Value; 1]),
+    Two([Value; 2]),
     Many(Vec<Value>),
 }
 
 /// Values of variables, in the order of the fields that have to be equal to them.
 ///
-/// One value takes no memory of its own. Contracts see the list of the values. They compare value by value.
+/// One value takes no memory of its own, and neither do two. Contracts see the list of the values. They compare value by value.
 #[derive(Drop)]
 pub struct JoinValues {
     kept: Kept,
@@ -46,6 +47,15 @@ impl JoinValues {
     {
         JoinValues {
             kept: Kept::One([value]),
+        }
+    }
+
+    /// Two values.
+    pub fn two(values: [Value; 2]) -> JoinValues
+        ensures { result ≡ values }
+    {
+        JoinValues {
+            kept: Kept::Two(values),
         }
     }
 
@@ -74,6 +84,7 @@ impl JoinValues {
     {
         match &self.kept {
             Kept::One([value]) => Ok(JoinValues::one(value.clone()?)),
+            Kept::Two([first, second]) => Ok(JoinValues::two([first.clone()?, second.clone()?])),
             Kept::Many(values) => Ok(JoinValues::many(copied(alloc, values.as_slice())?)),
         }
     }
@@ -84,6 +95,7 @@ impl JoinValues {
     {
         match &self.kept {
             Kept::One(value) => value.as_slice(),
+            Kept::Two(values) => values.as_slice(),
             Kept::Many(values) => values.as_slice(),
         }
     }

@@ -7,6 +7,7 @@ ghost use Rattle.cb_alpha.specs.Internal.Numbered.{AreNumbered, IsMade, IsUnmade
 ghost use Rattle.cb_facts.specs.declared.value.Value.{Value as Joined};
 ghost use Rattle.cb_groups.specs.Groups.{AreMembers, HasMember};
 ghost use Rattle.cb_number_map.specs.NumberMaps.{Updates, number_at};
+ghost use Rattle.slab.specs.Slab.{HasRoomFor};
 
 use crate::join_values::JoinValues;
 use cb_forms::NoMemory;
@@ -93,7 +94,7 @@ impl Numbers {
             → values_at buckets.new.slots k ≡ values_at buckets.old.slots k) }
         ensures err { OnErr result (AreSameFilings buckets.old.slots buckets.new.slots) }
     {
-        buckets.reserve(1)?;
+        make_room(buckets)?;
         let Ok(number) = u32::try_from(buckets.vacant_key()) else {
             return Err(NoMemory);
         };
@@ -165,6 +166,19 @@ impl Numbers {
             None => self.aside.get(values).copied(),
         }
     }
+}
+
+/// Makes room for one bucket more: for one alone where none was there before. Growth is refused as `NoMemory`.
+fn make_room(buckets: &mut Slab<JoinValues>) -> Result<(), NoMemory>
+    ensures room { OnOk result (HasRoomFor buckets.new 1) }
+    ensures same { buckets.new ≡ record buckets.old { capacity = buckets.new.capacity } }
+{
+    if buckets.capacity() == 0 {
+        buckets.reserve_exact(1)?;
+    } else {
+        buckets.reserve(1)?;
+    }
+    Ok(())
 }
 
 /// A number, if its bucket has these values.

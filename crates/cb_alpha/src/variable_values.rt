@@ -8,7 +8,7 @@ use cb_fit::JoinField;
 use cb_forms::NoMemory;
 use std::alloc::Global;
 
-/// The values of the variables of these fields, or `None` where one has none. Those of one field take no memory of their own. It is
+/// The values of the variables of these fields, or `None` where one has none. Those of one field or two take no memory of their own. It is
 /// refused as `NoMemory` where a look-up is, or growth.
 pub fn values_of_variables<L: Lookup>(
     alloc: Global,
@@ -17,10 +17,22 @@ pub fn values_of_variables<L: Lookup>(
 ) -> Result<Option<JoinValues>, NoMemory>
     ensures { IfOk result (λ found. found ≡ variable_values fields.now (L.bindings known.now)) }
 {
-    if fields.len() == 1 {
-        return value_of_variable(&fields[0], known);
+    match fields {
+        [field] => value_of_variable(field, known),
+        [first, second] => values_of_two(first, second, known),
+        _ => values_of_many(alloc, fields, known),
     }
-    let mut values = Vec::new(alloc);
+}
+
+/// The same of any number of fields.
+fn values_of_many<L: Lookup>(
+    alloc: Global,
+    fields: &[JoinField],
+    known: &L,
+) -> Result<Option<JoinValues>, NoMemory>
+    ensures { IfOk result (λ found. found ≡ variable_values fields.now (L.bindings known.now)) }
+{
+    let mut values = Vec::with_capacity(alloc, fields.len())?;
     for field in fields {
         match known.variable(&field.variable)? {
             Some(value) => values.push(value)?,
@@ -39,6 +51,24 @@ fn value_of_variable<L: Lookup>(
 {
     match known.variable(&field.variable)? {
         Some(value) => Ok(Some(JoinValues::one(value))),
+        None => Ok(None),
+    }
+}
+
+/// The same of two fields.
+fn values_of_two<L: Lookup>(
+    first: &JoinField,
+    second: &JoinField,
+    known: &L,
+) -> Result<Option<JoinValues>, NoMemory>
+    ensures { IfOk result (λ found. found
+        ≡ variable_values (first.now ∷ second.now ∷ []) (L.bindings known.now)) }
+{
+    let Some(first) = known.variable(&first.variable)? else {
+        return Ok(None);
+    };
+    match known.variable(&second.variable)? {
+        Some(second) => Ok(Some(JoinValues::two([first, second]))),
         None => Ok(None),
     }
 }

@@ -71,18 +71,46 @@ impl FieldPlaces {
     ) -> Result<Option<JoinValues>, NoMemory>
         ensures { IfOk result (λ found. found ≡ values_at self.now fact.now.content) }
     {
-        let places = self.as_slice();
-        if places.len() == 1 {
-            return value_in(&places[0], fact);
+        match self.as_slice() {
+            [place] => value_in(place, fact),
+            [first, second] => values_in_two(first, second, fact),
+            places => values_in_many(alloc, places, fact),
         }
-        let mut values = Vec::new(alloc);
-        for place in places {
-            match place.value_in(fact)? {
-                Some(value) => values.push(value)?,
-                None => return Ok(None),
-            }
+    }
+}
+
+/// The values of a fact at any number of places.
+fn values_in_many(
+    alloc: Global,
+    places: &[FieldPlace],
+    fact: &Fact,
+) -> Result<Option<JoinValues>, NoMemory>
+    ensures { IfOk result (λ found. found ≡ values_at places.now fact.now.content) }
+{
+    let mut values = Vec::with_capacity(alloc, places.len())?;
+    for place in places {
+        match place.value_in(fact)? {
+            Some(value) => values.push(value)?,
+            None => return Ok(None),
         }
-        Ok(Some(JoinValues::many(values)))
+    }
+    Ok(Some(JoinValues::many(values)))
+}
+
+/// The values of a fact at two places.
+fn values_in_two(
+    first: &FieldPlace,
+    second: &FieldPlace,
+    fact: &Fact,
+) -> Result<Option<JoinValues>, NoMemory>
+    ensures { IfOk result (λ found. found ≡ values_at (first.now ∷ second.now ∷ []) fact.now.content) }
+{
+    let Some(first) = first.value_in(fact)? else {
+        return Ok(None);
+    };
+    match second.value_in(fact)? {
+        Some(second) => Ok(Some(JoinValues::two([first, second]))),
+        None => Ok(None),
     }
 }
 

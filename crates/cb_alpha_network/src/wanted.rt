@@ -61,9 +61,10 @@ pub(crate) fn wanted_of<T>(alloc: Global, pattern: &Pattern<T>) -> Result<Wanted
     ensures { IfOk result (λ wanted. wanted ≡ wanted_of pattern.now) }
 {
     let relation = pattern.relation().clone()?;
-    let mut places = Vec::new(alloc);
-    let mut values = Vec::new(alloc);
-    for field in pattern.constant_fields(alloc)? {
+    let fields = pattern.constant_fields(alloc)?;
+    let mut places = Vec::with_capacity(alloc, fields.len())?;
+    let mut values = Vec::with_capacity(alloc, fields.len())?;
+    for field in fields {
         places.push(field.place)?;
         values.push(field.value)?;
     }

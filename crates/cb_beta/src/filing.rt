@@ -18,6 +18,9 @@ pub(crate) fn insert(tokens: &mut Slab<Token>, token: Token) -> Result<u32, NoMe
     let Ok(number) = u32::try_from(tokens.vacant_key()) else {
         return Err(NoMemory);
     };
+    if tokens.capacity() == 0 {
+        tokens.reserve_exact(1)?;
+    }
     tokens.insert(token)?;
     Ok(number)
 }

@@ -90,6 +90,7 @@ pub(crate) fn known_fields_of<T>(
             known.push(field)?;
         }
     }
+    known.shrink_to_fit();
     Ok(known)
 }
 
@@ -109,6 +110,7 @@ fn unknown_fields_of<T>(
             unknown.push(field)?;
         }
     }
+    unknown.shrink_to_fit();
     Ok(unknown)
 }
 
@@ -127,6 +129,7 @@ fn others(
             left.push(field)?;
         }
     }
+    left.shrink_to_fit();
     Ok(left)
 }
 

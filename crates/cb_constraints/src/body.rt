@@ -31,15 +31,21 @@ const FEW: usize = 8;
 #[derive(Drop)]
 pub struct Body {
     parts: PatternParts,
-    table: Table,
+    /// The variables, each once with its first place.
+    variables: Vec<(Name, Place)>,
+    /// Their names, to find one by, where they are more than a few.
+    names: Option<Box<Places>>,
+    /// The sites of the constraints.
+    sites: Vec<Site>,
 }
 
 impl Model for Body {
     ghost use Rattle.cb_constraints.specs.Internal.Codes.{parts_code};
     ghost use Rattle.cb_constraints.specs.PatternValues.{PatternParts as Asked};
     ghost use Rattle.cb_constraints.specs.PartValues.{asked_parts};
-    ghost use Rattle.cb_constraints.specs.Internal.{HasTable};
+    ghost use Rattle.cb_constraints.specs.Internal.{HasVariables};
     ghost use Rattle.std.specs.Coded.{codes};
+    ghost use Rattle.std.specs.Option.{option_map};
 
     ghost Value = { Asked };
 
@@ -47,7 +53,7 @@ impl Model for Body {
 
     ghost view = { λ b. asked_parts b.parts };
 
-    ghost invariant = { λ b. HasTable b.table (asked_parts b.parts) };
+    ghost invariant = { λ b. HasVariables (option_map (λ n. n.value) b.names) b.variables.items b.sites.items (asked_parts b.parts) };
 }
 
 impl Body {
@@ -56,7 +62,21 @@ impl Body {
         ensures { IfOk result (λ b. b ≡ asked_parts parts) }
     {
         let table = make_table(alloc, &parts)?;
-        Ok(Body { parts, table })
+        let mut variables = table.variables;
+        variables.shrink_to_fit();
+        let mut sites = table.sites;
+        sites.shrink_to_fit();
+        let names = if variables.len() > FEW {
+            Some(Box::new(alloc, table.names)?)
+        } else {
+            None
+        };
+        Ok(Body {
+            parts,
+            variables,
+            names,
+            sites,
+        })
     }
 
     /// What it asks.
@@ -70,25 +90,24 @@ impl Body {
     pub fn first(&self, name: &Name) -> Option<Place>
         ensures { result ≡ first_place name.now (constraints_in self.now) }
     {
-        let variables = self.table.variables.as_slice();
-        if variables.len() <= FEW {
-            return place_among(variables, name);
+        match &self.names {
+            Some(names) => find_place(names, self.variables.as_slice(), name),
+            None => place_among(self.variables.as_slice(), name),
         }
-        find_place(&self.table.names, variables, name)
     }
 
     /// The variables that may take a value, each once with its first place, in the order in which they are written.
     pub(crate) fn variables(&self) -> &[(Name, Place)]
         ensures { result.now ≡ first_places (places 0 (constraints_in self.now)) }
     {
-        self.table.variables.as_slice()
+        self.variables.as_slice()
     }
 
     /// Where the constraint with this number stands, or `None` after the last.
     pub fn site(&self, constraint: usize) -> Option<Site>
         ensures { result ≡ slice_get (sites_in self.now) constraint }
     {
-        self.table.sites.get(constraint).copied()
+        self.sites.get(constraint).copied()
     }
 }
 

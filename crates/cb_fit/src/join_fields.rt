@@ -76,6 +76,7 @@ pub(crate) fn fields_of_parts(
     for placed in placed_demands(alloc, parts)? {
         add_demand(placed.place, placed.demand, &mut all)?;
     }
+    all.shrink_to_fit();
     Ok(all)
 }
 

@@ -24,7 +24,7 @@ fn loose_slots(alloc: Global, rows: &[SlotRow]) -> Result<Vec<SlotRow>, NoMemory
     ensures { IfOk result (λ loose. map asked_slot loose.items
         ≡ map loose_slot (map asked_slot rows.now)) }
 {
-    let mut loose = Vec::new(alloc);
+    let mut loose = Vec::with_capacity(alloc, rows.len())?;
     for slot in rows {
         loose.push(loose_slot(alloc, slot)?)?;
     }
@@ -48,7 +48,7 @@ fn loose_slot(alloc: Global, slot: &SlotRow) -> Result<SlotRow, NoMemory>
 fn loose_row(alloc: Global, row: &Row) -> Result<Row, NoMemory>
     ensures { IfOk result (λ loose. loose ≡ loose_row row.now) }
 {
-    let mut loose = Vec::new(alloc);
+    let mut loose = Vec::with_capacity(alloc, row.constraints().len())?;
     for constraint in row.constraints() {
         loose.push(loose_constraint(alloc, constraint)?)?;
     }
@@ -89,7 +89,7 @@ fn constants_in_each(
     ensures { IfOk result (λ loose. map (λ cs. map check_of cs.items) loose.items
         ≡ map constants_in (map (λ cs. map check_of cs.items) alternatives.now)) }
 {
-    let mut loose = Vec::new(alloc);
+    let mut loose = Vec::with_capacity(alloc, alternatives.len())?;
     for checks in alternatives {
         loose.push(constants_in(alloc, checks.as_slice())?)?;
     }
@@ -105,6 +105,7 @@ fn constants_in(alloc: Global, checks: &[Check]) -> Result<Vec<Check>, NoMemory>
     for check in checks {
         keep_constant(&mut constants, check)?;
     }
+    constants.shrink_to_fit();
     Ok(constants)
 }
 

@@ -41,6 +41,7 @@ fn own_in(alloc: Global, parts: &PatternParts) -> Result<Vec<OwnField>, NoMemory
         add_own(alloc, &before, placed.place, placed.demand, &mut all)?;
         before = before.with_demand(alloc, placed.place, placed.demand)?;
     }
+    all.shrink_to_fit();
     Ok(all)
 }
 

@@ -54,6 +54,7 @@ fn pieces_in(alloc: Global, own: &[OwnField], parts: &PatternParts) -> Result<Pi
         }
         PatternParts::Slots(rows) => add_slots(rows.as_slice(), &mut all)?,
     }
+    all.shrink_to_fit();
     Ok(Pieces::new(all))
 }
 

@@ -10,7 +10,7 @@ use Rattle.std.specs.Bool.{Decides}
 use Rattle.std.specs.List.{Contains, IsDistinct}
 use Rattle.cb_groups.specs.Groups.{AreMembers, AreSameGroups, HasMember, Membership, Releases, Updates, group_of}
 use Rattle.cb_groups.specs.Internal.{ArePlaces, AreWithout, IsOut, IsPushed, group_in, member_at, members_at, membership, standing}
-use Rattle.cb_groups.specs.declared.lists.Place.{Place}
+use Rattle.cb_groups.specs.declared.standing.Place.{Place}
 
 -- the group of a member is that of its place
 pub seen : (ps : List (Option Place)) (m : ℕ) → group_of (membership ps) m ≡ group_in (standing ps m)

@@ -1,8 +1,8 @@
 -- The members of each group in a list, and the place of each member.
-use Rattle.std.specs.Prelude.{◌<◌, ◌≡◌, ◌≢◌, ◌++◌, ℕ, suc, Contains, List, [], ◌∷◌, Option, Some, None, length, map, slice_get, slice_index_or}
+use Rattle.std.specs.Prelude.{◌<◌, ◌≡◌, ◌≢◌, ◌++◌, ℕ, zero, suc, Contains, List, [], ◌∷◌, Option, Some, None, length, map, slice_get, slice_index_or}
 use Rattle.std.specs.Option.{option_map, option_map_or}
 use Rattle.cb_groups.specs.Groups.{Membership}
-use Rattle.cb_groups.specs.declared.lists.Place.{Place}
+use Rattle.cb_groups.specs.declared.standing.Place.{Place}
 use Rattle.cb_groups.specs.declared.members.Held.{Held}
 use Rattle.cb_groups.specs.declared.members.Held.TheVariants as held
 
@@ -12,6 +12,11 @@ members_in held.None = []
 members_in (held.One m) = m ∷ []
 members_in (held.Two ms) = ms
 members_in (held.Many ms) = ms.value.items
+
+-- the place that a standing has, by its group and one more than its position
+abbrev pub place_by_turn : ℕ → ℕ → Option Place
+place_by_turn group zero = None
+place_by_turn group (suc position) = Some (record { group = group; position = position })
 
 -- the members that a group has
 abbrev pub members_at : List (List ℕ) → ℕ → List ℕ

@@ -4,10 +4,11 @@ ghost use Rattle.std.specs.Bool.{Decides};
 ghost use Rattle.cb_groups.specs.Groups.{AppendsMembers, AreMembers, AreSameGroups, HasMember, Releases, Updates, group_of};
 
 use crate::lists::{
-    Place, clear_list, clear_places, members_of, move_place, place_of, push_to, reach_list,
-    reach_place, take_out,
+    clear_list, clear_places, members_of, move_place, place_of, push_to, reach_list, reach_place,
+    take_out,
 };
 use crate::members::Members;
+use crate::standing::{Place, Standing};
 use cb_forms::NoMemory;
 use std::alloc::Global;
 use std::marker::Model;
@@ -23,7 +24,7 @@ pub struct Groups {
     /// The members of each group.
     lists: Vec<Members>,
     /// The place of each member.
-    places: Vec<Option<Place>>,
+    places: Vec<Standing>,
 }
 
 impl Model for Groups {
@@ -58,7 +59,7 @@ impl Groups {
         reach_list(&mut self.lists, group)?;
         reach_place(&mut self.places, member)?;
         let position = push_to(self.alloc, &mut self.lists, group, member)?;
-        self.places[member as usize] = Some(Place { group, position });
+        self.places[member as usize] = Standing::at(Place { group, position });
         Ok(())
     }
 

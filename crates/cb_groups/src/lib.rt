@@ -6,5 +6,6 @@
 mod groups; // the groups
 mod lists; // the members of each group in a list, and the place of each member
 mod members; // the members of one group
+mod standing; // where a member stands
 
 pub use groups::Groups;

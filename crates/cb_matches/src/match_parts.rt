@@ -3,6 +3,7 @@ ghost use Rattle.std.specs.Prelude.{◌≡◌, ◌++◌, ◌∷◌, [], IfOk};
 
 use crate::part::Part;
 use cb_forms::NoMemory;
+use smallvec::SmallVec;
 use std::alloc::{AllocError, Global};
 use std::marker::Model;
 use std::rc::Rc;
@@ -10,7 +11,7 @@ use std::rc::Rc;
 /// The parts of a partial match, which never change.
 ///
 /// Up to two stand in the value itself, and clones share more: a clone takes no memory, and is refused only where a count of
-/// sharers is full. Three and four take one block, more take two. Contracts see the list of the parts.
+/// sharers is full. Three and more take one block, but for those of `many` that are more than six. Contracts see the list of the parts.
 #[derive(Drop)]
 pub struct MatchParts {
     held: Held,
@@ -24,7 +25,7 @@ enum Held {
     Two([Part; 2]),
     Three(Rc<[Part; 3]>),
     Four(Rc<[Part; 4]>),
-    More(Rc<Vec<Part>>),
+    More(Rc<SmallVec<Part, 6>>),
 }
 
 impl Model for MatchParts {
@@ -47,6 +48,13 @@ impl MatchParts {
 
     /// These parts, taken over. Growth is refused as `NoMemory`, and so is a count of sharers that is full.
     pub fn new(alloc: Global, parts: Vec<Part>) -> Result<MatchParts, NoMemory>
+        ensures { IfOk result (λ all. all ≡ parts.items) }
+    {
+        MatchParts::many(alloc, SmallVec::from_vec(parts))
+    }
+
+    /// The same of a list that holds up to six in place. Then they take one block.
+    pub fn many(alloc: Global, parts: SmallVec<Part, 6>) -> Result<MatchParts, NoMemory>
         ensures { IfOk result (λ all. all ≡ parts.items) }
     {
         if parts.len() <= 4 {
@@ -110,7 +118,7 @@ impl MatchParts {
                 let parts = [a.clone()?, b.clone()?, c.clone()?, d.clone()?];
                 return MatchParts::four(alloc, parts);
             }
-            more => Held::More(Rc::new(alloc, more.to_vec(alloc)?)?),
+            more => return shared(alloc, more),
         };
         Ok(MatchParts { held })
     }
@@ -141,6 +149,16 @@ impl MatchParts {
         };
         Ok(MatchParts { held })
     }
+}
+
+/// A copy of these parts in a block that clones share.
+fn shared(alloc: Global, parts: &[Part]) -> Result<MatchParts, NoMemory>
+    ensures { IfOk result (λ all. all ≡ parts.now) }
+{
+    let list = SmallVec::from_clones(alloc, parts)?;
+    Ok(MatchParts {
+        held: Held::More(Rc::new(alloc, list)?),
+    })
 }
 
 /// A copy of these parts, with one more at its end.

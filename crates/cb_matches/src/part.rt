@@ -1,5 +1,5 @@
 //! What one pattern of a match took.
-ghost use Rattle.std.specs.Prelude.{◌≡◌, refl};
+ghost use Rattle.std.specs.Prelude.{◌≡◌, [], refl};
 ghost use Rattle.std.specs.Cmp.{partial_equiv_from_equiv, po};
 ghost use Rattle.std.specs.Ordering.{as_partial_cmp};
 ghost use Rattle.cb_matches.specs.Internal.KeyLaws.{part_equiv, part_tied, part_total};
@@ -28,6 +28,17 @@ impl Model for Part {
     ghost Value = { PartValue };
 
     ghost view = { λ p. record { index = p.index; cuts = p.cuts } };
+}
+
+impl Default for Part {
+    ghost is_default = { λ part. part ≡ record { index = 0; cuts = [] } };
+
+    fn default() -> Part {
+        Part {
+            index: 0,
+            cuts: Cuts::none(),
+        }
+    }
 }
 
 impl Clone for Part {

@@ -10,6 +10,7 @@ use crate::path::{Path, Step};
 use cb_beta::Taken;
 use cb_forms::NoMemory;
 use cb_matches::{MatchParts, Part};
+use smallvec::SmallVec;
 use std::alloc::Global;
 
 /// What was taken last on the way down from a token, before the others and behind them; nothing for what isn't there.
@@ -107,15 +108,15 @@ fn all_parts(alloc: Global, path: Path<'_>) -> Result<MatchParts, NoMemory>
     ensures { IfOk result (λ parts. parts ≡ (with_path path.entry.items no_parts).parts) }
 {
     let mut path = path;
-    let mut parts = Vec::with_capacity(alloc, path.len())?;
+    let mut parts = SmallVec::with_capacity(alloc, path.len())?;
     while let Some(step) = path.pop() {
         add_part(&mut parts, step)?;
     }
-    MatchParts::new(alloc, parts)
+    MatchParts::many(alloc, parts)
 }
 
 /// Adds the part of a step. Growth is refused as `NoMemory`, and so is a count of sharers that is full.
-fn add_part(parts: &mut Vec<Part>, step: Option<Step<'_>>) -> Result<(), NoMemory>
+fn add_part(parts: &mut SmallVec<Part, 6>, step: Option<Step<'_>>) -> Result<(), NoMemory>
     ensures { OnOk result ((m : Partial) → m.parts ≡ parts.old.items
         → parts.new.items ≡ (with_step step.entry m).parts) }
 {

@@ -1,5 +1,6 @@
 -- Where parts are. No public clause cites this module.
-use Rattle.std.specs.Prelude.{List, [], Vec}
+use Rattle.smallvec.specs.SmallVec.{SmallVec}
+use Rattle.std.specs.Prelude.{List, []}
 use Rattle.std.specs.Rc.{rc_value}
 use Rattle.cb_matches.specs.Keys.{PartValue}
 use Rattle.cb_matches.specs.declared.match_parts.Held.{Held}
@@ -11,4 +12,4 @@ parts_in (held.One parts) = parts
 parts_in (held.Two parts) = parts
 parts_in (held.Three parts) = rc_value {X = List PartValue} parts
 parts_in (held.Four parts) = rc_value {X = List PartValue} parts
-parts_in (held.More parts) = (rc_value {X = Vec PartValue _} parts).items
+parts_in (held.More parts) = (rc_value {X = SmallVec PartValue} parts).items

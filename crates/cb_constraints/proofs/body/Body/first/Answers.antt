@@ -1,4 +1,4 @@
-use Rattle.std.proofs.Common.{◌∙◌, ap}
+use Rattle.std.proofs.Common.{◌≡◌, ◌∙◌, IfSome, ap, map, subst}
 use Rattle.std.specs.List.{slice_get}
 use Rattle.std.specs.Map.{lookup}
 use Rattle.std.specs.Option.{option_and_then, option_map}
@@ -10,18 +10,19 @@ use Rattle.cb_constraints.proofs.PlaceLaws.{found, looked_up}
 use Rattle.cb_constraints.proofs.body.Body.first.Goals as goal
 use Rattle.cb_facts.specs.Places.{place_in}
 
-pub returns : goal.returns
-returns c =
+pub returns-in-Some : goal.returns-in-Some
+returns-in-Some c =
     c.find_place.ensures
-    ∙ (ap (λ es. option_and_then (λ i. option_map (λ e. e.1) (slice_get es i)) (place_in c.self.inside.table.names c.args.name.now)) c.as_slice-variables.ensures.value
-    ∙ (found c.args.name.now c.self.inside.table.names c.self.inside.table.variables.items c.self.invariant.0
+    ∙ (ap (λ es. option_and_then (λ i. option_map (λ e. e.1) (slice_get es i)) (place_in c.deref.result.now c.args.name.now)) c.as_slice.ensures.value
+    ∙ (found c.args.name.now c.deref.result.now c.self.inside.variables.items
+        (c.deref.ensures ∙ subst (λ kept. IfSome (option_map (λ n. n.value) kept) (λ xs. xs ≡ map (λ e. e.0) c.self.inside.variables.items)) c.in-Some.is c.self.invariant.0)
     ∙ (ap (lookup (bytes_eq c.args.name.now)) c.self.invariant.1
     ∙ (looked_up c.args.name.now (places 0 (constraints_in (asked_parts c.self.inside.parts)))
     ∙ ap (λ p. first_place c.args.name.now (constraints_in p)) c.self.view_is))))
 
-pub returns-then-variables-le-FEW : goal.returns-then-variables-le-FEW
-returns-then-variables-le-FEW c =
+pub returns-in-None : goal.returns-in-None
+returns-in-None c =
     c.place_among.ensures
-    ∙ (ap (lookup (bytes_eq c.args.name.now)) (c.as_slice-variables.ensures.value ∙ c.self.invariant.1)
+    ∙ (ap (lookup (bytes_eq c.args.name.now)) (c.as_slice-in-None.ensures.value ∙ c.self.invariant.1)
     ∙ (looked_up c.args.name.now (places 0 (constraints_in (asked_parts c.self.inside.parts)))
     ∙ ap (λ p. first_place c.args.name.now (constraints_in p)) c.self.view_is))

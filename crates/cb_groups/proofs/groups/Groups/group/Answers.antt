@@ -6,8 +6,8 @@ use Rattle.cb_groups.proofs.groups.Groups.group.Goals as goal
 
 pub returns-in-Some : goal.returns-in-Some
 returns-in-Some c =
-    ap group_in (sym c.in-Some.is ∙ c.place_of.ensures) ∙ (sym (seen c.self.inside.places.items c.args.member) ∙ ap (λ it. group_of it c.args.member) c.self.view_is)
+    ap group_in (sym c.in-Some.is ∙ c.place_of.ensures.place) ∙ (sym (seen c.self.inside.places.items c.args.member) ∙ ap (λ it. group_of it c.args.member) c.self.view_is)
 
 pub returns-in-None : goal.returns-in-None
 returns-in-None c =
-    ap group_in (sym c.in-None.is ∙ c.place_of.ensures) ∙ (sym (seen c.self.inside.places.items c.args.member) ∙ ap (λ it. group_of it c.args.member) c.self.view_is)
+    ap group_in (sym c.in-None.is ∙ c.place_of.ensures.place) ∙ (sym (seen c.self.inside.places.items c.args.member) ∙ ap (λ it. group_of it c.args.member) c.self.view_is)

@@ -1,6 +1,6 @@
 use Rattle.std.proofs.Common.{◌≡◌, drop}
 use Rattle.cb_alpha.proofs.ValuesFound.{with_found}
-use Rattle.cb_alpha_network.proofs.field_places.FieldPlaces.values_in.Given as goal
+use Rattle.cb_alpha_network.proofs.field_places.values_in_many.Given as goal
 use Rattle.cb_alpha_network.specs.Wanted.{values_at}
 
 abbrev pub invariant-loop-place : goal.invariant-loop-place
