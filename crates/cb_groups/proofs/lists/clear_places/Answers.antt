@@ -22,5 +22,5 @@ loop-member-preserved c =
     let same = c.loop-member.invariant.0 in (
       length-set now (get_or ms i 0) c.nowhere.result ∙ same,
       subst (λ (it : Option Place). AreWithout c.args.places.now.items (set now (get_or ms i 0) it) (take (i + 1) ms)) (sym c.nowhere.ensures)
-      (one_without c.args.places.now.items now ms i (omega arith) (omega (arith, l, same)) c.loop-member.invariant.1),
+          (one_without c.args.places.now.items now ms i (omega arith) (omega (arith, l, same)) c.loop-member.invariant.1),
     )

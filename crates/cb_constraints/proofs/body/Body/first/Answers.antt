@@ -15,7 +15,7 @@ returns-in-Some c =
     c.find_place.ensures
     ∙ (ap (λ es. option_and_then (λ i. option_map (λ e. e.1) (slice_get es i)) (place_in c.deref.result.now c.args.name.now)) c.as_slice.ensures.value
     ∙ (found c.args.name.now c.deref.result.now c.self.inside.variables.items
-        (c.deref.ensures ∙ subst (λ kept. IfSome (option_map (λ n. n.value) kept) (λ xs. xs ≡ map (λ e. e.0) c.self.inside.variables.items)) c.in-Some.is c.self.invariant.0)
+    (c.deref.ensures ∙ subst (λ kept. IfSome (option_map (λ n. n.value) kept) (λ xs. xs ≡ map (λ e. e.0) c.self.inside.variables.items)) c.in-Some.is c.self.invariant.0)
     ∙ (ap (lookup (bytes_eq c.args.name.now)) c.self.invariant.1
     ∙ (looked_up c.args.name.now (places 0 (constraints_in (asked_parts c.self.inside.parts)))
     ∙ ap (λ p. first_place c.args.name.now (constraints_in p)) c.self.view_is))))

@@ -31,7 +31,7 @@ returns-clause-ok c =
     let are = same_places old.lists.items ls old.places.items ps c.reach_list.ensures.same c.reach_place.ensures.same c.self.invariant in
     let free : standing ps c.args.member ≡ None = c.reach_place.ensures.same c.args.member ∙ no_place old.places.items c.args.member (ap (λ it. group_of it c.args.member) c.self.view_is ∙ c.requires) in
     let is = subst (λ (it : Option Place). Updates (membership ps) (membership (set ps c.args.member it)) c.args.member (Some c.args.group)) (sym c.at.ensures)
-        (pushed_updates ls c.push_to.new.lists.items ps are c.args.group c.args.member c.in_ok-position.position free c.in_ok-reach_place.ensures.long c.in_ok-position.ensures.pushed) in
+    (pushed_updates ls c.push_to.new.lists.items ps are c.args.group c.args.member c.in_ok-position.position free c.in_ok-reach_place.ensures.long c.in_ok-position.ensures.pushed) in
     record {
       changed = is.changed;
       others = λ m d. is.others m d ∙ (same_groups old.places.items ps c.reach_place.ensures.same m ∙ ap (λ it. group_of it m) c.self.view_is);
