@@ -11,7 +11,7 @@ use std::rc::Rc;
 /// The parts of a partial match, which never change.
 ///
 /// Up to two stand in the value itself, and clones share more: a clone takes no memory, and is refused only where a count of
-/// sharers is full. Three and more take one block, but for those of `many` that are more than six. Contracts see the list of the parts.
+/// sharers is full. Three and four take one block, five and six of `many` too, and others two. Contracts see the list of the parts.
 #[derive(Drop)]
 pub struct MatchParts {
     held: Held,
