@@ -4,7 +4,7 @@ use Rattle.cb_constraints.specs.Constraints.{Test, constant, variable, predicate
 use Rattle.cb_constraints.specs.PatternValues.{PatternParts, PatternValue, SlotValue}
 use Rattle.cb_constraints.specs.PatternValues as pattern
 use Rattle.cb_fit.specs.Comparisons.{own_fields}
-use Rattle.cb_fit.specs.ShapeKeys.{alternative_pieces, checks_pieces, demand_pieces, key_of, own_pieces, pieces_of, row_pieces, shape_of, slot_pieces}
+use Rattle.cb_fit.specs.ShapeKeys.{alternative_pieces, checks_pieces, demand_pieces, key_of, pieces_of, row_pieces, shape_of, slot_pieces}
 use Rattle.cb_fit.specs.Shapes.{constants_in, loose_demand, loose_parts, loose_row, loose_slot, selection}
 use Rattle.cb_fit.specs.declared.own_field.OwnField.{OwnField}
 use Rattle.cb_fit.specs.declared.pieces.Piece.{Piece}
@@ -45,7 +45,7 @@ parts_kept (pattern.fields row) = ap (λ (ps : List Piece). piece.Ordered ∷ ps
 parts_kept (pattern.slots rows) = slots_kept rows
 
 shape_with : List ℕ → List OwnField → List Piece → Shape
-shape_with r os ps = record { relation = r; pieces = own_pieces os ++ ps }
+shape_with r os ps = record { relation = r; own = os; pieces = ps }
 
 pub selection_key : (p : PatternValue) → key_of (selection p) ≡ shape_of p
 unfolding shape_with

@@ -1,7 +1,7 @@
 -- Nodes that are ready stay so, where the same numbers stand for the same partial matches.
 use Rattle.std.proofs.Common.{◌≡◌, ◌≤◌, ◌<◌, ◌↔◌, ℕ, suc, List, Some, None, arith, refl, slice_get, subst}
 use Rattle.cb_beta.specs.BetaMemories.{BetaMemoryValue}
-use Rattle.cb_branch.specs.Alphas.{AlphaUse, Facts, alpha_use}
+use Rattle.cb_branch.specs.Alphas.{AlphaUse, Facts, alpha_use, join_asked}
 use Rattle.cb_branch.specs.Ready.{IsNodeReadyFor}
 use Rattle.cb_branch.specs.Turning.{LeadsWithin}
 use Rattle.cb_exprs.specs.Terms.{term_of}
@@ -35,7 +35,7 @@ pub node_stays : {T : Type 0} (There There' : BetaMemoryValue → ℕ → Type 0
 node_stays There There' sources lists lists' k ws (kept.Join alpha node) facts facts' ls ls' own own' well leads are same_facts same_lists tokens ready = λ before is.
     let m = are.alike node.from before (omega (arith, well)) is in
     ready_stays node (partial_at sources lists node.from) (partial_at sources lists' node.from) (There m.0) (There' before) (facts alpha) (facts' alpha) own own' (ready m.0 m.1) m.2
-    (λ i. same_facts (record { pattern = node.asked.pattern; alpha = alpha; join = Some (node.join, node.asked.fields.items) }) refl i) tokens
+    (λ i. same_facts (record { pattern = node.asked.pattern; alpha = alpha; join = join_asked node.join node.asked.fields.items }) refl i) tokens
 node_stays There There' sources lists lists' k ws (kept.Test from test) facts facts' ls ls' own own' well leads are same_facts same_lists tokens ready = λ before is.
     let m = are.alike from before (omega (arith, well)) is in
     passed_stay (term_of test) (partial_at sources lists from) (partial_at sources lists' from) (There m.0) (There' before) own own' (ready m.0 m.1) m.2 tokens

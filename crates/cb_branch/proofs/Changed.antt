@@ -12,7 +12,7 @@ use Rattle.cb_branch.proofs.LookupKind.{lookup_after, lookup_before}
 use Rattle.cb_branch.proofs.NodeProbes.{join_within}
 use Rattle.cb_branch.proofs.Relied.{list_there}
 use Rattle.cb_branch.proofs.TestKind.{test_after, test_before}
-use Rattle.cb_branch.specs.Alphas.{AlphaUse, TakesAdded, alpha_use}
+use Rattle.cb_branch.specs.Alphas.{AlphaUse, TakesAdded, alpha_use, join_asked}
 use Rattle.cb_branch.specs.Turning.{IsNodeAfter, IsNodeBefore}
 use Rattle.cb_exprs.specs.Terms.{term_of}
 use Rattle.cb_exprs.specs.declared.expr.Expr.{Expr}
@@ -76,7 +76,7 @@ module _ {T : Type 0} (alphas : MemoryValues) (sources : List SourceValue) (read
         let first = join_before alphas sources before now read fs fs' old new k alpha node own m.0 a b memory m.1 in
         let l = pays m.0 fs fs' (old node.from) (new node.from) m.1 first in
         let same : memory_in alphas alpha ≡ a = get_or_from_slice_get alphas alpha a no_memory memory in
-        let took = takes (record { pattern = node.asked.pattern; alpha = alpha; join = Some (node.join, node.asked.fields.items) }) refl in
+        let took = takes (record { pattern = node.asked.pattern; alpha = alpha; join = join_asked node.join node.asked.fields.items }) refl in
         let most = join_within node.asked.pattern a added fs' (old node.from) (new node.from)
         (subst (λ it. (n : ℕ) (f : ℕ × FactValue) → came_in it n ≡ Some f → added ≡ Some f.1) same took) in
         omega (arith, l, most)
@@ -132,7 +132,7 @@ module _ {T : Type 0} (alphas : MemoryValues) (sources : List SourceValue) (read
   -- where there is no alpha memory, no turn comes
   pub never_join : (alpha : ℕ) (node : JoinNode T) (node' : Node T) (own' : BetaMemoryValue) → (alpha < length alphas → ⊥) → Changes (kept.Join alpha node) node' own'
   never_join alpha node node' own' none before now fs fs' old new k b =
-      absurd (none (b.turned (record { pattern = node.asked.pattern; alpha = alpha; join = Some (node.join, node.asked.fields.items) }) refl).0)
+      absurd (none (b.turned (record { pattern = node.asked.pattern; alpha = alpha; join = join_asked node.join node.asked.fields.items }) refl).0)
 
   pub never_lone : (alpha : ℕ) (node : LoneNode T) (node' : Node T) (own' : BetaMemoryValue) → (alpha < length alphas → ⊥) → Changes (kept.Lone alpha node) node' own'
   never_lone alpha node node' own' none before now fs fs' old new k b = absurd (none (b.turned (record { pattern = node.pattern; alpha = alpha; join = None }) refl).0)

@@ -1,13 +1,14 @@
 -- The patterns of a branch in the alpha network.
 use Rattle.std.proofs.Common.{◌≡◌, ◌∙◌, ℕ, List, None, Some, ap, refl, slice_get, subst, sym}
 use Rattle.std.specs.Option.{option_and_then}
-use Rattle.cb_alpha_network.specs.Networks.{AlphaNetworkValue}
+use Rattle.cb_alpha_network.specs.Networks.{AlphaNetworkValue, memory_at}
 use Rattle.cb_alpha_network.specs.declared.node_place.NodePlace.{NodePlace}
 use Rattle.cb_branch.specs.Branches.{CanBeFilled, IsUsed, branch_elements}
 use Rattle.cb_branch.specs.Patterns.{branch_patterns}
 use Rattle.cb_branch.specs.declared.branch.Branch.{Branch}
 use Rattle.cb_branch.proofs.Fills.{use_at}
-use Rattle.cb_branch.specs.Alphas.{AlphaUse, HasUse, alpha_use}
+use Rattle.cb_branch.proofs.JoinAsked.{found_join, join_found}
+use Rattle.cb_branch.specs.Alphas.{AlphaUse, HasUse, alpha_use, join_asked}
 use Rattle.cb_branch.specs.Turning.{ArePrepared}
 use Rattle.cb_branch.specs.Entries.{AreNodesEntered, AreRenumbered, IsNodeEntered, node_at}
 use Rattle.cb_flat.specs.Sources.{sources_of}
@@ -22,14 +23,14 @@ use Rattle.cb_scopes.specs.Scopes.{scope_of}
 module _ {T : Type 0} (v : AlphaNetworkValue) where
   -- a node that is entered has what it has of the network there
   used_of : (place : NodePlace) (n : Node T) (u : AlphaUse) → alpha_use n ≡ Some u → IsNodeEntered v place n → IsUsed v place u
-  used_of place (kept.Join alpha node) u e h = subst (IsUsed v place) (one_some e) (record { shape = h.0; joins = h.1 })
+  used_of place (kept.Join alpha node) u e h = subst (IsUsed v place) (one_some e) (record { shape = h.0; joins = found_join (memory_at v alpha) node.join node.asked.fields.items h.1 })
   used_of place (kept.Test from test) u e h = let no : None ≡ Some u = e in absurd (cc)
   used_of place (kept.Group width node) u e h = let no : None ≡ Some u = e in absurd (cc)
   used_of place (kept.Lone alpha node) u e h = subst (IsUsed v place) (one_some e) (record { shape = h; joins = tt })
   used_of place (kept.Lookup alpha node) u e h = subst (IsUsed v place) (one_some e) (record { shape = h.0; joins = h.1 })
 
   of_used : (place : NodePlace) (n : Node T) → ((u : AlphaUse) → alpha_use n ≡ Some u → IsUsed v place u) → IsNodeEntered v place n
-  of_used place (kept.Join alpha node) used = let it = used (record { pattern = node.asked.pattern; alpha = alpha; join = Some (node.join, node.asked.fields.items) }) refl in (it.shape, it.joins)
+  of_used place (kept.Join alpha node) used = let it = used (record { pattern = node.asked.pattern; alpha = alpha; join = join_asked node.join node.asked.fields.items }) refl in (it.shape, join_found (memory_at v alpha) node.join node.asked.fields.items it.joins)
   of_used place (kept.Test from test) used = tt
   of_used place (kept.Group width node) used = tt
   of_used place (kept.Lone alpha node) used = (used (record { pattern = node.pattern; alpha = alpha; join = None }) refl).shape

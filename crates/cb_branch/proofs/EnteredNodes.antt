@@ -4,6 +4,7 @@ use Rattle.cb_alpha.specs.AlphaMemories.{AlphaMemoryValue}
 use Rattle.cb_alpha_network.specs.Networks.{AlphaNetworkValue, AreAlphas, AreAtRest, IsShapeOf, KeepsFacts, KeepsShapes, KeepsShapesBut, memory_at, use_count}
 use Rattle.cb_alpha_network.specs.declared.node_place.NodePlace.{NodePlace}
 use Rattle.cb_alpha_network.specs.declared.user.User.{User}
+use Rattle.cb_branch.proofs.JoinAsked.{found_still}
 use Rattle.cb_branch.specs.Entries.{GainsPatterns, IsNodeEntered, KeepsShapesElsewhere, node_at}
 use Rattle.cb_branch.specs.declared.node.Node.{Node}
 use Rattle.cb_branch.specs.declared.node.Node.TheVariants as kept
@@ -82,7 +83,7 @@ module _ {T : Type 0} where
   -- what is entered is, where its shape and the facts of its memory stay
   entered_by : (u v : AlphaNetworkValue) (place : NodePlace) (node : Node T) → ((n : ℕ) (p : PatternValue) → IsShapeOf u n p place → IsShapeOf v n p place × KeepsFacts (memory_at u n) (memory_at v n))
       → IsNodeEntered u place node → IsNodeEntered v place node
-  entered_by u v place (kept.Join alpha node) same h = let i = same alpha node.asked.pattern h.0 in (i.0, i.1.joins node.join node.asked.fields.items h.1)
+  entered_by u v place (kept.Join alpha node) same h = let i = same alpha node.asked.pattern h.0 in (i.0, found_still (memory_at u alpha) (memory_at v alpha) node.join node.asked.fields.items i.1.joins h.1)
   entered_by u v place (kept.Test from test) same h = tt
   entered_by u v place (kept.Group width node) same h = tt
   entered_by u v place (kept.Lone alpha node) same h = (same alpha node.pattern h).0

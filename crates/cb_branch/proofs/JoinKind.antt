@@ -2,18 +2,19 @@
 use Rattle.std.proofs.Common.{◌≡◌, ◌∙◌, ◌≤◌, ◌<◌, ℕ, suc, List, Option, Some, ap, ap₂, arith, refl, slice_get, subst, sym}
 use Rattle.std.proofs.lemmas.Option.{get_or_from_slice_get}
 use Rattle.cb_alpha.specs.AlphaMemories.{AlphaMemoryValue, live}
-use Rattle.cb_alpha.specs.Turning.{AlphaTurns, HasJoin, were_in}
+use Rattle.cb_alpha.specs.Turning.{AlphaTurns, were_in}
 use Rattle.cb_alpha_network.specs.Networks.{memory_in, no_memory}
 use Rattle.cb_beta.specs.BetaMemories.{BetaMemoryValue}
 use Rattle.cb_beta.specs.Tokens.{partial_after}
+use Rattle.cb_branch.proofs.JoinAsked.{join_found}
 use Rattle.cb_branch.proofs.Relied.{none_come, none_gone, relied, turns}
-use Rattle.cb_branch.specs.Alphas.{AlphaUse, HasTurned}
+use Rattle.cb_branch.specs.Alphas.{AlphaUse, HasTurned, join_asked}
 use Rattle.cb_branch.specs.Turning.{IsNodeAfter, IsNodeBefore, IsSameNode}
 use Rattle.cb_constraints.specs.PatternValues.{PatternValue}
 use Rattle.cb_facts.specs.FactLists.{IndexedFacts}
 use Rattle.cb_fit.specs.declared.join_fields.JoinField.{JoinField}
 use Rattle.cb_join_node.proofs.Staying.{goes_on_from}
-use Rattle.cb_join_node.specs.Nodes.{AsksTheSame, IsAfter, IsBefore, IsByValues, IsReady, tests_of}
+use Rattle.cb_join_node.specs.Nodes.{AsksTheSame, FindsFacts, IsAfter, IsBefore, IsByValues, IsReady, tests_of}
 use Rattle.cb_join_node.specs.declared.by_values.ByValues.{ByValues}
 use Rattle.cb_join_node.specs.declared.joining.Joining.{Joining}
 use Rattle.cb_join_node.specs.declared.node.JoinNode.{JoinNode}
@@ -33,7 +34,7 @@ use_of p alpha join = record { pattern = p; alpha = alpha; join = join }
 pub join_same : {T : Type 0} (alpha : ℕ) (node node' : JoinNode T) → AsksTheSame node node' → IsSameNode (kept.Join alpha node) (kept.Join alpha node')
 join_same {T} alpha node node' same = record {
   flat = ap₂ (λ (n : ℕ) (it : Joining T). joining n it.address it.pattern (tests_of it)) same.from same.asked;
-  uses = ap₂ (λ (n : ℕ) (it : Joining T). Some (use_of it.pattern alpha (Some (n, it.fields.items)))) same.join same.asked;
+  uses = ap₂ (λ (n : ℕ) (it : Joining T). Some (use_of it.pattern alpha (join_asked n it.fields.items))) same.join same.asked;
   prepared = λ scopes h.
       let P : ℕ → Joining T → Type 0 = λ n it. AreJoinFields it.fields.items it.address it.pattern × ((by : ByValues) → it.by_values ≡ Some by → IsByValues (scopes n) it by) in
       subst (λ (n : ℕ). P n node'.asked) (sym same.from) (subst (λ (it : Joining T). P node.from it) (sym same.asked) h);
@@ -43,7 +44,7 @@ module _ {T : Type 0} (alphas : List AlphaMemoryValue) (sources : List SourceVal
     (node : JoinNode T) (own m : BetaMemoryValue) (a : AlphaMemoryValue) (b : IsNodeBefore alphas sources before now read fs fs' old new k (kept.Join alpha node) own)
     (memory : slice_get alphas alpha ≡ Some a) (is : slice_get read node.from ≡ Some m) where
   abbrev used : AlphaUse
-  used = record { pattern = node.asked.pattern; alpha = alpha; join = Some (node.join, node.asked.fields.items) }
+  used = record { pattern = node.asked.pattern; alpha = alpha; join = join_asked node.join node.asked.fields.items }
 
   turned : HasTurned alphas fs fs' used
   turned = b.turned used refl
@@ -58,7 +59,7 @@ module _ {T : Type 0} (alphas : List AlphaMemoryValue) (sources : List SourceVal
   join_before = record {
     turns = turns alphas sources before now read fs fs' old new k (kept.Join alpha node) own b node.from m near is;
     facts = subst (λ it. AlphaTurns node.asked.pattern it fs fs') same_memory turned.1;
-    has_join = subst (λ it. HasJoin it node.join node.asked.fields.items) same_memory turned.2;
+    has_join = subst (λ it. FindsFacts it node.join node.asked.fields.items) same_memory (join_found (memory_in alphas alpha) node.join node.asked.fields.items turned.2);
     ready = subst (λ it. IsReady node (partial_at sources read node.from) (WasThere m) (were_in it) own) same_memory
         (relied alphas sources before now read fs fs' old new k (kept.Join alpha node) own b m is);
     by_values = λ by e. (b.scopes node.from, b.prepared.1 by e, λ m' h. b.scoped node.from near m' h);

@@ -53,7 +53,7 @@ module _ {T : Type 0} where
     decided = is.decided;
     unchosen = is.unchosen;
     unconditional = is.unconditional;
-    asks = subst (λ (it : List JoinField). AsksBy (looking_of node.sight) node.fields.items it (compared_fields node.pattern.parts)) (known_same (join_fields node.pattern.parts) us bs same) is.asks;
+    asks = subst (λ (it : List JoinField). AsksBy (looking_of node.sight.value) node.fields.items it (compared_fields node.pattern.parts)) (known_same (join_fields node.pattern.parts) us bs same) is.asks;
   }
 
 -- what is asked of a field that is taken alone is what a constraint asks

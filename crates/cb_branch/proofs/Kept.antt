@@ -7,7 +7,7 @@ use Rattle.cb_branch.specs.Branches.{DifferBy, HasAlpha, IsBranchOver, branch_el
 use Rattle.cb_branch.specs.Patterns.{shape_tests}
 use Rattle.cb_branch.specs.declared.branch.Branch.{Branch}
 use Rattle.cb_branch.proofs.Fills.{facts_stay}
-use Rattle.cb_branch.specs.Alphas.{AlphaUse, Facts, HasUse, alpha_use}
+use Rattle.cb_branch.specs.Alphas.{AlphaUse, Facts, HasUse, alpha_use, join_asked}
 use Rattle.cb_facts.specs.FactLists.{IndexedFacts}
 use Rattle.cb_facts.specs.Facts.{FactValue}
 use Rattle.cb_fit.specs.Shapes.{is_selected}
@@ -42,7 +42,7 @@ facts_over facts facts' fs b over same =
 
 module _ {T : Type 0} (f : ℕ × FactValue) where
   one_takes : (n : Node T) → ((u : AlphaUse) → alpha_use n ≡ Some u → is_selected u.pattern f.1 ≡ false) → takes f (flat_node n) ≡ false
-  one_takes (kept.Join alpha node) none = none (record { pattern = node.asked.pattern; alpha = alpha; join = Some (node.join, node.asked.fields.items) }) refl
+  one_takes (kept.Join alpha node) none = none (record { pattern = node.asked.pattern; alpha = alpha; join = join_asked node.join node.asked.fields.items }) refl
   one_takes (kept.Test from test) none = refl
   one_takes (kept.Group width node) none = refl
   one_takes (kept.Lone alpha node) none = none (record { pattern = node.pattern; alpha = alpha; join = None }) refl

@@ -11,6 +11,7 @@ mod Entered
 pub mod EnteredNodes
 mod Fills
 mod GroupKind
+mod JoinAsked
 mod JoinKind
 mod JoinedByValues
 mod Kept

@@ -46,8 +46,8 @@ module _ {T : Type 0} where
     unchosen = ap (λ (p : PatternValue). choice_fields p.parts) same.pattern ∙ is.unchosen;
     unconditional = ap (λ (p : PatternValue). conditions p.parts) same.pattern ∙ is.unconditional;
     asks = subst (λ (it : Looking). AsksBy it node'.fields.items (known_fields (join_fields node'.pattern.parts) names) (compared_fields node'.pattern.parts)) (sym same.looking)
-        (subst (λ (v : Vec JoinField Global). AsksBy (looking_of node.sight) v.items (known_fields (join_fields node'.pattern.parts) names) (compared_fields node'.pattern.parts)) (sym same.fields)
-        (subst (λ (p : PatternValue). AsksBy (looking_of node.sight) node.fields.items (known_fields (join_fields p.parts) names) (compared_fields p.parts)) (sym same.pattern) is.asks));
+        (subst (λ (v : Vec JoinField Global). AsksBy (looking_of node.sight.value) v.items (known_fields (join_fields node'.pattern.parts) names) (compared_fields node'.pattern.parts)) (sym same.fields)
+        (subst (λ (p : PatternValue). AsksBy (looking_of node.sight.value) node.fields.items (known_fields (join_fields p.parts) names) (compared_fields p.parts)) (sym same.pattern) is.asks));
   }
 
   pub lookup_back : (names : Scope) (node node' : LookupNode T) → AsksTheSame node node' → IsLookup names node' → IsLookup names node

@@ -1,5 +1,5 @@
 -- What the nodes of a branch have of the alpha network.
-use Rattle.std.specs.Prelude.{◌≡◌, ◌<◌, ℕ, List, Option, Some, None, length, slice_get}
+use Rattle.std.specs.Prelude.{◌≡◌, ◌<◌, ℕ, List, [], ◌∷◌, Option, Some, None, length, slice_get}
 use Rattle.std.specs.Option.{option_and_then}
 use Rattle.cb_alpha.specs.AlphaMemories.{AlphaMemoryValue, live}
 use Rattle.cb_alpha.specs.Turning.{AlphaTurns, HasJoin, came_in, were_in}
@@ -23,11 +23,16 @@ abbrev pub were_facts : MemoryValues → Facts
 were_facts alphas a n = were_in (memory_in alphas a) n
 
 -- what the node of a pattern has of the alpha network: its pattern, the number of the pattern's alpha memory, and there, if the node
--- joins, the number of its join and the fields of this
+-- finds facts by values, the number of its join and the fields of this
 pub record AlphaUse : Type 0 where
   pub pattern : PatternValue
   pub alpha : ℕ
   pub join : Option (ℕ × List JoinField)
+
+-- the join by which a join node finds facts: none where no field is asked
+abbrev pub join_asked : ℕ → List JoinField → Option (ℕ × List JoinField)
+join_asked join [] = None
+join_asked join (j ∷ js) = Some (join, j ∷ js)
 
 -- the memory has the join, if there is one
 abbrev pub HasUsedJoin : AlphaMemoryValue → Option (ℕ × List JoinField) → Type 0
@@ -45,7 +50,7 @@ TakesAdded alphas added u = (n : ℕ) (f : ℕ × FactValue) → came_in (memory
 module _ {T : Type 0} where
   -- what a node has of it, if it is that of a pattern
   abbrev pub alpha_use : Node T → Option AlphaUse
-  alpha_use (kept.Join alpha node) = Some (record { pattern = node.asked.pattern; alpha = alpha; join = Some (node.join, node.asked.fields.items) })
+  alpha_use (kept.Join alpha node) = Some (record { pattern = node.asked.pattern; alpha = alpha; join = join_asked node.join node.asked.fields.items })
   alpha_use (kept.Test from test) = None
   alpha_use (kept.Group width node) = None
   alpha_use (kept.Lone alpha node) = Some (record { pattern = node.pattern; alpha = alpha; join = None })

@@ -8,6 +8,7 @@ use Rattle.cb_branch.specs.declared.node.Node.{Node}
 use Rattle.cb_branch.specs.declared.node.Node.TheVariants as kept
 use Rattle.cb_constraints.specs.PatternValues.{PatternValue}
 use Rattle.cb_facts.specs.FactLists.{IndexedFacts}
+use Rattle.cb_join_node.specs.Nodes.{FindsFacts}
 use Rattle.cb_scopes.specs.Scopes.{Scope}
 
 -- the place of a node, by the numbers of its rule and of its branch
@@ -29,9 +30,10 @@ KeepsShapesElsewhere rule branch old new =
     → IsShapeOf new n p place × (memory_at new n ≡ memory_at old n)
 
 module _ {T : Type 0} where
-  -- the pattern of a node stands in the network for the node at this place, under the number that the node has, and so does its join
+  -- the pattern of a node stands in the network for the node at this place, under the number that the node has, and so does its join, if it
+  -- has one
   abbrev pub IsNodeEntered : AlphaNetworkValue → NodePlace → Node T → Type 0
-  IsNodeEntered v place (kept.Join alpha node) = IsShapeOf v alpha node.asked.pattern place × HasJoin (memory_at v alpha) node.join node.asked.fields.items
+  IsNodeEntered v place (kept.Join alpha node) = IsShapeOf v alpha node.asked.pattern place × FindsFacts (memory_at v alpha) node.join node.asked.fields.items
   IsNodeEntered v place (kept.Test from test) = Unit {0}
   IsNodeEntered v place (kept.Group width node) = Unit {0}
   IsNodeEntered v place (kept.Lone alpha node) = IsShapeOf v alpha node.pattern place

@@ -4,6 +4,7 @@ ghost use Rattle.cb_alpha.specs.Turning.{HasJoin};
 ghost use Rattle.cb_alpha_network.specs.Networks.{AreAtRest, IsShapeOf, memory_at};
 ghost use Rattle.cb_branch.specs.Entries.{AreNodesEntered, AreRenumbered, GainsPatterns, IsNodeEntered, IsRenumbered};
 ghost use Rattle.cb_flat.specs.Taking.{pattern_count, patterns_of};
+ghost use Rattle.cb_join_node.specs.Nodes.{FindsFacts};
 ghost use Rattle.cb_branch.specs.Nodes.{flat_node, flat_nodes};
 
 use crate::node::Node;
@@ -101,7 +102,7 @@ fn enter_lookup<T>(
     Ok(alpha)
 }
 
-/// The same of a join node, whose join is entered too. The answer is the number of its alpha memory.
+/// The same of a join node, whose join is entered too if it asks fields. The answer is the number of its alpha memory.
 fn enter_join<T>(
     node: &mut JoinNode<T>,
     alloc: Global,
@@ -114,10 +115,13 @@ fn enter_join<T>(
     requires { AreAtRest network.old.memories }
     ensures node { OnOk result (node.new ≡ record node.old { join = node.new.join }) }
     ensures shape { IfOk result (λ alpha. IsShapeOf network.new alpha node.old.asked.pattern place) }
-    ensures join { IfOk result (λ alpha. HasJoin (memory_at network.new alpha) node.new.join node.old.asked.fields.items) }
+    ensures join { IfOk result (λ alpha. FindsFacts (memory_at network.new alpha) node.new.join node.old.asked.fields.items) }
     ensures network { OnOk result (GainsPatterns facts.now 1 network.old network.new) }
 {
     let alpha = network.enter(alloc, constants, facts, place, &node.asked.pattern, meter)?;
+    if node.asked.fields.is_empty() {
+        return Ok(alpha);
+    }
     let fields = copied(alloc, node.asked.fields.as_slice())?;
     node.join = network.join(alpha, fields, false)?;
     Ok(alpha)

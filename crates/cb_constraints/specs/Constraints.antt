@@ -38,8 +38,8 @@ pub record Constraint : Type 0 where
 abbrev pub asked_test : program_test.Test → Test
 asked_test (test.Constant v) = constant v
 asked_test (test.Variable x) = variable x
-asked_test (test.Predicate e) = predicate (term_of e)
-asked_test (test.ReturnValue e) = return_value (term_of e)
+asked_test (test.Predicate e) = predicate (term_of e.value)
+asked_test (test.ReturnValue e) = return_value (term_of e.value)
 
 -- The check that a value of the program is.
 abbrev pub check_of : program_check.Check → Check

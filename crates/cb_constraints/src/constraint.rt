@@ -2,7 +2,7 @@
 use cb_exprs::Expr;
 use cb_facts::{Name, Value};
 
-/// What is asked of a value.
+/// What is asked of a value. An expression has a block of its own, so that a constant and a variable have no place for it.
 #[derive(Drop)]
 pub enum Test {
     /// A constant: the value is equal to it.
@@ -10,9 +10,9 @@ pub enum Test {
     /// `?name` or `$?name`: the value is equal to the variable's.
     Variable(Name),
     /// `:(function value ..)`, a predicate constraint: the expression's value is not FALSE.
-    Predicate(Expr),
+    Predicate(Box<Expr>),
     /// `=(function value ..)`, a return value constraint: the expression's value is equal to it.
-    ReturnValue(Expr),
+    ReturnValue(Box<Expr>),
 }
 
 /// A test, or with `~` its opposite.

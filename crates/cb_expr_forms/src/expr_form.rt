@@ -101,7 +101,7 @@ fn read_bind(
 
 /// The expression that a form is, in a box.
 #[cycle(reading)]
-fn read_boxed(names: &mut Names, scope: &Scope<'_>, form: &Form) -> Result<Box<Expr>, Refused>
+pub fn read_boxed(names: &mut Names, scope: &Scope<'_>, form: &Form) -> Result<Box<Expr>, Refused>
     ensures { ReadsAs (λ e. term_of e.value) result (faults_of scope.now (tree_of form.now))
         (expr_of scope.now.templates (tree_of form.now)) }
 {
@@ -158,7 +158,7 @@ fn read_modify(
     let fact = read_expr(names, scope, fact)?;
     let mut changes = SlotChanges::of(names.alloc(), fact)?;
     read_changes(names, scope, &mut changes, slots)?;
-    changes.into_expr()
+    changes.into_expr(names.alloc())
 }
 
 /// Adds the slots that forms are to a `modify`, and their expressions.
@@ -251,7 +251,8 @@ pub fn read_fact(names: &mut Names, scope: &Scope<'_>, form: &Form) -> Result<Fa
         }
         Some(template) => {
             let (slots, values) = read_slots(names, scope, template, forms)?;
-            Ok(FactExpr::new(FactShape::with_slots(relation, slots), values))
+            let shape = FactShape::with_slots(names.alloc(), relation, slots)?;
+            Ok(FactExpr::new(shape, values))
         }
     }
 }

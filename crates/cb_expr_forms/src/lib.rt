@@ -21,7 +21,7 @@ mod variables; // whether each variable of an expression is among some names
 mod words; // symbols among forms, and the channels of `printout`
 
 pub use bound::{bound_in_all, bound_variables};
-pub use expr_form::{read_expr, read_exprs, read_fact};
+pub use expr_form::{read_boxed, read_expr, read_exprs, read_fact};
 pub use name_list::NameList;
 pub use scope::{Scope, Side};
 pub use variables::knows_all;

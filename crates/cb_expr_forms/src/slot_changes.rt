@@ -74,11 +74,12 @@ impl SlotChanges {
     }
 
     /// The `modify`.
-    pub(crate) fn into_expr(self) -> Result<Expr, Refused>
+    pub(crate) fn into_expr(self, alloc: Global) -> Result<Expr, Refused>
         ensures { ReadsAs term_of result []
             (effect (kind.Modify self.slots.items) (terms (map term_of self.values.items))) }
     {
-        Ok(Expr::Effect(Effect::Modify(ModifiedSlots::new(self.slots)), self.values))
+        let slots = ModifiedSlots::new(alloc, self.slots)?;
+        Ok(Expr::Effect(Effect::Modify(slots), self.values))
     }
 }
 

@@ -1,7 +1,9 @@
 //! What is known of a fact before its values are.
-ghost use Rattle.std.specs.Prelude.{◌≡◌, None, Some, option_copied};
+ghost use Rattle.std.specs.Prelude.{◌≡◌, IfOk, None, Some, option_copied};
 
 use cb_facts::Name;
+use cb_forms::NoMemory;
+use std::alloc::Global;
 use std::marker::Model;
 
 /// A fact's relation, and the names of the slots that it gives, in the order in which they are written; an ordered fact
@@ -11,7 +13,8 @@ use std::marker::Model;
 #[derive(Drop)]
 pub struct FactShape {
     relation: Name,
-    slots: Option<Vec<Name>>,
+    /// In a block of their own, so that an ordered fact has no place for them.
+    slots: Option<Box<Vec<Name>>>,
 }
 
 impl Model for FactShape {
@@ -20,7 +23,7 @@ impl Model for FactShape {
 
     ghost Value = { Shape };
 
-    ghost view = { λ s. record { relation = s.relation; slots = option_map (λ names. names.items) s.slots } };
+    ghost view = { λ s. record { relation = s.relation; slots = option_map (λ names. names.value.items) s.slots } };
 }
 
 impl FactShape {
@@ -34,14 +37,21 @@ impl FactShape {
         }
     }
 
-    /// Of a fact that gives slots of these names. Nothing checks that they differ, or that a template has them.
-    pub fn with_slots(relation: Name, slots: Vec<Name>) -> FactShape
-        ensures { result ≡ record { relation = relation; slots = Some slots.items } }
+    /// Of a fact that gives slots of these names. Nothing checks that they differ, or that a template has them. It takes one block,
+    /// which is refused as `NoMemory`.
+    pub fn with_slots(
+        alloc: Global,
+        relation: Name,
+        slots: Vec<Name>,
+    ) -> Result<FactShape, NoMemory>
+        ensures { IfOk result
+            (λ shape. shape ≡ record { relation = relation; slots = Some slots.items }) }
     {
-        FactShape {
+        let slots = Box::new(alloc, slots)?;
+        Ok(FactShape {
             relation,
             slots: Some(slots),
-        }
+        })
     }
 
     /// The fact's relation.

@@ -1,7 +1,9 @@
 //! The slots that a `modify` gives new values.
-ghost use Rattle.std.specs.Prelude.{◌≡◌};
+ghost use Rattle.std.specs.Prelude.{◌≡◌, IfOk};
 
 use cb_facts::Name;
+use cb_forms::NoMemory;
+use std::alloc::Global;
 use std::marker::Model;
 
 /// A slot that a `modify` names, and how many expressions it gives for it.
@@ -50,7 +52,8 @@ impl ModifiedSlot {
 /// Contracts see the list of the slots.
 #[derive(Drop)]
 pub struct ModifiedSlots {
-    slots: Vec<ModifiedSlot>,
+    /// In a block of their own, so that other effects have no place for them.
+    slots: Box<Vec<ModifiedSlot>>,
 }
 
 impl Model for ModifiedSlots {
@@ -58,15 +61,16 @@ impl Model for ModifiedSlots {
 
     ghost Value = { SlotCounts };
 
-    ghost view = { λ s. s.slots.items };
+    ghost view = { λ s. s.slots.value.items };
 }
 
 impl ModifiedSlots {
-    /// These slots.
-    pub fn new(slots: Vec<ModifiedSlot>) -> ModifiedSlots
-        ensures { result ≡ slots.items }
+    /// These slots. It takes one block, which is refused as `NoMemory`.
+    pub fn new(alloc: Global, slots: Vec<ModifiedSlot>) -> Result<ModifiedSlots, NoMemory>
+        ensures { IfOk result (λ all. all ≡ slots.items) }
     {
-        ModifiedSlots { slots }
+        let slots = Box::new(alloc, slots)?;
+        Ok(ModifiedSlots { slots })
     }
 
     /// The slots.

@@ -1,13 +1,11 @@
 -- What the pieces of a shape say: read from the last to the first, they give back what the pattern asks of a fact alone.
 use Rattle.std.proofs.Common.{◌≡◌, ◌∙◌, ◌++◌, Bool, List, [], ◌∷◌, None, ap, ap₂, flat_map, map, refl, sym}
-use Rattle.std.proofs.lemmas.Grind.{flat_map-append}
 use Rattle.cb_constraints.specs.Constraints.{Test, constant, variable, predicate, return_value, Check, Demand, nothing, each, either, Constraint}
 use Rattle.cb_constraints.specs.PatternValues.{PatternParts, PatternValue, SlotValue}
 use Rattle.cb_constraints.specs.PatternValues as pattern
 use Rattle.cb_fit.specs.Comparisons.{own_fields}
-use Rattle.cb_fit.specs.ShapeKeys.{alternative_pieces, check_pieces, checks_pieces, constraint_pieces, demand_pieces, key_of, own_pieces, pieces_of, row_pieces, shape_of, slot_pieces}
+use Rattle.cb_fit.specs.ShapeKeys.{alternative_pieces, checks_pieces, constraint_pieces, demand_pieces, key_of, pieces_of, row_pieces, shape_of, slot_pieces}
 use Rattle.cb_fit.specs.Shapes.{SelectionValue, constants_in, loose_constraint, loose_demand, loose_parts, loose_row, loose_slot, selection}
-use Rattle.cb_fit.specs.declared.own_field.OwnField.{OwnField}
 use Rattle.cb_fit.specs.declared.pieces.Piece.{Piece}
 use Rattle.cb_fit.specs.declared.pieces.Piece.TheVariants as piece
 use Rattle.cb_fit.specs.declared.shape.Shape.{Shape}
@@ -26,7 +24,6 @@ with_slot s (pattern.slots rows) = pattern.slots (s ∷ rows)
 
 -- one piece more, before those that were read
 abbrev step : Piece → Read → Read
-step (piece.Own f) r = r
 step piece.Ordered (read checks alternatives row parts) = read [] [] [] (pattern.fields row)
 step (piece.Slot name place) (read checks alternatives row parts) = read [] [] [] (with_slot (record { name = name; place = place; row = row }) parts)
 step (piece.Wildcard segment) (read checks alternatives row parts) = read [] [] (record { segment = segment; demand = nothing } ∷ row) parts
@@ -95,69 +92,12 @@ parts-read : (p : PatternParts) → parts_from (pieces_of p) ≡ loose_parts p
 parts-read (pattern.fields row) = ap (λ r. parts_in (step piece.Ordered r)) (row-read row (pattern.slots []))
 parts-read (pattern.slots rows) = ap parts_in (slots-read rows)
 
--- the field that a piece says, if it is one of those that are compared with one another
-abbrev own_in : Piece → List OwnField
-own_in (piece.Own f) = f ∷ []
-own_in p = []
-
--- those that pieces say
-abbrev owns_in : List Piece → List OwnField
-owns_in ps = flat_map own_in ps
-
--- such pieces give no parts
-own-parts : (os : List OwnField) (ps : List Piece) → parts_from (own_pieces os ++ ps) ≡ parts_from ps
-own-parts [] ps = refl
-own-parts (o ∷ os) ps = own-parts os ps
-
--- no piece of what a pattern asks by constants and lengths is one
-check-none : (negated : Bool) (t : Test) → owns_in (check_pieces negated t) ≡ []
-check-none negated (constant v) = refl
-check-none negated (variable x) = refl
-check-none negated (predicate e) = refl
-check-none negated (return_value e) = refl
-
-both-none : (ps qs : List Piece) → owns_in ps ≡ [] → owns_in qs ≡ [] → owns_in (ps ++ qs) ≡ []
-both-none ps qs e f = flat_map-append own_in ps qs ∙ ap₂ (λ fs gs. fs ++ gs) e f
-
-checks-none : (cs : List Check) → owns_in (checks_pieces cs) ≡ []
-checks-none [] = refl
-checks-none (c ∷ cs) = both-none (check_pieces c.negated c.test) (checks_pieces cs) (check-none c.negated c.test) (checks-none cs)
-
-alternatives-none : (alternatives : List (List Check)) → owns_in (flat_map alternative_pieces alternatives) ≡ []
-alternatives-none [] = refl
-alternatives-none (cs ∷ more) = both-none (checks_pieces cs) (flat_map alternative_pieces more) (checks-none cs) (alternatives-none more)
-
-demand-none : (segment : Bool) (d : Demand) → owns_in (demand_pieces segment d) ≡ []
-demand-none segment nothing = refl
-demand-none segment (each cs) = checks-none cs
-demand-none segment (either first alternatives) = alternatives-none alternatives
-
-row-none : (row : List Constraint) → owns_in (row_pieces row) ≡ []
-row-none [] = refl
-row-none (c ∷ row) = both-none (constraint_pieces c) (row_pieces row) (demand-none c.segment c.demand) (row-none row)
-
-slots-none : (rows : List SlotValue) → owns_in (flat_map slot_pieces rows) ≡ []
-slots-none [] = refl
-slots-none (s ∷ rows) = both-none (row_pieces s.row) (flat_map slot_pieces rows) (row-none s.row) (slots-none rows)
-
-parts-none : (p : PatternParts) → owns_in (pieces_of p) ≡ []
-parts-none (pattern.fields row) = row-none row
-parts-none (pattern.slots rows) = slots-none rows
-
--- all pieces of a key say the fields that are compared
-own-read : (os : List OwnField) (p : PatternParts) → owns_in (own_pieces os ++ pieces_of p) ≡ os
-own-read [] p = parts-none p
-own-read (o ∷ os) p = ap (λ fs. o ∷ fs) (own-read os p)
-
 -- what a pattern asks of a fact alone that its shape gives back
 abbrev selection_from : Shape → SelectionValue
-selection_from s = record { shape = record { relation = s.relation; parts = parts_from s.pieces }; own = owns_in s.pieces }
+selection_from s = record { shape = record { relation = s.relation; parts = parts_from s.pieces }; own = s.own }
 
 selection-read : (p : PatternValue) → selection_from (shape_of p) ≡ selection p
-selection-read p =
-    ap₂ (λ (parts : PatternParts) (own : List OwnField). record { shape = record { relation = p.relation; parts = parts }; own = own })
-    (own-parts (own_fields p.parts) (pieces_of p.parts) ∙ parts-read p.parts)
-    (own-read (own_fields p.parts) p.parts)
+selection-read p = ap (λ (parts : PatternParts). record { shape = record { relation = p.relation; parts = parts }; own = own_fields p.parts }) (parts-read p.parts)
 
 pub one-shape : (p q : PatternValue) → shape_of p ≡ shape_of q → selection p ≡ selection q
 one-shape p q e = sym (selection-read p) ∙ ap selection_from e ∙ selection-read q
@@ -196,4 +136,4 @@ parts-kept (pattern.fields row) = ap (λ ps. piece.Ordered ∷ ps) (row-kept row
 parts-kept (pattern.slots rows) = slots-kept rows
 
 pub selection-key : (p : PatternValue) → key_of (selection p) ≡ shape_of p
-selection-key p = ap (λ ps. record { relation = p.relation; pieces = own_pieces (own_fields p.parts) ++ ps }) (parts-kept p.parts)
+selection-key p = ap (λ ps. record { relation = p.relation; own = own_fields p.parts; pieces = ps }) (parts-kept p.parts)

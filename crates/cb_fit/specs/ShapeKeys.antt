@@ -1,10 +1,9 @@
 -- The shape of a pattern as a flat list of pieces, by which patterns that ask the same by constants and lengths are found.
-use Rattle.std.specs.Prelude.{Bool, List, [], ◌∷◌, ◌++◌, flat_map, map}
+use Rattle.std.specs.Prelude.{Bool, List, [], ◌∷◌, flat_map}
 use Rattle.cb_constraints.specs.Constraints.{Test, constant, variable, predicate, return_value, Check, Demand, nothing, each, either, Constraint}
 use Rattle.cb_constraints.specs.PatternValues.{PatternParts, fields, slots, PatternValue, SlotValue}
 use Rattle.cb_fit.specs.Comparisons.{own_fields}
 use Rattle.cb_fit.specs.Shapes.{SelectionValue}
-use Rattle.cb_fit.specs.declared.own_field.OwnField.{OwnField}
 use Rattle.cb_fit.specs.declared.pieces.Piece.{Piece}
 use Rattle.cb_fit.specs.declared.pieces.Piece.TheVariants as piece
 use Rattle.cb_fit.specs.declared.shape.Shape.{Shape}
@@ -47,14 +46,10 @@ abbrev pub pieces_of : PatternParts → List Piece
 pieces_of (fields row) = piece.Ordered ∷ row_pieces row
 pieces_of (slots rows) = flat_map slot_pieces rows
 
--- the pieces of fields that are compared with constants or with one another
-abbrev pub own_pieces : List OwnField → List Piece
-own_pieces os = map piece.Own os
-
 -- the key of what a pattern asks of a fact alone
 abbrev pub key_of : SelectionValue → Shape
-key_of s = record { relation = s.shape.relation; pieces = own_pieces s.own ++ pieces_of s.shape.parts }
+key_of s = record { relation = s.shape.relation; own = s.own; pieces = pieces_of s.shape.parts }
 
 -- the shape of a pattern, with the fields that it compares with constants and with one another
 abbrev pub shape_of : PatternValue → Shape
-shape_of p = record { relation = p.relation; pieces = own_pieces (own_fields p.parts) ++ pieces_of p.parts }
+shape_of p = record { relation = p.relation; own = own_fields p.parts; pieces = pieces_of p.parts }

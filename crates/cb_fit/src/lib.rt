@@ -20,6 +20,7 @@ mod field_place; // the place of a field in a fact
 mod fitting; // `fit`: from the pattern and the fact to the ways
 mod following; // what follows the beginning of a way: the rest of a row, the rows of the slots after it, the way
 mod join_fields; // the fields of a fact that have to be equal to variables
+mod key_list; // lists in keys, which compare item by item
 pub mod laws; // laws of ways
 mod lengths; // whether a fact has as many fields as a pattern can take; asked before anything else
 mod loose; // what a pattern asks without its variables and expressions

@@ -1,5 +1,5 @@
 //! Patterns.
-ghost use Rattle.std.specs.Prelude.{◌≡◌, ◌++◌, IfOk, option_map};
+ghost use Rattle.std.specs.Prelude.{◌≡◌, IfOk, option_map};
 ghost use Rattle.cb_constraints.specs.Binders.{constraints_in};
 ghost use Rattle.cb_constraints.specs.PartValues.{asked_parts};
 ghost use Rattle.cb_fit.specs.Comparisons.{decision};
@@ -9,7 +9,7 @@ ghost use Rattle.cb_fit.specs.Decisions.{decision_of};
 ghost use Rattle.cb_fit.specs.JoinFields.{giving_fields, join_fields};
 ghost use Rattle.cb_fit.specs.Meters.{one_test_more};
 ghost use Rattle.cb_fit.specs.Plain.{bound_names};
-ghost use Rattle.cb_fit.specs.ShapeKeys.{own_pieces, pieces_of, shape_of};
+ghost use Rattle.cb_fit.specs.ShapeKeys.{pieces_of, shape_of};
 ghost use Rattle.cb_fit.specs.Shapes.{loose, selection};
 ghost use Rattle.cb_fit.specs.StandsAlone.{stands_alone};
 
@@ -98,7 +98,8 @@ impl<T> Pattern<T> {
     pub(crate) fn shape_with(&self, alloc: Global, own: &[OwnField]) -> Result<Shape, NoMemory>
         ensures { IfOk result (λ s. s ≡ record {
           relation = self.now.relation;
-          pieces = own_pieces own.now ++ pieces_of self.now.parts;
+          own = own.now;
+          pieces = pieces_of self.now.parts;
         }) }
     {
         shape_in(alloc, &self.relation, own, self.body.parts())

@@ -3,10 +3,11 @@ ghost use Rattle.std.specs.Prelude.{◌≡◌, ◌++◌, IfOk, OnOk, flat_map, m
 ghost use Rattle.cb_constraints.specs.Constraints.{check_of, constraint_of, demand_of};
 ghost use Rattle.cb_constraints.specs.PartValues.{asked_parts, asked_slot};
 ghost use Rattle.cb_fit.specs.Internal.Reading.{alternatives_of};
-ghost use Rattle.cb_fit.specs.ShapeKeys.{alternative_pieces, check_pieces, checks_pieces, constraint_pieces, demand_pieces, own_pieces, pieces_of, row_pieces, slot_pieces};
+ghost use Rattle.cb_fit.specs.ShapeKeys.{alternative_pieces, check_pieces, checks_pieces, constraint_pieces, demand_pieces, pieces_of, row_pieces, slot_pieces};
 
+use crate::key_list::KeyList;
 use crate::own_field::OwnField;
-use crate::pieces::{Piece, Pieces};
+use crate::pieces::Piece;
 use cb_constraints::{Check, Constraint, Demand, PatternParts, SlotRow, Test};
 use cb_facts::Name;
 use cb_forms::NoMemory;
@@ -20,7 +21,10 @@ use std::alloc::Global;
 #[derive(PartialEq, Eq, PartialOrd, Ord, Drop)]
 pub struct Shape {
     relation: Name,
-    pieces: Pieces,
+    /// The fields that are compared with constants or with one another.
+    own: KeyList<OwnField>,
+    /// The pieces, in the order in which the pattern is written.
+    pieces: KeyList<Piece>,
 }
 
 /// The shape of a pattern for this relation with these parts, which compares these fields of a fact. The constants share their
@@ -33,20 +37,34 @@ pub(crate) fn shape_in(
 ) -> Result<Shape, NoMemory>
     ensures { IfOk result (λ s. s ≡ record {
       relation = relation.now;
-      pieces = own_pieces own.now ++ pieces_of (asked_parts parts.now);
+      own = own.now;
+      pieces = pieces_of (asked_parts parts.now);
     }) }
 {
     let relation = relation.clone()?;
-    let pieces = pieces_in(alloc, own, parts)?;
-    Ok(Shape { relation, pieces })
+    let own = copied(alloc, own)?;
+    let pieces = pieces_in(alloc, parts)?;
+    Ok(Shape {
+        relation,
+        own,
+        pieces,
+    })
 }
 
-/// The pieces of these fields, and those of parts.
-fn pieces_in(alloc: Global, own: &[OwnField], parts: &PatternParts) -> Result<Pieces, NoMemory>
-    ensures { IfOk result (λ all. all ≡ own_pieces own.now ++ pieces_of (asked_parts parts.now)) }
+/// A copy of these fields.
+fn copied(alloc: Global, own: &[OwnField]) -> Result<KeyList<OwnField>, NoMemory>
+    ensures { IfOk result (λ all. all ≡ own.now) }
+{
+    let mut all = Vec::with_capacity(alloc, own.len())?;
+    all.extend_with_clones(own)?;
+    Ok(KeyList::new(all))
+}
+
+/// The pieces of parts.
+fn pieces_in(alloc: Global, parts: &PatternParts) -> Result<KeyList<Piece>, NoMemory>
+    ensures { IfOk result (λ all. all ≡ pieces_of (asked_parts parts.now)) }
 {
     let mut all = Vec::new(alloc);
-    add_own(own, &mut all)?;
     match parts {
         PatternParts::Fields(row) => {
             all.push(Piece::Ordered)?;
@@ -55,18 +73,7 @@ fn pieces_in(alloc: Global, own: &[OwnField], parts: &PatternParts) -> Result<Pi
         PatternParts::Slots(rows) => add_slots(rows.as_slice(), &mut all)?,
     }
     all.shrink_to_fit();
-    Ok(Pieces::new(all))
-}
-
-/// Adds those of fields that are compared with constants or with one another.
-fn add_own(own: &[OwnField], all: &mut Vec<Piece>) -> Result<(), NoMemory>
-    ensures { OnOk result (all.new.items ≡ all.old.items ++ own_pieces own.now) }
-{
-    for field in own {
-        let field = field.clone()?;
-        all.push(Piece::Own(field))?;
-    }
-    Ok(())
+    Ok(KeyList::new(all))
 }
 
 /// Adds those of slots.

@@ -27,7 +27,7 @@ fn compares(alloc: Global) -> Result<Check, NoMemory> {
     args.push(Expr::Variable(name(alloc, b"w")?))?;
     Ok(Check {
         is_negated: false,
-        test: Test::Predicate(Expr::Call(Function::LessOrEqual, args)),
+        test: Test::Predicate(Box::new(alloc, Expr::Call(Function::LessOrEqual, args))?),
     })
 }
 
@@ -126,7 +126,7 @@ fn odd(alloc: Global) -> Result<Pattern<Counted>, NoMemory> {
     checks.push(variable(alloc, false, b"w")?)?;
     checks.push(Check {
         is_negated: false,
-        test: Test::Predicate(Expr::Call(Function::Oddp, args)),
+        test: Test::Predicate(Box::new(alloc, Expr::Call(Function::Oddp, args))?),
     })?;
     let mut constraints = Vec::new(alloc);
     constraints.push(one_field(Demand::Each(checks)))?;
@@ -230,7 +230,7 @@ fn limited(alloc: Global) -> Result<Pattern<Counted>, NoMemory> {
     let mut checks = alone(alloc, b"w")?;
     checks.push(Check {
         is_negated: false,
-        test: Test::Predicate(Expr::Call(Function::GreaterOrEqual, args)),
+        test: Test::Predicate(Box::new(alloc, Expr::Call(Function::GreaterOrEqual, args))?),
     })?;
     let mut constraints = Vec::new(alloc);
     constraints.push(one_field(Demand::Each(alone(alloc, b"v")?)))?;

@@ -20,7 +20,8 @@ use Rattle.cb_facts.specs.declared.value.Value.TheVariants as value
 use Rattle.cb_fit.specs.Ways.{WayValue, ways}
 use Rattle.cb_fit.specs.declared.join_fields.JoinField.{JoinField}
 use Rattle.cb_groups.specs.Groups.{AreMembers, Membership, group_of}
-use Rattle.cb_join_node.specs.Filings.{ArePartialsFiled, stray_group}
+use Rattle.cb_join_node.specs.Filings.{ArePartialsFiled, filed_if, filed_values, stray_group}
+use Rattle.cb_join_node.specs.Nodes.{FindsFacts}
 use Rattle.cb_join_node.specs.Joins.{IsOfFacts, IsOfPartials, IsPair, Joins, JoinsOne}
 use Rattle.cb_join_node.proofs.Tokens.{one_parent}
 use Rattle.cb_matches.proofs.Lists.{by_test}
@@ -70,6 +71,16 @@ past_address (Some z) ix env y apart =
 pub has_fact : (js : List JoinField) (f : Option (ℕ × FactValue)) (vs : List Value) → values_in js f ≡ Some vs → (g : ℕ × FactValue) × (f ≡ Some g)
 has_fact js None vs e = absurd (let no : None ≡ Some vs = e in cc)
 has_fact js (Some g) vs e = (g, refl)
+
+-- who is found by values is asked for some
+pub asked_some : (alpha : AlphaMemoryValue) (join : ℕ) (js : List JoinField) (o : Option (List Value)) (vs : List Value) → filed_if js o ≡ Some vs → FindsFacts alpha join js → HasJoin alpha join js
+asked_some alpha join [] o vs e has = absurd (let no : None ≡ Some vs = e in cc)
+asked_some alpha join (j ∷ js) o vs e has = has
+
+-- the values by which a partial match is found are those that it has
+pub has_filed : (js : List JoinField) (o : Option (List Value)) (vs : List Value) → filed_if js o ≡ Some vs → o ≡ Some vs
+has_filed [] o vs e = absurd (let no : None ≡ Some vs = e in cc)
+has_filed (j ∷ js) o vs e = e
 
 module _ (agree : FieldsAgree) (x : Option (List ℕ)) (p : PatternValue) (ts : List Term) where
   -- a partial match that goes on with a fact has the values of the fact
@@ -139,14 +150,14 @@ module _ (agree : FieldsAgree) (x : Option (List ℕ)) (p : PatternValue) (ts : 
           found : (n : ℕ) → There n → (t : TokenValue) → IsPair x p ts (at n) n candidate f t → IsOfPartials x p ts at xs candidate f t ⊎ IsOfPartials x p ts at ys candidate f t
           found n h t pair =
               let stands = filed.there n h in
-              by_option (variable_values js (at n).env)
+              by_option (filed_values js (at n))
               (λ e. inr (n, contains_in ys n ((others.are n).1 (stands.stray ∙ ap stray_group e)), pair))
-              (λ vs e. inl (n, contains_in xs n (((some vs (values_agree js fields (at n) f pair.0 pair.1 vs e)).are n).1 (stands.values ∙ e)), pair))
+              (λ vs e. inl (n, contains_in xs n (((some vs (values_agree js fields (at n) f pair.0 pair.1 vs (has_filed js (variable_values js (at n).env) vs e))).are n).1 (stands.values ∙ e)), pair))
 
           apart : (n : ℕ) → ((vs : List Value) × (values_at filing n ≡ Some vs)) → group_of strays n ≡ Some 0 → ⊥
           apart n v g =
               let stands = filed.there n (filed.filed n v.0 v.1) in
-              let has : variable_values js (at n).env ≡ Some v.0 = sym stands.values ∙ v.1 in
+              let has : filed_values js (at n) ≡ Some v.0 = sym stands.values ∙ v.1 in
               some_none (group_of strays n) g (stands.stray ∙ ap stray_group has)
 
 -- all facts, where a partial match has no values to look them up by

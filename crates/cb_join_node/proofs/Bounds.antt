@@ -9,7 +9,6 @@ use Rattle.std.specs.Option.{option_and_then}
 use Rattle.cb_alpha.proofs.ReadFacts.{is_its_number, live_read, none_came, not_both, number_is, read_came, read_live, same_some, some_none, were_read}
 use Rattle.cb_alpha.specs.AlphaMemories.{AlphaMemoryValue, AreFactsWith, candidate_in, live}
 use Rattle.cb_alpha.specs.Buckets.{AreWithValues, Filing, values_at}
-use Rattle.cb_alpha.specs.JoinValues.{variable_values}
 use Rattle.cb_alpha.specs.Turning.{AlphaTurns, came_in, is_number}
 use Rattle.cb_beta.proofs.Live.{live_token, there_is}
 use Rattle.cb_beta.proofs.Members.{apart_of, in_contains, in_either, once_append}
@@ -24,7 +23,7 @@ use Rattle.cb_fit.specs.Comparisons.{all_own_hold, own_fields}
 use Rattle.cb_fit.specs.Shapes.{has_shape, is_selected}
 use Rattle.cb_join_node.proofs.Agreement.{by_option, has_fact}
 use Rattle.cb_join_node.specs.Bounds.{IsAdded, kept_probes}
-use Rattle.cb_join_node.specs.Filings.{ArePartialsFiled, stray_group}
+use Rattle.cb_join_node.specs.Filings.{ArePartialsFiled, filed_values, stray_group}
 use Rattle.cb_join_node.specs.Nodes.{AreAtMost, IsUnder, Stays, added_fact}
 use Rattle.cb_matches.proofs.Lists.{by_test, filter_in}
 use Rattle.cb_matches.specs.Chains.{Chain, In}
@@ -129,7 +128,7 @@ module _ (js : List JoinField) (filing : Filing) (strays : Membership) (at : ℕ
   two_apart n h k =
       let v = has n h in
       let stands = filed.there n (filed.filed n v.0 v.1) in
-      let values : variable_values js (at n).env ≡ Some v.0 = sym stands.values ∙ v.1 in
+      let values : filed_values js (at n) ≡ Some v.0 = sym stands.values ∙ v.1 in
       some_none (group_of strays n) (others n k) (stands.stray ∙ ap stray_group values)
 
   pub both_at_most : (k : ℕ) → AreAtMost There k → length xs + length ys ≤ k

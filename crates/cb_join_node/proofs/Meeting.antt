@@ -1,6 +1,6 @@
 -- Partial matches and facts that meet by the values of the join's fields.
-use Rattle.std.proofs.Common.{◌≡◌, ◌∙◌, ℕ, true, List, [], Some, None, ap, inl, inr, subst, sym}
-use Rattle.cb_alpha.proofs.ReadFacts.{live_read, number_is, read_live, read_were, same_some, some_none}
+use Rattle.std.proofs.Common.{◌≡◌, ◌∙◌, ℕ, true, List, [], ◌∷◌, Option, Some, None, ap, inl, inr, refl, subst, sym}
+use Rattle.cb_alpha.proofs.ReadFacts.{live_read, number_is, read_live, read_were, same_some}
 use Rattle.cb_alpha.specs.AlphaMemories.{AlphaMemoryValue, AreFactsWith, candidate_in, live, values_in}
 use Rattle.cb_alpha.specs.Buckets.{AreWithValues, Filing}
 use Rattle.cb_alpha.specs.JoinValues.{field_values, variable_values}
@@ -15,10 +15,10 @@ use Rattle.cb_fit.specs.JoinFields.{join_fields}
 use Rattle.cb_fit.specs.Shapes.{is_selected}
 use Rattle.cb_fit.specs.declared.join_fields.JoinField.{JoinField}
 use Rattle.cb_groups.specs.Groups.{AreMembers, Membership}
-use Rattle.cb_join_node.proofs.Agreement.{by_option, has_fact}
+use Rattle.cb_join_node.proofs.Agreement.{by_option, has_fact, has_filed}
 use Rattle.cb_join_node.proofs.Decided.{all_known}
 use Rattle.cb_join_node.specs.Meetings.{AreSelected, KnowsValues, MayMeet, MayMeetAll}
-use Rattle.cb_join_node.specs.Filings.{ArePartialsFiled, stray_group}
+use Rattle.cb_join_node.specs.Filings.{ArePartialsFiled, filed_if, filed_values, stray_group}
 use Rattle.cb_join_node.specs.Nodes.{FitsValues, Stays}
 use Rattle.cb_join_node.specs.declared.by_values.ByValues.{ByValues}
 use Rattle.cb_join_node.specs.declared.joining.Joining.{Joining}
@@ -36,6 +36,15 @@ are_selected p alpha fs fs' turns n f e =
     (λ g. absurd (turns.apart n (number_is alpha.come n a) (number_is alpha.gone n g)))
     (λ g. (turns.is.are n f (read_live alpha n g ∙ e)).1))
     (λ a. (turns.was.are n f (read_were alpha n a ∙ e)).1)
+
+-- who has all values and is not found by them is asked for none
+nothing_asked : (js : List JoinField) (vs : List Value) → filed_if js (Some vs) ≡ None → js ≡ []
+nothing_asked [] vs e = refl
+nothing_asked (j ∷ js) vs e = absurd (let no : Some vs ≡ None = e in cc)
+
+is_stray : (o : Option (List Value)) → stray_group o ≡ Some 0 → o ≡ None
+is_stray None e = refl
+is_stray (Some vs) e = absurd (let no : None ≡ Some 0 = e in cc)
 
 -- the values of what stayed before the pattern, and of what came there, are known
 module _ {T : Type 0} (node : JoinNode T) (at : ℕ → Partial) (before : BetaMemoryValue) (old new : List Partial) (turns : Turns at before old new) (fits : FitsValues node old new) where
@@ -56,15 +65,18 @@ module _ {T : Type 0} (asked : Joining T) where
       let all = all_known k.0 m k.2 (join_fields asked.pattern.parts) in
       (all.0, ap (λ it. variable_values it m.env) k.1.fields ∙ all.1)
 
-  -- so it stands by its values
-  pub no_stray : {P : Type 0} (m : Partial) → KnowsValues asked m → (by : ByValues) → asked.by_values ≡ Some by → (group : ℕ) → stray_group (variable_values js m.env) ≡ Some group → P
-  no_stray m knows by e group strays =
-      let vs = has_values m knows by e in
-      some_none (stray_group (variable_values js m.env)) strays (ap stray_group vs.1)
-
   meet_by : (m : Partial) (f : ℕ × FactValue) → KnowsValues asked m → is_selected asked.pattern f.1 ≡ true → (vs : List Value) → variable_values js m.env ≡ Some vs → field_values js f.1.content ≡ Some vs
       → MayMeet asked m f
   meet_by m f knows shape vs asks has by e = let k = knows by e in record { names = k.0; is = k.1; scope = k.2; selected = shape; values = vs; asks = asks; has = has }
+
+  -- who is not found by values, where the pattern is joined by values, is asked for none
+  pub stray_meets : (m : Partial) (f : ℕ × FactValue) → KnowsValues asked m → is_selected asked.pattern f.1 ≡ true → filed_values js m ≡ None → MayMeet asked m f
+  stray_meets m f knows shape none by e =
+      let vs = has_values m knows by e in
+      let empty = nothing_asked js vs.0 (ap (filed_if js) (sym vs.1) ∙ none) in
+      let asks : variable_values js m.env ≡ Some [] = ap (λ it. variable_values it m.env) empty in
+      let has : field_values js f.1.content ≡ Some [] = ap (λ it. field_values it f.1.content) empty in
+      meet_by m f knows shape [] asks has by e
 
   -- the facts with the values of a partial match meet it
   pub facts_meet : (m : Partial) (alpha : AlphaMemoryValue) (vs : List Value) (xs : List ℕ) → KnowsValues asked m → AreSelected asked.pattern alpha.candidates → variable_values js m.env ≡ Some vs
@@ -88,11 +100,11 @@ module _ {T : Type 0} (asked : Joining T) where
         (λ vs e.
         let stands = ((some vs e).are n).0 (in_contains xs n h) in
         let there = filed.filed n vs stands in
-        meet_by (at n) f (knows n there) shape vs (sym (filed.there n there).values ∙ stands) e)
+        meet_by (at n) f (knows n there) shape vs (has_filed js (variable_values js (at n).env) vs (sym (filed.there n there).values ∙ stands)) e)
 
-    -- and none stands without values
+    -- and so do those that are not found by values
     pub strays_meet : (ys : List ℕ) → AreMembers strays 0 ys → (n : ℕ) → In n ys → MayMeet asked (at n) f
-    strays_meet ys others n h by e =
+    strays_meet ys others n h =
         let stray = (others.are n).0 (in_contains ys n h) in
         let there = filed.strayed n 0 stray in
-        no_stray (at n) (knows n there) by e 0 (sym (filed.there n there).stray ∙ stray)
+        stray_meets (at n) f (knows n there) shape (is_stray (filed_values js (at n)) (sym (filed.there n there).stray ∙ stray))

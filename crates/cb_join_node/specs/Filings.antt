@@ -1,5 +1,7 @@
 -- Partial matches filed by the values that they are joined on.
-use Rattle.std.specs.Prelude.{◌≡◌, ℕ, List, Option, Some, None}
+use Rattle.std.specs.Prelude.{◌≡◌, ℕ, Box, List, [], ◌∷◌, Option, Some, None, option_map}
+use Rattle.std.specs.Option.{unwrap_or}
+use Rattle.std.specs.declared.alloc.Global.{Global}
 use Rattle.cb_alpha.specs.Buckets.{Filing, values_at}
 use Rattle.cb_alpha.specs.JoinValues.{variable_values}
 use Rattle.cb_facts.specs.declared.value.Value.{Value}
@@ -7,15 +9,31 @@ use Rattle.cb_fit.specs.declared.join_fields.JoinField.{JoinField}
 use Rattle.cb_groups.specs.Groups.{Membership, group_of}
 use Rattle.cb_matches.specs.Matches.{Partial}
 
--- the group of a partial match among those that can't be filed: 0 if it has not all values, else none
+-- where the partial matches are kept by their values: nowhere, or in buckets
+abbrev pub filing_in : Option (Box Filing Global) → Filing
+filing_in buckets = unwrap_or (option_map (λ (b : Box Filing Global). b.value) buckets) []
+
+-- the values by which a partial match is found: those that it has for these fields, where some are asked
+abbrev pub filed_if : List JoinField → Option (List Value) → Option (List Value)
+filed_if [] values = None
+filed_if (j ∷ js) values = values
+
+abbrev pub filed_values : List JoinField → Partial → Option (List Value)
+filed_values js m = filed_if js (variable_values js m.env)
+
+-- the group of a partial match among those that are not found by values: 0 if it is one of them, else none
 abbrev pub stray_group : Option (List Value) → Option ℕ
 stray_group None = Some 0
 stray_group (Some values) = None
 
--- a partial match stands where its values say
-pub record IsFiled (js : List JoinField) (filing : Filing) (strays : Membership) (number : ℕ) (m : Partial) : Type 0 where
-  pub values : values_at filing number ≡ variable_values js m.env
-  pub stray : group_of strays number ≡ stray_group (variable_values js m.env)
+-- a partial match stands by these values, or among those that are not found by values
+pub record StandsWith (found : Option (List Value)) (filing : Filing) (strays : Membership) (number : ℕ) : Type 0 where
+  pub values : values_at filing number ≡ found
+  pub stray : group_of strays number ≡ stray_group found
+
+-- it stands where its values say
+abbrev pub IsFiled : List JoinField → Filing → Membership → ℕ → Partial → Type 0
+IsFiled js filing strays number m = StandsWith (filed_values js m) filing strays number
 
 -- it stands nowhere
 pub record IsNowhere (filing : Filing) (strays : Membership) (number : ℕ) : Type 0 where

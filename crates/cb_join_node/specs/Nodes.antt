@@ -1,5 +1,5 @@
 -- A join node, before and after a change.
-use Rattle.std.specs.Prelude.{◌≡◌, ◌≢◌, ◌≤◌, ◌⊎◌, ℕ, false, true, List, [], Option, Some, length, map}
+use Rattle.std.specs.Prelude.{◌≡◌, ◌≢◌, ◌≤◌, ◌⊎◌, ℕ, false, true, List, [], ◌∷◌, Option, Some, length, map}
 use Rattle.std.specs.Option.{option_and_then, option_map}
 use Rattle.std.specs.Rc.{rc_value}
 use Rattle.cb_alpha.specs.AlphaMemories.{AlphaMemoryValue, candidate_in, live}
@@ -16,6 +16,7 @@ use Rattle.cb_fit.specs.Decided.{ones}
 use Rattle.cb_fit.specs.JoinFields.{giving_fields, join_fields}
 use Rattle.cb_fit.specs.Plain.{bound_names, is_named}
 use Rattle.cb_fit.specs.declared.comparison.ComparedField.{ComparedField}
+use Rattle.cb_fit.specs.declared.join_fields.JoinField.{JoinField}
 use Rattle.cb_join_node.specs.Filings.{ArePartialsFiled}
 use Rattle.cb_join_node.specs.Joins.{Joins}
 use Rattle.cb_join_node.specs.declared.by_values.ByValues.{ByValues}
@@ -41,6 +42,11 @@ IsUnder facts number = (f : ℕ × FactValue) × (facts number ≡ Some f)
 -- no more than k numbers are such
 abbrev pub AreAtMost : (ℕ → Type 0) → ℕ → Type 0
 AreAtMost Such k = (numbers : List ℕ) → Chain (λ (i : ℕ) (j : ℕ). i ≢ j) numbers → ((n : ℕ) → In n numbers → Such n) → length numbers ≤ k
+
+-- the facts are found by the values of these fields, if there are some
+abbrev pub FindsFacts : AlphaMemoryValue → ℕ → List JoinField → Type 0
+FindsFacts alpha join [] = Unit {0}
+FindsFacts alpha join (j ∷ js) = HasJoin alpha join (j ∷ js)
 
 -- what was there before a change and still is
 abbrev pub Stays : BetaMemoryValue → ℕ → Type 0
@@ -90,7 +96,7 @@ module _ {T : Type 0} where
       (fs fs' : IndexedFacts) (old new : List Partial) : Type 0 where
     pub turns : Turns at before old new
     pub facts : AlphaTurns node.asked.pattern alpha fs fs'
-    pub has_join : HasJoin alpha node.join node.asked.fields.items
+    pub has_join : FindsFacts alpha node.join node.asked.fields.items
     pub ready : IsReady node at (WasThere before) (were_in alpha) own
     pub by_values : FitsValues node old new
     pub none_gone : own.gone ≡ []

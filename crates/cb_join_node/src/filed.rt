@@ -6,7 +6,8 @@ ghost use Rattle.cb_facts.specs.declared.value.Value.{Value as Joined};
 ghost use Rattle.cb_join_node.specs.Filings.{IsNowhere, IsSamePlace};
 ghost use Rattle.cb_matches.specs.Chains.{In};
 
-use cb_alpha::{Buckets, values_of_fact};
+use crate::partials::Partials;
+use cb_alpha::values_of_fact;
 use cb_facts::Fact;
 use cb_fit::JoinField;
 use cb_forms::NoMemory;
@@ -18,7 +19,7 @@ use std::alloc::Global;
 pub(crate) fn partials_beside<'b>(
     alloc: Global,
     fields: &[JoinField],
-    partials: &'b Buckets,
+    partials: &'b Partials,
     fact: &Fact,
 ) -> Result<&'b [u32], NoMemory>
     ensures some { IfOk result (λ found. (values : List Joined)
@@ -34,7 +35,7 @@ pub(crate) fn partials_beside<'b>(
 }
 
 /// Takes these partial matches out, wherever they stand.
-pub(crate) fn forget_partials(partials: &mut Buckets, strays: &mut Groups, numbers: &[u32])
+pub(crate) fn forget_partials(partials: &mut Partials, strays: &mut Groups, numbers: &[u32])
     ensures gone { (number : ℕ) → In number numbers.now → IsNowhere partials.new strays.new number }
     ensures others { (number : ℕ) → (In number numbers.now → ⊥)
         → IsSamePlace partials.old strays.old partials.new strays.new number }

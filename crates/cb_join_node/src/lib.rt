@@ -17,6 +17,7 @@ mod joining; // partial matches joined with facts
 mod known_values; // what compared variables have by a partial match
 pub mod laws; // laws of what is ready, and of how often a pattern may be tested
 mod node; // a change of a join node
+mod partials; // the partial matches before a pattern, by the values that they are joined on
 
 pub use by_values::ByValues;
 pub use joining::Joining;

@@ -1,15 +1,15 @@
 //! A change of a join node.
-ghost use Rattle.std.specs.Prelude.{◌≡◌, ◌≢◌, ◌≤◌, ◌+◌, ◌*◌, ◌⊎◌, ℕ, [], List, None, OnOk, Option, Some, length, slice_get};
+ghost use Rattle.std.specs.Prelude.{◌≡◌, ◌≢◌, ◌≤◌, ◌+◌, ◌*◌, ◌⊎◌, ℕ, [], IfOk, List, None, OnOk, Option, Some, length, slice_get};
 ghost use Rattle.cb_alpha.specs.AlphaMemories.{live};
-ghost use Rattle.cb_alpha.specs.Turning.{HasJoin, came_in};
+ghost use Rattle.cb_alpha.specs.Turning.{came_in};
 ghost use Rattle.cb_beta.specs.BetaMemories.{BetaMemoryValue};
 ghost use Rattle.cb_facts.specs.FactLists.{IndexedFacts};
 ghost use Rattle.cb_facts.specs.Facts.{FactValue};
 ghost use Rattle.cb_join_node.specs.Bounds.{join_probes};
 ghost use Rattle.cb_join_node.specs.Meetings.{AreSelected, KnowsValues};
-ghost use Rattle.cb_join_node.specs.Filings.{ArePartialsFiled, IsFiled, IsSamePlace};
+ghost use Rattle.cb_join_node.specs.Filings.{ArePartialsFiled, IsFiled, IsSamePlace, filed_values};
 ghost use Rattle.cb_join_node.specs.Joins.{Joins, JoinsOne};
-ghost use Rattle.cb_join_node.specs.Nodes.{AreAtMost, AsksTheSame, IsAfter, IsBefore, IsReady, IsUnder, Stays, added_fact, tests_of};
+ghost use Rattle.cb_join_node.specs.Nodes.{AreAtMost, AsksTheSame, FindsFacts, IsAfter, IsBefore, IsReady, IsUnder, Stays, added_fact, tests_of};
 ghost use Rattle.cb_matches.specs.Chains.{Chain, In};
 ghost use Rattle.cb_matches.specs.Matches.{Partial};
 ghost use Rattle.cb_nodes.specs.Patterns.{AreJoinFields};
@@ -19,9 +19,10 @@ ghost use Rattle.cb_token_lists.specs.Partials.{partial_at};
 
 use crate::filed::{forget_partials, partials_beside};
 use crate::joining::{Joining, join_facts, join_partials};
-use cb_alpha::{AlphaMemory, Buckets, values_of_variables};
+use crate::partials::Partials;
+use cb_alpha::{AlphaMemory, JoinValues, values_of_variables};
 use cb_beta::BetaMemory;
-use cb_fit::Meter;
+use cb_fit::{JoinField, Meter};
 use cb_fit::laws::{
     a_fact_that_fits_has_the_values_of_variables, a_fact_that_fits_is_selected,
     the_ways_rise_by_their_cuts,
@@ -38,11 +39,11 @@ pub struct JoinNode<T> {
     pub asked: Joining<T>,
     /// The number of the list before it.
     pub from: usize,
-    /// The number of the join of the pattern's alpha memory that finds facts by the fields.
+    /// The number of the join of the pattern's alpha memory that finds facts by the fields, where there are some.
     pub join: usize,
     /// The partial matches before the pattern, by the values that they are joined on.
-    pub(crate) partials: Buckets,
-    /// The partial matches that have not all of these values, as one group.
+    pub(crate) partials: Partials,
+    /// The partial matches that have not all of these values, as one group, and all where no value is asked.
     pub(crate) strays: Groups,
     alloc: Global,
 }
@@ -61,7 +62,7 @@ impl<T> JoinNode<T> {
             asked,
             from,
             join: 0,
-            partials: Buckets::new(alloc),
+            partials: Partials::new(alloc),
             strays: Groups::new(alloc),
             alloc,
         }
@@ -134,7 +135,7 @@ impl<T> JoinNode<T> {
             → AreJoinFields self.old.asked.fields.items self.old.asked.address self.old.asked.pattern
             → IsReady self.new at (λ number. ⊥) facts (record { tokens = []; gone = []; come = [] }) }
     {
-        self.partials = Buckets::new(self.alloc);
+        self.partials = Partials::new(self.alloc);
         self.strays = Groups::new(self.alloc);
     }
 }
@@ -144,7 +145,7 @@ fn join_fact<T>(
     lists: &TokenLists<'_>,
     from: usize,
     asked: &Joining<T>,
-    partials: &Buckets,
+    partials: &Partials,
     strays: &Groups,
     alpha: &AlphaMemory,
     own: &mut BetaMemory,
@@ -192,7 +193,7 @@ fn join_come<T>(
     from: usize,
     join: usize,
     asked: &Joining<T>,
-    partials: &mut Buckets,
+    partials: &mut Partials,
     strays: &mut Groups,
     alpha: &AlphaMemory,
     come: &[u32],
@@ -205,14 +206,14 @@ fn join_come<T>(
         → ArePartialsFiled asked.now.fields.items partials.new strays.new
         (partial_at lists.now.sources.now lists.now.lists.now from) (λ number. Stays before number ⊎ In number come.now)) }
     ensures come { OnOk result (Chain (λ (i : ℕ) (j : ℕ). i ≢ j) come.now
-        → HasJoin alpha.now join asked.now.fields.items
+        → FindsFacts alpha.now join asked.now.fields.items
         → AreJoinFields asked.now.fields.items asked.now.address asked.now.pattern
         → ((n : ℕ) → In n come.now → KnowsValues asked.now (partial_at lists.now.sources.now lists.now.lists.now from n))
         → AreSelected asked.now.pattern alpha.now.candidates
         → Comes own.old own.new (Joins asked.now.address asked.now.pattern (tests_of asked.now)
         (partial_at lists.now.sources.now lists.now.lists.now from) (λ number. In number come.now) (live alpha.now))) }
     ensures probes { OnOk result ((most : ℕ)
-        → HasJoin alpha.now join asked.now.fields.items
+        → FindsFacts alpha.now join asked.now.fields.items
         → AreAtMost (IsUnder (live alpha.now)) most
         → meter.new ≤ meter.old + length come.now * most) }
 {
@@ -225,13 +226,13 @@ fn join_come<T>(
 }
 
 /// Joins a partial match that came before the pattern with all facts, and files it. Its values are looked for once: by them facts that
-/// agree with it are found, and by them it is filed. Growth is refused as `NoMemory`, and so is a count of sharers that is full.
+/// agree with it are found, and by them it is filed; where it has not all, or none is asked, all facts are tried. Growth is refused as `NoMemory`, and so is a count of sharers that is full.
 fn join_partial<T>(
     lists: &TokenLists<'_>,
     from: usize,
     join: usize,
     asked: &Joining<T>,
-    partials: &mut Buckets,
+    partials: &mut Partials,
     strays: &mut Groups,
     alpha: &AlphaMemory,
     number: u32,
@@ -242,21 +243,20 @@ fn join_partial<T>(
         (partial_at lists.now.sources.now lists.now.lists.now from number)) }
     ensures others { OnOk result ((other : ℕ) → (other ≡ number → ⊥)
         → IsSamePlace partials.old strays.old partials.new strays.new other) }
-    ensures come { OnOk result (HasJoin alpha.now join asked.now.fields.items
+    ensures come { OnOk result (FindsFacts alpha.now join asked.now.fields.items
         → AreJoinFields asked.now.fields.items asked.now.address asked.now.pattern
         → KnowsValues asked.now (partial_at lists.now.sources.now lists.now.lists.now from number)
         → AreSelected asked.now.pattern alpha.now.candidates
         → Comes own.old own.new (JoinsOne asked.now.address asked.now.pattern (tests_of asked.now)
         (partial_at lists.now.sources.now lists.now.lists.now from number) number (live alpha.now))) }
     ensures probes { OnOk result ((most : ℕ)
-        → HasJoin alpha.now join asked.now.fields.items
+        → FindsFacts alpha.now join asked.now.fields.items
         → AreAtMost (IsUnder (live alpha.now)) most → meter.new ≤ meter.old + most) }
 {
     a_fact_that_fits_has_the_values_of_variables();
     partials.remove(number);
     strays.remove(number);
-    let known = lists.reading(from, number);
-    match values_of_variables(lists.alloc, asked.fields.as_slice(), &known)? {
+    match values_asked(lists, from, asked.fields.as_slice(), number)? {
         Some(values) => {
             let beside = alpha.facts_with(join, &values);
             join_facts(lists, from, asked, alpha, number, beside, own, meter)?;
@@ -269,4 +269,22 @@ fn join_partial<T>(
             strays.add(0, number)
         }
     }
+}
+
+/// The values by which a partial match is found, or `None` where it has not all of them or none is asked. It is refused as `NoMemory`
+/// where a look-up is, or growth.
+fn values_asked(
+    lists: &TokenLists<'_>,
+    from: usize,
+    fields: &[JoinField],
+    number: u32,
+) -> Result<Option<JoinValues>, NoMemory>
+    ensures { IfOk result (λ values. values ≡ filed_values fields.now
+        (partial_at lists.now.sources.now lists.now.lists.now from number)) }
+{
+    if fields.is_empty() {
+        return Ok(None);
+    }
+    let known = lists.reading(from, number);
+    values_of_variables(lists.alloc, fields, &known)
 }

@@ -84,10 +84,10 @@ module _ {T : Type 0} (node : LookupNode T) (names : Scope) (There There' : ℕ 
       let js = node.fields.items in
       record {
         lookup = is.lookup;
-        kept = kept_so node.sight js facts facts' same_facts at at' There There' alike is.kept;
-        tokens = tokens_stay own own' (ArePassedOn node.positive (looking_of node.sight) js facts at There) (ArePassedOn node.positive (looking_of node.sight) js facts' at' There')
-            (passed_so node.positive (looking_of node.sight) js facts facts' same_facts at at' There There' alike)
-            (passed_so node.positive (looking_of node.sight) js facts' facts (λ n. sym (same_facts n)) at' at There' There (alike_back at at' There There' alike)) same is.tokens;
+        kept = kept_so node.sight.value js facts facts' same_facts at at' There There' alike is.kept;
+        tokens = tokens_stay own own' (ArePassedOn node.positive (looking_of node.sight.value) js facts at There) (ArePassedOn node.positive (looking_of node.sight.value) js facts' at' There')
+            (passed_so node.positive (looking_of node.sight.value) js facts facts' same_facts at at' There There' alike)
+            (passed_so node.positive (looking_of node.sight.value) js facts' facts (λ n. sym (same_facts n)) at' at There' There (alike_back at at' There There' alike)) same is.tokens;
       }
 
 -- what a token goes on from is there

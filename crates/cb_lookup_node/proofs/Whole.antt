@@ -41,12 +41,12 @@ module _ {T : Type 0} (agree : AgreeByValues) (by_sight : HoldsBySight) (opposit
   js = node.fields.items
 
   abbrev looking : Looking
-  looking = looking_of node.sight
+  looking = looking_of node.sight.value
 
   asked : AsksBy looking js (known_fields (join_fields node.pattern.parts) names) (compared_fields node.pattern.parts)
   asked = b.ready.lookup.asks
 
-  pub to_change : IsToChange node.sight js at before alpha node.join
+  pub to_change : IsToChange node.sight.value js at before alpha node.join
   to_change = record {
     kept = b.ready.kept;
     ordered = well_ordered looking js (known_fields (join_fields node.pattern.parts) names) (compared_fields node.pattern.parts) asked;
@@ -58,7 +58,7 @@ module _ {T : Type 0} (agree : AgreeByValues) (by_sight : HoldsBySight) (opposit
   }
 
   module _ (sight' : Sight) (same : looking_of sight' ≡ looking) (own₁ own : BetaMemoryValue) (lost₁ : Loses own₀ own₁ (λ t. In t.parent before.gone))
-      (done : HasChanged node.positive node.sight sight' js at before alpha own₁ own) where
+      (done : HasChanged node.positive node.sight.value sight' js at before alpha own₁ own) where
     abbrev Had : ℕ → Type 0
     Had n = HadOne looking js at alpha n
 
@@ -95,7 +95,7 @@ module _ {T : Type 0} (agree : AgreeByValues) (by_sight : HoldsBySight) (opposit
     arrives : (n : ℕ) → In n arrive ↔ (Stays before n × Arrives node.positive (Had n) (Has n))
     arrives = arriving (Stays before) Had Has done.lost done.gained done.losing done.gaining node.positive arrive refl
 
-    pub whole : IsAfterLookup (record node { sight = sight' }) names at before alpha own fs fs' old new
+    pub whole : IsAfterLookup (record node { sight = record node.sight { value = sight' } }) names at before alpha own fs fs' old new
     whole =
         let l = b.ready.lookup in
         record {

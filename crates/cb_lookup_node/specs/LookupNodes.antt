@@ -156,7 +156,7 @@ module _ {T : Type 0} where
     pub pattern : node'.pattern ≡ node.pattern
     pub join : node'.join ≡ node.join
     pub fields : node'.fields ≡ node.fields
-    pub looking : looking_of node'.sight ≡ looking_of node.sight
+    pub looking : looking_of node'.sight.value ≡ looking_of node.sight.value
 
   -- the pattern is looked up by values, where variables with these names have values before it: by the fields with such a variable, and
   -- by what it compares
@@ -164,13 +164,13 @@ module _ {T : Type 0} where
     pub decided : is_decided node.pattern ≡ true
     pub unchosen : choice_fields node.pattern.parts ≡ []
     pub unconditional : conditions node.pattern.parts ≡ []
-    pub asks : AsksBy (looking_of node.sight) node.fields.items (known_fields (join_fields node.pattern.parts) names) (compared_fields node.pattern.parts)
+    pub asks : AsksBy (looking_of node.sight.value) node.fields.items (known_fields (join_fields node.pattern.parts) names) (compared_fields node.pattern.parts)
 
   -- the pattern is looked up so, what is before the node is kept, and the tokens behind it are those that it passes on over these facts
   pub record IsLookupReady (node : LookupNode T) (names : Scope) (at : ℕ → Partial) (There : ℕ → Type 0) (facts : ℕ → Option (ℕ × FactValue)) (own : BetaMemoryValue) : Type 0 where
     pub lookup : IsLookup names node
-    pub kept : AreKept node.sight node.fields.items at There facts
-    pub tokens : AreTokens own (ArePassedOn node.positive (looking_of node.sight) node.fields.items facts at There)
+    pub kept : AreKept node.sight.value node.fields.items at There facts
+    pub tokens : AreTokens own (ArePassedOn node.positive (looking_of node.sight.value) node.fields.items facts at There)
 
   -- before a change: the list before the group, where a number stands for a partial match by `at`, has turned from the partial matches
   -- `old` to `new`, in which just the variables with these names have values, and the facts from `fs` to `fs'`, which are found by the

@@ -40,8 +40,9 @@ pub struct LookupNode<T> {
     /// The fields of a fact by which facts are found: those that have to be equal to variables that have values before, and behind them
     /// the one that is compared by order, if one is.
     pub fields: Vec<JoinField>,
-    /// How it is known for which of the partial matches before it there is a fact.
-    pub(crate) sight: Sight,
+    /// How it is known for which of the partial matches before it there is a fact, in a block of its own, so that other nodes have no
+    /// place for it.
+    pub(crate) sight: Box<Sight>,
 }
 
 impl<T> LookupNode<T> {
@@ -69,6 +70,7 @@ impl<T> LookupNode<T> {
     {
         let mut fields = known;
         let sight = Sight::new(alloc, compared, &mut fields)?;
+        let sight = Box::new(alloc, sight)?;
         Ok(LookupNode {
             alloc,
             from,

@@ -8,7 +8,7 @@ ghost use Rattle.cb_rule_forms.specs.Internal.RowReading.{written_of};
 
 use crate::member::WrittenCheck;
 use cb_constraints::{Check, Test};
-use cb_expr_forms::{Scope, read_expr};
+use cb_expr_forms::{Scope, read_boxed};
 use cb_facts::{Names, Refused, Value};
 use cb_forms::{Fault, Token};
 
@@ -36,8 +36,8 @@ fn read_test(
 {
     match written {
         WrittenCheck::Single(token) => read_single(names, token),
-        WrittenCheck::Predicate(list) => Ok(Test::Predicate(read_expr(names, scope, list)?)),
-        WrittenCheck::ReturnValue(list) => Ok(Test::ReturnValue(read_expr(names, scope, list)?)),
+        WrittenCheck::Predicate(list) => Ok(Test::Predicate(read_boxed(names, scope, list)?)),
+        WrittenCheck::ReturnValue(list) => Ok(Test::ReturnValue(read_boxed(names, scope, list)?)),
         WrittenCheck::Stray => Err(Refused::Fault(Fault::FactDoesNotFit)),
         WrittenCheck::Missing => Err(Refused::Fault(Fault::MalformedForm)),
     }

@@ -117,7 +117,8 @@ fn shape(alloc: Global, forms: &[Form]) -> Result<FactShape, Refused> {
     let (relation, members) = split_head(fact.as_slice()).ok_or(Refused::NoMemory)?;
     let name = Name::new(alloc, relation)?;
     if relation == b"p".as_slice() || relation == b"q".as_slice() {
-        return Ok(FactShape::with_slots(name, slot_names(alloc, members)?));
+        let slots = slot_names(alloc, members)?;
+        return Ok(FactShape::with_slots(alloc, name, slots)?);
     }
     Ok(FactShape::ordered(name))
 }
@@ -163,7 +164,7 @@ fn modified_slots(alloc: Global, forms: &[Form]) -> Result<ModifiedSlots, Refuse
             slots.push(ModifiedSlot::new(Name::new(alloc, name)?, values.len()))?;
         }
     }
-    Ok(ModifiedSlots::new(slots))
+    Ok(ModifiedSlots::new(alloc, slots)?)
 }
 
 fn atom(alloc: Global, token: &Token) -> Result<Expr, Refused> {

@@ -1,4 +1,4 @@
-use Rattle.std.proofs.Common.{◌≡◌, ◌∙◌, ◌∷◌, [], ap, sym}
+use Rattle.std.proofs.Common.{◌∙◌, ◌∷◌, [], ap, sym}
 use Rattle.std.specs.Option.{option_or}
 use Rattle.cb_fit.proofs.Passed.{field_of_both}
 use Rattle.cb_fit.proofs.variable_fields.VariableFields.with.Goals as goal

@@ -1,4 +1,4 @@
-use Rattle.std.proofs.Common.{◌≡◌, ℕ, List, subst, sym}
+use Rattle.std.proofs.Common.{◌≡◌, ◌∙◌, ℕ, List, ap, rules, subst, sym}
 use Rattle.cb_alpha.proofs.ReadFacts.{same_some}
 use Rattle.cb_beta.proofs.Losses.{on_ok}
 use Rattle.cb_beta.specs.BetaMemories.{BetaMemoryValue, Loses}
@@ -7,7 +7,8 @@ use Rattle.cb_fit.specs.declared.join_fields.JoinField.{JoinField}
 use Rattle.cb_lookup_node.proofs.Whole.{to_change, whole}
 use Rattle.cb_lookup_node.proofs.node.LookupNode.change.Goals as goal
 use Rattle.cb_lookup_node.specs.Internal.{HasChanged, IsToChange}
-use Rattle.cb_lookup_node.specs.LookupNodes.{IsAfterLookup, IsBeforeLookup}
+use Rattle.cb_lookup_node.specs.LookupNodes.{IsAfterLookup, IsBeforeLookup, looking_of}
+use Rattle.cb_lookup_node.specs.declared.sight.Sight.{Sight}
 use Rattle.cb_matches.specs.Chains.{In}
 use Rattle.cb_token_lists.proofs.Down.{got}
 use Rattle.cb_token_lists.proofs.Keeping.{keeps_then, lost_keeps}
@@ -34,10 +35,12 @@ returns-clause-after g c =
     (λ done names before fs fs' old new is given.
     let one : m ≡ before = same_some _ (got ls me.from m look.3.0 (look.3.1 m)) is in
     let b : IsBeforeLookup me names at m alpha own₀ fs fs' old new = subst (λ it. IsBeforeLookup me names at it alpha own₀ fs fs' old new) (sym one) given in
-    let step : IsToChange me.sight js at m alpha me.join → HasChanged me.positive me.sight sight' js at m alpha own₁ own =
-    subst (λ (it : List JoinField). IsToChange me.sight it at m alpha me.join → HasChanged me.positive me.sight sight' it at m alpha own₁ own) c.as_slice.ensures.value done in
-    subst (λ it. IsAfterLookup (record me { sight = sight' }) names at it alpha own fs fs' old new) one
-    (whole agree by_sight opposite me names at m alpha own₀ fs fs' old new b sight' c.change.ensures.same own₁ own lost₁
+    let start : c.deref_mut.result.now ≡ me.sight.value = search rules in
+    let step : IsToChange me.sight.value js at m alpha me.join → HasChanged me.positive me.sight.value sight' js at m alpha own₁ own =
+    subst (λ (it : List JoinField). IsToChange me.sight.value it at m alpha me.join → HasChanged me.positive me.sight.value sight' it at m alpha own₁ own) c.as_slice.ensures.value
+    (subst (λ (it : Sight). IsToChange it c.as_slice.result.now at m alpha me.join → HasChanged me.positive it sight' c.as_slice.result.now at m alpha own₁ own) start done) in
+    subst (λ it. IsAfterLookup (record me { sight = record me.sight { value = sight' } }) names at it alpha own fs fs' old new) one
+    (whole agree by_sight opposite me names at m alpha own₀ fs fs' old new b sight' (c.change.ensures.same ∙ ap looking_of start) own₁ own lost₁
     (step (to_change agree by_sight opposite me names at m alpha own₀ fs fs' old new b))))
     c.change.ensures.changed
 
