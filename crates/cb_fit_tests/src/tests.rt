@@ -305,7 +305,7 @@ fn has_own_fields_in_its_key(rt: HostRuntime) -> Result<(), NoMemory> {
     let pattern = rising(rt.alloc())?;
     let key = pattern.shape(rt.alloc())?;
     let loose = pattern.loose(rt.alloc())?.shape(rt.alloc())?;
-    assert!(rt; stands_before(&key, &loose));
+    assert!(rt; stands_before(&loose, &key));
     Ok(())
 }
 

@@ -22,11 +22,11 @@ use crate::joining::{Joining, join_facts, join_partials};
 use crate::partials::Partials;
 use cb_alpha::{AlphaMemory, JoinValues, values_of_variables};
 use cb_beta::BetaMemory;
-use cb_fit::{JoinField, Meter};
 use cb_fit::laws::{
     a_fact_that_fits_has_the_values_of_variables, a_fact_that_fits_is_selected,
     the_ways_rise_by_their_cuts,
 };
+use cb_fit::{JoinField, Meter};
 use cb_forms::NoMemory;
 use cb_groups::Groups;
 use cb_token_lists::TokenLists;
