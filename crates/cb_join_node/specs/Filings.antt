@@ -40,7 +40,7 @@ pub record IsNowhere (filing : Filing) (strays : Membership) (number : ℕ) : Ty
   pub values : values_at filing number ≡ None
   pub stray : group_of strays number ≡ None
 
--- just these partial matches are filed by their values, or stand among those that have not all of them
+-- just these partial matches are filed by their values, or stand among those that are not found by values
 pub record ArePartialsFiled (js : List JoinField) (filing : Filing) (strays : Membership) (at : ℕ → Partial) (There : ℕ → Type 0) : Type 0 where
   pub there : (number : ℕ) → There number → IsFiled js filing strays number (at number)
   pub filed : (number : ℕ) (values : List Value) → values_at filing number ≡ Some values → There number
