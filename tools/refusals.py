@@ -19,7 +19,7 @@ LISTED = {
         cb_command_line/arguments.rt:run_and_report cb_command_line/reports.rt:no_memory cb_command_line/reports.rt:refused""",
     "a number would not fit 32 bits, or 64": """cb_alpha/candidates.rt:insert cb_alpha/numbering.rt:add
         cb_alpha_network/network.rt:enter_first cb_beta/filing.rt:insert cb_beta/memory.rt:numbers cb_branch/tracing.rt:source cb_constraints/segments.rt:add_ones
-        cb_constraints/segments.rt:add_segment cb_facts/multifield.rt:from_vec cb_facts/relation_counts.rt:add
+        cb_constraints/segments.rt:add_segment cb_facts/multifield.rt:from_vec cb_facts/relation_counts.rt:one_more
         cb_groups/lists.rt:push_to cb_groups/lists.rt:push_to cb_knowledge_base/groups.rt:next_number""",
     "what is looked for is always there": "cb_constraints/taken.rt:read_at cb_eval/constants.rt:made",
     "a session counts as failed while a call is under way":

@@ -1,11 +1,8 @@
 -- Mixes of keys: numbers that depend on the key alone, and that few other keys have.
-use Rattle.std.specs.Prelude.{◌+◌, ◌*◌, ◌^◌, ◌/◌, ◌%◌, ℕ, List, [], ◌∷◌}
+use Rattle.std.specs.Prelude.{ℕ, List, [], ◌∷◌}
 use Rattle.cb_fit.specs.CutsMixes.{cuts_mix}
 use Rattle.cb_matches.specs.Keys.{KeyValue, PartValue}
-
--- one more number mixed in
-unfoldable pub mixed : ℕ → ℕ → ℕ
-mixed mix n = ((mix * 11400714819323198485) % 2 ^ 64 + n) % 2 ^ 64
+use Rattle.cb_number_map.specs.Mixes.{key_of, mixed}
 
 -- parts mixed in, from left to right: of each its index, and the lengths of the segments
 abbrev pub mixed_parts : ℕ → List PartValue → ℕ
@@ -14,4 +11,4 @@ mixed_parts mix (p ∷ ps) = mixed_parts (mixed (mixed mix p.index) (cuts_mix p.
 
 -- the mix of a key: of its rule, its branch and its parts; in 32 bits
 unfoldable pub mix_of : KeyValue → ℕ
-mix_of k = mixed (mixed_parts (mixed k.rule k.branch) k.parts) 0 / 2 ^ 32
+mix_of k = key_of (mixed_parts (mixed k.rule k.branch) k.parts)

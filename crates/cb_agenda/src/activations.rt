@@ -3,7 +3,7 @@ ghost use Rattle.std.specs.Prelude.{◌≡◌, ◌≢◌, ◌↔◌, ℕ, [], If
 ghost use Rattle.std.specs.Option.{option_copied};
 ghost use Rattle.cb_agenda.specs.Agendas.{without_key};
 ghost use Rattle.cb_agenda.specs.Internal.{IsFiled, Numbered, current, current_key, entry_at, key_at, number_of};
-ghost use Rattle.cb_agenda.specs.Mixes.{mix_of, mixed};
+ghost use Rattle.cb_agenda.specs.Mixes.{mix_of};
 ghost use Rattle.cb_matches.specs.Keys.{KeyValue, key_cmp, key_eq};
 ghost use Rattle.cb_number_map.specs.Filed.{AreFound, ChangesAt, LeavesAside, with_own_key};
 ghost use Rattle.cb_number_map.specs.NumberMaps.{number_at};
@@ -11,14 +11,11 @@ ghost use Rattle.cb_number_map.specs.NumberMaps.{number_at};
 use crate::rank::Rank;
 use cb_forms::NoMemory;
 use cb_matches::Key;
-use cb_number_map::NumberMap;
+use cb_number_map::{NumberMap, key_of, mixed};
 use slab::Slab;
 use std::alloc::Global;
 use std::collections::BTreeMap;
 use std::marker::Model;
-
-/// By this an earlier number is multiplied where a later one is mixed in.
-const MULTIPLIER: u64 = 11_400_714_819_323_198_485;
 
 /// An activation: the key of the match that is due, and its rank.
 #[derive(Drop)]
@@ -226,13 +223,5 @@ fn mix_of(key: &Key) -> u32
     for part in key.parts() {
         mix = mixed(mixed(mix, part.index), part.cuts.mix());
     }
-    (mixed(mix, 0) >> 32) as u32
-}
-
-/// One more number mixed in.
-#[tactic(auto, unfolding(crate::specs::Mixes::mixed))]
-fn mixed(mix: u64, number: u64) -> u64
-    ensures { result ≡ mixed mix number }
-{
-    mix.wrapping_mul(MULTIPLIER).wrapping_add(number)
+    key_of(mix)
 }

@@ -9,9 +9,9 @@ ghost use Rattle.cb_facts.specs.contracts.value.ValueOrd.TheImpl.Laws as value_o
 
 use cb_facts::Value;
 use cb_forms::NoMemory;
+use cb_number_map::{key_of, mixed};
 use std::alloc::Global;
 use std::cmp::Ordering;
-use std::hash::{FoldHasher, Hash, Hasher};
 use std::marker::Model;
 
 /// Where the values stand: one or two in place, as most patterns are joined on one variable or two.
@@ -68,14 +68,16 @@ impl JoinValues {
         }
     }
 
-    /// A number that depends on the values alone, and that few other values have: half of their hash.
+    /// A number that depends on the values alone, and that few other values have.
     #[tactic(auto, unfolding(crate::specs::Mixes::mix_of))]
     pub fn mix(&self) -> u32
         ensures { result ≡ mix_of self.now }
     {
-        let mut hasher = FoldHasher::default();
-        Value::hash_slice(self.as_slice(), &mut hasher);
-        (hasher.finish() >> 32) as u32
+        let mut mix = 0;
+        for value in self.as_slice() {
+            mix = mixed(mix, value.mix());
+        }
+        key_of(mix)
     }
 
     /// The same values. Growth is refused as `NoMemory`.

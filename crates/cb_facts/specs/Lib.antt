@@ -6,4 +6,5 @@ pub mod Places
 pub mod RelationCounts
 pub mod Results
 pub mod Texts
+pub mod ValueMixes
 pub mod Values

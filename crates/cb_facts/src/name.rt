@@ -1,6 +1,7 @@
 //! Bytes that values and facts share.
 ghost use Rattle.std.specs.Prelude.{◌≡◌, [], ◌∷◌, IfOk, nat_eq, refl};
 ghost use Rattle.std.specs.Ordering.{nat_cmp, as_partial_cmp};
+ghost use Rattle.std.specs.Hash as fed;
 ghost use Rattle.std.specs.Hash.{same_Alike};
 ghost use Rattle.std.specs.Cmp.Lexicographic.{pointwise, slice_cmp, bytes_decides};
 ghost use Rattle.std.specs.Cmp.{partial_order_from_own_ties};
@@ -71,7 +72,7 @@ impl Name {
     }
 
     /// The hash of the bytes.
-    fn hash_code(&self) -> u64
+    pub(crate) fn hash_code(&self) -> u64
         ensures { result ≡ hash_of_bytes self.now }
     {
         self.shared.hash
@@ -93,6 +94,18 @@ pub(crate) fn hash_of_bytes(bytes: &[u8]) -> u64
     let mut hasher = FoldHasher::default();
     hasher.write(bytes);
     hasher.finish()
+}
+
+/// The order of bytes. Mostly the first decide it.
+fn order(own: &[u8], others: &[u8]) -> Ordering
+    ensures { result ≡ slice_cmp nat_cmp own.now others.now }
+{
+    if let (Some((a, _)), Some((b, _))) = (own.split_first(), others.split_first()) {
+        if a != b {
+            return a.cmp(b);
+        }
+    }
+    own.cmp(others)
 }
 
 impl Clone for Name {
@@ -142,18 +155,18 @@ impl Ord for Name {
     ghost matches_eq = { Prim.search (comparing, rules) };
 
     fn cmp(&self, other: &Name) -> Ordering {
-        self.as_slice().cmp(other.as_slice())
+        order(self.as_slice(), other.as_slice())
     }
 }
 
 impl Hash for Name {
-    // One write, so that a hasher can take many bytes at a time.
-    ghost hash_input = { λ n. n ∷ [] };
+    // The hash that it has already is all that a hasher takes.
+    ghost hash_input = { λ n. fed.u64 (hash_of_bytes n) };
 
-    ghost respects_eq = { (same_Alike (λ n. n ∷ []) bytes_decides).fed };
+    ghost respects_eq = { (same_Alike (λ n. fed.u64 (hash_of_bytes n)) bytes_decides).fed };
 
     fn hash<H: Hasher>(&self, state: &mut H) {
-        state.write(self.as_slice());
+        state.write_u64(self.hash_code());
     }
 }
 

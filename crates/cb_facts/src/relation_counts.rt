@@ -1,5 +1,5 @@
 //! How many facts name each relation.
-ghost use Rattle.std.specs.Prelude.{◌≡◌, IfOk, OnOk, OnErr};
+ghost use Rattle.std.specs.Prelude.{◌≡◌, ◌+◌, OnOk, OnErr};
 ghost use Rattle.cb_facts.specs.RelationCounts.{HasOneLess, HasOneMore, IsEmpty, count_of};
 
 use crate::name::Name;
@@ -49,25 +49,39 @@ impl RelationCounts {
         ensures ok { OnOk result (HasOneMore self.old self.new relation.now) }
         ensures err { OnErr result (self.new ≡ self.old) }
     {
-        let Some(count) = self.count(relation).checked_add(1) else {
-            return Err(NoMemory);
-        };
-        let shared = relation.clone()?;
-        self.counts.insert(shared, count)?;
-        Ok(())
+        match self.counts.get_mut(relation) {
+            Some(count) => one_more(count),
+            None => {
+                let shared = relation.clone()?;
+                self.counts.insert(shared, 1)?;
+                Ok(())
+            }
+        }
     }
 
     /// Counts one fact less that names a relation, if one does.
     pub fn remove(&mut self, relation: &Name)
         ensures { HasOneLess self.old self.new relation.now }
     {
-        if self.count(relation) <= 1 {
-            self.counts.remove(relation);
-            return;
-        }
         let Some(count) = self.counts.get_mut(relation) else {
             return;
         };
-        *count -= 1;
+        if *count > 1 {
+            *count -= 1;
+            return;
+        }
+        self.counts.remove(relation);
     }
+}
+
+/// One more. The 2^64th is refused as `NoMemory`.
+fn one_more(count: &mut u64) -> Result<(), NoMemory>
+    ensures ok { OnOk result (count.new ≡ count.old + 1) }
+    ensures err { OnErr result (count.new ≡ count.old) }
+{
+    let Some(more) = count.checked_add(1) else {
+        return Err(NoMemory);
+    };
+    *count = more;
+    Ok(())
 }

@@ -34,6 +34,7 @@ mod Parted
 mod Passed
 mod PlacedFields
 mod Places
+mod PlainFits
 mod Related
 mod Rows
 mod Segments

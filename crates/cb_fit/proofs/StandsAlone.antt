@@ -20,7 +20,7 @@ checks-stay (c ∷ cs) e =
     let b = both-true (is_constant c.test) (are_constants cs) e in
     ap (λ t. cond t (c ∷ constants_in cs) (constants_in cs)) b.0 ∙ ap (λ (it : List Check). c ∷ it) (checks-stay cs b.1)
 
-demand-stays : (d : Demand) → demand_alone d ≡ true → loose_demand d ≡ d
+pub demand-stays : (d : Demand) → demand_alone d ≡ true → loose_demand d ≡ d
 demand-stays nothing e = refl
 demand-stays (each cs) e = ap each (checks-stay cs e)
 demand-stays (either None alternatives) e = ap (either None) (all_stay constants_in are_constants checks-stay alternatives e)

@@ -4,6 +4,7 @@ pub mod Codes
 pub mod Integers
 pub mod Lengths
 pub mod Placed
+pub mod PlainParts
 pub mod Reading
 pub mod Searches
 pub mod Standing

@@ -2,6 +2,7 @@
 ghost use Rattle.std.specs.Prelude.{◌≡◌, IfOk};
 ghost use Rattle.cb_constraints.specs.Internal.RowFields.{row_fields};
 ghost use Rattle.cb_facts.specs.Facts.{content_of};
+ghost use Rattle.cb_facts.specs.Values.{fields_in};
 ghost use Rattle.cb_fit.specs.FieldPlaces.{field_at, field_value};
 
 use crate::slots::slot_value;
@@ -28,11 +29,22 @@ impl FieldPlace {
         match (fact.content(), self.slot) {
             (Content::Fields(fields), None) => value_at(Fields::All(fields), self.field),
             (Content::Slots(slots), Some(place)) => match slot_value(slots, place) {
-                Some(value) => value_at(Fields::Slot(value), self.field),
+                Some(value) => field_of(value, self.field),
                 None => Ok(None),
             },
             _ => Ok(None),
         }
+    }
+}
+
+/// The field of a slot's value at a place, or `None` after the last. Mostly the value is one field.
+fn field_of(value: &Value, at: usize) -> Result<Option<Value>, NoMemory>
+    ensures { IfOk result (λ v. v ≡ field_at at (fields_in value.now)) }
+{
+    match value {
+        Value::Int(number) if at == 0 => Ok(Some(Value::Int(*number))),
+        Value::Symbol(bytes) if at == 0 => Ok(Some(Value::Symbol(bytes.clone()?))),
+        _ => value_at(Fields::Slot(value), at),
     }
 }
 

@@ -1,7 +1,8 @@
 //! Patterns, and the ways in which one fits a fact.
 //!
 //! Before the search a fact is asked, in `lengths.rt` and `may_take.rt`, what takes no memory: whether the numbers of its fields
-//! and the constants of the pattern fit. `docs/DECISIONS.md`, "Patterns", says how the search goes.
+//! and the constants of the pattern fit. Where each constraint takes one field and asks it for constants alone, nothing is left to search
+//! (`plain_parts.rt`). `docs/DECISIONS.md`, "Patterns", says how the search goes.
 //!
 //! `docs/ARCHITECTURE.md` says where it belongs.
 #![tactic(auto)]
@@ -32,6 +33,7 @@ mod own_fields; // which fields of one fact a pattern compares with constants an
 mod pattern; // a pattern; what it asks is private to the crate
 mod pieces; // the pieces of a shape
 mod placed; // what a pattern asks of each field that it takes alone
+mod plain_parts; // patterns that ask each field for constants alone, and fit with no search
 mod rest; // how a row begins: the constraints before the first segment, and what is left after them
 mod search; // the search for all ways, which takes up one choice at a time
 mod selection; // what a pattern asks of a fact alone

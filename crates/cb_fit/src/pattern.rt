@@ -6,6 +6,7 @@ ghost use Rattle.cb_fit.specs.Comparisons.{decision};
 ghost use Rattle.cb_fit.specs.ConstantFields.{constant_fields};
 ghost use Rattle.cb_fit.specs.Decided.{ones};
 ghost use Rattle.cb_fit.specs.Decisions.{decision_of};
+ghost use Rattle.cb_fit.specs.Internal.PlainParts.{are_plain};
 ghost use Rattle.cb_fit.specs.JoinFields.{giving_fields, join_fields};
 ghost use Rattle.cb_fit.specs.Meters.{one_test_more};
 ghost use Rattle.cb_fit.specs.Plain.{bound_names};
@@ -21,6 +22,7 @@ use crate::loose::loose_parts;
 use crate::meter::Meter;
 use crate::own_field::OwnField;
 use crate::own_fields::own_of_parts;
+use crate::plain_parts::are_plain;
 use crate::selection::Selection;
 use crate::shape::{Shape, shape_in};
 use crate::standing_alone::parts_alone;
@@ -111,6 +113,13 @@ impl<T> Pattern<T> {
         ensures { result ≡ stands_alone self.now }
     {
         parts_alone(self.body.parts())
+    }
+
+    /// Whether it asks each field for constants alone: it stands alone, and no constraint takes a segment.
+    pub(crate) fn is_plain(&self) -> bool
+        ensures { result ≡ are_plain self.now.parts }
+    {
+        are_plain(self.body.parts())
     }
 
     /// The fields of a fact that have to be equal to variables, whatever else the pattern asks: where one of these variables has a

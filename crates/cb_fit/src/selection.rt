@@ -1,13 +1,16 @@
 //! What a pattern asks of a fact alone.
 ghost use Rattle.std.specs.Prelude.{◌≡◌, IfOk};
+ghost use Rattle.cb_exprs.specs.Bindings.{no_bindings};
 ghost use Rattle.cb_fit.specs.Meters.{one_test_more};
 ghost use Rattle.cb_fit.specs.ShapeKeys.{key_of};
-ghost use Rattle.cb_fit.specs.Shapes.{selects};
+ghost use Rattle.cb_fit.specs.Shapes.{has_way, selects};
+ghost use Rattle.cb_fit.specs.Ways.{ways};
 
 use crate::fitting::fits;
 use crate::meter::Meter;
 use crate::own_field::{OwnField, all_hold};
 use crate::pattern::Pattern;
+use crate::plain_parts::plain_fits;
 use crate::shape::Shape;
 use cb_eval::Constants;
 use cb_exprs::Env;
@@ -24,12 +27,15 @@ use std::marker::Model;
 pub struct Selection<T> {
     shape: Pattern<T>,
     own: Vec<OwnField>,
+    is_plain: bool, // of the shape: whether it fits is seen with no search
 }
 
 impl<T> Model for Selection<T> {
     ghost use Rattle.std.specs.Coded.{codes};
+    ghost use Rattle.std.specs.Prelude.{◌≡◌};
     ghost use Rattle.cb_constraints.specs.Internal.Codes.{pattern_code};
     ghost use Rattle.cb_fit.specs.Internal.Codes.{selection_code};
+    ghost use Rattle.cb_fit.specs.Internal.PlainParts.{are_plain};
     ghost use Rattle.cb_fit.specs.Shapes.{SelectionValue};
 
     ghost Value = { SelectionValue };
@@ -37,6 +43,8 @@ impl<T> Model for Selection<T> {
     ghost coded = { selection_code (pattern_code (Prim.hlevel codes) (Prim.hlevel codes) (Prim.hlevel codes)) (Prim.hlevel codes) };
 
     ghost view = { λ s. record { shape = s.shape; own = s.own.items } };
+
+    ghost invariant = { λ s. s.is_plain ≡ are_plain s.shape.parts };
 }
 
 impl<T> Selection<T> {
@@ -44,7 +52,12 @@ impl<T> Selection<T> {
     pub(crate) fn new(shape: Pattern<T>, own: Vec<OwnField>) -> Selection<T>
         ensures { result ≡ record { shape = shape; own = own.items } }
     {
-        Selection { shape, own }
+        let is_plain = shape.is_plain();
+        Selection {
+            shape,
+            own,
+            is_plain,
+        }
     }
 
     /// The pattern without its variables and expressions.
@@ -74,10 +87,28 @@ impl<T> Selection<T> {
         ensures selects { IfOk result (λ yes. yes ≡ selects self.now fact.now) }
         ensures counted { meter.new ≡ one_test_more meter.old }
     {
-        let env = Env::new(alloc);
-        if !fits(alloc, constants, &self.shape, fact, &env, meter)? {
+        if !self.has_shape(alloc, constants, fact, meter)? {
             return Ok(false);
         }
         all_hold(self.own.as_slice(), fact)
+    }
+
+    /// Whether a fact has its shape. It tests the pattern once, and searches only where the shape isn't plain. Growth is refused as
+    /// `NoMemory`, and so is a count of sharers that is full; the meter has gone up then too.
+    fn has_shape(
+        &self,
+        alloc: Global,
+        constants: &Constants,
+        fact: &Fact,
+        meter: &mut Meter<T>,
+    ) -> Result<bool, NoMemory>
+        ensures fits { IfOk result (λ fits. fits ≡ has_way (ways self.now.shape fact.now no_bindings)) }
+        ensures counted { meter.new ≡ one_test_more meter.old }
+    {
+        if self.is_plain {
+            return Ok(plain_fits(&self.shape, fact, meter));
+        }
+        let env = Env::new(alloc);
+        fits(alloc, constants, &self.shape, fact, &env, meter)
     }
 }

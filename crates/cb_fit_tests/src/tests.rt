@@ -1,5 +1,5 @@
 //! What decides whether a pattern fits, its shape, and what it asks of a fact alone, read from patterns.
-use cb_constraints::{Check, Constraint, Demand, PatternParts, Row, Test};
+use cb_constraints::{Check, Constraint, Demand, PatternParts, Row, SlotRow, Test};
 use cb_eval::Constants;
 use cb_exprs::Expr;
 use cb_facts::{Fact, Multifield, Name, Single, Value};
@@ -324,5 +324,108 @@ fn gives_a_variable_the_value_of_its_first_field(rt: HostRuntime) -> Result<(), 
 fn selects_facts_by_comparisons_with_constants(rt: HostRuntime) -> Result<(), NoMemory> {
     let pattern = limited(rt.alloc())?;
     assert!(rt; tells_apart(rt.alloc(), &pattern)?);
+    Ok(())
+}
+
+/// A constant, with `~` or without.
+fn constant(is_negated: bool, number: i64) -> Check {
+    Check {
+        is_negated,
+        test: Test::Constant(Value::Int(number)),
+    }
+}
+
+/// `2|4`
+fn two_or_four(alloc: Global) -> Result<Constraint, NoMemory> {
+    let mut two = Vec::new(alloc);
+    two.push(constant(false, 2))?;
+    let mut four = Vec::new(alloc);
+    four.push(constant(false, 4))?;
+    let mut alternatives = Vec::new(alloc);
+    alternatives.push(two)?;
+    alternatives.push(four)?;
+    Ok(one_field(Demand::Either(None, alternatives)))
+}
+
+/// `~3&~1`
+fn not_three_nor_one(alloc: Global) -> Result<Constraint, NoMemory> {
+    let mut checks = Vec::new(alloc);
+    checks.push(constant(true, 3))?;
+    checks.push(constant(true, 1))?;
+    Ok(one_field(Demand::Each(checks)))
+}
+
+/// `(r 2 ..)`, where this is asked of the second field.
+fn two_and(alloc: Global, second: Constraint) -> Result<Pattern<Counted>, NoMemory> {
+    let mut checks = Vec::new(alloc);
+    checks.push(constant(false, 2))?;
+    let mut constraints = Vec::new(alloc);
+    constraints.push(one_field(Demand::Each(checks)))?;
+    constraints.push(second)?;
+    let parts = PatternParts::Fields(Row::new(constraints));
+    Pattern::new(alloc, name(alloc, b"r")?, parts)
+}
+
+#[test]
+fn selects_facts_by_alternatives(rt: HostRuntime) -> Result<(), NoMemory> {
+    let pattern = two_and(rt.alloc(), two_or_four(rt.alloc())?)?;
+    assert!(rt; tells_apart(rt.alloc(), &pattern)?);
+    Ok(())
+}
+
+#[test]
+fn selects_facts_by_constants_that_are_not_there(rt: HostRuntime) -> Result<(), NoMemory> {
+    let pattern = two_and(rt.alloc(), not_three_nor_one(rt.alloc())?)?;
+    assert!(rt; tells_apart(rt.alloc(), &pattern)?);
+    Ok(())
+}
+
+/// `(r ? ? ?)`
+fn three_fields(alloc: Global) -> Result<Pattern<Counted>, NoMemory> {
+    let mut constraints = Vec::new(alloc);
+    for _ in 0..3 {
+        constraints.push(one_field(Demand::Nothing))?;
+    }
+    let parts = PatternParts::Fields(Row::new(constraints));
+    Pattern::new(alloc, name(alloc, b"r")?, parts)
+}
+
+#[test]
+fn selects_no_fact_with_too_few_fields(rt: HostRuntime) -> Result<(), NoMemory> {
+    let selection = three_fields(rt.alloc())?.selection(rt.alloc())?;
+    assert!(rt; !selects(rt.alloc(), &selection, 2, 2)?);
+    Ok(())
+}
+
+/// `(r (s 2|4))`
+fn with_slot(alloc: Global) -> Result<Pattern<Counted>, NoMemory> {
+    let mut constraints = Vec::new(alloc);
+    constraints.push(two_or_four(alloc)?)?;
+    let mut slots = Vec::new(alloc);
+    slots.push(SlotRow {
+        name: name(alloc, b"s")?,
+        place: 0,
+        row: Row::new(constraints),
+    })?;
+    Pattern::new(alloc, name(alloc, b"r")?, PatternParts::Slots(slots))
+}
+
+/// Whether what a pattern asks of a fact alone selects `(r (s number))`.
+fn selects_slot(alloc: Global, pattern: &Pattern<Counted>, number: i64) -> Result<bool, NoMemory> {
+    let constants = Constants::new(alloc)?;
+    let mut meter = Meter::new(Counted);
+    let mut slots = Vec::new(alloc);
+    slots.push((name(alloc, b"s")?, Value::Int(number)))?;
+    let fact = Fact::with_slots(alloc, name(alloc, b"r")?, slots)?;
+    let selection = pattern.selection(alloc)?;
+    selection.selects(alloc, &constants, &fact, &mut meter)
+}
+
+#[test]
+fn selects_facts_by_slots(rt: HostRuntime) -> Result<(), NoMemory> {
+    let pattern = with_slot(rt.alloc())?;
+    let selects_one = selects_slot(rt.alloc(), &pattern, 2)?;
+    let selects_other = selects_slot(rt.alloc(), &pattern, 3)?;
+    assert!(rt; selects_one && !selects_other);
     Ok(())
 }

@@ -290,6 +290,9 @@ fn hold_after<T>(
     ensures { IfOk result (λ holds. holds ≡ all_hold (map term_of tests.now) (grown asked.now.address index
         (partial_at lists.now.sources.now lists.now.lists.now from number) given.now)) }
 {
+    if tests.is_empty() {
+        return Ok(true);
+    }
     let after = Grown {
         before: lists.reading(from, number),
         address: &asked.address,

@@ -1,3 +1,4 @@
+pub mod Mixes
 pub mod NumberMaps
 pub mod Slots
 pub mod Filed

@@ -3,7 +3,9 @@
 //! `docs/ARCHITECTURE.md` says where it belongs.
 #![tactic(auto)]
 
+mod mixes; // numbers by which other things are filed
 mod number_map; // the map: a table, and an ordered map for what finds no room in it
 mod slots; // the slots of a table, and where a key stands
 
+pub use mixes::{key_of, mixed};
 pub use number_map::NumberMap;

@@ -87,7 +87,9 @@ impl NumberMap {
         if clear(self.slots.as_mut_slice(), key) {
             self.taken = self.taken.saturating_sub(1);
         }
-        self.aside.remove(&key);
+        if !self.aside.is_empty() {
+            self.aside.remove(&key);
+        }
     }
 
     /// Gives the memory of a long table back, if there is no key. This takes as many steps as the table has slots, and fewer than were

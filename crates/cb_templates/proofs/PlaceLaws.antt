@@ -1,15 +1,16 @@
 -- What stands at the place of a slot's name.
-use Rattle.std.proofs.Common.{◌≡◌, ◌∙◌, ◌++◌, ◌&&◌, ◌||◌, not, ℕ, suc, Bool, true, false, cond, List, [], ◌∷◌, Option, Some, None, option_map, is_some, length, refl, sym, ap, ap₂, subst, if◌then◌else◌}
+use Rattle.std.proofs.Common.{◌≡◌, ◌∙◌, ◌++◌, ◌&&◌, ◌||◌, not, ℕ, suc, Bool, true, false, List, [], ◌∷◌, Option, Some, None, option_map, is_some, length, refl, sym, ap, ap₂, if◌then◌else◌}
 use denote.Ref.{Bor}
 use Rattle.std.proofs.lemmas.Option.{slice_get_past, slice_get_read}
 use Rattle.std.specs.Cmp.{IsEquivalence}
 use Rattle.std.specs.Cmp.Lexicographic.{nat_list_eq_equiv}
 use Rattle.std.specs.List.{slice_get}
-use Rattle.std.specs.Option.{MatchOption, option_and_then, option_copied}
+use Rattle.std.specs.Option.{IfSome, MatchOption, option_and_then, option_copied}
 use Rattle.std.specs.Slice.{IsItemAt}
 use Rattle.std.specs.Str.{bytes_eq}
 use Rattle.cb_facts.specs.declared.value.Value.{Value}
 use Rattle.cb_templates.specs.Building.{Given, are_distinct, given_for, given_names}
+use Rattle.cb_templates.specs.GivenPlaces.{AreTheirPlaces}
 use Rattle.cb_templates.specs.Slots.{GivenValues, SlotShape, names, slot_named}
 use Rattle.cb_facts.specs.Places.{place_in}
 
@@ -110,8 +111,11 @@ pub names_after : (given : Given) (g : GivenValues) → given_names given ++ g.0
 names_after [] g = refl
 names_after (h ∷ given) g = ap (λ ns. h.0 ∷ ns) (names_after given g)
 
--- the same by a list of the names
-pub distinct_still : (given : Given) (g : GivenValues) (places : List (List ℕ)) (distinct is_new : Bool) → places ≡ given_names given → distinct ≡ are_distinct given
-    → is_new ≡ not (is_some (place_in places g.0)) → (distinct && is_new) ≡ are_distinct (given ++ g ∷ [])
-distinct_still given g places distinct is_new named was new =
-    ap₂ (λ t u. t && u) was (new ∙ ap (λ ns. not (is_some (place_in ns g.0))) named ∙ ap not (sym (is_given given g.0))) ∙ sym (distinct_after given g)
+-- the places of slots and one more
+pub places_after : (places : Option (List (List ℕ))) (given : Given) (g : GivenValues) → IfSome places (λ p. p ≡ given_names given ++ g.0 ∷ []) → AreTheirPlaces places (given ++ g ∷ [])
+places_after None given g h = h
+places_after (Some p) given g h = h ∙ names_after given g
+
+pub distinct_still : (given : Given) (g : GivenValues) (distinct is_new : Bool) → distinct ≡ are_distinct given → is_new ≡ not (is_some (given_for given g.0))
+    → (distinct && is_new) ≡ are_distinct (given ++ g ∷ [])
+distinct_still given g distinct is_new was new = ap₂ (λ t u. t && u) was new ∙ sym (distinct_after given g)

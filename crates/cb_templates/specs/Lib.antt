@@ -1,4 +1,5 @@
 pub mod Building
+pub mod GivenPlaces
 pub mod Internal
 pub mod Laws
 pub mod SlotForms

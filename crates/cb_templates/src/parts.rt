@@ -1,11 +1,15 @@
 //! What a fact is given.
-ghost use Rattle.std.specs.Prelude.{◌≡◌, ◌&&◌, ◌++◌, ◌∷◌, [], None, Some, IfOk, MatchOption, OnOk, OnErr};
-ghost use Rattle.cb_templates.specs.Building.{are_distinct, given_for};
+ghost use Rattle.std.specs.Prelude.{◌≡◌, ◌&&◌, ◌++◌, ◌∷◌, [], None, Some, IfOk, IfSome, MatchOption, OnOk, OnErr, is_some, not};
+ghost use Rattle.cb_templates.specs.Building.{are_distinct, given_for, given_names};
+ghost use Rattle.cb_templates.specs.GivenPlaces.{AreTheirPlaces};
 
 use cb_facts::{Name, Places, Value};
 use cb_forms::NoMemory;
 use std::alloc::Global;
 use std::marker::Model;
+
+/// So many slots at most are looked for one by one, which is faster than a search among few.
+pub(crate) const FEW: usize = 8;
 
 /// A slot that a fact is given, by its name, and the values that it is given.
 ///
@@ -46,20 +50,23 @@ impl GivenSlot {
 /// Contracts see the list of the slots.
 #[derive(Drop)]
 pub struct GivenSlots {
+    alloc: Global,
     slots: Vec<GivenSlot>,
-    places: Places,
+    /// Their places by their names, where they are more than a few.
+    places: Option<Places>,
     distinct: bool,
 }
 
 impl Model for GivenSlots {
     ghost use Rattle.std.specs.Prelude.{◌≡◌};
-    ghost use Rattle.cb_templates.specs.Building.{Given, are_distinct, given_names};
+    ghost use Rattle.cb_templates.specs.Building.{Given, are_distinct};
+    ghost use Rattle.cb_templates.specs.GivenPlaces.{AreTheirPlaces};
 
     ghost Value = { Given };
 
     ghost view = { λ g. g.slots.items };
 
-    ghost invariant = { λ g. (g.places ≡ given_names g.slots.items) × (g.distinct ≡ are_distinct g.slots.items) };
+    ghost invariant = { λ g. AreTheirPlaces g.places g.slots.items × (g.distinct ≡ are_distinct g.slots.items) };
 }
 
 impl GivenSlots {
@@ -68,8 +75,9 @@ impl GivenSlots {
         ensures { result ≡ [] }
     {
         GivenSlots {
+            alloc,
             slots: Vec::new(alloc),
-            places: Places::new(alloc),
+            places: None,
             distinct: true,
         }
     }
@@ -93,14 +101,14 @@ impl GivenSlots {
     }
 
     /// The values that are given for the slot with a name: where it is given twice, those that were given first.
-    #[tactic(auto, using(crate::proofs::PlaceLaws::given_by_place))]
     pub fn find(&self, name: &Name) -> Option<&[Value]>
         ensures { MatchOption result (given_for self.now name.now ≡ None)
             (λ values. given_for self.now name.now ≡ Some values.now) }
     {
-        let place = self.places.find(name)?;
-        let slot = self.slots.get(place)?;
-        Some(slot.values.as_slice())
+        match &self.places {
+            Some(places) => given_at(places, self.slots.as_slice(), name),
+            None => first_given(self.slots.as_slice(), name),
+        }
     }
 
     /// Whether no slot is given twice. It takes constant time.
@@ -116,10 +124,81 @@ impl GivenSlots {
         ensures err { OnErr result (self.new ≡ self.old) }
     {
         self.slots.reserve(1)?;
-        let is_new = self.places.push(&slot.name, self.slots.len())?;
+        list_if_many(self.alloc, &mut self.places, self.slots.as_slice())?;
+        let is_new = note(&mut self.places, self.slots.as_slice(), &slot.name)?;
         self.distinct = both(self.distinct, is_new);
         self.slots.push(slot)?;
         Ok(())
+    }
+}
+
+/// The values that are given for the slot with a name, by the place of the name.
+#[tactic(auto, using(crate::proofs::PlaceLaws::given_by_place))]
+fn given_at<'a>(places: &Places, slots: &'a [GivenSlot], name: &Name) -> Option<&'a [Value]>
+    requires { places.now ≡ given_names slots.now }
+    ensures { MatchOption result (given_for slots.now name.now ≡ None)
+        (λ values. given_for slots.now name.now ≡ Some values.now) }
+{
+    let place = places.find(name)?;
+    let slot = slots.get(place)?;
+    Some(slot.values.as_slice())
+}
+
+/// The values that are given for the slot with a name, looked for one by one.
+fn first_given<'a>(slots: &'a [GivenSlot], name: &Name) -> Option<&'a [Value]>
+    ensures { MatchOption result (given_for slots.now name.now ≡ None)
+        (λ values. given_for slots.now name.now ≡ Some values.now) }
+{
+    for slot in slots {
+        if slot.name == *name {
+            return Some(slot.values.as_slice());
+        }
+    }
+    None
+}
+
+/// Lists the places of slots where none are listed and one more makes them many. Growth is refused as `NoMemory`, and then nothing has
+/// changed.
+fn list_if_many(
+    alloc: Global,
+    places: &mut Option<Places>,
+    slots: &[GivenSlot],
+) -> Result<(), NoMemory>
+    requires { AreTheirPlaces places.old slots.now }
+    ensures ok { AreTheirPlaces places.new slots.now }
+    ensures err { OnErr result (places.new ≡ places.old) }
+{
+    if places.is_none() && slots.len() >= FEW {
+        *places = Some(places_of(alloc, slots)?);
+    }
+    Ok(())
+}
+
+/// The places of slots. Growth is refused as `NoMemory`.
+fn places_of(alloc: Global, slots: &[GivenSlot]) -> Result<Places, NoMemory>
+    ensures { IfOk result (λ places. places ≡ given_names slots.now) }
+{
+    let mut places = Places::new(alloc);
+    let mut at = 0;
+    for slot in slots {
+        places.push(&slot.name, at)?;
+        at += 1;
+    }
+    Ok(places)
+}
+
+/// Notes the place of one slot more, if places are listed, and returns whether its name is new. Growth is refused as `NoMemory`, and
+/// then nothing has changed.
+fn note(places: &mut Option<Places>, slots: &[GivenSlot], name: &Name) -> Result<bool, NoMemory>
+    requires { AreTheirPlaces places.old slots.now }
+    ensures new { IfOk result
+        (λ is_new. is_new ≡ not (is_some (given_for slots.now name.now))) }
+    ensures ok { OnOk result (IfSome places.new (λ p. p ≡ given_names slots.now ++ name.now ∷ [])) }
+    ensures err { OnErr result (places.new ≡ places.old) }
+{
+    match places {
+        Some(places) => places.push(name, slots.len()),
+        None => Ok(first_given(slots, name).is_none()),
     }
 }
 

@@ -3,6 +3,7 @@ ghost use Rattle.std.specs.Prelude.{◌≡◌, ◌++◌, ◌∷◌, [], None, So
 ghost use Rattle.cb_facts.specs.Places.{place_in};
 ghost use Rattle.cb_templates.specs.Slots.{names, slot_named};
 
+use crate::parts::FEW;
 use crate::slot::Slot;
 use cb_facts::{Name, Places};
 use cb_forms::NoMemory;
@@ -61,6 +62,9 @@ impl Template {
         ensures { MatchOption result (slot_named self.now name.now ≡ None)
             (λ s. slot_named self.now name.now ≡ Some s.now) }
     {
+        if self.slots.len() <= FEW {
+            return first_named(self.slots.as_slice(), name);
+        }
         let place = self.place(name)?;
         self.slots.get(place)
     }
@@ -75,4 +79,17 @@ impl Template {
         self.slots.push(slot)?;
         Ok(())
     }
+}
+
+/// The slot with a name, looked for one by one.
+fn first_named<'a>(slots: &'a [Slot], name: &Name) -> Option<&'a Slot>
+    ensures { MatchOption result (slot_named slots.now name.now ≡ None)
+        (λ s. slot_named slots.now name.now ≡ Some s.now) }
+{
+    for slot in slots {
+        if *slot.name() == *name {
+            return Some(slot);
+        }
+    }
+    None
 }

@@ -25,8 +25,8 @@ pub(crate) fn given_by_token(
     match token.taken() {
         Some(taken) => {
             // mostly it doesn't, which is seen at once
-            if source.address.is_none() && !taken.given.may_give(name) {
-                return Ok(None);
+            if !taken.given.may_give(name) {
+                return Ok(given_by_address(&source.address, taken.index, name.name()));
             }
             given(taken.given, &source.address, taken.index, name)
         }
@@ -48,12 +48,12 @@ pub(crate) fn given_with(
     match way {
         Some(way) => {
             let way = way.read();
-            if address.is_none() && !way.may_give(name) {
-                return Ok(None);
+            if !way.may_give(name) {
+                return Ok(given_by_address(address, index, name.name()));
             }
             given(way, address, index, name)
         }
-        None => Ok(given_by_address(address, index, name)),
+        None => Ok(given_by_address(address, index, name.name())),
     }
 }
 
@@ -70,16 +70,16 @@ fn given(
 {
     match way.value(name)? {
         Some(value) => Ok(Some(value)),
-        None => Ok(given_by_address(address, index, name)),
+        None => Ok(given_by_address(address, index, name.name())),
     }
 }
 
 /// The address of the fact with an index, if that is what the variable has.
-fn given_by_address(address: &Option<Name>, index: u64, name: &Sought<'_>) -> Option<Value>
+pub(crate) fn given_by_address(address: &Option<Name>, index: u64, name: &Name) -> Option<Value>
     ensures { result ≡ value_at name.now (with_address address.now index no_bindings).variables }
 {
     match address {
-        Some(own) if *name.name() == *own => Some(Value::Fact(index)),
+        Some(own) if *name == *own => Some(Value::Fact(index)),
         _ => None,
     }
 }

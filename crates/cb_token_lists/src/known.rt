@@ -1,5 +1,5 @@
 //! What variables have where a test is, read when it asks for them.
-use crate::giving::given_with;
+use crate::giving::{given_by_address, given_with};
 use crate::reading::TokenLists;
 use cb_beta::{Given, Sought};
 use cb_exprs::Lookup;
@@ -55,13 +55,15 @@ impl Lookup for Grown<'_, '_> {
         (partial_at g.before.lists.sources.now g.before.lists.lists.now g.before.list g.before.number).env) };
 
     fn variable(&self, name: &Name) -> Result<Option<Value>, NoMemory> {
+        let before = self.before;
+        if before.list == 0 && self.given.is_none() {
+            // nothing stands before the first pattern
+            return Ok(given_by_address(self.address, self.index, name));
+        }
         let name = Sought::new(name);
         match given_with(self.given, self.address, self.index, &name)? {
             Some(value) => Ok(Some(value)),
-            None => {
-                let before = self.before;
-                before.lists.value(before.list, before.number, &name)
-            }
+            None => before.lists.value(before.list, before.number, &name),
         }
     }
 

@@ -46,10 +46,12 @@ impl<'a> TokenLists<'a> {
         ensures { IfOk result (λ parts. parts
             ≡ (partial_at self.now.sources.now self.now.lists.now list number).parts) }
     {
-        match self.last_taken(list, number) {
-            Some(taken) => few_parts(taken),
-            None => many_parts(self.alloc, self.path(list, number)?),
+        if list <= 4 {
+            if let Some(taken) = self.last_taken(list, number) {
+                return few_parts(taken);
+            }
         }
+        many_parts(self.alloc, self.path(list, number)?)
     }
 
     /// What was taken on the way down from a token, if that are no more than two.

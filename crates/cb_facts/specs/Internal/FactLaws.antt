@@ -1,5 +1,5 @@
 -- `==` of facts is an equivalence, equal facts are fed to a hasher alike, and the order of facts is total and agrees with `==`.
-use Rattle.std.specs.Prelude.{◌≡◌, ◌∷◌, [], ℕ, List, Bool, true, false, nat_eq}
+use Rattle.std.specs.Prelude.{◌≡◌, ℕ, List, Bool, true, false, nat_eq}
 use Rattle.std.proofs.Common.{ap, ap₂, refl, sym, ◌∙◌}
 use Rattle.std.proofs.lemmas.Bool.{false≢true, eq-eqb}
 use Rattle.std.specs.Cmp.{IsEquivalence, IsTotalOrder, and_equiv, on_equiv, on_total, then_total, both_tied, first_so, second_so, nat_cmp_total, unsigned_tied}
@@ -10,6 +10,7 @@ use Rattle.std.specs.Ordering.{is_eq, is_lt, eq_by_cmp, nat_cmp, ordering_revers
 use Rattle.std.specs.Hash as fed
 use Rattle.std.specs.Hash.{Alike, and-Alike, on_Alike, items_Alike, same_Alike}
 use Rattle.cb_facts.specs.Facts.{FactContent, fields, slots, FactValue, slot_eq, content_eq, fact_eq}
+use Rattle.cb_facts.specs.Internal.Hashes.{hash_of_bytes}
 use Rattle.cb_facts.specs.Internal.FactOrder.{slot_cmp, slot_writes, content_cmp, content_writes, fact_cmp, rest_cmp, hash_from, hash_of}
 use Rattle.cb_facts.specs.contracts.single.SingleEq.TheImpl.Laws as single_eq
 use Rattle.cb_facts.specs.contracts.single.SingleOrd.TheImpl as single_order
@@ -27,7 +28,7 @@ slot_equiv = and_equiv (on_equiv (λ (s : List ℕ × Value). s.0) nat_list_eq_e
 
 slot_alike : Alike slot_eq slot_writes
 slot_alike =
-    and-Alike (on_Alike (λ (s : List ℕ × Value). s.0) (same_Alike (λ n. n ∷ []) bytes_decides))
+    and-Alike (on_Alike (λ (s : List ℕ × Value). s.0) (same_Alike (λ n. fed.u64 (hash_of_bytes n)) bytes_decides))
     (on_Alike (λ (s : List ℕ × Value). s.1) (record { fed = value_hash.respects_eq-law }))
 
 content_refl : (c : FactContent) → content_eq c c ≡ true

@@ -1,5 +1,5 @@
 -- The hash of a fact, and in which order tables have facts.
-use Rattle.std.specs.Prelude.{◌++◌, ◌/◌, ◌^◌, ℕ, List, [], ◌∷◌, fold}
+use Rattle.std.specs.Prelude.{◌++◌, ◌/◌, ◌^◌, ℕ, List, fold}
 use Rattle.std.specs.Cmp.Lexicographic.{slice_cmp}
 use Rattle.std.specs.Hash as fed
 use Rattle.std.specs.Hash.{HashWrites}
@@ -13,10 +13,11 @@ use Rattle.cb_facts.specs.contracts.single.SingleHash.TheImpl as single_hash
 use Rattle.cb_facts.specs.contracts.value.ValueOrd.TheImpl as value_ord
 use Rattle.cb_facts.specs.contracts.value.ValueHash.TheImpl as value_hash
 use Rattle.cb_facts.specs.declared.value.Value.{Value}
+use Rattle.cb_facts.specs.Internal.Hashes.{hash_of_bytes}
 
 -- what a hasher is fed of a slot: its name, then its value
 abbrev pub slot_writes : List ℕ × Value → HashWrites
-slot_writes s = (s.0 ∷ []) ++ value_hash.ghosts.hash_input s.1
+slot_writes s = fed.u64 (hash_of_bytes s.0) ++ value_hash.ghosts.hash_input s.1
 
 -- what a hasher is fed of the content
 abbrev pub content_writes : FactContent → HashWrites
