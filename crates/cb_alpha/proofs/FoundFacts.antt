@@ -1,24 +1,15 @@
 -- The facts of an alpha memory that are there, and how they are found.
-use Rattle.std.proofs.Common.{◌≡◌, ◌≢◌, ◌∙◌, ◌<◌, ◌^◌, ℕ, Bool, true, false, List, Option, Some, None, Equal, ap, arith, cond, get_or, inl, inr, nat_eq, refl, sym}
+use Rattle.std.proofs.Common.{◌≡◌, ◌≢◌, ◌∙◌, ◌<◌, ◌^◌, ℕ, Bool, true, false, List, Option, Some, None, ap, arith, cond, get_or, inl, inr, nat_eq, refl, sym}
 use Rattle.std.proofs.lemmas.Bool.{cases_eq}
-use Rattle.std.specs.BTreeMap as tree
-use Rattle.std.specs.BTreeMap.{BTreeMap, is_at}
-use Rattle.std.specs.Map.{lookup}
 use Rattle.std.specs.List.{All}
 use Rattle.std.specs.Option.{option_map_or}
-use Rattle.std.specs.Ordering.{nat_cmp}
 use Rattle.cb_alpha.proofs.Numbers.{numbered_less, numbered_more}
 use Rattle.cb_alpha.specs.AlphaMemories.{Candidates, candidate_in, index_of, live_in, values_in}
 use Rattle.cb_alpha.specs.Buckets.{values_at}
+use Rattle.cb_alpha.specs.Internal.FactNumbers.{AreSameNumbers}
 use Rattle.cb_alpha.specs.Internal.Joined.{IsFiled, IsFiledBut, IsFound, IsInserted, JoinIndexValue}
-use Rattle.cb_alpha.specs.Internal.Numbered.{AreNumbers}
 use Rattle.cb_facts.specs.Facts.{FactValue}
-
-index_exact : (a b : ℕ) → nat_cmp a b ≡ Equal → a ≡ b
-index_exact a b h = grind arith
-
-index_level : (a b : ℕ) → a ≡ b → nat_cmp a b ≡ Equal
-index_level a b e = grind arith
+use Rattle.cb_number_map.specs.Filed.{AreFound, ChangesAt}
 
 same_number : (x y : ℕ) → x ≡ y → nat_eq x y ≡ true
 same_number x y e = grind arith
@@ -60,15 +51,13 @@ pub filed_but : (found found' : ℕ → Option (ℕ × FactValue)) (number : ℕ
     → All (IsFiled found) joins → All (IsFiledBut number found') joins
 filed_but found found' number same joins all k d l n ne = all k d l n ∙ ap (values_in (get_or joins k d).fields) (sym (same n ne))
 
-pub numbers_alike : (m : BTreeMap ℕ ℕ) (key key' : ℕ → Option ℕ) → ((n : ℕ) → key' n ≡ key n) → AreNumbers nat_cmp m key → AreNumbers nat_cmp m key'
-numbers_alike m key key' same are k n = (λ h. same n ∙ (are k n).0 h, λ h. (are k n).1 (sym (same n) ∙ h))
+pub numbers_alike : (find key key' : ℕ → Option ℕ) → ((n : ℕ) → key' n ≡ key n) → AreFound find key → AreFound find key'
+numbers_alike find key key' same are k n = (λ h. same n ∙ (are k n).0 h, λ h. (are k n).1 (sym (same n) ∙ h))
 
-numbers_unchanged : (m m' : BTreeMap ℕ ℕ) → tree.IsUnchanged m m' → (key : ℕ → Option ℕ) → AreNumbers nat_cmp m key → AreNumbers nat_cmp m' key
-numbers_unchanged m m' same key are k n =
-    let got : tree.get nat_cmp m' k ≡ tree.get nat_cmp m k = ap (λ es. lookup (is_at (nat_cmp k)) es) same in
-    (λ h. (are k n).0 (sym got ∙ h), λ h. got ∙ (are k n).1 h)
+numbers_unchanged : (find find' : ℕ → Option ℕ) → AreSameNumbers find find' → (key : ℕ → Option ℕ) → AreFound find key → AreFound find' key
+numbers_unchanged find find' same key are k n = (λ h. (are k n).0 (sym (same k) ∙ h), λ h. same k ∙ (are k n).1 h)
 
-module _ (cs : Candidates) (gone : Option ℕ) (numbers : BTreeMap ℕ ℕ) (joins : List JoinIndexValue) (was : IsFound cs gone numbers joins) where
+module _ (cs : Candidates) (gone : Option ℕ) (numbers : ℕ → Option ℕ) (joins : List JoinIndexValue) (was : IsFound cs gone numbers joins) where
   -- a fact more
   module _ (cs' : Candidates) (number : ℕ) (f : ℕ × FactValue) (is : IsInserted cs cs' number f) (fits : number < 2 ^ 32) where
     pub unfiled : All (λ j. values_at j.facts number ≡ None) joins
@@ -83,10 +72,10 @@ module _ (cs : Candidates) (gone : Option ℕ) (numbers : BTreeMap ℕ ℕ) (joi
     pub but_then : All (IsFiledBut number (live_in cs' gone)) joins
     but_then = filed_but (live_in cs gone) (live_in cs' gone) number others_then joins was.by_values
 
-    pub found_more : (numbers' : BTreeMap ℕ ℕ) (joins' : List JoinIndexValue) → ((n : ℕ) → index_of (live_in cs gone n) ≢ Some f.0) → tree.Updates nat_cmp numbers numbers' f.0 (Some number)
+    pub found_more : (numbers' : ℕ → Option ℕ) (joins' : List JoinIndexValue) → ((n : ℕ) → index_of (live_in cs gone n) ≢ Some f.0) → ChangesAt numbers numbers' f.0 (Some number)
         → All (IsFiled (live_in cs' gone)) joins' → IsFound cs' gone numbers' joins'
     found_more numbers' joins' absent update filed = record {
-      by_index = numbered_more nat_cmp index_exact index_level numbers numbers' (λ n. index_of (live_in cs gone n)) (λ n. index_of (live_in cs' gone n)) f.0 number was.by_index
+      by_index = numbered_more numbers numbers' (λ n. index_of (live_in cs gone n)) (λ n. index_of (live_in cs' gone n)) f.0 number was.by_index
           (λ i d. ap index_of (others_then i d)) absent (ap index_of (free_live cs gone number is.free)) (ap index_of there_then) update;
       by_values = filed;
       readable = λ n e none. was.readable n e (sym (is.others n (λ same. was.readable n e (ap (candidate_in cs) same ∙ is.free))) ∙ none);
@@ -101,10 +90,10 @@ module _ (cs : Candidates) (gone : Option ℕ) (numbers : BTreeMap ℕ ℕ) (joi
         | inr d ↦ others n d ∙ is.others n d
       ]
 
-      back_live : (n : ℕ) → live_in cs'' gone n ≡ live_in cs gone n
+      pub back_live : (n : ℕ) → live_in cs'' gone n ≡ live_in cs gone n
       back_live n = ap (λ o. cond (option_map_or (nat_eq n) gone false) None o) (back n)
 
-      pub found_back : (numbers' : BTreeMap ℕ ℕ) (joins' joins'' : List JoinIndexValue) → tree.IsUnchanged numbers numbers' → All (IsFiledBut number (live_in cs' gone)) joins'
+      pub found_back : (numbers' : ℕ → Option ℕ) (joins' joins'' : List JoinIndexValue) → AreSameNumbers numbers numbers' → All (IsFiledBut number (live_in cs' gone)) joins'
           → ((found : ℕ → Option (ℕ × FactValue)) → found number ≡ None → All (IsFiledBut number found) joins' → All (IsFiled found) joins'') → IsFound cs'' gone numbers' joins''
       found_back numbers' joins' joins'' unchanged but taken = record {
         by_index = numbers_unchanged numbers numbers' unchanged (λ n. index_of (live_in cs'' gone n))
@@ -116,11 +105,11 @@ module _ (cs : Candidates) (gone : Option ℕ) (numbers : BTreeMap ℕ ℕ) (joi
       }
 
 -- a fact less
-module _ (cs : Candidates) (numbers : BTreeMap ℕ ℕ) (joins : List JoinIndexValue) (was : IsFound cs None numbers joins) (number index : ℕ) (there : index_of (candidate_in cs number) ≡ Some index) where
-  pub found_less : (numbers' : BTreeMap ℕ ℕ) (joins' : List JoinIndexValue) → tree.Updates nat_cmp numbers numbers' index None
+module _ (cs : Candidates) (numbers : ℕ → Option ℕ) (joins : List JoinIndexValue) (was : IsFound cs None numbers joins) (number index : ℕ) (there : index_of (candidate_in cs number) ≡ Some index) where
+  pub found_less : (numbers' : ℕ → Option ℕ) (joins' : List JoinIndexValue) → ChangesAt numbers numbers' index None
       → ((found : ℕ → Option (ℕ × FactValue)) → found number ≡ None → All (IsFiledBut number found) joins → All (IsFiled found) joins') → IsFound cs (Some number) numbers' joins'
   found_less numbers' joins' update taken = record {
-    by_index = numbered_less nat_cmp index_exact index_level numbers numbers' (λ n. index_of (candidate_in cs n)) (λ n. index_of (live_in cs (Some number) n)) index number was.by_index
+    by_index = numbered_less numbers numbers' (λ n. index_of (candidate_in cs n)) (λ n. index_of (live_in cs (Some number) n)) index number was.by_index
         (λ i d. ap index_of (others_live cs number i d)) there (ap index_of (gone_is cs number number refl)) update;
     by_values = taken (live_in cs (Some number)) (gone_is cs number number refl)
         (filed_but (live_in cs None) (live_in cs (Some number)) number (λ n d. others_live cs number n d) joins was.by_values);
@@ -135,7 +124,7 @@ module _ (cs : Candidates) (numbers : BTreeMap ℕ ℕ) (joins : List JoinIndexV
       same_some {a} {b} e = cc
 
 -- what is gone is freed
-module _ (cs : Candidates) (numbers : BTreeMap ℕ ℕ) (joins : List JoinIndexValue) (number : ℕ) (was : IsFound cs (Some number) numbers joins)
+module _ (cs : Candidates) (numbers : ℕ → Option ℕ) (joins : List JoinIndexValue) (number : ℕ) (was : IsFound cs (Some number) numbers joins)
     (cs' : Candidates) (free : candidate_in cs' number ≡ None) (others : (n : ℕ) → n ≢ number → candidate_in cs' n ≡ candidate_in cs n) where
   pub ended : (n : ℕ) → candidate_in cs' n ≡ live_in cs (Some number) n
   ended n = elim (cases_eq n number) as (λ _. candidate_in cs' n ≡ live_in cs (Some number) n) [

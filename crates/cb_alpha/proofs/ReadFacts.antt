@@ -36,7 +36,7 @@ unless_read true o f h = absurd (let no : None ≡ Some f = h in cc)
 unless_read false o f h = (h, refl)
 
 module _ (m : AlphaMemoryValue) (n : ℕ) where
-  gone_test : (o : Option ℕ) → option_map_or (nat_eq n) o false ≡ is_number o n
+  pub gone_test : (o : Option ℕ) → option_map_or (nat_eq n) o false ≡ is_number o n
   gone_test None = refl
   gone_test (Some k) = refl
 
@@ -50,9 +50,6 @@ module _ (m : AlphaMemoryValue) (n : ℕ) where
   pub read_live : is_number m.gone n ≡ false → live m n ≡ candidate_in m.candidates n
   read_live t = live_is ∙ ap (λ b. cond b None (candidate_in m.candidates n)) t
 
-  pub gone_dead : is_number m.gone n ≡ true → live m n ≡ None
-  gone_dead t = live_is ∙ ap (λ b. cond b None (candidate_in m.candidates n)) t
-
   -- where nothing is gone, what can be read is there
   pub all_live : m.gone ≡ None → live m n ≡ candidate_in m.candidates n
   all_live none = ap (λ o. live_in m.candidates o n) none
@@ -63,9 +60,6 @@ module _ (m : AlphaMemoryValue) (n : ℕ) where
 
   pub read_were : is_number m.come n ≡ false → were_in m n ≡ candidate_in m.candidates n
   read_were t = ap (λ b. cond b None (candidate_in m.candidates n)) t
-
-  pub came_not : is_number m.come n ≡ true → were_in m n ≡ None
-  came_not t = ap (λ b. cond b None (candidate_in m.candidates n)) t
 
   -- where nothing came, what can be read was there
   pub all_were : m.come ≡ None → were_in m n ≡ candidate_in m.candidates n

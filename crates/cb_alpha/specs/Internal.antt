@@ -1,4 +1,6 @@
--- Where the values stand that facts and partial matches are joined on. Numbers by their keys: Numbered. How facts are found: Joined.
+-- Where the values stand that facts and partial matches are joined on. Numbers by their keys: Numbered. The facts of
+-- an alpha memory by index: FactNumbers; how they are found: Joined.
+pub mod FactNumbers
 pub mod Joined
 pub mod Numbered
 use Rattle.std.specs.Prelude.{List}

@@ -5,14 +5,15 @@ ghost use Rattle.cb_alpha.specs.Turning.{were_in};
 ghost use Rattle.cb_fit.specs.declared.join_fields.JoinField.{JoinField as Field};
 
 use crate::candidate::Candidate;
-use crate::candidates::{file, insert};
+use crate::candidates::{file, has_no_other, insert};
+use crate::fact_numbers::FactNumbers;
 use crate::join_index::{JoinIndex, clear_all, fill, find_join, push_join, remove_from_all};
 use crate::join_values::JoinValues;
 use cb_fit::JoinField;
 use cb_forms::NoMemory;
+use cb_groups::Groups;
 use slab::Slab;
 use std::alloc::Global;
-use std::collections::BTreeMap;
 use std::marker::Model;
 
 /// The facts that have the shape of a pattern, by number, by index, and by the values of join fields.
@@ -25,7 +26,9 @@ pub struct AlphaMemory {
     /// Those that are there, and until the end of a change the one that is gone.
     candidates: Slab<Candidate>,
     /// The numbers of those that are there, by index.
-    numbers: BTreeMap<u64, u32>,
+    numbers: FactNumbers,
+    /// The same numbers, all in the group 0.
+    all: Groups,
     gone: Option<u32>,
     come: Option<u32>,
     joins: Vec<JoinIndex>,
@@ -33,14 +36,15 @@ pub struct AlphaMemory {
 
 impl Model for AlphaMemory {
     ghost use Rattle.std.specs.Prelude.{map};
-    ghost use Rattle.cb_alpha.specs.AlphaMemories.{AlphaMemoryValue};
-    ghost use Rattle.cb_alpha.specs.Internal.Joined.{IsFound, IsReadable, fields_of};
+    ghost use Rattle.cb_alpha.specs.AlphaMemories.{AlphaMemoryValue, live_in};
+    ghost use Rattle.cb_alpha.specs.Internal.FactNumbers.{number_by};
+    ghost use Rattle.cb_alpha.specs.Internal.Joined.{AreListed, IsFound, IsReadable, fields_of};
 
     ghost Value = { AlphaMemoryValue };
 
     ghost view = { λ m. record { candidates = m.candidates.slots; gone = m.gone; come = m.come; joins = map fields_of m.joins.items } };
 
-    ghost invariant = { λ m. IsFound m.candidates.slots m.gone m.numbers m.joins.items × IsReadable m.candidates.slots m.come };
+    ghost invariant = { λ m. IsFound m.candidates.slots m.gone (number_by m.numbers) m.joins.items × IsReadable m.candidates.slots m.come × AreListed m.all (live_in m.candidates.slots m.gone) };
 }
 
 impl AlphaMemory {
@@ -51,7 +55,8 @@ impl AlphaMemory {
         AlphaMemory {
             alloc,
             candidates: Slab::new(alloc),
-            numbers: BTreeMap::new(alloc),
+            numbers: FactNumbers::new(alloc),
+            all: Groups::new(alloc),
             gone: None,
             come: None,
             joins: Vec::new(alloc),
@@ -69,7 +74,7 @@ impl AlphaMemory {
     pub fn number(&self, index: u64) -> Option<u32>
         ensures { (n : ℕ) → (result ≡ Some n) ↔ (index_of (live self.now n) ≡ Some index) }
     {
-        self.numbers.get(&index).copied()
+        self.numbers.get(index)
     }
 
     /// The number of the fact that went in this change, if one did.
@@ -90,29 +95,21 @@ impl AlphaMemory {
     pub fn is_empty(&self) -> bool
         ensures { (result ≡ true) ↔ ((n : ℕ) → live self.now n ≡ None) }
     {
-        self.numbers.is_empty()
+        has_no_other(&self.candidates, self.gone)
     }
 
     /// Whether no fact was there when the change began.
     pub fn was_empty(&self) -> bool
         ensures { (result ≡ true) ↔ ((n : ℕ) → were_in self.now n ≡ None) }
     {
-        match (self.gone, self.come) {
-            (None, None) => self.numbers.is_empty(),
-            (None, Some(_)) => self.numbers.len() == 1,
-            (Some(gone), come) => come == Some(gone) && self.numbers.is_empty(),
-        }
+        has_no_other(&self.candidates, self.come)
     }
 
-    /// The numbers of the facts that are there, by rising index. Growth is refused as `NoMemory`.
+    /// The numbers of the facts that are there, in any order. Growth is refused as `NoMemory`.
     pub fn numbers(&self, alloc: Global) -> Result<Vec<u32>, NoMemory>
         ensures { IfOk result (λ all. AreLiveNumbers self.now all.items) }
     {
-        let mut all = Vec::with_capacity(alloc, self.numbers.len())?;
-        for (_index, number) in self.numbers.iter() {
-            all.push(*number)?;
-        }
-        Ok(all)
+        Ok(self.all.members(0).to_vec(alloc)?)
     }
 
     /// The numbers of the facts with these values in the fields of a join.
@@ -188,6 +185,7 @@ impl AlphaMemory {
         let filed = file(
             &self.candidates,
             &mut self.numbers,
+            &mut self.all,
             self.joins.as_mut_slice(),
             number,
         );
@@ -198,6 +196,7 @@ impl AlphaMemory {
             }
             Err(NoMemory) => {
                 remove_from_all(self.joins.as_mut_slice(), number);
+                self.all.remove(number);
                 self.candidates.try_remove(number as usize);
                 Err(NoMemory)
             }
@@ -212,8 +211,9 @@ impl AlphaMemory {
         ensures same { result ≡ None → self.new ≡ self.old }
         ensures absent { result ≡ None → (n : ℕ) → index_of (live self.old n) ≢ Some index }
     {
-        let number = self.numbers.remove(&index)?;
+        let number = self.numbers.remove(index)?;
         remove_from_all(self.joins.as_mut_slice(), number);
+        self.all.remove(number);
         self.gone = Some(number);
         Some(number)
     }
@@ -234,7 +234,8 @@ impl AlphaMemory {
         ensures { self.new ≡ record { candidates = []; gone = None; come = None; joins = self.old.joins } }
     {
         self.candidates = Slab::new(self.alloc);
-        self.numbers = BTreeMap::new(self.alloc);
+        self.numbers = FactNumbers::new(self.alloc);
+        self.all = Groups::new(self.alloc);
         self.gone = None;
         self.come = None;
         clear_all(self.joins.as_mut_slice());

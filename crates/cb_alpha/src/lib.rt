@@ -14,6 +14,7 @@ mod alpha_memory; // the facts that could fit a pattern
 mod buckets; // members by the values that they are joined on
 mod candidate; // a fact with its index
 mod candidates; // the facts of an alpha memory by number and by index
+mod fact_numbers; // the numbers of facts by their indices
 mod fact_values; // the values of join fields in a fact
 mod join_index; // the facts of an alpha memory by the values of join fields
 mod join_values; // values that facts and partial matches are joined on

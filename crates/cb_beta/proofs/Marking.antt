@@ -8,7 +8,8 @@ use Rattle.std.specs.Option.{option_or}
 use Rattle.std.specs.Str.{bytes_eq}
 use Rattle.cb_beta.proofs.Values.{by_way, next_field, other_field}
 use Rattle.cb_beta.specs.GivenValues.{values_taken}
-use Rattle.cb_beta.specs.Marks.{AreMarked, mark_of}
+use Rattle.cb_beta.specs.Marks.{AreMarked}
+use Rattle.cb_facts.specs.NameMarks.{mark_of}
 use Rattle.cb_exprs.specs.Bindings.{Bindings, no_bindings, value_at, with_variables}
 use Rattle.cb_facts.specs.Facts.{FactContent}
 use Rattle.cb_fit.specs.Decided.{taken_by}

@@ -1,7 +1,8 @@
 //! Marks of variables: one of 64 bits by its name, by which a variable that a list doesn't give is mostly seen at once.
 ghost use Rattle.std.specs.Prelude.{◌≡◌, ◌≢◌, ◌<◌, ◌↔◌, ℕ, IsTrue};
 ghost use Rattle.std.specs.Int.{bit_at};
-ghost use Rattle.cb_beta.specs.Marks.{AreMarked, mark_of};
+ghost use Rattle.cb_beta.specs.Marks.{AreMarked};
+ghost use Rattle.cb_facts.specs.NameMarks.{mark_of};
 
 use cb_facts::Name;
 use cb_fit::JoinField;
@@ -16,7 +17,7 @@ pub struct Sought<'a> {
 
 impl<'a> Model for Sought<'a> {
     ghost use Rattle.std.specs.Prelude.{◌≡◌, List, ℕ};
-    ghost use Rattle.cb_beta.specs.Marks.{mark_of};
+    ghost use Rattle.cb_facts.specs.NameMarks.{mark_of};
 
     ghost Value = { List ℕ };
 
@@ -32,7 +33,7 @@ impl<'a> Sought<'a> {
     {
         Sought {
             name,
-            mark: mark_of(name.as_slice()),
+            mark: name.mark(),
         }
     }
 
@@ -49,21 +50,6 @@ impl<'a> Sought<'a> {
     {
         has_mark(marks, self.mark)
     }
-}
-
-/// The mark of a name: which of the 64 bits is its own.
-fn mark_of(name: &[u8]) -> u32
-    ensures is { result ≡ mark_of name.now }
-    ensures below { result < 64 }
-{
-    let len = name.len();
-    if len == 0 {
-        return 0;
-    }
-    let first = name[0] as u32;
-    let middle = name[len / 2] as u32;
-    let last = name[len - 1] as u32;
-    ((len % 64) as u32 + 4 * first + 16 * middle + last) % 64
 }
 
 /// These marks and one more.
@@ -89,7 +75,7 @@ pub(crate) fn marks_of(fields: &[JoinField]) -> u64
 {
     let mut marks = 0;
     for field in fields {
-        marks = with_mark(marks, mark_of(field.variable.as_slice()));
+        marks = with_mark(marks, field.variable.mark());
     }
     marks
 }

@@ -107,6 +107,9 @@ impl Segments {
         ensures { MatchOption result (2 ^ 64 ≤ fields_taken (take count self.now))
             (λ n. n ≡ fields_taken (take count self.now)) }
     {
+        if count == 0 {
+            return Some(0);
+        }
         let (before, fields) = totals(front_of(self.segments.as_slice(), count));
         fields.checked_add((count - before) as u64)
     }

@@ -2,6 +2,7 @@ pub mod FactLists
 pub mod Facts
 pub mod FaultLists
 pub mod Internal
+pub mod NameMarks
 pub mod Places
 pub mod RelationCounts
 pub mod Results

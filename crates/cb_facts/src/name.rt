@@ -1,5 +1,5 @@
 //! Bytes that values and facts share.
-ghost use Rattle.std.specs.Prelude.{◌≡◌, [], ◌∷◌, IfOk, nat_eq, refl};
+ghost use Rattle.std.specs.Prelude.{◌≡◌, ◌<◌, IfOk, nat_eq, refl};
 ghost use Rattle.std.specs.Ordering.{nat_cmp, as_partial_cmp};
 ghost use Rattle.std.specs.Hash as fed;
 ghost use Rattle.std.specs.Hash.{same_Alike};
@@ -8,6 +8,7 @@ ghost use Rattle.std.specs.Cmp.{partial_order_from_own_ties};
 ghost use Rattle.std.specs.Cmp.Rules.{comparing};
 ghost use Rattle.std.proofs.Common.{rules};
 ghost use Rattle.cb_facts.specs.Internal.Hashes.{hash_of_bytes};
+ghost use Rattle.cb_facts.specs.NameMarks.{mark_of};
 
 use cb_forms::{ByteString, NoMemory};
 use std::alloc::{AllocError, Global};
@@ -78,6 +79,14 @@ impl Name {
         self.shared.hash
     }
 
+    /// One of 64 numbers, which depends on the bytes alone, and by which names are mostly told apart. It takes constant time.
+    pub fn mark(&self) -> u32
+        ensures is { result ≡ mark_of self.now }
+        ensures below { result < 64 }
+    {
+        (self.hash_code() % 64) as u32
+    }
+
     /// The bytes.
     pub fn as_slice(&self) -> &[u8]
         ensures { result.now ≡ self.now }
@@ -94,6 +103,13 @@ pub(crate) fn hash_of_bytes(bytes: &[u8]) -> u64
     let mut hasher = FoldHasher::default();
     hasher.write(bytes);
     hasher.finish()
+}
+
+/// Whether the bytes are the same. It is apart from `==`, which mostly ends before, so that this is small.
+fn have_same_bytes(one: &Name, other: &Name) -> bool
+    ensures { result ≡ pointwise nat_eq one.now other.now }
+{
+    one.as_slice() == other.as_slice()
 }
 
 /// The order of bytes. Mostly the first decide it.
@@ -124,10 +140,7 @@ impl PartialEq for Name {
 
     #[tactic(auto, using(crate::proofs::Hashes::apart))]
     fn eq(&self, other: &Name) -> bool {
-        if self.hash_code() != other.hash_code() {
-            return false;
-        }
-        self.as_slice() == other.as_slice()
+        self.hash_code() == other.hash_code() && have_same_bytes(self, other)
     }
 }
 

@@ -7,3 +7,4 @@ pub mod Refiled
 pub mod Staying
 pub mod Tokens
 pub mod Turning
+mod Untouched

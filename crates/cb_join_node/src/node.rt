@@ -1,5 +1,5 @@
 //! A change of a join node.
-ghost use Rattle.std.specs.Prelude.{◌≡◌, ◌≢◌, ◌≤◌, ◌+◌, ◌*◌, ◌⊎◌, ℕ, [], IfOk, List, None, OnOk, Option, Some, length, slice_get};
+ghost use Rattle.std.specs.Prelude.{◌≡◌, ◌≢◌, ◌≤◌, ◌+◌, ◌*◌, ◌⊎◌, ℕ, [], IfOk, List, None, OnOk, Option, Some, length, slice_get, true};
 ghost use Rattle.cb_alpha.specs.AlphaMemories.{live};
 ghost use Rattle.cb_alpha.specs.Turning.{came_in};
 ghost use Rattle.cb_beta.specs.BetaMemories.{BetaMemoryValue};
@@ -102,6 +102,9 @@ impl<T> JoinNode<T> {
         let Some(before) = lists.lists.get(self.from) else {
             return Ok(());
         };
+        if is_untouched(before, alpha) {
+            return Ok(());
+        }
         own.retract(before.gone(), alpha.gone())?;
         forget_partials(&mut self.partials, &mut self.strays, before.gone());
         join_fact(
@@ -138,6 +141,17 @@ impl<T> JoinNode<T> {
         self.partials = Partials::new(self.alloc);
         self.strays = Groups::new(self.alloc);
     }
+}
+
+/// Whether nothing went or came, neither before the pattern nor in its alpha memory.
+fn is_untouched(before: &BetaMemory, alpha: &AlphaMemory) -> bool
+    ensures { result ≡ true
+        → (before.now.gone ≡ []) × (before.now.come ≡ []) × (alpha.now.gone ≡ None) × (alpha.now.come ≡ None) }
+{
+    before.gone().is_empty()
+        && before.come().is_empty()
+        && alpha.gone().is_none()
+        && alpha.come().is_none()
 }
 
 /// Joins the fact that came, if one did, with the partial matches that stand before the pattern.

@@ -1,0 +1,84 @@
+-- A node before which nothing went or came, and whose alpha memory no fact entered or left, is as it was.
+use Rattle.std.proofs.Common.{◌≡◌, ◌∙◌, ◌⊎◌, ℕ, List, [], None, Some, ap, inl, inr, refl, sym, subst, if◌then◌else◌}
+use Rattle.std.proofs.lemmas.List.{append-nil}
+use Rattle.cb_alpha.specs.AlphaMemories.{AlphaMemoryValue, candidate_in, live}
+use Rattle.cb_alpha.specs.Turning.{came_in, is_number}
+use Rattle.cb_beta.specs.BetaMemories.{BetaMemoryValue, HasFact, Loses}
+use Rattle.cb_beta.specs.Tokens.{TokenValue}
+use Rattle.cb_facts.specs.FactLists.{IndexedFacts}
+use Rattle.cb_facts.specs.Facts.{FactValue}
+use Rattle.cb_join_node.proofs.Changing.{changed, kept}
+use Rattle.cb_join_node.proofs.Refiled.{filed_alike}
+use Rattle.cb_join_node.specs.Filings.{ArePartialsFiled}
+use Rattle.cb_join_node.specs.Nodes.{AreJoined, IsAfter, IsBefore, Stays}
+use Rattle.cb_join_node.specs.declared.node.JoinNode.{JoinNode}
+use Rattle.cb_matches.specs.Chains.{In}
+use Rattle.cb_matches.specs.Matches.{Partial}
+use Rattle.cb_matches.specs.Order.{WaysRise}
+use Rattle.cb_nodes.specs.Patterns.{Unselected}
+use Rattle.cb_token_lists.specs.Growth.{Comes}
+use Rattle.cb_token_lists.specs.Keeping.{KeepsTokens}
+use Rattle.cb_token_lists.specs.Turns.{WasThere}
+
+no_some : (f : ℕ × FactValue) → None ≡ Some f → ⊥
+no_some f d = cc
+
+-- no token comes
+none_comes : (own : BetaMemoryValue) (Such : TokenValue → Type 0) → ((t : TokenValue) → Such t → ⊥) → Comes own own Such
+none_comes own Such never = record {
+  more = [];
+  come = sym (append-nil own.come);
+  gone = refl;
+  kept = λ i t is. is;
+  only = λ i t is. inl is;
+  are = λ i h. absurd h;
+  all = λ t such. absurd (never t such);
+  one = λ i j t h k. absurd h;
+  once = tt;
+}
+
+module _ {T : Type 0} (node : JoinNode T) (at : ℕ → Partial) (m : BetaMemoryValue) (alpha : AlphaMemoryValue) (own : BetaMemoryValue)
+    (fs fs' : IndexedFacts) (old new : List Partial) (b : IsBefore node at m alpha own fs fs' old new)
+    (none_gone : m.gone ≡ []) (none_come : m.come ≡ []) (none_left : alpha.gone ≡ None) (none_entered : alpha.come ≡ None) where
+  lost : Loses own own (λ t. In t.parent m.gone ⊎ HasFact alpha.gone t)
+  lost = record {
+    more = [];
+    gone = sym (append-nil own.gone);
+    are = λ i h. absurd h;
+    all = λ i t is such. elim such as (λ _. In i []) [
+      | inl h ↦ absurd (subst (In t.parent) none_gone h)
+      | inr h ↦ absurd (subst (λ o. HasFact o t) none_left h)
+    ];
+    once = tt;
+    tokens = refl;
+    come = refl;
+  }
+
+  no_fact : (t : TokenValue) → AreJoined node.asked at (Stays m) (came_in alpha) t → ⊥
+  no_fact t (number, there, (candidate, (f, is, pair))) =
+      no_some f (sym (ap (λ o. if is_number o candidate then candidate_in alpha.candidates candidate else None) none_entered) ∙ is)
+
+  no_partial : (t : TokenValue) → AreJoined node.asked at (λ n. In n m.come) (live alpha) t → ⊥
+  no_partial t (number, there, pair) = subst (In number) none_come there
+
+  first : Comes own own (AreJoined node.asked at (Stays m) (came_in alpha))
+  first = none_comes own (AreJoined node.asked at (Stays m) (came_in alpha)) no_fact
+
+  second : Comes own own (AreJoined node.asked at (λ n. In n m.come) (live alpha))
+  second = none_comes own (AreJoined node.asked at (λ n. In n m.come) (live alpha)) no_partial
+
+  filed : ArePartialsFiled node.asked.fields.items node.partials node.strays at (λ n. Stays m n ⊎ In n m.come)
+  filed =
+      filed_alike node.asked.fields.items node.partials node.strays at (WasThere m) (λ n. Stays m n ⊎ In n m.come)
+      (λ n h. inl (h, λ k. subst (In n) none_gone k))
+      (λ n h. elim h as (λ _. WasThere m n) [
+        | inl k ↦ k.0
+        | inr k ↦ absurd (subst (In n) none_come k)
+      ])
+      b.ready.partials_filed
+
+  pub untouched : WaysRise → Unselected → IsAfter node at m alpha own fs fs' old new
+  untouched rise unselected = changed node at m alpha own own own own fs fs' old new b lost first second rise unselected node.partials node.strays filed
+
+  pub untouched_kept : KeepsTokens own own
+  untouched_kept = kept node at m alpha own own own own fs fs' old new b lost first second
