@@ -16,26 +16,13 @@ use Rattle.cb_matches.specs.Chains.{In}
 use Rattle.cb_matches.specs.Matches.{Partial}
 use Rattle.cb_matches.specs.Order.{WaysRise}
 use Rattle.cb_nodes.specs.Patterns.{Unselected}
+use Rattle.cb_token_lists.proofs.Arrivals.{none_come as nothing_comes}
 use Rattle.cb_token_lists.specs.Growth.{Comes}
 use Rattle.cb_token_lists.specs.Keeping.{KeepsTokens}
 use Rattle.cb_token_lists.specs.Turns.{WasThere}
 
 no_some : (f : ℕ × FactValue) → None ≡ Some f → ⊥
 no_some f d = cc
-
--- no token comes
-none_comes : (own : BetaMemoryValue) (Such : TokenValue → Type 0) → ((t : TokenValue) → Such t → ⊥) → Comes own own Such
-none_comes own Such never = record {
-  more = [];
-  come = sym (append-nil own.come);
-  gone = refl;
-  kept = λ i t is. is;
-  only = λ i t is. inl is;
-  are = λ i h. absurd h;
-  all = λ t such. absurd (never t such);
-  one = λ i j t h k. absurd h;
-  once = tt;
-}
 
 module _ {T : Type 0} (node : JoinNode T) (at : ℕ → Partial) (m : BetaMemoryValue) (alpha : AlphaMemoryValue) (own : BetaMemoryValue)
     (fs fs' : IndexedFacts) (old new : List Partial) (b : IsBefore node at m alpha own fs fs' old new)
@@ -62,10 +49,10 @@ module _ {T : Type 0} (node : JoinNode T) (at : ℕ → Partial) (m : BetaMemory
   no_partial t (number, there, pair) = subst (In number) none_come there
 
   first : Comes own own (AreJoined node.asked at (Stays m) (came_in alpha))
-  first = none_comes own (AreJoined node.asked at (Stays m) (came_in alpha)) no_fact
+  first = nothing_comes own (AreJoined node.asked at (Stays m) (came_in alpha)) no_fact
 
   second : Comes own own (AreJoined node.asked at (λ n. In n m.come) (live alpha))
-  second = none_comes own (AreJoined node.asked at (λ n. In n m.come) (live alpha)) no_partial
+  second = nothing_comes own (AreJoined node.asked at (λ n. In n m.come) (live alpha)) no_partial
 
   filed : ArePartialsFiled node.asked.fields.items node.partials node.strays at (λ n. Stays m n ⊎ In n m.come)
   filed =
