@@ -3,7 +3,8 @@ use Rattle.std.proofs.Common.{◌≡◌, List, Bool, true, false, ℕ, ap, refl,
 use Rattle.std.specs.Cmp.Lexicographic.{pointwise, bytes_decides}
 use Rattle.cb_facts.specs.Internal.Hashes.{hash_of_bytes}
 
-not-true : (t : Bool) → (t ≡ true → ⊥) → false ≡ t
+-- a test that is not passed
+pub not-true : (t : Bool) → (t ≡ true → ⊥) → false ≡ t
 not-true true n = absurd (n refl)
 not-true false n = refl
 

@@ -8,3 +8,4 @@ pub mod Inverses
 pub mod MemberLaws
 mod PartLaws
 mod PlaceLaws
+mod ShortNames

@@ -3,6 +3,7 @@ pub mod FactLaws
 pub mod FactOrder
 pub mod Hashes
 pub mod NamePlaces
+pub mod ShortNames
 use Rattle.std.specs.Prelude.{◌≡◌, ◌++◌, ℕ, List, Option, Some, Result, Ok, Err}
 use Rattle.std.specs.BTreeMap.{BTreeMap}
 use Rattle.std.specs.List.Sorted.{IsStrictlySortedBy}

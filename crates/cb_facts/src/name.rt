@@ -8,6 +8,7 @@ ghost use Rattle.std.specs.Cmp.{partial_order_from_own_ties};
 ghost use Rattle.std.specs.Cmp.Rules.{comparing};
 ghost use Rattle.std.proofs.Common.{rules};
 ghost use Rattle.cb_facts.specs.Internal.Hashes.{hash_of_bytes};
+ghost use Rattle.cb_facts.specs.Internal.ShortNames.{short_number};
 ghost use Rattle.cb_facts.specs.NameMarks.{mark_of};
 
 use cb_forms::{ByteString, NoMemory};
@@ -18,17 +19,20 @@ use std::hash::{FoldHasher, Hash, Hasher};
 use std::marker::Model;
 use std::rc::Rc;
 
-/// Bytes, with their hash.
+/// Bytes, with their hash and their number.
 #[derive(Drop)]
 struct Hashed {
     hash: u64,
+    /// The number that up to seven bytes make; 0 for more.
+    number: u64,
     bytes: ByteString,
 }
 
 /// The bytes of a symbol, a string, a relation or a variable. Nothing checks them as UTF-8.
 ///
 /// A clone shares the bytes. It takes no memory, and is refused only where the count of its sharers is full. Two names
-/// compare by their bytes in order, as Rust compares slices. `==` compares hashes first.
+/// compare by their bytes in order, as Rust compares slices. `==` compares names of up to seven bytes by a number that they
+/// keep, and longer ones by their hashes first.
 ///
 /// Contracts see its list of bytes.
 #[derive(Drop)]
@@ -40,12 +44,13 @@ impl Model for Name {
     ghost use Rattle.std.specs.Prelude.{◌≡◌, List, ℕ};
     ghost use Rattle.std.specs.Rc.{rc_value};
     ghost use Rattle.cb_facts.specs.Internal.Hashes.{hash_of_bytes};
+    ghost use Rattle.cb_facts.specs.Internal.ShortNames.{short_number};
 
     ghost Value = { List ℕ };
 
     ghost view = { λ n. (rc_value n.shared).bytes };
 
-    ghost invariant = { λ n. (rc_value n.shared).hash ≡ hash_of_bytes (rc_value n.shared).bytes };
+    ghost invariant = { λ n. ((rc_value n.shared).hash ≡ hash_of_bytes (rc_value n.shared).bytes) × ((rc_value n.shared).number ≡ short_number (rc_value n.shared).bytes) };
 }
 
 impl Name {
@@ -61,9 +66,17 @@ impl Name {
         requires { hash ≡ hash_of_bytes bytes.now }
         ensures { IfOk result (λ n. n ≡ bytes.now) }
     {
+        let number = number_of_bytes(bytes);
         let bytes = ByteString::new(alloc, bytes)?;
         Ok(Name {
-            shared: Rc::new(alloc, Hashed { hash, bytes })?,
+            shared: Rc::new(
+                alloc,
+                Hashed {
+                    hash,
+                    number,
+                    bytes,
+                },
+            )?,
         })
     }
 
@@ -112,6 +125,22 @@ fn have_same_bytes(one: &Name, other: &Name) -> bool
     one.as_slice() == other.as_slice()
 }
 
+/// The number that up to seven bytes make, from which they can be read again, and which is not 0; 0 for more.
+fn number_of_bytes(bytes: &[u8]) -> u64
+    ensures { result ≡ short_number bytes.now }
+{
+    if bytes.len() > 7 {
+        return 0;
+    }
+    let mut number: u64 = 1;
+    let mut left = bytes;
+    while let Some((last, others)) = left.split_last() {
+        number = number * 256 + *last as u64;
+        left = others;
+    }
+    number
+}
+
 /// The order of bytes. Mostly the first decide it.
 fn order(own: &[u8], others: &[u8]) -> Ordering
     ensures { result ≡ slice_cmp nat_cmp own.now others.now }
@@ -138,8 +167,11 @@ impl PartialEq for Name {
 
     ghost laws = { Prim.search (comparing, rules) };
 
-    #[tactic(auto, using(crate::proofs::Hashes::apart))]
+    #[tactic(auto, using(crate::proofs::Hashes::apart, crate::proofs::ShortNames::told))]
     fn eq(&self, other: &Name) -> bool {
+        if self.shared.number != 0 {
+            return self.shared.number == other.shared.number;
+        }
         self.hash_code() == other.hash_code() && have_same_bytes(self, other)
     }
 }
