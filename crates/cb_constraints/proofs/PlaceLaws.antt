@@ -9,6 +9,7 @@ use Rattle.std.specs.List.{slice_get}
 use Rattle.std.specs.Map.{lookup}
 use Rattle.std.specs.Str.{bytes_eq}
 use Rattle.cb_constraints.specs.Bound.{each_once}
+use Rattle.cb_constraints.specs.Internal.Places.{if_before, is_before}
 use Rattle.cb_constraints.specs.Internal.Tables.{first_places, has_variable, with_place, with_places}
 use Rattle.cb_constraints.specs.declared.place.Place.{Place}
 use Rattle.cb_facts.specs.Places.{place_in}
@@ -155,6 +156,40 @@ at_first (e ∷ es) =
     All-cons (λ d. lookup (bytes_eq d.0) (e ∷ es) ≡ Some d.1) e (filter (is-other e) (first_places es))
     (ap (λ t. cond t (Some e.1) (lookup (bytes_eq e.0) es)) ((bytes_decides e.0 e.0).1 refl))
     (at-first-kept e es (first_places es) (at_first es))
+
+-- so a variable is found among the places before a check, if its first is one of them
+late : (x : List ℕ) (n i : ℕ) (es ds : List (List ℕ × Place)) → All (λ d. lookup (bytes_eq d.0) es ≡ Some d.1) ds → if_before n i (lookup (bytes_eq x) es) ≡ None → if_before n i (lookup (bytes_eq x) ds) ≡ None
+late x n i es [] h none = refl
+late x n i es (d ∷ ds) h none = by (bytes_eq x d.0) refl (late x n i es ds (All-tail (λ c. lookup (bytes_eq c.0) es ≡ Some c.1) d ds h) none)
+  where
+    by : (b : Bool) → bytes_eq x d.0 ≡ b → if_before n i (lookup (bytes_eq x) ds) ≡ None → if_before n i (cond b (Some d.1) (lookup (bytes_eq x) ds)) ≡ None
+    by true is later =
+        ap (if_before n i) (sym (All-head (λ c. lookup (bytes_eq c.0) es ≡ Some c.1) d ds h) ∙ ap (λ y. lookup (bytes_eq y) es) (sym ((bytes_decides x d.0).0 is)))
+        ∙ none
+    by false is later = later
+
+among-before : (x : List ℕ) (n i : ℕ) (es ds : List (List ℕ × Place)) → All (λ d. lookup (bytes_eq d.0) es ≡ Some d.1) ds
+    → lookup (bytes_eq x) (filter (λ d. is_before d.1 n i) ds) ≡ if_before n i (lookup (bytes_eq x) ds)
+among-before x n i es [] h = refl
+among-before x n i es (d ∷ ds) h =
+    by (is_before d.1 n i) (bytes_eq x d.0) refl refl (among-before x n i es ds (All-tail (λ c. lookup (bytes_eq c.0) es ≡ Some c.1) d ds h))
+  where
+    by : (b t : Bool) → is_before d.1 n i ≡ b → bytes_eq x d.0 ≡ t → lookup (bytes_eq x) (filter (λ c. is_before c.1 n i) ds) ≡ if_before n i (lookup (bytes_eq x) ds)
+        → lookup (bytes_eq x) (cond b (d ∷ filter (λ c. is_before c.1 n i) ds) (filter (λ c. is_before c.1 n i) ds)) ≡ if_before n i (cond t (Some d.1) (lookup (bytes_eq x) ds))
+    by true true is same later =
+        ap (λ u. cond u (Some d.1) (lookup (bytes_eq x) (filter (λ c. is_before c.1 n i) ds))) same
+        ∙ sym (ap (λ u. if u then Some d.1 else None) is)
+    by true false is same later = ap (λ u. cond u (Some d.1) (lookup (bytes_eq x) (filter (λ c. is_before c.1 n i) ds))) same ∙ later
+    by false true is same later =
+        later
+        ∙ (late x n i es ds (All-tail (λ c. lookup (bytes_eq c.0) es ≡ Some c.1) d ds h)
+        (ap (if_before n i) (ap (λ y. lookup (bytes_eq y) es) ((bytes_decides x d.0).0 same) ∙ All-head (λ c. lookup (bytes_eq c.0) es ≡ Some c.1) d ds h)
+        ∙ ap (λ u. if u then Some d.1 else None) is)
+        ∙ sym (ap (λ u. if u then Some d.1 else None) is))
+    by false false is same later = later
+
+pub looked_up_before : (x : List ℕ) (n i : ℕ) (es : List (List ℕ × Place)) → lookup (bytes_eq x) (filter (λ d. is_before d.1 n i) (first_places es)) ≡ if_before n i (lookup (bytes_eq x) es)
+looked_up_before x n i es = among-before x n i es (first_places es) (at_first es) ∙ ap (if_before n i) (looked_up x es)
 
 -- their names are the variables, each once
 map-others : (x : List ℕ) (es : List (List ℕ × Place)) → map (λ e. e.0) (filter (λ d. not (bytes_eq x d.0)) es) ≡ filter (λ y. not (bytes_eq x y)) (map (λ e. e.0) es)

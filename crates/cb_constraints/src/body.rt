@@ -1,10 +1,10 @@
 //! What a pattern asks, with the places of its variables.
-ghost use Rattle.std.specs.Prelude.{◌≡◌, IfOk, map, slice_get};
+ghost use Rattle.std.specs.Prelude.{◌≡◌, IfOk, filter, map, slice_get};
 ghost use Rattle.std.specs.Map.{lookup};
 ghost use Rattle.std.specs.Option.{option_and_then, option_map};
 ghost use Rattle.std.specs.Str.{bytes_eq};
 ghost use Rattle.cb_constraints.specs.Binders.{constraints_in};
-ghost use Rattle.cb_constraints.specs.Internal.Places.{first_place, places, sites_in};
+ghost use Rattle.cb_constraints.specs.Internal.Places.{first_place, if_before, is_before, places, sites_in};
 ghost use Rattle.cb_constraints.specs.Internal.{HasTable};
 ghost use Rattle.cb_constraints.specs.Internal.Tables.{first_places};
 ghost use Rattle.cb_constraints.specs.PartValues.{asked_parts, asked_slot};
@@ -86,13 +86,18 @@ impl Body {
         &self.parts
     }
 
-    /// Where a variable may first take a value, or `None` where none of its occurrences gives it one.
-    pub fn first(&self, name: &Name) -> Option<Place>
-        ensures { result ≡ first_place name.now (constraints_in self.now) }
+    /// Where a variable may first take a value, if that is before the check with this number of a constraint; `None` where none of
+    /// its occurrences before gives it one.
+    pub(crate) fn first_before(&self, name: &Name, constraint: usize, check: usize) -> Option<Place>
+        ensures { result ≡ if_before constraint check (first_place name.now (constraints_in self.now)) }
     {
         match &self.names {
-            Some(names) => find_place(names, self.variables.as_slice(), name),
-            None => place_among(self.variables.as_slice(), name),
+            Some(names) => if_before(
+                find_place(names, self.variables.as_slice(), name),
+                constraint,
+                check,
+            ),
+            None => place_before(self.variables.as_slice(), name, constraint, check),
         }
     }
 
@@ -139,16 +144,43 @@ fn table_of_rows(alloc: Global, rows: &[SlotRow]) -> Result<Table, NoMemory>
     Ok(table)
 }
 
-/// The place of the variable with a name, looked for one by one.
-fn place_among(variables: &[(Name, Place)], name: &Name) -> Option<Place>
-    ensures { result ≡ lookup (bytes_eq name.now) variables.now }
+/// The place of the variable with a name among those before the check with this number of a constraint, looked for one by one.
+fn place_before(
+    variables: &[(Name, Place)],
+    name: &Name,
+    constraint: usize,
+    check: usize,
+) -> Option<Place>
+    ensures { result ≡ lookup (bytes_eq name.now) (filter (λ e. is_before e.1 constraint check) variables.now) }
 {
     for variable in variables {
+        if !is_before(variable.1, constraint, check) {
+            continue;
+        }
         if *name == variable.0 {
             return Some(variable.1);
         }
     }
     None
+}
+
+/// A place, if it is before the check with this number of a constraint.
+fn if_before(place: Option<Place>, constraint: usize, check: usize) -> Option<Place>
+    ensures { result ≡ if_before constraint check place }
+{
+    let found = place?;
+    if is_before(found, constraint, check) {
+        Some(found)
+    } else {
+        None
+    }
+}
+
+/// Whether a place is before the check with this number of a constraint.
+fn is_before(place: Place, constraint: usize, check: usize) -> bool
+    ensures { result ≡ is_before place constraint check }
+{
+    place.constraint < constraint || place.constraint == constraint && place.check < check
 }
 
 /// The place of the variable with the number of a name.

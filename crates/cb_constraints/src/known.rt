@@ -1,7 +1,7 @@
 //! What variables have where a constraint of a pattern is tested.
-ghost use Rattle.std.specs.Prelude.{◌≡◌, IfOk};
+ghost use Rattle.std.specs.Prelude.{◌≡◌, IfOk, Some, length, slice_index_or};
 ghost use Rattle.cb_constraints.specs.Holding.{tested_value};
-ghost use Rattle.cb_constraints.specs.Internal.Known.{before_check, taken_at, taken_if};
+ghost use Rattle.cb_constraints.specs.Internal.Known.{before_check};
 ghost use Rattle.cb_constraints.specs.Internal.Values.{values};
 ghost use Rattle.cb_exprs.specs.Bindings.{value_at};
 
@@ -39,7 +39,11 @@ impl<L: Lookup> Known<'_, L> {
         if let Some(value) = self.before.variable(name)? {
             return Ok(Some(value));
         }
-        value_at_place(*self.took, self.tested, check, self.body.first(name))
+        let count = self.took.count();
+        match self.body.first_before(name, count, check) {
+            Some(place) => value_at_one(self.took, self.tested, count, place),
+            None => Ok(None),
+        }
     }
 
     /// The value of a global variable before a check, in the same way.
@@ -72,39 +76,19 @@ impl<L: Lookup> Lookup for AtCheck<'_, L> {
     }
 }
 
-/// The value that a variable with this place took, if that was before a check of the constraint that comes next.
-fn value_at_place(
-    took: Taken<'_>,
-    tested: Tested<'_>,
-    check: usize,
-    place: Option<Place>,
-) -> Result<Option<Value>, NoMemory>
-    ensures { IfOk result (λ value. value
-        ≡ taken_if (values took.entry) (tested_value tested.entry) check place) }
-{
-    match place {
-        Some(place) => value_at_one(took, tested, check, place),
-        None => Ok(None),
-    }
-}
-
-/// The same for a place.
-#[tactic(auto, using(crate::proofs::TakenLaws::taken_before, crate::proofs::TakenLaws::taken_here, crate::proofs::TakenLaws::taken_later))]
+/// The value that a variable took at this place: that of its constraint, or the one that is tested, for the constraint that comes next.
 fn value_at_one(
-    took: Taken<'_>,
+    took: &Taken<'_>,
     tested: Tested<'_>,
-    check: usize,
+    count: usize,
     place: Place,
 ) -> Result<Option<Value>, NoMemory>
-    ensures { IfOk result (λ value. value ≡ taken_at (values took.entry)
-        (tested_value tested.entry) check place.constraint place.check) }
+    requires { count ≡ length (values took.now) }
+    ensures { IfOk result (λ value. value
+        ≡ Some (slice_index_or (values took.entry.now) place.constraint (tested_value tested.entry))) }
 {
-    let count = took.count();
     if place.constraint < count {
         return Ok(Some(took.value(place.constraint)?));
     }
-    if place.constraint == count && place.check < check {
-        return Ok(Some(tested.to_value()?));
-    }
-    Ok(None)
+    Ok(Some(tested.to_value()?))
 }

@@ -1,5 +1,5 @@
 -- Where the variables of a pattern first take a value, and where its constraints stand.
-use Rattle.std.specs.Prelude.{◌+◌, ℕ, suc, length, List, [], ◌∷◌, ◌++◌, Option, Some, None, map, take}
+use Rattle.std.specs.Prelude.{◌+◌, ◌&&◌, ◌||◌, ℕ, suc, Bool, length, List, [], ◌∷◌, ◌++◌, Option, Some, None, map, nat_eq, nat_lt, take, if◌then◌else◌}
 use Rattle.std.specs.Map.{lookup}
 use Rattle.std.specs.Str.{bytes_eq}
 use Rattle.cb_constraints.specs.Binders.{binder, binders_of}
@@ -35,6 +35,15 @@ places n (c ∷ cs) = places_for n c.demand ++ places (suc n) cs
 -- where a variable may first take a value
 abbrev pub first_place : List ℕ → List Constraint → Option Place
 first_place x cs = lookup (bytes_eq x) (places 0 cs)
+
+-- the place is before the check with this number, of the constraint with that number
+abbrev pub is_before : Place → ℕ → ℕ → Bool
+is_before p n i = nat_lt p.constraint n || (nat_eq p.constraint n && nat_lt p.check i)
+
+-- a place, if it is before a check of a constraint
+abbrev pub if_before : ℕ → ℕ → Option Place → Option Place
+if_before n i None = None
+if_before n i (Some p) = if is_before p n i then Some p else None
 
 -- where the constraints of a row stand, which has this number and begins at this constraint
 abbrev pub sites_of : ℕ → ℕ → List Constraint → List Site

@@ -1,11 +1,11 @@
-use Rattle.std.proofs.Common.{◌≡◌, ◌∙◌, None, Some, ap, rules, sym}
+use Rattle.std.proofs.Common.{◌≡◌, ◌∙◌, None, Some, length, ap, option_map, rules, slice_index_or, sym}
 use Rattle.std.proofs.lemmas.Result.{IfOk-weaker}
 use Rattle.cb_constraints.specs.Binders.{constraints_in}
-use Rattle.cb_constraints.specs.Internal.Places.{first_place}
+use Rattle.cb_constraints.specs.Internal.Places.{first_place, if_before}
 use Rattle.cb_constraints.specs.Holding.{tested_value}
-use Rattle.cb_constraints.specs.Internal.Known.{taken_if}
 use Rattle.cb_constraints.specs.Internal.Values.{values}
 use Rattle.cb_constraints.proofs.KnownLaws.{found_at_place, found_before}
+use Rattle.cb_constraints.proofs.TakenLaws.{taken_if_before}
 use Rattle.cb_constraints.proofs.known.Known.variable.Goals as goal
 use Rattle.cb_exprs.specs.Bindings.{value_at}
 
@@ -14,12 +14,21 @@ returns-in-Some g c =
     let had : value_at c.args.name.now (g.L.Lookup.bindings c.args.self.before.now).variables ≡ Some c.in-Some.value = search rules in
     sym (found_before c.args.name.now (constraints_in c.args.self.body.now) (values c.args.self.took.now) (tested_value c.args.self.tested) (g.L.Lookup.bindings c.args.self.before.now) c.args.check c.in-Some.value had)
 
-pub returns : goal.returns
-returns g c =
+pub returns-in-Some-first_before : goal.returns-in-Some-first_before
+returns-in-Some-first_before g c =
     let none : value_at c.args.name.now (g.L.Lookup.bindings c.args.self.before.now).variables ≡ None = search rules in
-    let place : c.first.result ≡ first_place c.args.name.now (constraints_in c.args.self.body.now) = search rules in
-    IfOk-weaker c.value_at_place.result _ _
+    let place : if_before (length (values c.args.self.took.now)) c.args.check (first_place c.args.name.now (constraints_in c.args.self.body.now)) ≡ Some c.in-Some-first_before.place = search rules in
+    IfOk-weaker c.value_at_one.result _ _
     (λ found is. is
-    ∙ (ap (λ p. taken_if (values c.args.self.took.now) (tested_value c.args.self.tested) c.args.check p) place
+    ∙ (sym (taken_if_before (values c.args.self.took.now) (tested_value c.args.self.tested) c.args.check (first_place c.args.name.now (constraints_in c.args.self.body.now))
+    ∙ ap (option_map (λ p. slice_index_or (values c.args.self.took.now) p.constraint (tested_value c.args.self.tested))) place)
     ∙ sym (found_at_place c.args.name.now (constraints_in c.args.self.body.now) (values c.args.self.took.now) (tested_value c.args.self.tested) (g.L.Lookup.bindings c.args.self.before.now) c.args.check none)))
-    c.value_at_place.ensures
+    c.value_at_one.ensures
+
+pub returns-in-None : goal.returns-in-None
+returns-in-None g c =
+    let none : value_at c.args.name.now (g.L.Lookup.bindings c.args.self.before.now).variables ≡ None = search rules in
+    let place : if_before (length (values c.args.self.took.now)) c.args.check (first_place c.args.name.now (constraints_in c.args.self.body.now)) ≡ None = search rules in
+    sym (found_at_place c.args.name.now (constraints_in c.args.self.body.now) (values c.args.self.took.now) (tested_value c.args.self.tested) (g.L.Lookup.bindings c.args.self.before.now) c.args.check none
+    ∙ (taken_if_before (values c.args.self.took.now) (tested_value c.args.self.tested) c.args.check (first_place c.args.name.now (constraints_in c.args.self.body.now))
+    ∙ ap (option_map (λ p. slice_index_or (values c.args.self.took.now) p.constraint (tested_value c.args.self.tested))) place))
