@@ -1,5 +1,5 @@
 -- What variables have in the course of a test is found by their places.
-use Rattle.std.proofs.Common.{arith, ◌≡◌, ◌∙◌, ◌++◌, ◌||◌, ◌<◌, ◌≤◌, ℕ, zero, suc, Bool, true, false, cond, List, [], ◌∷◌, Option, None, Some, ap, map, nat_lt, refl, sym, take, if◌then◌else◌}
+use Rattle.std.proofs.Common.{arith, ◌≡◌, ◌∙◌, ◌++◌, ◌||◌, ◌<◌, ◌≤◌, ℕ, zero, suc, Bool, true, false, cond, List, [], ◌∷◌, Option, None, Some, ap, length, map, nat_lt, refl, sym, take, if◌then◌else◌}
 use Rattle.std.proofs.lemmas.Bool.{le-ltb, lt-ltb, ltb-false, ltb-true}
 use Rattle.std.proofs.lemmas.List.Folds.{list_any-append}
 use Rattle.std.specs.Cmp.Lexicographic.{bytes_decides}
@@ -258,6 +258,18 @@ found_before y cs vs v env i w e = known_value y cs vs v env i ∙ ap (λ o. opt
 pub found_at_place : (y : List ℕ) (cs : List Constraint) (vs : List Value) (v : Value) (env : Bindings) (i : ℕ)
     → value_at y env.variables ≡ None → value_at y (bindings_before cs vs v env i).variables ≡ taken_if vs v i (first_place y cs)
 found_at_place y cs vs v env i e = known_value y cs vs v env i ∙ ap (λ o. option_or o (taken_if vs v i (lookup (bytes_eq y) (places 0 cs)))) e
+
+-- at its own place it has no other than that which it had
+not-itself : (vs : List Value) (v : Value) (i : ℕ) → taken_at vs v i (length vs) i ≡ None
+not-itself [] v i = ap (λ b. if b then Some v else None) (le-ltb i i (omega arith))
+not-itself (w ∷ ws) v i = not-itself ws v i
+
+pub first_at_place : (y : List ℕ) (cs : List Constraint) (vs : List Value) (v : Value) (env : Bindings) (i : ℕ)
+    → first_place y cs ≡ Some (record { constraint = length vs; check = i }) → value_at y (bindings_before cs vs v env i).variables ≡ value_at y env.variables
+first_at_place y cs vs v env i e =
+    known_value y cs vs v env i
+    ∙ (ap (λ o. option_or (value_at y env.variables) o) (ap (taken_if vs v i) e ∙ not-itself vs v i)
+    ∙ or-none (value_at y env.variables))
 
 -- globals stay as they are
 one-global : (x : List ℕ) (v : Value) (env : Bindings) → (given_to x v env).globals ≡ env.globals

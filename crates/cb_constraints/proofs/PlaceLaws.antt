@@ -1,5 +1,5 @@
 -- Each variable once with its first place, and how one is found among them.
-use Rattle.std.proofs.Common.{◌≡◌, ◌∙◌, ◌&&◌, ◌||◌, ◌++◌, ℕ, suc, Bool, true, false, cond, not, is_some, All, List, [], ◌∷◌, Option, None, Some, ap, append-nil, append_assoc, filter, map, refl, sym, if◌then◌else◌}
+use Rattle.std.proofs.Common.{◌≡◌, ◌∙◌, ◌&&◌, ◌||◌, ◌++◌, ℕ, suc, Bool, true, false, cond, not, is_some, All, List, [], ◌∷◌, Option, None, Some, ap, append-nil, append_assoc, eqb-true, filter, map, nat_eq, refl, sym, if◌then◌else◌}
 use Rattle.std.proofs.lemmas.List.{map-append}
 use Rattle.std.proofs.lemmas.List.Elements.{All-cons, All-head, All-nil, All-tail}
 use Rattle.std.proofs.lemmas.List.Folds.{list_any-append}
@@ -9,7 +9,7 @@ use Rattle.std.specs.List.{slice_get}
 use Rattle.std.specs.Map.{lookup}
 use Rattle.std.specs.Str.{bytes_eq}
 use Rattle.cb_constraints.specs.Bound.{each_once}
-use Rattle.cb_constraints.specs.Internal.Places.{if_before, is_before}
+use Rattle.cb_constraints.specs.Internal.Places.{has_place, if_before, is_before}
 use Rattle.cb_constraints.specs.Internal.Tables.{first_places, has_variable, with_place, with_places}
 use Rattle.cb_constraints.specs.declared.place.Place.{Place}
 use Rattle.cb_facts.specs.Places.{place_in}
@@ -190,6 +190,31 @@ among-before x n i es (d ∷ ds) h =
 
 pub looked_up_before : (x : List ℕ) (n i : ℕ) (es : List (List ℕ × Place)) → lookup (bytes_eq x) (filter (λ d. is_before d.1 n i) (first_places es)) ≡ if_before n i (lookup (bytes_eq x) es)
 looked_up_before x n i es = among-before x n i es (first_places es) (at_first es) ∙ ap (if_before n i) (looked_up x es)
+
+-- a variable that has a place among them has it first
+has-first : (x : List ℕ) (n i : ℕ) (es ds : List (List ℕ × Place)) → All (λ d. lookup (bytes_eq d.0) es ≡ Some d.1) ds → has_place x n i ds ≡ true
+    → lookup (bytes_eq x) es ≡ Some (record { constraint = n; check = i })
+has-first x n i es [] h e = absurd (apart e)
+  where
+    apart : false ≡ true → ⊥
+    apart d = cc
+has-first x n i es (d ∷ ds) h e =
+    by (nat_eq d.1.constraint n) (nat_eq d.1.check i) (bytes_eq x d.0) refl refl refl (has-first x n i es ds (All-tail (λ c. lookup (bytes_eq c.0) es ≡ Some c.1) d ds h)) e
+  where
+    by : (a b t : Bool) → nat_eq d.1.constraint n ≡ a → nat_eq d.1.check i ≡ b → bytes_eq x d.0 ≡ t
+        → (has_place x n i ds ≡ true → lookup (bytes_eq x) es ≡ Some (record { constraint = n; check = i }))
+        → (a && (b && t)) || has_place x n i ds ≡ true → lookup (bytes_eq x) es ≡ Some (record { constraint = n; check = i })
+    by true true true here checked same later is =
+        ap (λ y. lookup (bytes_eq y) es) ((bytes_decides x d.0).0 same)
+        ∙ (All-head (λ c. lookup (bytes_eq c.0) es ≡ Some c.1) d ds h
+        ∙ (ap (λ m. Some (record { constraint = m; check = d.1.check })) (eqb-true d.1.constraint n here)
+        ∙ ap (λ m. Some (record { constraint = n; check = m })) (eqb-true d.1.check i checked)))
+    by true true false here checked same later is = later is
+    by true false t here checked same later is = later is
+    by false b t here checked same later is = later is
+
+pub is_first_of : (x : List ℕ) (n i : ℕ) (es : List (List ℕ × Place)) → has_place x n i (first_places es) ≡ true → lookup (bytes_eq x) es ≡ Some (record { constraint = n; check = i })
+is_first_of x n i es = has-first x n i es (first_places es) (at_first es)
 
 -- their names are the variables, each once
 map-others : (x : List ℕ) (es : List (List ℕ × Place)) → map (λ e. e.0) (filter (λ d. not (bytes_eq x d.0)) es) ≡ filter (λ y. not (bytes_eq x y)) (map (λ e. e.0) es)

@@ -1,10 +1,10 @@
 //! What a pattern asks, with the places of its variables.
-ghost use Rattle.std.specs.Prelude.{◌≡◌, IfOk, filter, map, slice_get};
+ghost use Rattle.std.specs.Prelude.{◌≡◌, IfOk, Some, filter, map, slice_get, true};
 ghost use Rattle.std.specs.Map.{lookup};
 ghost use Rattle.std.specs.Option.{option_and_then, option_map};
 ghost use Rattle.std.specs.Str.{bytes_eq};
 ghost use Rattle.cb_constraints.specs.Binders.{constraints_in};
-ghost use Rattle.cb_constraints.specs.Internal.Places.{first_place, if_before, is_before, places, sites_in};
+ghost use Rattle.cb_constraints.specs.Internal.Places.{first_place, has_place, if_before, is_before, places, sites_in};
 ghost use Rattle.cb_constraints.specs.Internal.{HasTable};
 ghost use Rattle.cb_constraints.specs.Internal.Tables.{first_places};
 ghost use Rattle.cb_constraints.specs.PartValues.{asked_parts, asked_slot};
@@ -101,6 +101,15 @@ impl Body {
         }
     }
 
+    /// Whether the check with this number of a constraint is the first place of a variable. It may be that of one of many variables
+    /// though the answer is `false`.
+    pub(crate) fn is_first(&self, name: &Name, constraint: usize, check: usize) -> bool
+        ensures { result ≡ true
+            → first_place name.now (constraints_in self.now) ≡ Some (record { constraint = constraint; check = check }) }
+    {
+        self.names.is_none() && is_place_of(self.variables.as_slice(), name, constraint, check)
+    }
+
     /// The variables that may take a value, each once with its first place, in the order in which they are written.
     pub(crate) fn variables(&self) -> &[(Name, Place)]
         ensures { result.now ≡ first_places (places 0 (constraints_in self.now)) }
@@ -114,6 +123,19 @@ impl Body {
     {
         self.sites.get(constraint).copied()
     }
+}
+
+/// Whether the variable that has this place, among these, is the one with a name.
+fn is_place_of(variables: &[(Name, Place)], name: &Name, constraint: usize, check: usize) -> bool
+    ensures { result ≡ true → has_place name.now constraint check variables.now ≡ true }
+{
+    for variable in variables {
+        let place = variable.1;
+        if place.constraint == constraint && place.check == check {
+            return *name == variable.0;
+        }
+    }
+    false
 }
 
 /// The table of what a pattern asks.

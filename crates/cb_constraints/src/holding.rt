@@ -60,9 +60,9 @@ pub fn meets_beyond_constants<L: Lookup>(
 {
     match demand {
         Demand::Nothing => Ok(true),
-        Demand::Each(checks) => meets_each(alloc, constants, checks.as_slice(), tested, known),
+        Demand::Each(checks) => meets_each(alloc, constants, checks.as_slice(), tested, &known),
         Demand::Either(None, alternatives) => {
-            one_holds(alloc, constants, alternatives.as_slice(), tested, known, 0)
+            one_holds(alloc, constants, alternatives.as_slice(), tested, &known, 0)
         }
         Demand::Either(Some(first), alternatives) => {
             meets_apart(
@@ -71,7 +71,7 @@ pub fn meets_beyond_constants<L: Lookup>(
                 first,
                 alternatives.as_slice(),
                 tested,
-                known,
+                &known,
             )
         }
     }
@@ -85,15 +85,15 @@ fn meets_apart<L: Lookup>(
     first: &Name,
     alternatives: &[Vec<Check>],
     tested: Tested<'_>,
-    known: Known<'_, L>,
+    known: &Known<'_, L>,
 ) -> Result<bool, NoMemory>
     requires follows { IfSome (after_variable first.now (tested_value tested)
-        (before_check L.bindings known 0)) (λ grown. before_check L.bindings known 1 ≡ grown) }
+        (before_check L.bindings known.now 0)) (λ grown. before_check L.bindings known.now 1 ≡ grown) }
     requires may { list_any (constants_hold (tested_value tested))
         (map (λ cs. map check_of cs.items) alternatives.now) ≡ true }
-    ensures { IfOk result (λ holds. Meets holds (before_check L.bindings known.entry 1)
+    ensures { IfOk result (λ holds. Meets holds (before_check L.bindings known.now 1)
         (after_demand (either (Some first.now) (map (λ cs. map check_of cs.items) alternatives.now))
-        (tested_value tested.entry) (before_check L.bindings known.entry 0))) }
+        (tested_value tested.entry) (before_check L.bindings known.now 0))) }
 {
     Ok(
         agrees(first, tested, known, 0)?
@@ -108,15 +108,15 @@ fn meets_each<L: Lookup>(
     constants: &Constants,
     checks: &[Check],
     tested: Tested<'_>,
-    known: Known<'_, L>,
+    known: &Known<'_, L>,
 ) -> Result<bool, NoMemory>
-    requires follows { FollowFrom (before_check L.bindings known) 0 (map check_of checks.now)
+    requires follows { FollowFrom (before_check L.bindings known.now) 0 (map check_of checks.now)
         (tested_value tested) }
     requires may { constants_hold (tested_value tested) (map check_of checks.now) ≡ true }
-    ensures { IfOk result (λ holds. Meets holds (before_check L.bindings known.entry
+    ensures { IfOk result (λ holds. Meets holds (before_check L.bindings known.now
         (length checks.now))
         (after_checks (map check_of checks.now) (tested_value tested.entry)
-        (before_check L.bindings known.entry 0))) }
+        (before_check L.bindings known.now 0))) }
 {
     let mut at = 0;
     for check in checks {
@@ -135,13 +135,13 @@ fn meets_one<L: Lookup>(
     constants: &Constants,
     check: &Check,
     tested: Tested<'_>,
-    known: Known<'_, L>,
+    known: &Known<'_, L>,
     at: usize,
 ) -> Result<bool, NoMemory>
     requires { constant_holds (tested_value tested) (check_of check.now).negated
         (check_of check.now).test ≡ true }
     ensures { IfOk result (λ holds. holds ≡ is_some (after_check (check_of check.now)
-        (tested_value tested.entry) (before_check L.bindings known.entry at))) }
+        (tested_value tested.entry) (before_check L.bindings known.now at))) }
 {
     if let Test::Constant(_) = &check.test {
         return Ok(true);
@@ -153,13 +153,18 @@ fn meets_one<L: Lookup>(
 fn agrees<L: Lookup>(
     name: &Name,
     tested: Tested<'_>,
-    known: Known<'_, L>,
+    known: &Known<'_, L>,
     at: usize,
 ) -> Result<bool, NoMemory>
     ensures { IfOk result (λ holds. holds ≡ is_some (after_variable name.now
-        (tested_value tested.entry) (before_check L.bindings known.entry at))) }
+        (tested_value tested.entry) (before_check L.bindings known.now at))) }
 {
-    Ok(match known.variable(name, at)? {
+    let held = if known.takes_first(name, at) {
+        known.before.variable(name)?
+    } else {
+        known.variable(name, at)?
+    };
+    Ok(match held {
         Some(value) => tested.is(&value),
         None => true,
     })
@@ -171,14 +176,14 @@ fn one_holds<L: Lookup>(
     constants: &Constants,
     alternatives: &[Vec<Check>],
     tested: Tested<'_>,
-    known: Known<'_, L>,
+    known: &Known<'_, L>,
     at: usize,
 ) -> Result<bool, NoMemory>
     requires { list_any (constants_hold (tested_value tested))
         (map (λ cs. map check_of cs.items) alternatives.now) ≡ true }
     ensures { IfOk result (λ holds. holds ≡ one_holds
         (map (λ cs. map check_of cs.items) alternatives.now) (tested_value tested.entry)
-        (before_check L.bindings known.entry at)) }
+        (before_check L.bindings known.now at)) }
 {
     if are_of_constants(alternatives) {
         return Ok(true);
@@ -231,12 +236,12 @@ fn all_hold<L: Lookup>(
     constants: &Constants,
     checks: &[Check],
     tested: Tested<'_>,
-    known: Known<'_, L>,
+    known: &Known<'_, L>,
     at: usize,
 ) -> Result<bool, NoMemory>
     ensures { IfOk result (λ holds. holds
         ≡ list_all (check_holds (tested_value tested.entry)
-        (before_check L.bindings known.entry at))
+        (before_check L.bindings known.now at))
         (map check_of checks.now)) }
 {
     for check in checks {
@@ -253,11 +258,11 @@ fn check_holds<L: Lookup>(
     constants: &Constants,
     check: &Check,
     tested: Tested<'_>,
-    known: Known<'_, L>,
+    known: &Known<'_, L>,
     at: usize,
 ) -> Result<bool, NoMemory>
     ensures { IfOk result (λ holds. holds ≡ check_holds (tested_value tested.entry)
-        (before_check L.bindings known.entry at) (check_of check.now)) }
+        (before_check L.bindings known.now at) (check_of check.now)) }
 {
     let holds = test_holds(alloc, constants, &check.test, tested, known, at)?;
     Ok(if check.is_negated { !holds } else { holds })
@@ -269,11 +274,11 @@ fn test_holds<L: Lookup>(
     constants: &Constants,
     test: &Test,
     tested: Tested<'_>,
-    known: Known<'_, L>,
+    known: &Known<'_, L>,
     at: usize,
 ) -> Result<bool, NoMemory>
     ensures { IfOk result (λ holds. holds ≡ test_holds (asked_test test.now)
-        (tested_value tested.entry) (before_check L.bindings known.entry at)) }
+        (tested_value tested.entry) (before_check L.bindings known.now at)) }
 {
     match test {
         Test::Constant(value) => Ok(tested.is(value)),
@@ -294,11 +299,11 @@ fn value_if_any<L: Lookup>(
     alloc: Global,
     constants: &Constants,
     expr: &Expr,
-    known: Known<'_, L>,
+    known: &Known<'_, L>,
     at: usize,
 ) -> Result<Option<Value>, NoMemory>
     ensures { IfOk result (λ value. value
-        ≡ value_if_any (value_of (term_of expr.now) (before_check L.bindings known.entry at))) }
+        ≡ value_if_any (value_of (term_of expr.now) (before_check L.bindings known.now at))) }
 {
     match eval(alloc, constants, expr, &AtCheck { known, check: at }) {
         Ok(value) => Ok(Some(value)),

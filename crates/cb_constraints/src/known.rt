@@ -1,5 +1,5 @@
 //! What variables have where a constraint of a pattern is tested.
-ghost use Rattle.std.specs.Prelude.{◌≡◌, IfOk, Some, length, slice_index_or};
+ghost use Rattle.std.specs.Prelude.{◌≡◌, IfOk, Some, length, slice_index_or, true};
 ghost use Rattle.cb_constraints.specs.Holding.{tested_value};
 ghost use Rattle.cb_constraints.specs.Internal.Known.{before_check};
 ghost use Rattle.cb_constraints.specs.Internal.Values.{values};
@@ -32,9 +32,9 @@ impl<L: Lookup> Known<'_, L> {
     /// `&` may give a variable the value that is tested, and those after it see that; so it is asked for a check, by its number
     /// from 0. The value shares its bytes or fields. It is refused as `NoMemory` where a count of sharers is full, or where
     /// memory for it is.
-    pub(crate) fn variable(self, name: &Name, check: usize) -> Result<Option<Value>, NoMemory>
+    pub(crate) fn variable(&self, name: &Name, check: usize) -> Result<Option<Value>, NoMemory>
         ensures { IfOk result (λ found. found
-            ≡ value_at name.now (before_check L.bindings self.entry check).variables) }
+            ≡ value_at name.now (before_check L.bindings self.now check).variables) }
     {
         if let Some(value) = self.before.variable(name)? {
             return Ok(Some(value));
@@ -46,10 +46,20 @@ impl<L: Lookup> Known<'_, L> {
         }
     }
 
+    /// Whether a check is where the pattern first gives a variable a value, if it has none before the pattern: before this check it
+    /// has what it had before the pattern. The answer may be `false` where it is one of many variables.
+    pub(crate) fn takes_first(&self, name: &Name, check: usize) -> bool
+        ensures { result ≡ true
+            → value_at name.now (before_check L.bindings self.now check).variables
+            ≡ value_at name.now (L.bindings self.now.before.now).variables }
+    {
+        self.body.is_first(name, self.took.count(), check)
+    }
+
     /// The value of a global variable before a check, in the same way.
-    pub(crate) fn global(self, name: &Name, check: usize) -> Result<Option<Value>, NoMemory>
+    pub(crate) fn global(&self, name: &Name, check: usize) -> Result<Option<Value>, NoMemory>
         ensures { IfOk result (λ found. found
-            ≡ value_at name.now (before_check L.bindings self.entry check).globals) }
+            ≡ value_at name.now (before_check L.bindings self.now check).globals) }
     {
         self.before.global_variable(name)
     }
@@ -58,14 +68,14 @@ impl<L: Lookup> Known<'_, L> {
 /// What variables have before one check.
 #[derive_where(Clone, Copy)]
 pub(crate) struct AtCheck<'a, L> {
-    pub(crate) known: Known<'a, L>,
+    pub(crate) known: &'a Known<'a, L>,
     pub(crate) check: usize,
 }
 
 impl<L: Lookup> Lookup for AtCheck<'_, L> {
     ghost use Rattle.cb_constraints.specs.Internal.Known.{before_check};
 
-    ghost bindings = { λ at. before_check L.bindings at.known at.check };
+    ghost bindings = { λ at. before_check L.bindings at.known.now at.check };
 
     fn variable(&self, name: &Name) -> Result<Option<Value>, NoMemory> {
         self.known.variable(name, self.check)

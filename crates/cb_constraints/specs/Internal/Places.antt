@@ -1,5 +1,6 @@
 -- Where the variables of a pattern first take a value, and where its constraints stand.
 use Rattle.std.specs.Prelude.{◌+◌, ◌&&◌, ◌||◌, ℕ, suc, Bool, length, List, [], ◌∷◌, ◌++◌, Option, Some, None, map, nat_eq, nat_lt, take, if◌then◌else◌}
+use Rattle.std.specs.List.{list_any}
 use Rattle.std.specs.Map.{lookup}
 use Rattle.std.specs.Str.{bytes_eq}
 use Rattle.cb_constraints.specs.Binders.{binder, binders_of}
@@ -44,6 +45,10 @@ is_before p n i = nat_lt p.constraint n || (nat_eq p.constraint n && nat_lt p.ch
 abbrev pub if_before : ℕ → ℕ → Option Place → Option Place
 if_before n i None = None
 if_before n i (Some p) = if is_before p n i then Some p else None
+
+-- one of these is the variable, and its place is the check with this number, of the constraint with that number
+abbrev pub has_place : List ℕ → ℕ → ℕ → List (List ℕ × Place) → Bool
+has_place x n i es = list_any (λ e. nat_eq e.1.constraint n && (nat_eq e.1.check i && bytes_eq x e.0)) es
 
 -- where the constraints of a row stand, which has this number and begins at this constraint
 abbrev pub sites_of : ℕ → ℕ → List Constraint → List Site

@@ -10,5 +10,5 @@ use Rattle.cb_exprs.specs.Bindings.{value_at}
 pub returns : goal.returns
 returns g c =
     IfOk-weaker c.global_variable.result _ _
-    (λ found is. is ∙ ap (value_at c.args.name.now) (sym (globals_stay (constraints_in c.args.self.body.now) (values c.args.self.took.now) (tested_value c.args.self.tested) (g.L.Lookup.bindings c.args.self.before.now) c.args.check)))
+    (λ found is. is ∙ ap (value_at c.args.name.now) (sym (globals_stay (constraints_in c.args.self.now.body.now) (values c.args.self.now.took.now) (tested_value c.args.self.now.tested) (g.L.Lookup.bindings c.args.self.now.before.now) c.args.check)))
     c.global_variable.ensures
