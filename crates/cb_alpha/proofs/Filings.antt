@@ -37,6 +37,11 @@ bucket_of vs ms m ws e = by_option (group_of ms m)
     (λ none. some_none (values_at (filing vs ms) m) e (filed_nowhere vs ms m none))
     (λ n is. (n, is, sym (filed_in vs ms m n is) ∙ e))
 
+-- where no bucket has values, nobody has
+pub none_filed : (vs : Filing) (ms : Membership) → ((n : ℕ) → values_at vs n ≡ None) → (m : ℕ) → values_at (filing vs ms) m ≡ None
+none_filed vs ms none m =
+    by_option (values_at (filing vs ms) m) (λ e. e) (λ ws e. let b = bucket_of vs ms m ws e in some_none (values_at vs b.0) b.2 (none b.0))
+
 -- buckets that are used keep their values
 pub keeps : (vs vs' : Filing) (ms : Membership) → HaveValues vs ms → ((n : ℕ) → values_at vs n ≢ None → values_at vs' n ≡ values_at vs n) → KeepsValues vs vs' ms
 keeps vs vs' ms have kept m n e = kept n (have m n e)

@@ -1,5 +1,5 @@
 -- The numbers of the facts that are there, and whether there are any.
-use Rattle.std.proofs.Common.{◌≡◌, ◌≢◌, ◌∙◌, ◌+◌, ℕ, zero, suc, pred, List, [], ◌∷◌, Option, Some, None, ap, arith, cond, count_by, inl, inr, is_some, refl, sym}
+use Rattle.std.proofs.Common.{◌≡◌, ◌≢◌, ◌∙◌, ◌+◌, ℕ, zero, suc, pred, List, [], ◌∷◌, Option, Some, None, ap, arith, cond, count_by, inl, inr, is_some, refl, slice_index_or, sym}
 use Rattle.std.proofs.lemmas.Bool.{cases_eq}
 use Rattle.std.proofs.lemmas.List.Sums.{sum_by-cons}
 use Rattle.cb_alpha.proofs.FoundFacts.{gone_is, others_live}
@@ -14,15 +14,15 @@ use Rattle.cb_matches.proofs.Lists.{contains_in, in_contains}
 
 -- ---- how many can be read
 
-one_more : (f : ℕ × FactValue) (cs : Candidates) → count_by is_some (Some f ∷ cs) ≡ 1 + count_by is_some cs
-one_more f cs = sum_by-cons (λ o. cond (is_some o) 1 0) (Some f) cs
+one_more : {A : Type 0} (a : A) (cs : List (Option A)) → count_by is_some (Some a ∷ cs) ≡ 1 + count_by is_some cs
+one_more a cs = sum_by-cons (λ o. cond (is_some o) 1 0) (Some a) cs
 
 -- none can
-pub none_counted : (cs : Candidates) → count_by is_some cs ≡ 0 → (n : ℕ) → candidate_in cs n ≡ None
+pub none_counted : {A : Type 0} (cs : List (Option A)) → count_by is_some cs ≡ 0 → (n : ℕ) → slice_index_or cs n None ≡ None
 none_counted [] none n = refl
 none_counted (None ∷ cs) none zero = refl
 none_counted (None ∷ cs) none (suc n) = none_counted cs none n
-none_counted (Some f ∷ cs) none n = let more = one_more f cs in absurd (omega (arith, none, more))
+none_counted (Some a ∷ cs) none n = let more = one_more a cs in absurd (omega (arith, none, more))
 
 pub counted_none : (cs : Candidates) → ((n : ℕ) → candidate_in cs n ≡ None) → count_by is_some cs ≡ 0
 counted_none [] none = refl

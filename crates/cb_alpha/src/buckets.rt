@@ -1,5 +1,5 @@
 //! Members by the values that they are joined on.
-ghost use Rattle.std.specs.Prelude.{◌≡◌, ℕ, [], IfOk, List, None, OnErr, OnOk, Some, option_copied};
+ghost use Rattle.std.specs.Prelude.{◌≡◌, ℕ, [], IfOk, List, None, OnErr, OnOk, Some, option_copied, true};
 ghost use Rattle.cb_alpha.specs.Buckets.{AreFirstWithin, AreLastWithin, AreSameFilings, AreWithValues, AreWithin, Refiles, values_at};
 
 use crate::all_buckets::{best_of_all, members_of_all};
@@ -95,6 +95,13 @@ impl Buckets {
         };
         self.members.remove(member);
         drop_empty(&mut self.numbers, &mut self.buckets, &self.members, bucket);
+    }
+
+    /// Whether nothing is filed.
+    pub fn is_empty(&self) -> bool
+        ensures { result ≡ true → (member : ℕ) → values_at self.now member ≡ None }
+    {
+        self.buckets.is_empty()
     }
 
     /// The members with these values.

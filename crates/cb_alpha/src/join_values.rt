@@ -122,6 +122,7 @@ impl PartialEq for JoinValues {
     fn eq(&self, other: &JoinValues) -> bool {
         match (&self.kept, &other.kept) {
             (Kept::One([one]), Kept::One([another])) => one == another,
+            (Kept::Two([a, b]), Kept::Two([c, d])) => a == c && b == d,
             _ => self.as_slice() == other.as_slice(),
         }
     }

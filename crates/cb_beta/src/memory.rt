@@ -1,5 +1,5 @@
 //! A beta memory: the tokens of a list of partial matches, and what a change does to them.
-ghost use Rattle.std.specs.Prelude.{◌≡◌, ◌⊎◌, [], IfOk, OnErr, OnOk, Some, is_some};
+ghost use Rattle.std.specs.Prelude.{◌≡◌, ◌⊎◌, [], IfOk, OnErr, OnOk, Some, is_some, true, ℕ};
 ghost use Rattle.std.specs.Option.{option_copied};
 ghost use Rattle.cb_matches.specs.Chains.{In};
 ghost use Rattle.cb_beta.specs.BetaMemories.{AreLiveNumbers, Gains, HasFact, IsEnded, IsSame, Loses, live};
@@ -55,6 +55,15 @@ impl BetaMemory {
             gone: Vec::new(alloc),
             come: Vec::new(alloc),
         }
+    }
+
+    /// Whether there is no token, and none was when the change began.
+    pub fn is_empty(&self) -> bool
+        ensures none { result ≡ true → (number : ℕ) → token_at self.now.tokens number ≡ None }
+        ensures gone { result ≡ true → self.now.gone ≡ [] }
+        ensures come { result ≡ true → self.now.come ≡ [] }
+    {
+        self.tokens.is_empty() && self.gone.is_empty() && self.come.is_empty()
     }
 
     /// The token with a number, if there is one, or was when the change began.

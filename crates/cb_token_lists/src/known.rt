@@ -55,11 +55,11 @@ impl Lookup for Grown<'_, '_> {
         (partial_at g.before.lists.sources.now g.before.lists.lists.now g.before.list g.before.number).env) };
 
     fn variable(&self, name: &Name) -> Result<Option<Value>, NoMemory> {
-        let before = self.before;
-        if before.list == 0 && self.given.is_none() {
+        if self.before.list == 0 && self.given.is_none() {
             // nothing stands before the first pattern
             return Ok(given_by_address(self.address, self.index, name));
         }
+        let before = self.before;
         let name = Sought::new(name);
         match given_with(self.given, self.address, self.index, &name)? {
             Some(value) => Ok(Some(value)),
