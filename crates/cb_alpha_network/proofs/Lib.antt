@@ -3,6 +3,7 @@ mod Changes
 mod Counted
 mod Filled
 mod Found
+mod LastPlaces
 mod LooseShapes
 mod Numbered
 mod OneByOne

@@ -188,3 +188,11 @@ key_stays test (k ∷ ks) z (inr i) f =
     by_test (test k)
     (λ t. subst (λ b. In z (cond b ks (k ∷ remove_key test ks))) (sym t) i)
     (λ t. subst (λ b. In z (cond b ks (k ∷ remove_key test ks))) (sym t) (inr (key_stays test ks z i f)))
+
+-- what is left was there
+pub key_left : {K : Type 0} (test : K → Bool) (ks : List K) (z : K) → In z (remove_key test ks) → In z ks
+key_left test [] z i = i
+key_left test (k ∷ ks) z i =
+    by_test (test k)
+    (λ t. inr (subst (λ b. In z (cond b ks (k ∷ remove_key test ks))) t i))
+    (λ f. elim (subst (λ b. In z (cond b ks (k ∷ remove_key test ks))) f i) as (λ _. In z (k ∷ ks)) [ inl e ↦ inl e | inr j ↦ inr (key_left test ks z j) ])

@@ -14,6 +14,7 @@ mod asked; // the table of what patterns ask for
 mod changing; // the changes of the memories that are found for a fact
 mod field_places; // places of fields in a fact
 mod filling; // the facts that have a shape
+mod last_places; // the places of the nodes that the last change concerned
 mod memories; // alpha memories by number
 mod network; // the alpha network
 mod node_place; // the place of a pattern among the rules

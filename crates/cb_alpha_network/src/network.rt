@@ -12,10 +12,11 @@ ghost use Rattle.cb_fit.specs.Shapes.{SelectionValue};
 ghost use Rattle.cb_matches.specs.Order.{IsRising};
 
 use crate::asked::Asked;
-use crate::changing::{add_places, assert_found, retract_found};
+use crate::changing::{assert_found, retract_found};
 use crate::filling::fill;
+use crate::last_places::LastPlaces;
 use crate::memories::Memories;
-use crate::node_place::{NodePlace, order};
+use crate::node_place::NodePlace;
 use crate::user::{User, is_used};
 use cb_alpha::AlphaMemory;
 use cb_alpha::laws::{
@@ -54,6 +55,8 @@ pub struct AlphaNetwork<T> {
     memories: Memories,
     /// The numbers that were found for a fact: kept for its room.
     found: Vec<u32>,
+    /// The places that were found for the last change.
+    last: LastPlaces,
 }
 
 impl<T> Model for AlphaNetwork<T> {
@@ -61,6 +64,7 @@ impl<T> Model for AlphaNetwork<T> {
     ghost use Rattle.std.specs.Prelude.{length};
     ghost use Rattle.cb_alpha_network.specs.Codes.{network_code};
     ghost use Rattle.cb_alpha_network.specs.Internal.{IsNetwork};
+    ghost use Rattle.cb_alpha_network.specs.LastPlaces.{AreLast};
     ghost use Rattle.cb_alpha_network.specs.Networks.{AlphaNetworkValue};
     ghost use Rattle.cb_constraints.specs.Internal.Codes.{pattern_code};
     ghost use Rattle.cb_fit.specs.Internal.Codes.{selection_code};
@@ -71,7 +75,7 @@ impl<T> Model for AlphaNetwork<T> {
 
     ghost view = { λ n. record { shapes = n.shapes.slots; users = n.users.keys; memories = n.memories } };
 
-    ghost invariant = { λ n. IsNetwork n.asked n.numbers n.shapes.slots n.users.keys (length n.memories) };
+    ghost invariant = { λ n. IsNetwork n.asked n.numbers n.shapes.slots n.users.keys (length n.memories) × AreLast n.users.keys n.last };
 }
 
 impl<T> AlphaNetwork<T> {
@@ -86,6 +90,7 @@ impl<T> AlphaNetwork<T> {
             users: BTreeSet::new(alloc),
             memories: Memories::new(alloc),
             found: Vec::new(alloc),
+            last: LastPlaces::new(alloc),
         }
     }
 
@@ -119,6 +124,7 @@ impl<T> AlphaNetwork<T> {
         patterns_of_one_shape_are_equal_without_variables();
         let shape = pattern.shape(alloc)?;
         if let Some(number) = self.numbers.get(&shape).copied() {
+            self.last.forget();
             self.users.insert(User {
                 alpha: number,
                 place,
@@ -155,6 +161,7 @@ impl<T> AlphaNetwork<T> {
         let Ok(number) = u32::try_from(self.shapes.vacant_key()) else {
             return Err(NoMemory);
         };
+        self.last.forget();
         self.users.insert(User {
             alpha: number,
             place,
@@ -262,13 +269,14 @@ impl<T> AlphaNetwork<T> {
 
     /// Finds the places of the nodes that use shapes to whose memories a fact came or from which one went in this change, in their order,
     /// in place of what was found before.
-    pub fn places_changed(&self, found: &mut Vec<NodePlace>) -> Result<(), NoMemory>
-        ensures changed { OnOk result (HasChanged self.now found.new.items) }
+    pub fn places_changed(&mut self, found: &mut Vec<NodePlace>) -> Result<(), NoMemory>
+        ensures same { self.new ≡ self.old }
+        ensures changed { OnOk result (HasChanged self.old found.new.items) }
         ensures ordered { OnOk result (IsStrictlySortedBy place_cmp found.new.items) }
     {
+        self.last.find(&self.users, self.memories.changed())?;
         found.clear();
-        add_places(&self.users, self.memories.changed(), found)?;
-        order(found);
+        found.extend_from_slice(self.last.as_slice())?;
         Ok(())
     }
 

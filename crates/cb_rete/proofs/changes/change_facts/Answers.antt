@@ -9,8 +9,10 @@ use Rattle.cb_rete.specs.Changing.{IsTurn}
 
 pub returns-clause-turned : goal.returns-clause-turned
 returns-clause-turned g c =
-    λ turn same turning ready.
-    let v : AlphaNetworkValue = c.args.alphas.now in
+    λ turn was turning ready.
+    let v : AlphaNetworkValue = c.places_changed.new.self in
+    let stays : v ≡ c.args.alphas.now = c.in_ok-places_changed.ensures.same in
+    let same : turn.network ≡ v = was ∙ sym stays in
     let given : MemoryValues = c.memories.result.now in
     let found : List NodePlace = c.as_slice.result.now in
     let memories : given ≡ v.memories = c.memories.ensures.memories in
@@ -19,7 +21,7 @@ returns-clause-turned g c =
       memories = memories ∙ ap (λ (it : AlphaNetworkValue). it.memories) (sym same);
       within = subst (λ (it : AlphaNetworkValue). (n : ℕ) (p : PatternValue) → IsShapeAt it n p → n < length given) (sym same)
           (subst (λ (ms : MemoryValues). (n : ℕ) (p : PatternValue) → IsShapeAt v n p → n < length ms) (sym memories) c.memories.ensures.within);
-      changed = subst (λ (it : AlphaNetworkValue). HasChanged it found) (sym same) (subst (λ (them : List NodePlace). HasChanged v them) (sym c.as_slice.ensures.value) c.in_ok-places_changed.ensures.changed);
+      changed = subst (λ (it : AlphaNetworkValue). HasChanged it found) (sym was) (subst (λ (them : List NodePlace). HasChanged c.args.alphas.now them) (sym c.as_slice.ensures.value) c.in_ok-places_changed.ensures.changed);
     } in
     let done = c.in_ok-change_rules.ensures turn is ready in
     let end = c.end_change.ensures in

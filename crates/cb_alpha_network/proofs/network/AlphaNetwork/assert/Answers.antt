@@ -10,7 +10,7 @@ pub assert_found-requires-clause-absent : goal.assert_found-requires-clause-abse
 assert_found-requires-clause-absent g c =
     let old = c.self.inside in
     let v : AlphaNetworkValue = record { shapes = old.shapes.slots; users = old.users.keys; memories = old.memories } in
-    none_with old.asked old.numbers v _ c.self.invariant c.args.index (subst (λ it. HasNoFact it c.args.index) (sym c.self.view_is) c.requires.free)
+    none_with old.asked old.numbers v _ c.self.invariant.0 c.args.index (subst (λ it. HasNoFact it c.args.index) (sym c.self.view_is) c.requires.free)
 
 pub returns-clause-changes : goal.returns-clause-changes
 returns-clause-changes g c =
@@ -34,7 +34,7 @@ returns-clause-turn g c =
     let found : List ℕ = c.numbers_for.new.found.items in
     let ms' = c.assert_found.new.memories in
     let v : AlphaNetworkValue = record { shapes = old.shapes.slots; users = old.users.keys; memories = old.memories } in
-    let all : AreFound v f found = are_found old.asked old.numbers v _ c.self.invariant f found c.in_ok-numbers_for.ensures.found in
+    let all : AreFound v f found = are_found old.asked old.numbers v _ c.self.invariant.0 f found c.in_ok-numbers_for.ensures.found in
     on_ok_weaker c.assert_found.result
     (λ done fs was free.
     asserted_turns v ms' ix f found (subst (λ it. ChangesThose (λ n. IsAsserted (shape_at v n) ix f) it old.memories ms') c.as_slice.ensures.value done)
@@ -46,5 +46,5 @@ returns-clause-probes g c =
     let old = c.self.inside in
     let v : AlphaNetworkValue = record { shapes = old.shapes.slots; users = old.users.keys; memories = old.memories } in
     let most = c.assert_found.ensures.probes in
-    let few = shapes_within old.asked old.numbers old.shapes.slots old.users.keys _ c.self.invariant in
+    let few = shapes_within old.asked old.numbers old.shapes.slots old.users.keys _ c.self.invariant.0 in
     subst (λ it. c.assert_found.new.meter ≤ c.args.meter.now + use_count it) c.self.view_is (omega (arith, most, few))

@@ -1,6 +1,7 @@
 use Rattle.std.proofs.Common.{◌≡◌, ◌∙◌, ◌+◌, List, None, Some, false, true, length, refl, rules, subst, sym}
 use Rattle.std.specs.BTreeMap as tree
 use Rattle.cb_alpha_network.proofs.Changes.{on_any}
+use Rattle.cb_alpha_network.proofs.LastPlaces.{last_left}
 use Rattle.cb_alpha_network.proofs.Numbered.{network_left, network_less, not_there}
 use Rattle.cb_alpha_network.proofs.Shapes.{KeepsOthers, alphas_still, dropped, shape_less, users_less}
 use Rattle.cb_alpha_network.proofs.Users.{one_user_less, other_alpha, user_at, user_stays}
@@ -15,10 +16,12 @@ use Rattle.cb_matches.specs.Chains.{In}
 pub invariant_of-self : goal.invariant_of-self
 invariant_of-self g c =
     let old = c.self.inside in
-    let none : shape_in old.shapes.slots c.args.number ≡ None = search rules in
-    network_left old.asked old.asked old.numbers old.numbers old.shapes.slots old.shapes.slots old.users.keys c.remove.new.self.keys (length old.memories) (length old.memories) c.self.invariant c.args.number
-    (λ u d i. subst (In u) (sym c.remove.ensures.keys) (user_stays old.users.keys (user_at c.args.number c.args.place) u (other_alpha u c.args.number c.args.place d) i))
-    (λ q at. absurd (not_there (shape_in old.shapes.slots c.args.number) q none at))
+    let none : shape_in old.shapes.slots c.args.number ≡ None = search rules in (
+      network_left old.asked old.asked old.numbers old.numbers old.shapes.slots old.shapes.slots old.users.keys c.remove.new.self.keys (length old.memories) (length old.memories) c.self.invariant.0 c.args.number
+          (λ u d i. subst (In u) (sym c.remove.ensures.keys) (user_stays old.users.keys (user_at c.args.number c.args.place) u (other_alpha u c.args.number c.args.place d) i))
+          (λ q at. absurd (not_there (shape_in old.shapes.slots c.args.number) q none at)),
+      last_left old.users.keys c.remove.new.self.keys old.last (user_at c.args.number c.args.place) c.remove.ensures.keys c.self.invariant.1,
+    )
 
 pub returns-in_default-clause-others : goal.returns-in_default-clause-others
 returns-in_default-clause-others g c =
@@ -38,10 +41,12 @@ returns-in_default-clause-alphas g c =
 pub invariant_of-self-then-is_used : goal.invariant_of-self-then-is_used
 invariant_of-self-then-is_used g c =
     let old = c.self.inside in
-    let us' : List User = c.remove-2.new.self.keys in
-    network_left old.asked old.asked old.numbers old.numbers old.shapes.slots old.shapes.slots old.users.keys us' (length old.memories) (length old.memories) c.self.invariant c.args.number
-    (λ u d i. subst (In u) (sym c.remove-2.ensures.keys) (user_stays old.users.keys (user_at c.args.number c.args.place) u (other_alpha u c.args.number c.args.place d) i))
-    (λ q at. c.is_used.ensures.0 c.if-is_used.true)
+    let us' : List User = c.remove-2.new.self.keys in (
+      network_left old.asked old.asked old.numbers old.numbers old.shapes.slots old.shapes.slots old.users.keys us' (length old.memories) (length old.memories) c.self.invariant.0 c.args.number
+          (λ u d i. subst (In u) (sym c.remove-2.ensures.keys) (user_stays old.users.keys (user_at c.args.number c.args.place) u (other_alpha u c.args.number c.args.place d) i))
+          (λ q at. c.is_used.ensures.0 c.if-is_used.true),
+      last_left old.users.keys us' old.last (user_at c.args.number c.args.place) c.remove-2.ensures.keys c.self.invariant.1,
+    )
 
 pub returns-then-is_used-clause-others : goal.returns-then-is_used-clause-others
 returns-then-is_used-clause-others g c =
@@ -75,11 +80,13 @@ invariant_of-self-in-Some-try_remove g c =
     let lost : SelectionValue = c.in-Some.selection.now in
     let there : shape_in old.shapes.slots number ≡ Some lost = search rules in
     let updates : tree.Updates shape_cmp old.numbers c.remove-3.new.self (key_of lost) None =
-    subst (λ k. tree.Updates shape_cmp old.numbers c.remove-3.new.self k None) c.in_ok-shape.ensures c.remove-3.ensures.updates in
-    network_less old.asked c.remove-in-Some-try_remove.new.self old.numbers c.remove-3.new.self old.shapes.slots c.try_remove.new.self.slots old.users.keys us' (length old.memories) (length c.reset.new.self)
-    c.self.invariant number c.in-Some-try_remove.ensures.updates.others lost there c.in-Some-try_remove.ensures.updates.changed updates
-    c.remove-in-Some-try_remove.ensures c.reset.ensures.long
-    (λ u d i. subst (In u) (sym c.remove-2.ensures.keys) (user_stays old.users.keys (user_at number c.args.place) u (other_alpha u number c.args.place d) i))
+    subst (λ k. tree.Updates shape_cmp old.numbers c.remove-3.new.self k None) c.in_ok-shape.ensures c.remove-3.ensures.updates in (
+      network_less old.asked c.remove-in-Some-try_remove.new.self old.numbers c.remove-3.new.self old.shapes.slots c.try_remove.new.self.slots old.users.keys us' (length old.memories) (length c.reset.new.self)
+          c.self.invariant.0 number c.in-Some-try_remove.ensures.updates.others lost there c.in-Some-try_remove.ensures.updates.changed updates
+          c.remove-in-Some-try_remove.ensures c.reset.ensures.long
+          (λ u d i. subst (In u) (sym c.remove-2.ensures.keys) (user_stays old.users.keys (user_at number c.args.place) u (other_alpha u number c.args.place d) i)),
+      last_left old.users.keys us' old.last (user_at number c.args.place) c.remove-2.ensures.keys c.self.invariant.1,
+    )
 
 pub returns-in-Some-try_remove-clause-others : goal.returns-in-Some-try_remove-clause-others
 returns-in-Some-try_remove-clause-others g c =

@@ -27,7 +27,7 @@ returns-clause-turn g c =
     let found : List ℕ = c.numbers_for.new.found.items in
     let ms' = c.retract_found.new.memories in
     let v : AlphaNetworkValue = record { shapes = old.shapes.slots; users = old.users.keys; memories = old.memories } in
-    let all : AreFound v f found = are_found old.asked old.numbers v _ c.self.invariant f found c.in_ok-numbers_for.ensures.found in
+    let all : AreFound v f found = are_found old.asked old.numbers v _ c.self.invariant.0 f found c.in_ok-numbers_for.ensures.found in
     on_ok_weaker c.retract_found.result
     (λ done fs was rising there.
     retracted_turns v ms' ix f found (subst (λ it. ChangesThose (λ n. IsRetracted ix) it old.memories ms') c.as_slice.ensures.value done)
