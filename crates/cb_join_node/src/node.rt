@@ -102,6 +102,9 @@ impl<T> JoinNode<T> {
         let Some(before) = lists.lists.get(self.from) else {
             return Ok(());
         };
+        if before.is_empty() {
+            return Ok(());
+        }
         if is_untouched(before, alpha) {
             return Ok(());
         }

@@ -8,7 +8,7 @@ use Rattle.cb_join_node.proofs.Bounds.{added_bound, come_at_most, facts_at_most,
 use Rattle.cb_join_node.proofs.Changing.{changed, kept, on_ok_both}
 use Rattle.cb_join_node.proofs.Meeting.{came_known, are_selected, stays_known}
 use Rattle.cb_join_node.proofs.Refiled.{all_forgotten}
-use Rattle.cb_join_node.proofs.Untouched.{untouched, untouched_kept}
+use Rattle.cb_join_node.proofs.Untouched.{nothing_before, nothing_before_kept, untouched, untouched_kept}
 use Rattle.cb_join_node.proofs.node.JoinNode.change.Goals as goal
 use Rattle.cb_join_node.specs.Bounds.{kept_probes}
 use Rattle.cb_join_node.specs.Meetings.{KnowsValues}
@@ -126,6 +126,37 @@ returns-clause-probes g c =
     whole_bound t t₁ c.join_come.new.meter (length c.come.result.now) most (kept_probes p (added_fact alpha) kept) (length (partials_come old new)) first second come)
     c.join_come.ensures.probes
 
+pub returns-then-is_empty-clause-after : goal.returns-then-is_empty-clause-after
+returns-then-is_empty-clause-after g c = λ before fs fs' old new is given.
+    let node = c.args.self.now in
+    let ls = c.args.lists.now.lists.now in
+    let at = partial_at c.args.lists.now.sources.now ls node.from in
+    let alpha = c.args.alpha.now in
+    let m : BetaMemoryValue = c.in-Some.before.now in
+    let own = c.args.own.now in
+    let look = c.in-Some.ensures.lookup in
+    let one : m ≡ before = same_some _ (got ls node.from m look.3.0 (look.3.1 m)) is in
+    let b : IsBefore node at m alpha own fs fs' old new = subst (λ it. IsBefore node at it alpha own fs fs' old new) (sym one) given in
+    let none = c.is_empty.ensures in
+    let so = c.if-is_empty.true in
+    subst (λ it. IsAfter node at it alpha own fs fs' old new) one
+    (nothing_before node at m alpha own fs fs' old new b (none.come so) (none.none so) (ways_rise c.the_ways_rise_by_their_cuts.ensures) c.a_fact_that_fits_is_selected.ensures)
+
+pub returns-then-is_empty-clause-keeps : goal.returns-then-is_empty-clause-keeps
+returns-then-is_empty-clause-keeps g c = λ before fs fs' old new is given.
+    let node = c.args.self.now in
+    let ls = c.args.lists.now.lists.now in
+    let at = partial_at c.args.lists.now.sources.now ls node.from in
+    let alpha = c.args.alpha.now in
+    let m : BetaMemoryValue = c.in-Some.before.now in
+    let own = c.args.own.now in
+    let look = c.in-Some.ensures.lookup in
+    let one : m ≡ before = same_some _ (got ls node.from m look.3.0 (look.3.1 m)) is in
+    let b : IsBefore node at m alpha own fs fs' old new = subst (λ it. IsBefore node at it alpha own fs fs' old new) (sym one) given in
+    let none = c.is_empty.ensures in
+    let so = c.if-is_empty.true in
+    nothing_before_kept node at m alpha own fs fs' old new b (none.come so) (none.none so)
+
 pub returns-then-is_untouched-clause-after : goal.returns-then-is_untouched-clause-after
 returns-then-is_untouched-clause-after g c = λ before fs fs' old new is given.
     let node = c.args.self.now in
@@ -139,7 +170,7 @@ returns-then-is_untouched-clause-after g c = λ before fs fs' old new is given.
     let b : IsBefore node at m alpha own fs fs' old new = subst (λ it. IsBefore node at it alpha own fs fs' old new) (sym one) given in
     let none = c.is_untouched.ensures c.if-is_untouched.true in
     subst (λ it. IsAfter node at it alpha own fs fs' old new) one
-    (untouched node at m alpha own fs fs' old new b none.0 none.1 none.2 none.3 (ways_rise c.the_ways_rise_by_their_cuts.ensures) c.a_fact_that_fits_is_selected.ensures)
+    (untouched node at m alpha own fs fs' old new b none.1 none.0 none.2 none.3 (ways_rise c.the_ways_rise_by_their_cuts.ensures) c.a_fact_that_fits_is_selected.ensures)
 
 pub returns-then-is_untouched-clause-keeps : goal.returns-then-is_untouched-clause-keeps
 returns-then-is_untouched-clause-keeps g c = λ before fs fs' old new is given.
@@ -153,4 +184,4 @@ returns-then-is_untouched-clause-keeps g c = λ before fs fs' old new is given.
     let one : m ≡ before = same_some _ (got ls node.from m look.3.0 (look.3.1 m)) is in
     let b : IsBefore node at m alpha own fs fs' old new = subst (λ it. IsBefore node at it alpha own fs fs' old new) (sym one) given in
     let none = c.is_untouched.ensures c.if-is_untouched.true in
-    untouched_kept node at m alpha own fs fs' old new b none.0 none.1 none.2 none.3
+    untouched_kept node at m alpha own fs fs' old new b none.1 none.0 none.2 none.3
