@@ -3,6 +3,7 @@ pub mod Among
 pub mod Between
 pub mod Changed
 pub mod Completed
+pub mod Empty
 pub mod InOrder
 pub mod Looked
 pub mod Nearest

@@ -126,7 +126,19 @@ pub same_values : (ks js : List JoinField) (o : Option Fact) → AreSameFields k
 same_values ks js None same = refl
 same_values ks js (Some f) same = same f.1.content
 
+-- a list that isn't empty has a member
+pub some_member : (ys : List ℕ) → (ys ≡ [] → ⊥) → (n : ℕ) × In n ys
+some_member [] h = absurd (h refl)
+some_member (y ∷ ys) h = (y, inl refl)
+
 module _ (alpha : AlphaMemoryValue) (join : ℕ) (js : List JoinField) (has : HasJoin alpha join js) (vs : List Value) (xs : List ℕ) (these : AreFactsWith alpha has.0 vs xs) where
+  -- they are those with these values in the fields
+  pub found_by_fields : AreFactsWith alpha js vs xs
+  found_by_fields = record {
+    are = λ n. (λ h. sym (same_values has.0 js (live alpha n) has.2) ∙ (these.are n).0 h, λ e. (these.are n).1 (same_values has.0 js (live alpha n) has.2 ∙ e));
+    once = these.once;
+  }
+
   pub found_has : (n : ℕ) → In n xs → values_in js (live alpha n) ≡ Some vs
   found_has n h = sym (same_values has.0 js (live alpha n) has.2) ∙ (these.are n).0 (in_contains xs n h)
 
@@ -134,11 +146,7 @@ module _ (alpha : AlphaMemoryValue) (join : ℕ) (js : List JoinField) (has : Ha
   has_found n e = contains_in xs n ((these.are n).1 (same_values has.0 js (live alpha n) has.2 ∙ e))
 
   pub some_found : (xs ≡ [] → ⊥) → HasOne js (live alpha) vs
-  some_found some = let n = member xs some in (n.0, found_has n.0 n.1)
-    where
-      member : (ys : List ℕ) → (ys ≡ [] → ⊥) → (n : ℕ) × In n ys
-      member [] h = absurd (h refl)
-      member (y ∷ ys) h = (y, inl refl)
+  some_found some = let n = some_member xs some in (n.0, found_has n.0 n.1)
 
   pub none_found : xs ≡ [] → HasOne js (live alpha) vs → ⊥
   none_found none h = subst (In h.0) none (has_found h.0 h.1)

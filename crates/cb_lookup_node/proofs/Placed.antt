@@ -3,18 +3,16 @@ use Rattle.std.proofs.Common.{◌≡◌, ◌≢◌, ◌∙◌, ◌+◌, ◌<◌,
 use Rattle.std.proofs.lemmas.Bool.{cases_eq}
 use Rattle.std.specs.Bool.{Decides}
 use Rattle.cb_alpha.proofs.ReadFacts.{live_read, not_both, same_some}
-use Rattle.cb_alpha.specs.AlphaMemories.{AlphaMemoryValue, AreFactsWith, candidate_in, live, values_in}
+use Rattle.cb_alpha.specs.AlphaMemories.{AlphaMemoryValue, candidate_in, live, values_in}
 use Rattle.cb_alpha.specs.Buckets.{Filing, Refiles, values_at}
 use Rattle.cb_alpha.specs.JoinValues.{variable_values}
-use Rattle.cb_alpha.specs.Turning.{HasJoin}
-use Rattle.cb_beta.proofs.Members.{in_either, in_left, in_more, in_right, more_in, once_append}
+use Rattle.cb_beta.proofs.Members.{contains_in, in_contains, in_either, in_left, in_more, in_right, more_in, once_append}
 use Rattle.cb_facts.specs.declared.value.Value.{Value}
 use Rattle.cb_fit.specs.declared.comparison.ComparedField.{ComparedField}
 use Rattle.cb_fit.specs.declared.join_fields.JoinField.{JoinField}
 use Rattle.cb_groups.specs.Groups.{Membership, Updates, group_of}
-use Rattle.cb_lookup_node.proofs.Looked.{found_has, has_found}
 use Rattle.cb_lookup_node.proofs.Seen.{has_fact}
-use Rattle.cb_lookup_node.specs.Internal.{AreReplaced, HasWitness, IsOut, IsPlaced}
+use Rattle.cb_lookup_node.specs.Internal.{AreReplaced, HasItsFacts, HasWitness, IsOut, IsPlaced}
 use Rattle.cb_lookup_node.specs.LookupNodes.{HasPlace, SeesFact, compares_with}
 use Rattle.cb_lookup_node.specs.declared.witnesses.Witnesses.{Witnesses}
 use Rattle.cb_matches.proofs.Growth.{Fact}
@@ -107,22 +105,22 @@ module _ (cs : List ComparedField) (js : List JoinField) (alpha : AlphaMemoryVal
     abbrev m : Partial
     m = at n
 
-    module _ (join : ℕ) (has : HasJoin alpha join js) (vs : List Value) (is : variable_values js m.env ≡ Some vs) (xs : List ℕ) (these : AreFactsWith alpha has.0 vs xs) where
+    module _ (vs : List Value) (xs : List ℕ) (its : HasItsFacts js alpha vs xs m) where
       read : (k : ℕ) → values_in js (facts k) ≡ Some vs → facts k ≡ candidate_in alpha.candidates k
       read k e = let f = has_fact js (facts k) vs e in let r = live_read alpha k f.0 f.1 in f.1 ∙ sym r.0
 
       -- one of the facts that are found compares so
       pub one_seen : (k : ℕ) → In k xs → compares_with cs (candidate_in alpha.candidates k) m ≡ true → SeesFact cs js facts m k
       one_seen k h so =
-          let e = found_has alpha join js has vs xs these k h in
-          (vs, is, e, ap (λ it. compares_with cs it m) (read k e) ∙ so)
+          let e = (its.1.are k).0 (in_contains xs k h) in
+          (vs, its.0, e, ap (λ it. compares_with cs it m) (read k e) ∙ so)
 
       -- none of them does
       pub none_seen : ((k : ℕ) → In k xs → compares_with cs (candidate_in alpha.candidates k) m ≡ false) → (k : ℕ) → SeesFact cs js facts m k → ⊥
       none_seen none k (us, given, e, so) =
-          let same : us ≡ vs = same_some (variable_values js m.env) given is in
+          let same : us ≡ vs = same_some (variable_values js m.env) given its.0 in
           let mine : values_in js (facts k) ≡ Some vs = e ∙ ap Some same in
-          let h = has_found alpha join js has vs xs these k mine in
+          let h = contains_in xs k ((its.1.are k).1 mine) in
           not_both (compares_with cs (candidate_in alpha.candidates k) m) (ap (λ it. compares_with cs it m) (sym (read k mine)) ∙ so) (none k h)
 
 -- tests of what there is

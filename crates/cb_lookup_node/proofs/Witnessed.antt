@@ -2,18 +2,20 @@
 use Rattle.std.proofs.Common.{◌≡◌, ◌≢◌, ◌∙◌, ◌⊎◌, ◌↔◌, ℕ, Bool, false, List, [], Option, Some, None, ap, filter, inl, inr, refl, subst, sym}
 use Rattle.std.proofs.lemmas.Bool.{false_from_ne_true}
 use Rattle.cb_alpha.proofs.ReadFacts.{all_live, live_read, number_is, read_live, read_were, same_some, some_none, were_read}
-use Rattle.cb_alpha.specs.AlphaMemories.{AlphaMemoryValue, candidate_in, live, values_in}
+use Rattle.cb_alpha.specs.AlphaMemories.{AlphaMemoryValue, AreFactsWith, candidate_in, live, values_in}
 use Rattle.cb_alpha.specs.Buckets.{AreWithValues, values_at}
 use Rattle.cb_alpha.specs.JoinValues.{variable_values}
-use Rattle.cb_alpha.specs.Turning.{is_number, were_in}
+use Rattle.cb_alpha.specs.Turning.{HasJoin, is_number, were_in}
 use Rattle.cb_beta.proofs.Members.{apart_of, by_in, contains_in, in_contains}
 use Rattle.cb_facts.specs.declared.value.Value.{Value}
 use Rattle.cb_fit.specs.declared.comparison.ComparedField.{ComparedField}
 use Rattle.cb_fit.specs.declared.join_fields.JoinField.{JoinField}
 use Rattle.cb_groups.specs.Groups.{AreMembers, Releases, group_of}
+use Rattle.cb_lookup_node.proofs.Looked.{found_by_fields, some_member}
+use Rattle.cb_lookup_node.proofs.Placed.{none_replaced}
 use Rattle.cb_lookup_node.proofs.Seen.{has_fact}
 use Rattle.cb_lookup_node.proofs.Staying.{fact_so}
-use Rattle.cb_lookup_node.specs.Internal.{AreReplaced, HasGained, HasLost, HasWitness, IsOut, IsPlaced, IsSeenFirst}
+use Rattle.cb_lookup_node.specs.Internal.{AreReplaced, GiveValuesOfGone, HasGained, HasItsFacts, HasLost, HasWitness, IsOut, IsPlaced, IsSeenFirst}
 use Rattle.cb_lookup_node.specs.LookupNodes.{HasPlace, HaveWitnesses, Passes, SeesFact, SeesSome, compares_with}
 use Rattle.cb_lookup_node.specs.declared.witnesses.Witnesses.{Witnesses}
 use Rattle.cb_matches.proofs.Growth.{Fact}
@@ -258,6 +260,27 @@ module _ (cs : List ComparedField) (js : List JoinField) (alpha : AlphaMemoryVal
       nobody : (n : ℕ) → In n left.members → ⊥
       nobody n h = let had = (left.are n).0 h in none_is_some alpha.gone none had.1
 
+  -- those whose witness went gave the values that it has
+  pub gave_values : (There : ℕ → Type 0) (w : Witnesses) → HaveWitnesses cs js w at There (were_in alpha) → GiveValuesOfGone js alpha at w
+  gave_values There w kept n k gone e =
+      let sees = seen_place cs js (were_in alpha) (at n) (group_of w.given n) (values_at w.unseen n) k e (kept.there n (kept.given_there n k e)) in
+      (sees.0, sees.1, ap (values_in js) (sym (was_read (at n) k sees)) ∙ sees.2)
+
+  module _ (w : Witnesses) (gone : ℕ) (xs : List ℕ) (is : alpha.gone ≡ Some gone) (members : AreMembers w.given gone xs) (gave : GiveValuesOfGone js alpha at w) where
+    -- so the facts with its values are those of each
+    pub its_facts : (join : ℕ) (has : HasJoin alpha join js) (vs : List Value) (ys : List ℕ) → values_in js (candidate_in alpha.candidates gone) ≡ Some vs → AreFactsWith alpha has.0 vs ys
+        → (n : ℕ) → In n xs → HasItsFacts js alpha vs ys (at n)
+    its_facts join has vs ys found these n h =
+        let own = gave n gone is ((members.are n).0 (in_contains xs n h)) in
+        (own.1 ∙ ap Some (same_some (values_in js (candidate_in alpha.candidates gone)) own.2 found), found_by_fields alpha join js has vs ys these)
+
+    -- and where it has none, it was the witness of nobody
+    pub no_values : (xs ≡ [] → ⊥) → values_in js (candidate_in alpha.candidates gone) ≡ None → ⊥
+    no_values some none =
+        let n = some_member xs some in
+        let own = gave n.0 gone is ((members.are n.0).0 (in_contains xs n.0 n.1)) in
+        some_none (values_in js (candidate_in alpha.candidates gone)) own.2 none
+
   -- the fact that went leaves its partial matches
   pub lost_so : (w w₁ w' : Witnesses) (gone : ℕ) (xs lost : List ℕ) → alpha.gone ≡ Some gone → AreMembers w.given gone xs → Releases w.given w₁.given gone → w₁.unseen ≡ w.unseen
       → AreReplaced w₁ w' xs (IsPlaced cs js (live alpha) at) → ((n : ℕ) → In n lost ↔ (In n xs × Passes false (SeesSome cs js (live alpha) (at n))))
@@ -276,6 +299,14 @@ module _ (cs : List ComparedField) (js : List JoinField) (alpha : AlphaMemoryVal
     losing = are;
     once = once (apart_of xs members.once);
   }
+
+  -- it was the witness of nobody
+  pub nobody_lost : (w w₁ : Witnesses) (gone : ℕ) (xs : List ℕ) → alpha.gone ≡ Some gone → AreMembers w.given gone xs → Releases w.given w₁.given gone → w₁.unseen ≡ w.unseen → xs ≡ []
+      → HasLost cs js alpha at w w₁ xs
+  nobody_lost w w₁ gone xs is members released same none =
+      lost_so w w₁ w₁ gone xs xs is members released same
+      (subst (λ (it : List ℕ). AreReplaced w₁ w₁ it (IsPlaced cs js (live alpha) at)) (sym none) (none_replaced w₁ (IsPlaced cs js (live alpha) at)))
+      (λ n. (λ h. absurd (subst (In n) none h), λ h. h.0)) (λ once. once)
 
   pub none_lost : (w : Witnesses) → alpha.gone ≡ None → HasLost cs js alpha at w w []
   none_lost w none = record {
@@ -321,6 +352,9 @@ module _ (cs : List ComparedField) (js : List JoinField) (alpha : AlphaMemoryVal
 
   pub none_gained : (w : Witnesses) → alpha.come ≡ None → HasGained cs js alpha at w w []
   none_gained w none = none_given w (λ n h. none_is_some alpha.come none h.2)
+
+  pub nobody_gained : (w : Witnesses) → ((n : ℕ) → values_at w.unseen n ≡ None) → HasGained cs js alpha at w w []
+  nobody_gained w none = none_given w (λ n h. none_is_some (values_at w.unseen n) (none n) h.4)
 
   pub no_values_gained : (w : Witnesses) (come : ℕ) → alpha.come ≡ Some come → values_in js (candidate_in alpha.candidates come) ≡ None → HasGained cs js alpha at w w []
   no_values_gained w come is none = none_given w (λ n h. none_is_some (values_in js (candidate_in alpha.candidates come)) none

@@ -1,8 +1,9 @@
 -- The partial matches that a change of facts turns, by the values of the facts.
 use Rattle.std.specs.Prelude.{◌≡◌, ◌≢◌, ◌⊎◌, ◌↔◌, ℕ, Bool, true, false, List, Option, Some, None, length, if◌then◌else◌}
 use Rattle.std.specs.Option.{option_and_then}
-use Rattle.cb_alpha.specs.AlphaMemories.{AlphaMemoryValue, candidate_in, live, values_in}
+use Rattle.cb_alpha.specs.AlphaMemories.{AlphaMemoryValue, AreFactsWith, candidate_in, live, values_in}
 use Rattle.cb_alpha.specs.Buckets.{Filing, values_at}
+use Rattle.cb_alpha.specs.JoinValues.{variable_values}
 use Rattle.cb_alpha.specs.Turning.{HasJoin, were_in}
 use Rattle.cb_beta.specs.BetaMemories.{BetaMemoryValue, Loses}
 use Rattle.cb_beta.specs.Tokens.{TokenValue}
@@ -152,6 +153,18 @@ HasWitness one n witness filed = (witness ≡ Some one) × (filed ≡ None)
 -- each is kept no more
 abbrev pub IsOut : ℕ → Option ℕ → Option (List Value) → Type 0
 IsOut n witness filed = (witness ≡ None) × (filed ≡ None)
+
+-- a partial match gives these values to the fields, and these are the facts that have them
+abbrev pub HasItsFacts : List JoinField → AlphaMemoryValue → List Value → List ℕ → Partial → Type 0
+HasItsFacts fields alpha values numbers m = (variable_values fields m.env ≡ Some values) × AreFactsWith alpha fields values numbers
+
+-- a partial match gives the values to the fields that a fact has, which can be read
+abbrev pub GivesValuesOf : List JoinField → AlphaMemoryValue → Partial → ℕ → Type 0
+GivesValuesOf fields alpha m k = (values : List Value) × (variable_values fields m.env ≡ Some values) × (values_in fields (candidate_in alpha.candidates k) ≡ Some values)
+
+-- the partial matches whose witness went, if a fact went, give its values
+abbrev pub GiveValuesOfGone : List JoinField → AlphaMemoryValue → (ℕ → Partial) → Witnesses → Type 0
+GiveValuesOfGone fields alpha at kept = (n k : ℕ) → alpha.gone ≡ Some k → group_of kept.given n ≡ Some k → GivesValuesOf fields alpha (at n) k
 
 -- the fact that went was their witness, if one went: they have another, but for those that are lost
 pub record HasLost (cs : List ComparedField) (fields : List JoinField) (alpha : AlphaMemoryValue) (at : ℕ → Partial) (old new : Witnesses) (lost : List ℕ) : Type 0 where

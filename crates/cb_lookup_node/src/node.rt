@@ -119,6 +119,9 @@ impl<T> LookupNode<T> {
         let Some(before) = lists.lists.get(self.from) else {
             return Ok(());
         };
+        if before.is_empty() {
+            return Ok(());
+        }
         own.remove_all_children(before.gone())?;
         self.sight.change(
             lists,

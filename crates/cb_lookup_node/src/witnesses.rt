@@ -1,11 +1,12 @@
 //! Partial matches, each with a fact that it sees, if there is one.
-ghost use Rattle.std.specs.Prelude.{◌≡◌, ◌≢◌, ◌↔◌, ◌∷◌, ℕ, [], IfOk, None, OnOk};
+ghost use Rattle.std.specs.Prelude.{◌≡◌, ◌≢◌, ◌↔◌, ◌∷◌, ℕ, [], IfOk, List, None, OnOk};
 ghost use Rattle.std.specs.Bool.{Decides};
 ghost use Rattle.cb_alpha.specs.AlphaMemories.{live};
 ghost use Rattle.cb_alpha.specs.Buckets.{values_at};
 ghost use Rattle.cb_alpha.specs.Turning.{HasJoin};
+ghost use Rattle.cb_fit.specs.declared.join_fields.JoinField.{JoinField as Field};
 ghost use Rattle.cb_groups.specs.Groups.{group_of};
-ghost use Rattle.cb_lookup_node.specs.Internal.{AreReplaced, HasGained, HasLost, HasWitness, IsOut, IsPlaced};
+ghost use Rattle.cb_lookup_node.specs.Internal.{AreReplaced, GiveValuesOfGone, HasGained, HasItsFacts, HasLost, HasWitness, IsOut, IsPlaced};
 ghost use Rattle.cb_lookup_node.specs.LookupNodes.{Passes, SeesSome};
 ghost use Rattle.cb_matches.specs.Chains.{Chain, In};
 ghost use Rattle.cb_token_lists.specs.Partials.{partial_at};
@@ -13,7 +14,7 @@ ghost use Rattle.cb_token_lists.specs.Partials.{partial_at};
 use crate::passing::passes_by;
 use crate::seeing::{first_seen, keep_if, seeing};
 use crate::values::values_of_number;
-use cb_alpha::{AlphaMemory, Buckets, values_of_variables};
+use cb_alpha::{AlphaMemory, Buckets, JoinValues, values_of_variables};
 use cb_fit::{ComparedField, JoinField};
 use cb_forms::NoMemory;
 use cb_groups::Groups;
@@ -62,6 +63,8 @@ impl Witnesses {
         join: usize,
     ) -> Result<Vec<u32>, NoMemory>
         ensures { IfOk result (λ lost. HasJoin alpha.now join fields.now
+            → GiveValuesOfGone fields.now alpha.now
+            (partial_at lists.now.sources.now lists.now.lists.now from) self.old
             → HasLost compared.now fields.now alpha.now
             (partial_at lists.now.sources.now lists.now.lists.now from) self.old self.new lost.items) }
     {
@@ -71,8 +74,17 @@ impl Witnesses {
         };
         let mut left = Vec::new(lists.alloc);
         self.given.take(gone, &mut left)?;
+        if left.is_empty() {
+            return Ok(left);
+        }
+        // those whose witness it was give the values that it has
+        let found = values_of_number(lists.alloc, fields, alpha, Some(gone))?;
+        let Some(values) = found else {
+            return Ok(Vec::new(lists.alloc));
+        };
+        let facts = alpha.facts_with(join, &values);
         let numbers = left.as_slice();
-        self.place_all(lists, from, fields, compared, alpha, join, false, numbers)
+        self.place_alike(lists, from, compared, alpha, &values, facts, numbers)
     }
 
     /// The fact that came, if one did, becomes the witness of those that see it and have none. They are the answer. It is refused as the
@@ -92,6 +104,9 @@ impl Witnesses {
         let Some(come) = came else {
             return Ok(Vec::new(lists.alloc));
         };
+        if self.unseen.is_empty() {
+            return Ok(Vec::new(lists.alloc));
+        }
         let found = values_of_number(lists.alloc, fields, alpha, Some(come))?;
         let Some(values) = found else {
             return Ok(Vec::new(lists.alloc));
@@ -152,13 +167,75 @@ impl Witnesses {
             → Decides sees (SeesSome compared.now fields.now (live alpha.now)
             (partial_at lists.now.sources.now lists.now.lists.now from number))) }
     {
-        self.take_out(number);
         let reading = lists.reading(from, number);
         let found = values_of_variables(lists.alloc, fields, &reading)?;
         let Some(values) = found else {
+            self.take_out(number);
             return Ok(false);
         };
         let facts = alpha.facts_with(join, &values);
+        self.place_among(lists, from, compared, alpha, &values, facts, number)
+    }
+
+    /// The same of these, which give these values, where these are the facts that have them. The answer are those that see none.
+    fn place_alike(
+        &mut self,
+        lists: &TokenLists<'_>,
+        from: usize,
+        compared: &[ComparedField],
+        alpha: &AlphaMemory,
+        values: &JoinValues,
+        facts: &[u32],
+        numbers: &[u32],
+    ) -> Result<Vec<u32>, NoMemory>
+        ensures placed { OnOk result ((fields : List Field)
+            → ((n : ℕ) → In n numbers.now → HasItsFacts fields alpha.now values.now facts.now
+            (partial_at lists.now.sources.now lists.now.lists.now from n))
+            → AreReplaced self.old self.new numbers.now (IsPlaced compared.now fields (live alpha.now)
+            (partial_at lists.now.sources.now lists.now.lists.now from))) }
+        ensures are { IfOk result (λ lost. (fields : List Field)
+            → ((n : ℕ) → In n numbers.now → HasItsFacts fields alpha.now values.now facts.now
+            (partial_at lists.now.sources.now lists.now.lists.now from n))
+            → (n : ℕ) → In n lost.items
+            ↔ (In n numbers.now × (SeesSome compared.now fields (live alpha.now)
+            (partial_at lists.now.sources.now lists.now.lists.now from n) → ⊥))) }
+        ensures once { IfOk result (λ lost. (fields : List Field)
+            → ((n : ℕ) → In n numbers.now → HasItsFacts fields alpha.now values.now facts.now
+            (partial_at lists.now.sources.now lists.now.lists.now from n))
+            → Chain (λ (i : ℕ) (j : ℕ). i ≢ j) numbers.now
+            → Chain (λ (i : ℕ) (j : ℕ). i ≢ j) lost.items) }
+    {
+        let mut lost = Vec::new(lists.alloc);
+        for number in numbers {
+            let sees = self.place_among(lists, from, compared, alpha, values, facts, *number)?;
+            keep_if(!sees, *number, &mut lost)?;
+        }
+        Ok(lost)
+    }
+
+    /// The same of one. The answer is whether it sees a fact.
+    fn place_among(
+        &mut self,
+        lists: &TokenLists<'_>,
+        from: usize,
+        compared: &[ComparedField],
+        alpha: &AlphaMemory,
+        values: &JoinValues,
+        facts: &[u32],
+        number: u32,
+    ) -> Result<bool, NoMemory>
+        ensures placed { OnOk result ((fields : List Field)
+            → HasItsFacts fields alpha.now values.now facts.now
+            (partial_at lists.now.sources.now lists.now.lists.now from number)
+            → AreReplaced self.old self.new (number ∷ []) (IsPlaced compared.now fields (live alpha.now)
+            (partial_at lists.now.sources.now lists.now.lists.now from))) }
+        ensures sees { IfOk result (λ sees. (fields : List Field)
+            → HasItsFacts fields alpha.now values.now facts.now
+            (partial_at lists.now.sources.now lists.now.lists.now from number)
+            → Decides sees (SeesSome compared.now fields (live alpha.now)
+            (partial_at lists.now.sources.now lists.now.lists.now from number))) }
+    {
+        self.take_out(number);
         let seen = first_seen(lists, from, compared, alpha, number, facts)?;
         match seen {
             Some(witness) => {
@@ -166,7 +243,7 @@ impl Witnesses {
                 Ok(true)
             }
             None => {
-                self.unseen.add(number, values)?;
+                self.unseen.add(number, values.copy(lists.alloc)?)?;
                 Ok(false)
             }
         }

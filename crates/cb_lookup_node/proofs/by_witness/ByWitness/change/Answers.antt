@@ -1,16 +1,19 @@
 use Rattle.std.proofs.Common.{◌≢◌, ◌↔◌, ℕ, List, cond, subst, sym}
 use Rattle.cb_alpha.specs.AlphaMemories.{live}
+use Rattle.cb_alpha.specs.Turning.{were_in}
 use Rattle.cb_beta.proofs.Losses.{on_ok}
 use Rattle.cb_beta.specs.BetaMemories.{BetaMemoryValue, Loses}
 use Rattle.cb_fit.specs.declared.comparison.ComparedField.{ComparedField}
 use Rattle.cb_lookup_node.proofs.Completed.{completed}
+use Rattle.cb_lookup_node.proofs.Witnessed.{gave_values, witnesses_but}
 use Rattle.cb_lookup_node.proofs.by_witness.ByWitness.change.Goals as goal
-use Rattle.cb_lookup_node.specs.Internal.{AreOf, AreReplaced, HasGained, HasLost, IsOut, IsPlaced}
-use Rattle.cb_lookup_node.specs.LookupNodes.{Passes, SeesSome}
+use Rattle.cb_lookup_node.specs.Internal.{AreOf, AreReplaced, HasGained, HasLost, IsOut, IsPlaced, Stays}
+use Rattle.cb_lookup_node.specs.LookupNodes.{HaveWitnesses, Passes, SeesSome}
 use Rattle.cb_matches.specs.Chains.{Chain, In}
 use Rattle.cb_token_lists.proofs.Keeping.{keeps_then}
 use Rattle.cb_token_lists.specs.Growth.{Comes}
 use Rattle.cb_token_lists.specs.Partials.{partial_at}
+use Rattle.cb_token_lists.specs.Turns.{WasThere}
 
 pub returns-clause-changed : goal.returns-clause-changed
 returns-clause-changed c =
@@ -38,7 +41,8 @@ returns-clause-changed c =
     on_ok c.pass_all.result
     (λ come b.
     let out : AreReplaced me.kept w₁ m.gone IsOut = subst (λ (it : List ℕ). AreReplaced me.kept w₁ it IsOut) c.gone.ensures c.forget.ensures in
-    let left : HasLost cs js alpha at w₁ w₂ lost = subst (λ (it : List ComparedField). HasLost it js alpha at w₁ w₂ lost) cs_are (c.in_ok-lost.ensures b.has_join) in
+    let kept₁ : HaveWitnesses cs js w₁ at (Stays m) (were_in alpha) = witnesses_but cs js at (WasThere m) (were_in alpha) me.kept w₁ m.gone out b.kept in
+    let left : HasLost cs js alpha at w₁ w₂ lost = subst (λ (it : List ComparedField). HasLost it js alpha at w₁ w₂ lost) cs_are (c.in_ok-lost.ensures b.has_join (gave_values cs js alpha at (Stays m) w₁ kept₁)) in
     let given : HasGained cs js alpha at w₂ w₃ gained = subst (λ (it : List ComparedField). HasGained it js alpha at w₂ w₃ gained) cs_are c.in_ok-gained.ensures in
     let placed : AreReplaced w₃ w₄ m.come (IsPlaced cs js (live alpha) at) =
     subst (λ (it : List ComparedField). AreReplaced w₃ w₄ m.come (IsPlaced it js (live alpha) at)) cs_are

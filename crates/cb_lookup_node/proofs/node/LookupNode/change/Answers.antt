@@ -4,6 +4,7 @@ use Rattle.cb_beta.proofs.Losses.{on_ok}
 use Rattle.cb_beta.specs.BetaMemories.{BetaMemoryValue, Loses}
 use Rattle.cb_beta.specs.Tokens.{TokenValue}
 use Rattle.cb_fit.specs.declared.join_fields.JoinField.{JoinField}
+use Rattle.cb_lookup_node.proofs.Empty.{as_it_was}
 use Rattle.cb_lookup_node.proofs.Whole.{to_change, whole}
 use Rattle.cb_lookup_node.proofs.node.LookupNode.change.Goals as goal
 use Rattle.cb_lookup_node.specs.Internal.{HasChanged, IsToChange}
@@ -49,3 +50,16 @@ returns-clause-keeps g c =
     let own₀ = c.args.own.now in
     let own₁ = c.remove_all_children.new.self in
     on_ok c.change.result (keeps_then own₀ own₁ c.change.new.own (lost_keeps own₀ own₁ (λ (t : TokenValue). In t.parent c.gone.result.now) c.in_ok-remove_all_children.ensures)) c.change.ensures.keeps
+
+pub returns-then-is_empty-clause-after : goal.returns-then-is_empty-clause-after
+returns-then-is_empty-clause-after g c = λ names before fs fs' old new is given.
+    let ls = c.args.lists.now.lists.now in
+    let me = c.args.self.now in
+    let at = partial_at c.args.lists.now.sources.now ls me.from in
+    let alpha = c.args.alpha.now in
+    let m : BetaMemoryValue = c.in-Some.before.now in
+    let own = c.args.own.now in
+    let look = c.in-Some.ensures.lookup in
+    let one : m ≡ before = same_some _ (got ls me.from m look.3.0 (look.3.1 m)) is in
+    let b : IsBeforeLookup me names at m alpha own fs fs' old new = subst (λ it. IsBeforeLookup me names at it alpha own fs fs' old new) (sym one) given in
+    subst (λ it. IsAfterLookup me names at it alpha own fs fs' old new) one (as_it_was me names at m alpha own fs fs' old new b (c.is_empty.ensures.none c.if-is_empty.true))

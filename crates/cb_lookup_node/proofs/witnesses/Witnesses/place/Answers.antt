@@ -1,69 +1,44 @@
-use Rattle.std.proofs.Common.{◌≡◌, ◌∙◌, None, Some, inl, refl, rules, sym}
+use Rattle.std.proofs.Common.{◌≡◌, ◌∙◌, List, Some, rules, sym}
+use Rattle.std.specs.Bool.{Decides}
 use Rattle.cb_alpha.specs.AlphaMemories.{live}
 use Rattle.cb_alpha.specs.JoinValues.{variable_values}
-use Rattle.cb_lookup_node.proofs.Placed.{decided_false, decided_true, none_seen, one_seen, placed_at, same_filing, same_groups}
+use Rattle.cb_alpha.specs.Turning.{HasJoin}
+use Rattle.cb_beta.proofs.Losses.{on_ok}
+use Rattle.cb_fit.specs.declared.join_fields.JoinField.{JoinField}
+use Rattle.cb_lookup_node.proofs.Looked.{found_by_fields}
+use Rattle.cb_lookup_node.proofs.Turns.{if_ok}
 use Rattle.cb_lookup_node.proofs.witnesses.Witnesses.place.Goals as goal
+use Rattle.cb_lookup_node.specs.Internal.{HasItsFacts}
 use Rattle.cb_lookup_node.specs.LookupNodes.{SeesSome}
 use Rattle.cb_token_lists.specs.Partials.{partial_at}
 
-pub returns-in_ok-add-in-Some-seen-clause-placed : goal.returns-in_ok-add-in-Some-seen-clause-placed
-returns-in_ok-add-in-Some-seen-clause-placed c has =
-    let cs = c.args.compared.now in
+pub returns-clause-placed : goal.returns-clause-placed
+returns-clause-placed c =
     let js = c.args.fields.now in
     let alpha = c.args.alpha.now in
     let at = partial_at c.args.lists.now.sources.now c.args.lists.now.lists.now c.args.from in
     let n = c.args.number in
-    let w₁ = c.take_out.new.self in
     let vs = c.in-Some.values in
+    let ys = c.facts_with-facts.result.now in
     let given : c.in_ok-found.found ≡ variable_values js (at n).env = search (rules, c.in_ok-found.ensures) in
     let got : c.in_ok-found.found ≡ Some vs = search rules in
-    let seen : c.in_ok-seen.seen ≡ Some c.in-Some-seen.witness = search rules in
-    let k = c.in_ok-seen.ensures.some c.in-Some-seen.witness seen in
-    placed_at cs js alpha at c.args.self.now w₁ (record w₁ { given = c.add.new.self }) n c.take_out.ensures (Some c.in-Some-seen.witness) None c.in_ok-add-in-Some-seen.ensures.ok
-    (same_filing cs js alpha at w₁.unseen n None (c.take_out.ensures.here n (inl refl)).1)
-    (one_seen cs js alpha at n c.args.join has vs (sym given ∙ got) c.facts_with-facts.result.now (c.facts_with-facts.ensures has.0 has.1) c.in-Some-seen.witness k.0 k.1, refl)
+    on_ok c.place_among.result
+    (λ placed has. placed js (sym given ∙ got, found_by_fields alpha c.args.join js has vs ys (c.facts_with-facts.ensures has.0 has.1)))
+    c.place_among.ensures.placed
 
-pub returns-in_ok-add-in-Some-seen-clause-sees : goal.returns-in_ok-add-in-Some-seen-clause-sees
-returns-in_ok-add-in-Some-seen-clause-sees c has =
+pub returns-clause-sees : goal.returns-clause-sees
+returns-clause-sees c =
     let cs = c.args.compared.now in
     let js = c.args.fields.now in
     let alpha = c.args.alpha.now in
     let at = partial_at c.args.lists.now.sources.now c.args.lists.now.lists.now c.args.from in
     let n = c.args.number in
     let vs = c.in-Some.values in
+    let ys = c.facts_with-facts.result.now in
     let given : c.in_ok-found.found ≡ variable_values js (at n).env = search (rules, c.in_ok-found.ensures) in
     let got : c.in_ok-found.found ≡ Some vs = search rules in
-    let seen : c.in_ok-seen.seen ≡ Some c.in-Some-seen.witness = search rules in
-    let k = c.in_ok-seen.ensures.some c.in-Some-seen.witness seen in
-    decided_true (SeesSome cs js (live alpha) (at n))
-    (c.in-Some-seen.witness, one_seen cs js alpha at n c.args.join has vs (sym given ∙ got) c.facts_with-facts.result.now (c.facts_with-facts.ensures has.0 has.1) c.in-Some-seen.witness k.0 k.1)
-
-pub returns-in_ok-add-in-None-clause-placed : goal.returns-in_ok-add-in-None-clause-placed
-returns-in_ok-add-in-None-clause-placed c has =
-    let cs = c.args.compared.now in
-    let js = c.args.fields.now in
-    let alpha = c.args.alpha.now in
-    let at = partial_at c.args.lists.now.sources.now c.args.lists.now.lists.now c.args.from in
-    let n = c.args.number in
-    let w₁ = c.take_out.new.self in
-    let vs = c.in-Some.values in
-    let given : c.in_ok-found.found ≡ variable_values js (at n).env = search (rules, c.in_ok-found.ensures) in
-    let got : c.in_ok-found.found ≡ Some vs = search rules in
-    let seen : c.in_ok-seen.seen ≡ None = search rules in
-    let none = none_seen cs js alpha at n c.args.join has vs (sym given ∙ got) c.facts_with-facts.result.now (c.facts_with-facts.ensures has.0 has.1) (λ k h. c.in_ok-seen.ensures.none k seen h) in
-    placed_at cs js alpha at c.args.self.now w₁ (record w₁ { unseen = c.add-in-None.new.self }) n c.take_out.ensures None (Some vs)
-    (same_groups cs js alpha at w₁.given n None (c.take_out.ensures.here n (inl refl)).0) c.in_ok-add-in-None.ensures.ok (sym (sym given ∙ got), none)
-
-pub returns-in_ok-add-in-None-clause-sees : goal.returns-in_ok-add-in-None-clause-sees
-returns-in_ok-add-in-None-clause-sees c has =
-    let cs = c.args.compared.now in
-    let js = c.args.fields.now in
-    let alpha = c.args.alpha.now in
-    let at = partial_at c.args.lists.now.sources.now c.args.lists.now.lists.now c.args.from in
-    let n = c.args.number in
-    let vs = c.in-Some.values in
-    let given : c.in_ok-found.found ≡ variable_values js (at n).env = search (rules, c.in_ok-found.ensures) in
-    let got : c.in_ok-found.found ≡ Some vs = search rules in
-    let seen : c.in_ok-seen.seen ≡ None = search rules in
-    let none = none_seen cs js alpha at n c.args.join has vs (sym given ∙ got) c.facts_with-facts.result.now (c.facts_with-facts.ensures has.0 has.1) (λ k h. c.in_ok-seen.ensures.none k seen h) in
-    decided_false (SeesSome cs js (live alpha) (at n)) (λ h. none h.0 h.1)
+    if_ok c.place_among.result
+    (λ sees. (fields : List JoinField) → HasItsFacts fields alpha vs ys (at n) → Decides sees (SeesSome cs fields (live alpha) (at n)))
+    (λ sees. HasJoin alpha c.args.join js → Decides sees (SeesSome cs js (live alpha) (at n)))
+    (λ sees decides has. decides js (sym given ∙ got, found_by_fields alpha c.args.join js has vs ys (c.facts_with-facts.ensures has.0 has.1)))
+    c.place_among.ensures.sees
