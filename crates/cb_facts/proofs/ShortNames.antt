@@ -1,5 +1,5 @@
 -- Short names are told apart by their numbers alone.
-use Rattle.std.proofs.Common.{◌≡◌, List, [], ◌∷◌, ◌++◌, ◌+◌, ◌*◌, ◌<◌, ◌≤◌, ◌^◌, zero, suc, Bool, true, false, ◌&&◌, ℕ, ap, ap₂, refl, nat_eq, arith, get_or, Fits, w8, length, cond, nat_le, nat_lt, sym, ◌∙◌}
+use Rattle.std.proofs.Common.{◌≡◌, List, [], ◌∷◌, ◌++◌, ◌+◌, ◌*◌, ◌<◌, ◌≤◌, ◌^◌, zero, suc, Bool, true, false, ◌&&◌, ℕ, ap, ap₂, refl, nat_eq, arith, get_or, length, cond, nat_le, nat_lt, sym, ◌∙◌}
 use Rattle.std.proofs.Math.Nat.{pow-suc}
 use Rattle.std.proofs.lemmas.Bool.{lt-ltb, ltb-true, le-leb, lt-leb, eqb-true, false≢true, eq-eqb}
 use Rattle.std.specs.List.{list_all, IsLastAndRest}
@@ -54,20 +54,20 @@ is_bounded (suc k) (x ∷ xs) s b =
     let parts = both (nat_lt x 256) (are_bytes xs) b in
     omega (arith, pow-suc 256 k, ltb-true x 256 parts.0, is_bounded k xs (omega (arith, s)) parts.1)
 
-all_bytes : (xs : List ℕ) → ((i : ℕ) → Fits w8 (get_or xs i 0)) → are_bytes xs ≡ true
+all_bytes : (xs : List ℕ) → ((i : ℕ) → get_or xs i 0 < 256) → are_bytes xs ≡ true
 unfolding are_bytes
 all_bytes [] h = refl
 all_bytes (x ∷ xs) h = ap₂ (λ (a b : Bool). a && b) (lt-ltb x 256 (omega (arith, h 0))) (all_bytes xs (λ i. h (suc i)))
 
 -- the number of the last of few bytes, with one more
-pub fits : (xs left others : List ℕ) (x n : ℕ) → ((i : ℕ) → Fits w8 (get_or xs i 0)) → length xs ≤ 7 → IsLastAndRest left x others → with_more left n ≡ number_of xs
+pub fits : (xs left others : List ℕ) (x n : ℕ) → ((i : ℕ) → get_or xs i 0 < 256) → length xs ≤ 7 → IsLastAndRest left x others → with_more left n ≡ number_of xs
     → n * 256 + x < 2 ^ 64
 fits xs left others x n h s is e = omega (arith, is_least others (n * 256 + x), last_joins left others x n is, e, is_bounded 7 xs s (all_bytes xs h))
 
 -- ---- what the numbers of names are
 
 -- where no byte is left to be read
-pub of_few : (xs left : List ℕ) (n : ℕ) → ((i : ℕ) → Fits w8 (get_or xs i 0)) → length xs ≤ 7 → length left ≡ 0 → with_more left n ≡ number_of xs
+pub of_few : (xs left : List ℕ) (n : ℕ) → ((i : ℕ) → get_or xs i 0 < 256) → length xs ≤ 7 → length left ≡ 0 → with_more left n ≡ number_of xs
     → n ≡ short_number xs
 unfolding are_bytes short_number
 of_few xs (x ∷ left) n h s none e = absurd (omega (arith, none))
