@@ -11,6 +11,7 @@ use Rattle.cb_agenda.specs.Agendas.{Entries, key_and_salience}
 use Rattle.cb_agenda.specs.Internal.{AreFilled, IsNext, Line, Numbered, Rises, TookAt, current, is_current, laned, ranked, ranked_all, stays}
 use Rattle.cb_agenda.specs.Ranks.{rank_cmp}
 use Rattle.cb_agenda.specs.declared.activations.Entry.{Entry}
+use Rattle.cb_agenda.specs.declared.lanes.Popped.{Popped}
 use Rattle.cb_agenda.specs.declared.rank.Rank.{Rank}
 use Rattle.cb_agenda.specs.declared.strategy.Strategy.{Strategy}
 use Rattle.cb_matches.specs.Keys.{KeyValue}
@@ -44,17 +45,27 @@ pub thin_lane : (find : ℕ → Option Entry) (s : ℤ) (xs ys : Line) (ls ms : 
 thin_lane find s xs ys ls ms up there set (inl is) = inl (ap laned (set ∙ ap (set_value (is_at (int_cmp s)) ls) is ∙ set_same (is_at (int_cmp s)) xs ls there))
 thin_lane find s xs ys ls ms up there set (inr is) = inr (ap laned (set ∙ ap (set_value (is_at (int_cmp s)) ls) is) ∙ thinned_lane find s xs ls up there)
 
-pub settled_after : (p : ℤ → Bool) (ls ms ns : Lanes) (v : Line) → AreFilled ls → ms ≡ set_value p ls v → (lookup p ms ≡ Some [] → ns ≡ remove_entry p ms) → (lookup p ms ≢ Some [] → ns ≡ ms) → AreFilled ns
-settled_after p ls ms ns v h is gone stays =
-    settled_filled p ls ns v h (λ e. gone (ap (lookup p) is ∙ e) ∙ ap (remove_entry p) is) (λ e. stays (λ f. e (sym (ap (lookup p) is) ∙ f)) ∙ is)
+-- the lane that p picks was removed if it was empty, and otherwise all lanes stay
+abbrev pub IsSettled : (ℤ → Bool) → Lanes → Lanes → Type 0
+IsSettled p ms ns = (lookup p ms ≡ Some [] → ns ≡ remove_entry p ms) × (lookup p ms ≢ Some [] → ns ≡ ms)
+
+pub settled_gone : (p : ℤ → Bool) (ms ns : Lanes) → lookup p ms ≡ Some [] → ns ≡ remove_entry p ms → IsSettled p ms ns
+settled_gone p ms ns empty is = (λ e. is, λ e. absurd (e empty))
+
+pub settled_kept : (p : ℤ → Bool) (ms : Lanes) → lookup p ms ≢ Some [] → IsSettled p ms ms
+settled_kept p ms other = (λ e. absurd (other e), λ e. refl)
+
+pub settled_after : (p : ℤ → Bool) (ls ms ns : Lanes) (v : Line) → AreFilled ls → ms ≡ set_value p ls v → IsSettled p ms ns → AreFilled ns
+settled_after p ls ms ns v h is settled =
+    settled_filled p ls ns v h (λ e. settled.0 (ap (lookup p) is ∙ e) ∙ ap (remove_entry p) is) (λ e. settled.1 (λ f. e (sym (ap (lookup p) is) ∙ f)) ∙ is)
 
 pub pushed_rises : {T E : Type 0} (r : Result T E) (t : Rank) (k : ℕ) (es fs : List Numbered) → OnOk r (fs ≡ insert_entry rank_cmp es t k) → OnErr r (fs ≡ es) → Rises es → Rises fs
 pushed_rises (Ok x) t k es fs ok err up = subst (λ (gs : List Numbered). Rises gs) (sym ok) (rises_more t k es up)
 pushed_rises (Err e) t k es fs ok err up = subst (λ (gs : List Numbered). Rises gs) (sym err) up
 
-pub thinned_there : (find : ℕ → Option Entry) (s : ℤ) (es fs gs : List Numbered) → (fs ≡ es) ⊎ (fs ≡ filter (stays find s) es) → gs ≡ fs → (gs ≡ es) ⊎ (gs ≡ filter (stays find s) es)
-thinned_there find s es fs gs (inl is) same = inl (same ∙ is)
-thinned_there find s es fs gs (inr is) same = inr (same ∙ is)
+pub thinned_there : (find : ℕ → Option Entry) (s : ℤ) (p : ℤ → Bool) (es : List Numbered) (ms ns : Lanes) → (laned ms ≡ es) ⊎ (laned ms ≡ filter (stays find s) es) → IsSettled p ms ns → (laned ns ≡ es) ⊎ (laned ns ≡ filter (stays find s) es)
+thinned_there find s p es ms ns (inl is) settled = inl (settled_same p ms ns settled.0 settled.1 ∙ is)
+thinned_there find s p es ms ns (inr is) settled = inr (settled_same p ms ns settled.0 settled.1 ∙ is)
 
 none_by : (b : Bool) (p : ℤ → Bool) (xs : Line) (l : ℤ × Line) (ls : Lanes) → p l.0 ≡ b → lookup p (l ∷ ls) ≡ None → (lookup p ls ≡ None → set_value p ls xs ≡ ls) → set_value p (l ∷ ls) xs ≡ l ∷ ls
 none_by true p xs l ls e h next = let found : lookup p (l ∷ ls) ≡ Some l.1 = rw (e) refl in cc
@@ -66,6 +77,25 @@ none_by false p xs l ls e h next =
 pub none_set : (p : ℤ → Bool) (xs : Line) (ls : Lanes) → lookup p ls ≡ None → set_value p ls xs ≡ ls
 none_set p xs [] h = refl
 none_set p xs (l ∷ ls) h = none_by (p l.0) p xs l ls refl h (none_set p xs ls)
+
+set_by : (b : Bool) (p : ℤ → Bool) (v xs : Line) (l : ℤ × Line) (ls : Lanes) → p l.0 ≡ b → lookup p (l ∷ ls) ≡ Some xs → (lookup p ls ≡ Some xs → lookup p (set_value p ls v) ≡ Some v) → lookup p (set_value p (l ∷ ls) v) ≡ Some v
+set_by true p v xs l ls e h next = rw (e, e) refl
+set_by false p v xs l ls e h next =
+    let rest : lookup p (l ∷ ls) ≡ lookup p ls = rw (e) refl in
+    let put : set_value p (l ∷ ls) v ≡ l ∷ set_value p ls v = rw (e) refl in
+    let later : lookup p (l ∷ set_value p ls v) ≡ lookup p (set_value p ls v) = rw (e) refl in
+    ap (lookup p) put ∙ later ∙ next (sym rest ∙ h)
+
+-- a lane that was set is found
+set_found : (p : ℤ → Bool) (v xs : Line) (ls : Lanes) → lookup p ls ≡ Some xs → lookup p (set_value p ls v) ≡ Some v
+set_found p v xs [] h = cc
+set_found p v xs (l ∷ ls) h = set_by (p l.0) p v xs l ls refl h (set_found p v xs ls)
+
+pub found_set : (p : ℤ → Bool) (v xs : Line) (ls ms : Lanes) → lookup p ls ≡ Some xs → ms ≡ set_value p ls v → lookup p ms ≡ Some v
+found_set p v xs ls ms h set = ap (lookup p) set ∙ set_found p v xs ls h
+
+pub some_same : {a b : Line} → Some a ≡ Some b → a ≡ b
+some_same h = cc
 
 filled_by : (b : Bool) (p : ℤ → Bool) (xs : Line) (l : ℤ × Line) (ls : Lanes) → p l.0 ≡ b → AreFilled (l ∷ ls) → lookup p (l ∷ ls) ≡ Some xs → (lookup p ls ≡ Some xs → xs ≢ []) → xs ≢ []
 filled_by true p xs l ls e h at next =
@@ -85,11 +115,30 @@ some_popped st s xs ls ms up filled last took =
     let at = last_found s xs ls up last in
     filled_at (is_at (int_cmp s)) xs ls filled at ((took at).none refl)
 
-pub popped_is : (st : Strategy) (s : ℤ) (x : ℕ × ℕ) (xs : Line) (ls ms ns : Lanes) → SaliencesRise ls → slice_get ls (length ls - 1) ≡ Some (s, xs)
-    → (lookup (is_at (int_cmp s)) ls ≡ Some xs → TookAt st s xs ls ms (Some x)) → (lookup (is_at (int_cmp s)) ms ≡ Some [] → ns ≡ remove_entry (is_at (int_cmp s)) ms) → (lookup (is_at (int_cmp s)) ms ≢ Some [] → ns ≡ ms) → IsNext st (laned ls) (ranked s x) (laned ns)
-popped_is st s x xs ls ms ns up last took gone stays =
-    let took_it = took (last_found s xs ls up last) in
-    subst (λ (es : List Numbered). IsNext st (laned ls) (ranked s x) es) (ap laned (sym took_it.set) ∙ sym (settled_same (is_at (int_cmp s)) ms ns gone stays)) (popped_last st s x xs took_it.left ls up last took_it.some)
+-- what was taken out of the last lane, whatever is left of it
+module _ (st : Strategy) (s : ℤ) (x : Popped) (xs : Line) (ls ms : Lanes) (up : SaliencesRise ls) (last : slice_get ls (length ls - 1) ≡ Some (s, xs)) (took : lookup (is_at (int_cmp s)) ls ≡ Some xs → TookAt st s xs ls ms (Some x)) where
+  left_at : lookup (is_at (int_cmp s)) ms ≡ Some (took (last_found s xs ls up last)).left
+  left_at =
+      let at = last_found s xs ls up last in
+      found_set (is_at (int_cmp s)) (took at).left xs ls ms at (took at).set
+
+  pub emptied_settles : (ns : Lanes) → x.emptied ≡ true → ns ≡ remove_entry (is_at (int_cmp s)) ms → IsSettled (is_at (int_cmp s)) ms ns
+  emptied_settles ns h is =
+      settled_gone (is_at (int_cmp s)) ms ns (left_at ∙ ap (λ (ys : Line). Some ys) ((took (last_found s xs ls up last)).empty h)) is
+
+  pub other_settles : x.emptied ≡ false → IsSettled (is_at (int_cmp s)) ms ms
+  other_settles h =
+      settled_kept (is_at (int_cmp s)) ms (λ e. (took (last_found s xs ls up last)).other h (some_same (sym left_at ∙ e)))
+
+  pub popped_is : (ns : Lanes) → IsSettled (is_at (int_cmp s)) ms ns → IsNext st (laned ls) (ranked s (x.stamp, x.number)) (laned ns)
+  popped_is ns settled =
+      let took_it = took (last_found s xs ls up last) in
+      subst (λ (es : List Numbered). IsNext st (laned ls) (ranked s (x.stamp, x.number)) es) (ap laned (sym took_it.set) ∙ sym (settled_same (is_at (int_cmp s)) ms ns settled.0 settled.1)) (popped_last st s (x.stamp, x.number) xs took_it.left ls up last took_it.some)
+
+  pub popped_filled : (ns : Lanes) → AreFilled ls → IsSettled (is_at (int_cmp s)) ms ns → AreFilled ns
+  popped_filled ns filled settled =
+      let took_it = took (last_found s xs ls up last) in
+      settled_after (is_at (int_cmp s)) ls ms ns took_it.left filled took_it.set settled
 
 -- what is listed of a lane in two pieces
 pub both_listed : (find : ℕ → Option Entry) (s : ℤ) (listed : List (KeyValue × ℤ)) (xs ys zs : Line) → xs ++ ys ≡ zs

@@ -1,12 +1,13 @@
 //! The activations of an agenda, by number and by key.
-ghost use Rattle.std.specs.Prelude.{◌≡◌, ◌≢◌, ◌↔◌, ℕ, [], IfOk, List, None, OnErr, OnOk, Option, Some, false, true};
+ghost use Rattle.std.specs.Prelude.{◌≡◌, ◌≢◌, ◌↔◌, ℕ, [], IfOk, IfSome, List, None, Ok, OnErr, OnOk, Option, Some, false, true};
+ghost use Rattle.std.specs.BTreeMap.{get};
 ghost use Rattle.std.specs.Option.{option_copied};
 ghost use Rattle.cb_agenda.specs.Agendas.{without_key};
-ghost use Rattle.cb_agenda.specs.Internal.{IsFiled, Numbered, current, current_key, entry_at, key_at, number_of};
+ghost use Rattle.cb_agenda.specs.Internal.{IsAdded, IsFiled, Numbered, current, current_key, entry_at, key_at, number_of};
 ghost use Rattle.cb_agenda.specs.Mixes.{mix_of};
 ghost use Rattle.cb_matches.specs.Keys.{KeyValue, key_cmp, key_eq};
 ghost use Rattle.cb_number_map.specs.Filed.{AreFound, ChangesAt, LeavesAside, with_own_key};
-ghost use Rattle.cb_number_map.specs.NumberMaps.{number_at};
+ghost use Rattle.cb_number_map.specs.NumberMaps.{AreSameNumbers, number_at};
 
 use crate::rank::Rank;
 use cb_forms::NoMemory;
@@ -66,9 +67,17 @@ impl Activations {
     pub(crate) fn find(&self, key: &Key) -> Option<usize>
         ensures { (n : ℕ) → (result ≡ Some n) ↔ (key_at self.now n ≡ Some key.now) }
     {
-        match filed_with(&self.filed, &self.entries, key) {
+        self.find_mixed(key, mix_of(key))
+    }
+
+    /// The same of a key and its mix.
+    fn find_mixed(&self, key: &Key, mix: u32) -> Option<usize>
+        requires { mix ≡ mix_of key.now }
+        ensures { (n : ℕ) → (result ≡ Some n) ↔ (key_at self.now n ≡ Some key.now) }
+    {
+        match filed_with(&self.filed, &self.entries, key, mix) {
             Some(number) => Some(number),
-            None => self.aside.get(key).copied(),
+            None => aside_at(&self.aside, key),
         }
     }
 
@@ -104,13 +113,31 @@ impl Activations {
         Ok(number)
     }
 
+    /// Adds an activation, where it is seen at once that no other has its key. The answer is its number, or `None` where it isn't seen.
+    /// Growth is refused as `NoMemory`, and then nothing has changed.
+    pub(crate) fn add_new(&mut self, key: &Key, rank: Rank) -> Result<Option<usize>, NoMemory>
+        ensures some { IfOk result (λ number. IfSome number (IsAdded self.old self.new key.now rank)) }
+        ensures none { IfOk result (λ number. number ≡ None → self.new ≡ self.old) }
+        ensures err { OnErr result (self.new ≡ self.old) }
+    {
+        let own = key.clone()?;
+        self.entries.reserve(1)?;
+        let number = self.entries.vacant_key();
+        if !file_new(&mut self.filed, &self.aside, key, number)? {
+            return Ok(None);
+        }
+        self.entries.insert_reserved(Entry { key: own, rank });
+        Ok(Some(number))
+    }
+
     /// Takes the activation with this number out, if there is one. It takes logarithmic time.
     pub(crate) fn remove(&mut self, number: usize) -> Option<Entry>
         ensures before { result ≡ entry_at self.old number }
         ensures after { ChangesAt (entry_at self.old) (entry_at self.new) number None }
     {
         let entry = self.entries.try_remove(number)?;
-        unfile(&mut self.filed, &mut self.aside, &entry.key, number);
+        let mix = mix_of(&entry.key);
+        unfile(&mut self.filed, &mut self.aside, &entry.key, mix, number);
         Some(entry)
     }
 
@@ -133,24 +160,63 @@ impl Activations {
         ensures filed { (xs : List Numbered) → IsFiled xs (entry_at self.old)
             → IsFiled xs (entry_at self.new) }
     {
-        let number = self.find(key)?;
-        let entry = self.remove(number)?;
+        let mix = mix_of(key);
+        let number = self.find_mixed(key, mix)?;
+        let entry = self.entries.try_remove(number)?;
+        unfile(&mut self.filed, &mut self.aside, key, mix, number);
         Some(entry.rank)
     }
 }
 
 /// The number that is filed under the mix of this key, if its activation has the key.
-fn filed_with(filed: &NumberMap, entries: &Slab<Entry>, key: &Key) -> Option<usize>
+fn filed_with(filed: &NumberMap, entries: &Slab<Entry>, key: &Key, mix: u32) -> Option<usize>
+    requires { mix ≡ mix_of key.now }
     ensures { result ≡ with_own_key key_eq (key_at entries.now.slots)
         (number_at filed.now (mix_of key.now)) key.now }
 {
-    let number = filed.get(mix_of(key))? as usize;
+    let number = filed.get(mix)? as usize;
     let entry = entries.get(number)?;
     if entry.key == *key {
         Some(number)
     } else {
         None
     }
+}
+
+/// Notes the number that an activation with this key gets, where it is seen at once that no other has the key: nothing is filed under its
+/// mix, and it doesn't stand aside. The answer is whether that is so. Growth is refused as `NoMemory`, and then nothing has changed.
+fn file_new(
+    filed: &mut NumberMap,
+    aside: &BTreeMap<Key, usize>,
+    key: &Key,
+    number: usize,
+) -> Result<bool, NoMemory>
+    ensures absent { result ≡ Ok true → (keys : ℕ → Option KeyValue)
+        → AreFound (number_of keys filed.old aside.now) keys → (n : ℕ) → keys n ≢ Some key.now }
+    ensures new { result ≡ Ok true → (keys more : ℕ → Option KeyValue)
+        → AreFound (number_of keys filed.old aside.now) keys
+        → keys number ≡ None → ChangesAt keys more number (Some key.now)
+        → AreFound (number_of more filed.new aside.now) more }
+    ensures not { result ≡ Ok false → AreSameNumbers filed.old filed.new }
+    ensures err { OnErr result (AreSameNumbers filed.old filed.new) }
+{
+    if aside_at(aside, key).is_some() {
+        return Ok(false);
+    }
+    match u32::try_from(number) {
+        Ok(short) => filed.insert_new(mix_of(key), short),
+        Err(_) => Ok(false),
+    }
+}
+
+/// The number of a key that stands aside, if it does. Mostly none does.
+fn aside_at(aside: &BTreeMap<Key, usize>, key: &Key) -> Option<usize>
+    ensures { result ≡ get key_cmp aside.now key.now }
+{
+    if aside.is_empty() {
+        return None;
+    }
+    aside.get(key).copied()
 }
 
 /// Notes the number that an activation with this key gets. Growth is refused as `NoMemory`, and then nothing has changed.
@@ -181,17 +247,21 @@ fn file(
 }
 
 /// Forgets the number of an activation with this key.
-fn unfile(filed: &mut NumberMap, aside: &mut BTreeMap<Key, usize>, key: &Key, number: usize)
+fn unfile(
+    filed: &mut NumberMap,
+    aside: &mut BTreeMap<Key, usize>,
+    key: &Key,
+    mix: u32,
+    number: usize,
+)
+    requires { mix ≡ mix_of key.now }
     ensures { (keys less : ℕ → Option KeyValue)
         → AreFound (number_of keys filed.old aside.old) keys
         → keys number ≡ Some key.now → ChangesAt keys less number None
         → AreFound (number_of less filed.new aside.new) less }
 {
     forget_aside(aside, key);
-    let mix = mix_of(key);
-    if has_filed(filed, mix, number) {
-        filed.take_out(mix);
-    }
+    filed.take_out_number(mix, number);
 }
 
 /// Takes a key out of those that stand aside. Mostly none does.
@@ -200,17 +270,6 @@ fn forget_aside(aside: &mut BTreeMap<Key, usize>, key: &Key)
 {
     if !aside.is_empty() {
         aside.remove(key);
-    }
-}
-
-/// Whether this number is filed under a mix.
-fn has_filed(filed: &NumberMap, mix: u32, number: usize) -> bool
-    ensures yes { result ≡ true → number_at filed.now mix ≡ Some number }
-    ensures no { result ≡ false → number_at filed.now mix ≢ Some number }
-{
-    match filed.get(mix) {
-        Some(found) => found as usize == number,
-        None => false,
     }
 }
 

@@ -1,11 +1,13 @@
 //! The activations of an agenda.
-ghost use Rattle.std.specs.Prelude.{◌≡◌, ◌≢◌, ◌<◌, ◌+◌, ◌≤◌, ℕ, [], IfOk, OnErr, OnOk, Some, map};
+ghost use Rattle.std.specs.Prelude.{◌≡◌, ◌≢◌, ◌<◌, ◌+◌, ◌≤◌, ℕ, [], IfOk, None, OnErr, OnOk, Option, Some, map};
 ghost use Rattle.std.specs.BTreeMap.{insert_entry};
 ghost use Rattle.std.specs.List.{AllByRecursion, list_any};
 ghost use Rattle.cb_agenda.specs.Agendas.{Activation, firing_order, key_and_salience, top_of, without_key, without_keys};
 ghost use Rattle.cb_agenda.specs.Internal.{IsFiled, IsStampedUpTo, Rises, current, entry_at, key_at, left_and_key};
 ghost use Rattle.cb_agenda.specs.Ranks.{greatest_stamp, rank_cmp};
-ghost use Rattle.cb_matches.specs.Keys.{key_eq};
+ghost use Rattle.cb_agenda.specs.declared.activations.Entry.{Entry};
+ghost use Rattle.cb_matches.specs.Keys.{KeyValue, key_eq};
+ghost use Rattle.cb_number_map.specs.Filed.{ChangesAt};
 
 use crate::activations::Activations;
 use crate::lanes::Lanes;
@@ -181,9 +183,36 @@ fn put_in(
     ensures stamped { OnOk result (IsStampedUpTo rank.stamp lanes.new) }
     ensures err { OnErr result ((n : ℕ) → IsStampedUpTo n lanes.old → IsStampedUpTo n lanes.new) }
 {
-    let own = key.clone()?;
-    remove_from(lanes, activations, key);
-    let number = activations.add(own, rank)?;
+    match activations.add_new(key, rank)? {
+        Some(number) => push_number(lanes, activations, rank, number),
+        None => {
+            let own = key.clone()?;
+            remove_from(lanes, activations, key);
+            let number = activations.add(own, rank)?;
+            push_number(lanes, activations, rank, number)
+        }
+    }
+}
+
+/// Gives an activation its entry. The stamp is greater than all others. Where growth is refused, the activation is taken out.
+fn push_number(
+    lanes: &mut Lanes,
+    activations: &mut Activations,
+    rank: Rank,
+    number: usize,
+) -> Result<(), NoMemory>
+    requires above { (n : ℕ) × IsStampedUpTo n lanes.old × (n < rank.stamp) }
+    ensures filed { (find : ℕ → Option Entry) (key : KeyValue) → IsFiled lanes.old find
+        → find number ≡ None
+        → ChangesAt find (entry_at activations.old) number (Some (record { key = key; rank = rank }))
+        → IsFiled lanes.new (entry_at activations.new) }
+    ensures due { OnOk result ((find : ℕ → Option Entry) (key : KeyValue) → IsFiled lanes.old find
+        → find number ≡ None
+        → ChangesAt find (entry_at activations.old) number (Some (record { key = key; rank = rank }))
+        → current (entry_at activations.new) lanes.new ≡ insert_entry rank_cmp (current find lanes.old) rank key) }
+    ensures stamped { OnOk result (IsStampedUpTo rank.stamp lanes.new) }
+    ensures err { OnErr result ((n : ℕ) → IsStampedUpTo n lanes.old → IsStampedUpTo n lanes.new) }
+{
     let pushed = lanes.push(rank, number);
     if pushed.is_err() {
         activations.remove(number);

@@ -2,7 +2,7 @@
 ghost use Rattle.std.specs.Prelude.{◌≡◌, ◌≢◌, ◌<◌, ◌-◌, ◌⊎◌, ℤ, [], IfOk, IfSome, None, OnErr, OnOk, Some, false, length, map, slice_get, true};
 ghost use Rattle.std.specs.BTreeMap.{IsOrdered, get, insert_entry, is_at};
 ghost use Rattle.std.specs.List.{AllByRecursion, filter};
-ghost use Rattle.std.specs.Map.{remove_entry, set_value};
+ghost use Rattle.std.specs.Map.{set_value};
 ghost use Rattle.std.specs.Ordering.{int_cmp};
 ghost use Rattle.cb_agenda.specs.Agendas.{key_and_salience};
 ghost use Rattle.cb_agenda.specs.Internal.{AreFilled, IsNext, Line, Rises, Thinned, TookAt, current, entry_at, laned, stays};
@@ -83,8 +83,9 @@ impl Lanes {
         ensures thinned { Thinned (entry_at activations.now) self.old self.new }
         ensures rising { Rises self.new }
     {
-        thin_at(&mut self.lanes, salience, activations);
-        settle(&mut self.lanes, salience);
+        if thin_at(&mut self.lanes, salience, activations) {
+            drop(self.lanes.remove(&salience));
+        }
     }
 
     /// The keys and saliences of the activations by rising rank. Growth is refused as `NoMemory`.
@@ -99,6 +100,14 @@ impl Lanes {
         }
         Ok(listed)
     }
+}
+
+/// An entry that was taken out of its lane.
+struct Popped {
+    stamp: u64,
+    number: usize,
+    /// Whether the lane is empty now.
+    emptied: bool,
 }
 
 /// Adds an entry with a stamp that is greater than all others.
@@ -135,8 +144,14 @@ fn pop_from(lanes: &mut BTreeMap<i64, Lane>, strategy: Strategy) -> Option<(Rank
     ensures filled { AreFilled lanes.new.entries }
 {
     let salience = greatest(lanes)?;
-    let (stamp, number) = pop_at(lanes, salience, strategy)?;
-    settle(lanes, salience);
+    let Popped {
+        stamp,
+        number,
+        emptied,
+    } = pop_at(lanes, salience, strategy)?;
+    if emptied {
+        drop(lanes.remove(&salience));
+    }
     Some((Rank { salience, stamp }, number))
 }
 
@@ -150,50 +165,33 @@ fn greatest(lanes: &BTreeMap<i64, Lane>) -> Option<i64>
 }
 
 /// Takes the entry of a lane out that fires first.
-fn pop_at(
-    lanes: &mut BTreeMap<i64, Lane>,
-    salience: i64,
-    strategy: Strategy,
-) -> Option<(u64, usize)>
+fn pop_at(lanes: &mut BTreeMap<i64, Lane>, salience: i64, strategy: Strategy) -> Option<Popped>
     ensures took { (xs : Line) → get int_cmp lanes.old salience ≡ Some xs
         → TookAt strategy salience xs lanes.old.entries lanes.new.entries result }
     ensures ordered { IsOrdered int_cmp lanes.old }
 {
-    match lanes.get_mut(&salience) {
-        Some(lane) => lane.pop(strategy),
-        None => None,
-    }
+    let lane = lanes.get_mut(&salience)?;
+    let (stamp, number) = lane.pop(strategy)?;
+    Some(Popped {
+        stamp,
+        number,
+        emptied: lane.is_empty(),
+    })
 }
 
-/// An entry of this salience has become stale.
-fn thin_at(lanes: &mut BTreeMap<i64, Lane>, salience: i64, activations: &Activations)
+/// An entry of this salience has become stale. The answer is whether there is a lane of this salience that is empty now.
+fn thin_at(lanes: &mut BTreeMap<i64, Lane>, salience: i64, activations: &Activations) -> bool
     ensures thinned { (laned lanes.new.entries ≡ laned lanes.old.entries)
         ⊎ (laned lanes.new.entries ≡ filter (stays (entry_at activations.now) salience) (laned lanes.old.entries)) }
     ensures set { (xs : Line) × (lanes.new.entries ≡ set_value (is_at (int_cmp salience)) lanes.old.entries xs) }
+    ensures empty { result ≡ true → get int_cmp lanes.new salience ≡ Some [] }
+    ensures other { result ≡ false → get int_cmp lanes.new salience ≢ Some [] }
 {
-    if let Some(lane) = lanes.get_mut(&salience) {
-        lane.thin(salience, activations);
-    }
-}
-
-/// Removes this lane, if it is empty.
-fn settle(lanes: &mut BTreeMap<i64, Lane>, salience: i64)
-    ensures empty { get int_cmp lanes.old salience ≡ Some []
-        → lanes.new.entries ≡ remove_entry (is_at (int_cmp salience)) lanes.old.entries }
-    ensures other { get int_cmp lanes.old salience ≢ Some [] → lanes.new.entries ≡ lanes.old.entries }
-{
-    if is_empty_at(lanes, salience) {
-        drop(lanes.remove(&salience));
-    }
-}
-
-/// Whether there is a lane of this salience that is empty.
-fn is_empty_at(lanes: &BTreeMap<i64, Lane>, salience: i64) -> bool
-    ensures yes { result ≡ true → get int_cmp lanes.now salience ≡ Some [] }
-    ensures no { result ≡ false → get int_cmp lanes.now salience ≢ Some [] }
-{
-    match lanes.get(&salience) {
-        Some(lane) => lane.is_empty(),
+    match lanes.get_mut(&salience) {
+        Some(lane) => {
+            lane.thin(salience, activations);
+            lane.is_empty()
+        }
         None => false,
     }
 }

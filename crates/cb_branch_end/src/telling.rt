@@ -1,5 +1,5 @@
 //! Keys told in their order.
-ghost use Rattle.std.specs.Prelude.{◌≡◌, ◌++◌, IfOk, OnOk, map};
+ghost use Rattle.std.specs.Prelude.{◌≡◌, ◌++◌, ◌∷◌, [], IfOk, OnOk, map};
 ghost use Rattle.cb_branch_end.specs.Internal.{AddsInOrder, key_at};
 
 use crate::branch_end::BranchEnd;
@@ -16,10 +16,7 @@ impl BranchEnd<'_> {
     {
         match numbers {
             [] => Ok(()),
-            [only] => {
-                told.push(self.key(*only)?)?;
-                Ok(())
-            }
+            [only] => self.add_key(*only, told),
             more => add_in_order(told, self.keys(more)?),
         }
     }
@@ -30,18 +27,32 @@ impl BranchEnd<'_> {
     {
         let mut keys = Vec::with_capacity(self.lists.alloc, numbers.len())?;
         for number in numbers {
-            keys.push(self.key(*number)?)?;
+            self.add_key(*number, &mut keys)?;
         }
         Ok(keys)
     }
 
-    /// The key of the match that a token stands for, with the token's number as hint.
-    fn key(&self, number: u32) -> Result<Key, NoMemory>
-        ensures { IfOk result (λ key. key ≡ key_at self.now number) }
+    /// Adds the key of the match that a token stands for, with the token's number as hint, behind those that are there. Growth is
+    /// refused as `NoMemory`, and so is a count of sharers that is full.
+    #[inline(always)]
+    fn add_key(&self, number: u32, keys: &mut Vec<Key>) -> Result<(), NoMemory>
+        ensures { OnOk result (keys.new.items ≡ keys.old.items ++ key_at self.now number ∷ []) }
     {
-        let lists = &self.lists;
-        let parts = lists.parts(self.last, number)?;
-        Ok(Key::hinted(self.rule, self.branch, parts, number))
+        let Some(parts) = self.lists.parts_of_ones(self.last, number) else {
+            return self.add_any_key(number, keys);
+        };
+        keys.push(Key::hinted(self.rule, self.branch, parts, number))?;
+        Ok(())
+    }
+
+    /// The same, also of matches with more parts or with lengths that aren't 1. It is apart so that the usual case stays short.
+    #[inline(never)]
+    fn add_any_key(&self, number: u32, keys: &mut Vec<Key>) -> Result<(), NoMemory>
+        ensures { OnOk result (keys.new.items ≡ keys.old.items ++ key_at self.now number ∷ []) }
+    {
+        let parts = self.lists.parts(self.last, number)?;
+        keys.push(Key::hinted(self.rule, self.branch, parts, number))?;
+        Ok(())
     }
 }
 

@@ -19,6 +19,9 @@ front_popped count all front rest (Some s) f e lt = record {
   beyond = subst (λ n. count < n) (ap (last_count 0) e ∙ last_count_of 0 rest s) lt;
 }
 
+pub without_last : (count : ℕ) (all front : List Segment) (s : Segment) → all ≡ front ++ s ∷ [] → count < last_count 0 all → IsFront count all front
+without_last count all front s e lt = record { others = s ∷ []; parted = e; beyond = subst (λ n. count < n) (ap (last_count 0) e ∙ last_count_of 0 front s) lt }
+
 pub some_left : (count : ℕ) (ss : List Segment) → count < last_count 0 ss → 0 < length ss
 some_left count [] lt = absurd (omega (arith, lt))
 some_left count (s ∷ ss) lt = omega arith

@@ -1,5 +1,6 @@
 mod Alone
 mod Alternatives
+mod AskingLaws
 mod BodyLaws
 mod CutLaws
 pub mod FollowLaws

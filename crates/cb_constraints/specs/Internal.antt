@@ -1,7 +1,9 @@
 -- What only the code needs: which constants stand among checks, and what the table of a pattern has.
+pub mod Asking
 pub mod Codes
 pub mod Known
 pub mod Lengths
+pub mod NextLengths
 pub mod Places
 pub mod RowFields
 pub mod Tables

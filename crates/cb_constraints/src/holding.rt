@@ -143,8 +143,14 @@ fn meets_one<L: Lookup>(
     ensures { IfOk result (λ holds. holds ≡ is_some (after_check (check_of check.now)
         (tested_value tested.entry) (before_check L.bindings known.now at))) }
 {
-    if let Test::Constant(_) = &check.test {
-        return Ok(true);
+    match &check.test {
+        Test::Constant(_) => return Ok(true),
+        Test::Variable(name) => {
+            if !check.is_negated {
+                return agrees(name, tested, known, at);
+            }
+        }
+        Test::Predicate(_) | Test::ReturnValue(_) => {}
     }
     check_holds(alloc, constants, check, tested, known, at)
 }

@@ -4,6 +4,7 @@
 //! `docs/ARCHITECTURE.md` says where it belongs.
 #![tactic(auto)]
 
+mod asking; // what a constraint asks, found out without a value
 mod body; // what a pattern asks, with a table of its variables and of the sites of its constraints
 mod constraint; // a test, a test with `~` before it, what a constraint asks, a constraint
 mod fields; // the fields that a row is for: those of an ordered fact, or of a slot's value
@@ -20,6 +21,7 @@ mod table; // the variables of a pattern, each once with its place, and the site
 mod taken; // the values that the constraints took of a fact, each read by the lengths
 mod tested; // the value in the place of a constraint: a field, or the multifield of a segment
 
+pub use asking::{asks_constants, holds_of_all};
 pub use body::Body;
 pub use constraint::{Check, Constraint, Demand, Test};
 pub use fields::Fields;

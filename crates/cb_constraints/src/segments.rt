@@ -1,7 +1,8 @@
 //! The lengths of segments.
-ghost use Rattle.std.specs.Prelude.{◌≡◌, ◌+◌, ◌-◌, ◌<◌, ◌≤◌, ◌++◌, ◌∷◌, ◌^◌, [], IfOk, IfSome, MatchOption, None, OnOk, flat_map, get_or, length, replicate, take};
+ghost use Rattle.std.specs.Prelude.{◌≡◌, ◌+◌, ◌-◌, ◌<◌, ◌≤◌, ◌++◌, ◌∷◌, ◌^◌, [], IfOk, IfSome, MatchOption, None, OnOk, drop, flat_map, get_or, length, replicate, take};
 ghost use Rattle.cb_constraints.specs.Internal.Values.{fields_taken};
 ghost use Rattle.cb_constraints.specs.Internal.Lengths.{HasTotals, IsFront, IsNext, all_lengths, last_count, last_fields, segment_lengths};
+ghost use Rattle.cb_constraints.specs.Internal.NextLengths.{next_length};
 
 use cb_forms::NoMemory;
 use smallvec::SmallVec;
@@ -116,7 +117,7 @@ impl Segments {
 
     /// Where the segment with this number begins and how long it is, where fields are counted from the constraint with the number
     /// `start` on; or `None` where they are 2^64 or more.
-    #[tactic(auto, using(crate::proofs::SpanLaws::one_longer, crate::proofs::SpanLaws::taken_of_both, crate::proofs::SpanLaws::no_more_before, crate::proofs::SpanLaws::no_more_of_both))]
+    #[tactic(auto, using(crate::proofs::CutLaws::taken_before, crate::proofs::CutLaws::length_is, crate::proofs::SpanLaws::taken_of_both, crate::proofs::SpanLaws::no_more_before, crate::proofs::SpanLaws::no_more_of_both))]
     pub fn span(&self, start: usize, number: usize) -> Option<Span>
         requires { number < length self.now }
         ensures from { IfSome result (λ s. s.from
@@ -125,14 +126,14 @@ impl Segments {
         ensures length { IfSome result (λ s. s.length ≡ get_or self.now number 0) }
         ensures none { result ≡ None → 2 ^ 64 ≤ fields_taken (take (number + 1) self.now) }
     {
-        let is_there = number < self.len();
-        prove!(is_there);
         let row = self.fields_before(start.min(number))?;
-        let from = self.fields_before(number)?;
-        let to = self.fields_before(number + 1)?;
+        let segments = self.segments.as_slice();
+        let front = front_of(segments, number);
+        let (before, fields) = totals(front);
+        let from = fields.checked_add((number - before) as u64)?;
         Some(Span {
             from: from.saturating_sub(row),
-            length: to.saturating_sub(from),
+            length: length_after(segments, front.len(), number),
         })
     }
 
@@ -199,7 +200,7 @@ fn totals(segments: &[Segment]) -> (usize, u64)
 }
 
 /// Those of these segments, from the first on, that end within the first so many constraints.
-#[tactic(auto, using(crate::proofs::FrontLaws::whole_front))]
+#[tactic(auto, using(crate::proofs::FrontLaws::whole_front, crate::proofs::FrontLaws::without_last))]
 fn front_of(segments: &[Segment], count: usize) -> &[Segment]
     requires { HasTotals 0 0 segments.now }
     ensures front { IsFront count segments.now result.now }
@@ -209,7 +210,24 @@ fn front_of(segments: &[Segment], count: usize) -> &[Segment]
     if last <= count {
         return segments;
     }
+    if let Some((_, front)) = segments.split_last() {
+        let (last, _) = totals(front);
+        if last <= count {
+            return front;
+        }
+    }
     &segments[..segments.partition_point(|segment| segment.count <= count)]
+}
+
+/// The length of what the constraint with this number took, where so many of the segments end before it: that of the next
+/// segment, if the constraint took that one, or 1.
+fn length_after(segments: &[Segment], front: usize, number: usize) -> u64
+    ensures { result ≡ next_length number (drop front segments.now) }
+{
+    match segments.get(front) {
+        Some(segment) if segment.count.saturating_sub(number) == 1 => segment.length,
+        _ => 1,
+    }
 }
 
 /// Drops the segments, from the last on, that end after the first so many constraints.

@@ -1,5 +1,6 @@
 //! What is true, and what decides.
-ghost use Rattle.std.specs.Prelude.{◌≡◌, not};
+ghost use Rattle.std.specs.Prelude.{◌≡◌, codes, not};
+ghost use Rattle.std.specs.Str.{bytes_eq};
 ghost use Rattle.std.specs.List.{list_all, list_any};
 ghost use Rattle.cb_eval.specs.Logic.{decides, is_true};
 ghost use Rattle.cb_eval.specs.TypeTests.{tested};
@@ -15,9 +16,16 @@ pub fn is_true(value: &Value) -> bool
     ensures { result ≡ is_true value.now }
 {
     match value {
-        Value::Symbol(bytes) => bytes.as_slice() != b"FALSE".as_slice(),
+        Value::Symbol(bytes) => !is_false(bytes.as_slice()),
         _ => true,
     }
+}
+
+/// Whether a symbol of these bytes is FALSE.
+fn is_false(bytes: &[u8]) -> bool
+    ensures { result ≡ bytes_eq bytes.now (codes "FALSE") }
+{
+    matches!(bytes, [b'F', b'A', b'L', b'S', b'E'])
 }
 
 /// Whether an argument with this value decides what the call returns, whatever comes after it: a false one for `and`, a true

@@ -1,9 +1,9 @@
 -- Lengths that are each 1.
 use Rattle.std.proofs.Common.{◌≡◌, ◌≢◌, ◌<◌, ◌∙◌, ℕ, zero, suc, true, List, [], ◌∷◌, Ordering, Less, Equal, Greater, ap, ap₂, arith, length, nat_eq, refl, replicate, sym}
-use Rattle.std.specs.Cmp.{first_so, nat_cmp_is, second_so, unsigned_Decides}
-use Rattle.std.specs.Cmp.Lexicographic.{slice_cmp}
+use Rattle.std.specs.Cmp.{first_so, nat_cmp_is, second_so, unsigned_Decides, unsigned_ties}
+use Rattle.std.specs.Cmp.Lexicographic.{pointwise, slice_cmp, texts_ties}
 use Rattle.std.specs.List.{list_all}
-use Rattle.std.specs.Ordering.{MatchOrdering, nat_cmp, ordering_then}
+use Rattle.std.specs.Ordering.{MatchOrdering, is_eq, nat_cmp, ordering_then}
 use Rattle.cb_fit.specs.CutsMixes.{cuts_mix, mixed, mixed_all}
 
 -- so many as there are
@@ -25,6 +25,10 @@ numbers (suc m) (suc n) = next_numbers m n (slice_cmp nat_cmp (replicate m 1) (r
 -- they are in the order of their numbers
 pub ones_by_number : (m n : ℕ) → slice_cmp nat_cmp (replicate m 1) (replicate n 1) ≡ nat_cmp m n
 ones_by_number m n = nat_cmp_is m n (slice_cmp nat_cmp (replicate m 1) (replicate n 1)) (numbers m n)
+
+-- and the same where their numbers are
+pub ones_are_as_many : (m n : ℕ) → nat_eq m n ≡ pointwise nat_eq (replicate m 1) (replicate n 1)
+ones_are_as_many m n = unsigned_ties m n ∙ (ap is_eq (sym (ones_by_number m n)) ∙ sym (texts_ties (replicate m 1) (replicate n 1)))
 
 pub first_counts : (r s : Ordering) → r ≢ Equal → ordering_then r s ≡ r
 first_counts Less s h = refl

@@ -13,7 +13,8 @@ use Rattle.cb_constraints.specs.Internal.Known.{bindings_after, bindings_before}
 use Rattle.cb_constraints.specs.PatternValues.{PatternParts, SlotValue}
 use Rattle.cb_constraints.specs.PatternValues as pattern
 use Rattle.cb_constraints.specs.declared.site.Site.{Site}
-use Rattle.cb_constraints.proofs.FollowLaws.{known_first, known_last}
+use Rattle.cb_constraints.proofs.FollowLaws.{known_first, known_follows, known_last}
+use Rattle.cb_constraints.specs.Internal.Asking.{HoldsOfAll}
 use Rattle.cb_constraints.specs.Internal.Values.{fields_of_row, fields_taken, first_fields, first_row_fields, next_value, value_taken, values_taken}
 use Rattle.cb_constraints.proofs.TakenValues.{as_many_values, next_is, one_more_value}
 use Rattle.cb_exprs.specs.Bindings.{Bindings}
@@ -166,6 +167,14 @@ met-next s cuts n c v holds next is met =
         ap (λ vs. bindings_after (constraints_in s.body) vs s.before)
         (one_more_value s.body s.content cuts n
         ∙ ap (λ w. values_taken s.body s.content cuts ++ w ∷ []) is)
+
+-- one that holds of every value holds of what it takes
+pub holds-next : (s : SearchValue) (cuts : List ℕ) (number n : ℕ) (c : Constraint) (v : Value) → number ≡ length cuts → HoldsOfAll s.body number s.before c.demand → ComesNext s cuts c
+    → next_value s.body s.content cuts n ≡ v → Meets true (env_after s (cuts ++ n ∷ [])) (after_demand c.demand v (env_after s cuts))
+holds-next s cuts number n c v count all next is =
+    met-next s cuts n c v true next is
+    (all (values_taken s.body s.content cuts) v (as_many_values s.body s.content cuts ∙ sym count)
+    (known_follows (constraints_in s.body) (values_taken s.body s.content cuts) v s.before c next.0 (next-here s cuts c next)))
 
 -- the value of the constraint for one field that comes next
 pub one-value : (s : SearchValue) (fields : List Single) (cuts : List ℕ) (at : ℕ) (c : Constraint) (cs : List Constraint) (v : Value) (others : List Single) → IsAt s fields cuts at (c ∷ cs)

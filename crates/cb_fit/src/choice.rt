@@ -1,6 +1,7 @@
 //! Choices of where a segment ends.
 ghost use Rattle.std.specs.Prelude.{◌≡◌, ◌≢◌, ◌∷◌, ◌++◌, [], ℕ, List, true, ◌+◌, ◌-◌, ◌<◌, ◌≤◌, IfOk, IfSome, MatchOption, OnOk, flat_map, length, map, replicate};
-ghost use Rattle.cb_constraints.specs.Constraints.{constraint_of};
+ghost use Rattle.cb_constraints.specs.Constraints.{constraint_of, demand_of};
+ghost use Rattle.cb_constraints.specs.Internal.Asking.{HoldsOfAll};
 ghost use Rattle.cb_constraints.specs.Rows.{segments_wanted};
 ghost use Rattle.cb_constraints.specs.PartValues.{asked_slot};
 ghost use Rattle.cb_constraints.specs.Internal.RowFields.{row_fields};
@@ -11,7 +12,7 @@ ghost use Rattle.cb_fit.specs.Internal.Standing.{AreNext, IsAt};
 
 use crate::rest::{Rest, split_ones};
 use crate::search::Search;
-use cb_constraints::{Constraint, Fields, Segments, SlotRow, count_leading};
+use cb_constraints::{Constraint, Fields, Segments, SlotRow, count_leading, holds_of_all};
 use cb_exprs::Lookup;
 use cb_forms::NoMemory;
 
@@ -122,23 +123,28 @@ impl<'a> Choice<'a> {
             (cuts_before self.now cuts.old) self.now (to + 1)
             (self.now.last - to))) }
     {
+        let demand = &self.constraint.demand;
+        let holds_of_all = holds_of_all(demand, search.body, self.number, search.before)?;
         for to in self.to..=self.last {
             cuts.truncate(self.number);
-            if self.take_up_to(search, to, cuts)? {
+            if self.take_up_to(search, holds_of_all, to, cuts)? {
                 return Ok(Some(to));
             }
         }
         Ok(None)
     }
 
-    /// Whether the segment may end at a place so that it and the constraints for one field that follow it hold; then their
-    /// lengths come after these.
+    /// Whether the segment, of which the constraint may be known to hold of every value, may end at a place so that it and the
+    /// constraints for one field that follow it hold; then their lengths come after these.
     fn take_up_to<L: Lookup>(
         &self,
         search: Search<'a, L>,
+        holds_of_all: bool,
         to: usize,
         cuts: &mut Segments,
     ) -> Result<bool, NoMemory>
+        requires all { holds_of_all ≡ true → HoldsOfAll search.body.now self.now.number
+            (L.bindings search.before.now) (demand_of self.now.constraint.now.demand) }
         requires choice { IsChoice self.now }
         requires inside { IsIn (search_of L.bindings search) cuts.old self.now }
         requires order { self.now.to ≤ to }
@@ -152,7 +158,15 @@ impl<'a> Choice<'a> {
             (row_fields self.now.fields) cuts.new
             (to + length self.now.ones.now))) }
     {
-        search.take_group(self.fields, self.constraint, self.ones, self.at, to, cuts)
+        search.take_group(
+            self.fields,
+            self.constraint,
+            holds_of_all,
+            self.ones,
+            self.at,
+            to,
+            cuts,
+        )
     }
 }
 

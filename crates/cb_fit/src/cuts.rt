@@ -108,6 +108,19 @@ impl Cuts {
         }
     }
 
+    /// A copy where each length is 1, and nothing elsewhere. It takes no memory, and fewer steps than a clone.
+    #[inline]
+    pub fn copy_of_ones(&self) -> Option<Cuts>
+        ensures { IfSome result (λ copy. copy ≡ self.now) }
+    {
+        match &self.lengths {
+            Lengths::Ones(count) => Some(Cuts {
+                lengths: Lengths::Ones(*count),
+            }),
+            _ => None,
+        }
+    }
+
     /// A number that depends on the lengths alone, and that few other lengths have. Lengths of 1 alone have 0, which takes constant time;
     /// others take a step for each.
     pub fn mix(&self) -> u64
@@ -139,8 +152,12 @@ impl PartialEq for Cuts {
 
     ghost laws = { partial_equiv_from_equiv nat_list_eq_equiv };
 
+    #[inline]
     fn eq(&self, other: &Cuts) -> bool {
-        self.cmp(other).is_eq()
+        match (&self.lengths, &other.lengths) {
+            (Lengths::Ones(count), Lengths::Ones(others)) => *count == *others,
+            (lengths, others) => order_of(lengths, others).is_eq(),
+        }
     }
 }
 
@@ -167,11 +184,11 @@ impl Ord for Cuts {
 
     ghost matches_eq = { texts_ties };
 
+    #[inline]
     fn cmp(&self, other: &Cuts) -> Ordering {
         match (&self.lengths, &other.lengths) {
             (Lengths::Ones(count), Lengths::Ones(others)) => count.cmp(others),
-            (Lengths::Short(lengths), Lengths::Short(others)) => lengths.cmp(others),
-            (lengths, others) => in_turn(lengths, others),
+            (lengths, others) => order_of(lengths, others),
         }
     }
 }
@@ -200,6 +217,17 @@ fn are_ones(lengths: &[u64]) -> bool
         }
     }
     true
+}
+
+/// The order of lengths. It is apart so that those who compare, mostly lengths of 1, stay short.
+#[inline(never)]
+fn order_of(lengths: &Lengths, others: &Lengths) -> Ordering
+    ensures { result ≡ slice_cmp nat_cmp (lengths_in lengths.now) (lengths_in others.now) }
+{
+    match (lengths, others) {
+        (Lengths::Short(lengths), Lengths::Short(others)) => lengths.cmp(others),
+        (lengths, others) => in_turn(lengths, others),
+    }
 }
 
 /// The order of lengths, by the first place where they differ.

@@ -7,7 +7,7 @@ ghost use Rattle.cb_fit.specs.Internal.{after_last, may_take, may_take_back, may
 
 use crate::lengths::takes_length;
 use crate::rest::split_ones;
-use cb_constraints::{Constraint, Fields, Row, may_hold};
+use cb_constraints::{Constraint, Fields, Row, asks_constants, may_hold};
 
 /// Whether a row may take the fields: as many as these, and by what its constraints before the first segment and those after the
 /// last ask.
@@ -53,7 +53,7 @@ pub(crate) fn may_take(fields: Fields<'_>, constraints: &[Constraint], from: usi
         let Some(tested) = fields.get(at) else {
             return false;
         };
-        if !may_hold(&constraint.demand, tested) {
+        if asks_constants(&constraint.demand) && !may_hold(&constraint.demand, tested) {
             return false;
         }
         at += 1;

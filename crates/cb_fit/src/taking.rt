@@ -3,6 +3,7 @@ ghost use Rattle.std.specs.Prelude.{◌≡◌, ◌∷◌, ◌++◌, [], ◌+◌,
 ghost use Rattle.cb_constraints.specs.Constraints.{constraint_of, demand_of};
 ghost use Rattle.cb_constraints.specs.Holding.{Meets, may_hold, tested_value};
 ghost use Rattle.cb_constraints.specs.Rows.{segments_wanted};
+ghost use Rattle.cb_constraints.specs.Internal.Asking.{HoldsOfAll};
 ghost use Rattle.cb_constraints.specs.Internal.RowFields.{row_fields};
 ghost use Rattle.cb_fit.specs.Internal.{after_ones, begun_at, begun_if, env_after, may_take, with_group};
 ghost use Rattle.cb_fit.specs.Internal.Choices.{KeepsFirst};
@@ -13,7 +14,8 @@ ghost use Rattle.cb_fit.specs.Ways.{after_segment};
 use crate::may_take::may_take;
 use crate::search::Search;
 use cb_constraints::{
-    Constraint, Demand, Fields, Known, Segments, Taken, Tested, meets, meets_beyond_constants,
+    Constraint, Demand, Fields, Known, Segments, Taken, Tested, holds_of_all, meets,
+    meets_beyond_constants,
 };
 use cb_exprs::Lookup;
 use cb_forms::NoMemory;
@@ -72,6 +74,9 @@ impl<'a, L: Lookup> Search<'a, L> {
             (demand_of constraint.now.demand)
             (tested_value tested.entry)) }
     {
+        if holds_of_all(&constraint.demand, self.body, cuts.len(), self.before)? {
+            return Ok(true);
+        }
         let took = self.taken(cuts);
         let known = self.known(&took, tested);
         meets_beyond_constants(
@@ -83,15 +88,19 @@ impl<'a, L: Lookup> Search<'a, L> {
         )
     }
 
-    /// Whether a constraint takes the segment of the fields from a place up to another. Then its length comes after the others.
+    /// Whether a constraint, which may be known to hold of every value, takes the segment of the fields from a place up to another.
+    /// Then its length comes after the others.
     fn take_segment(
         self,
         fields: Fields<'_>,
         constraint: &Constraint,
+        holds_of_all: bool,
         from: usize,
         to: usize,
         cuts: &mut Segments,
     ) -> Result<bool, NoMemory>
+        requires all { holds_of_all ≡ true → HoldsOfAll self.body.now (length cuts.old)
+            (L.bindings self.before.now) (demand_of constraint.now.demand) }
         requires segment { (constraint_of constraint.now).segment ≡ true }
         requires order { from ≤ to }
         requires within { to ≤ length (row_fields fields) }
@@ -106,22 +115,26 @@ impl<'a, L: Lookup> Search<'a, L> {
             (slice_range (row_fields fields.entry) from to)
             (env_after (search_of L.bindings self.entry) cuts.old))) }
     {
-        if !self.holds_of_part(fields, constraint, from, to, cuts)? {
+        if !self.holds_of_part(fields, constraint, holds_of_all, from, to, cuts)? {
             return Ok(false);
         }
         cuts.add_segment((to - from) as u64)?;
         Ok(true)
     }
 
-    /// Whether a constraint holds of the segment of the fields from a place up to another.
+    /// Whether a constraint, which may be known to hold of every value, holds of the segment of the fields from a place up to
+    /// another.
     fn holds_of_part(
         self,
         fields: Fields<'_>,
         constraint: &Constraint,
+        holds_of_all: bool,
         from: usize,
         to: usize,
         cuts: &Segments,
     ) -> Result<bool, NoMemory>
+        requires all { holds_of_all ≡ true → HoldsOfAll self.body.now (length cuts.now)
+            (L.bindings self.before.now) (demand_of constraint.now.demand) }
         requires segment { (constraint_of constraint.now).segment ≡ true }
         requires order { from ≤ to }
         requires within { to ≤ length (row_fields fields) }
@@ -134,6 +147,9 @@ impl<'a, L: Lookup> Search<'a, L> {
             (env_after (search_of L.bindings self.entry) cuts.now))) }
     {
         if let Demand::Nothing = &constraint.demand {
+            return Ok(true);
+        }
+        if holds_of_all {
             return Ok(true);
         }
         let segment = fields.segment(self.alloc, from, to)?;
@@ -149,17 +165,20 @@ impl<'a, L: Lookup> Search<'a, L> {
         )
     }
 
-    /// Whether a constraint takes the segment up to a place, and those for one field that follow it one field each, if they
-    /// hold. Then their lengths come after the others.
+    /// Whether a constraint, which may be known to hold of every value, takes the segment up to a place, and those for one field that
+    /// follow it one field each, if they hold. Then their lengths come after the others.
     pub(crate) fn take_group(
         self,
         fields: Fields<'_>,
         constraint: &Constraint,
+        holds_of_all: bool,
         ones: &[Constraint],
         from: usize,
         to: usize,
         cuts: &mut Segments,
     ) -> Result<bool, NoMemory>
+        requires all { holds_of_all ≡ true → HoldsOfAll self.body.now (length cuts.old)
+            (L.bindings self.before.now) (demand_of constraint.now.demand) }
         requires segment { (constraint_of constraint.now).segment ≡ true }
         requires ones { segments_wanted (map constraint_of ones.now) ≡ 0 }
         requires order { from ≤ to }
@@ -180,7 +199,7 @@ impl<'a, L: Lookup> Search<'a, L> {
         if !may_take(fields, ones, to) {
             return Ok(false);
         }
-        if !self.take_segment(fields, constraint, from, to, cuts)? {
+        if !self.take_segment(fields, constraint, holds_of_all, from, to, cuts)? {
             return Ok(false);
         }
         self.take_ones(fields, ones, to, cuts)

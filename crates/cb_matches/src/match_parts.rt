@@ -1,17 +1,21 @@
 //! The parts of a partial match.
-ghost use Rattle.std.specs.Prelude.{◌≡◌, ◌++◌, ◌∷◌, [], IfOk};
+ghost use Rattle.std.specs.Prelude.{◌≡◌, ◌++◌, ◌∷◌, [], IfOk, IfSome};
+ghost use Rattle.std.specs.Cmp.Lexicographic.{pointwise, slice_cmp};
+ghost use Rattle.std.specs.Ordering.{ordering_then};
+ghost use Rattle.cb_matches.specs.Keys.{part_cmp, part_eq};
 
 use crate::part::Part;
 use cb_forms::NoMemory;
 use smallvec::SmallVec;
 use std::alloc::{AllocError, Global};
+use std::cmp::Ordering;
 use std::marker::Model;
 use std::rc::Rc;
 
 /// The parts of a partial match, which never change.
 ///
-/// Up to two stand in the value itself, and clones share more: a clone takes no memory, and is refused only where a count of
-/// sharers is full. Three and four take one block, five and six of `many` too, and others two. Contracts see the list of the parts.
+/// Up to three stand in the value itself, and clones share more: a clone takes no memory, and is refused only where a count of
+/// sharers is full. Four take one block, five and six of `many` too, and others two. Contracts see the list of the parts.
 #[derive(Drop)]
 pub struct MatchParts {
     held: Held,
@@ -23,7 +27,7 @@ enum Held {
     None,
     One([Part; 1]),
     Two([Part; 2]),
-    Three(Rc<[Part; 3]>),
+    Three([Part; 3]),
     Four(Rc<[Part; 4]>),
     More(Rc<SmallVec<Part, 6>>),
 }
@@ -83,13 +87,13 @@ impl MatchParts {
         }
     }
 
-    /// These three parts, taken over, in one block. Growth is refused as `NoMemory`.
-    pub fn three(alloc: Global, parts: [Part; 3]) -> Result<MatchParts, NoMemory>
-        ensures { IfOk result (λ all. all ≡ parts) }
+    /// These three parts. They take no memory.
+    pub fn three(parts: [Part; 3]) -> MatchParts
+        ensures { result ≡ parts }
     {
-        Ok(MatchParts {
-            held: Held::Three(Rc::new(alloc, parts)?),
-        })
+        MatchParts {
+            held: Held::Three(parts),
+        }
     }
 
     /// These four parts, taken over, in one block. Growth is refused as `NoMemory`.
@@ -101,7 +105,7 @@ impl MatchParts {
         })
     }
 
-    /// A copy of these parts, which takes memory only where there are more than two. Growth is refused as `NoMemory`, and so is a
+    /// A copy of these parts, which takes memory only where there are more than three. Growth is refused as `NoMemory`, and so is a
     /// count of sharers that is full.
     pub fn of(alloc: Global, parts: &[Part]) -> Result<MatchParts, NoMemory>
         ensures { IfOk result (λ all. all ≡ parts.now) }
@@ -110,10 +114,7 @@ impl MatchParts {
             [] => Held::None,
             [only] => Held::One([only.clone()?]),
             [first, last] => Held::Two([first.clone()?, last.clone()?]),
-            [a, b, c] => {
-                let parts = [a.clone()?, b.clone()?, c.clone()?];
-                return MatchParts::three(alloc, parts);
-            }
+            [a, b, c] => Held::Three([a.clone()?, b.clone()?, c.clone()?]),
             [a, b, c, d] => {
                 let parts = [a.clone()?, b.clone()?, c.clone()?, d.clone()?];
                 return MatchParts::four(alloc, parts);
@@ -137,7 +138,7 @@ impl MatchParts {
         }
     }
 
-    /// A copy with one more part at its end, which takes memory only where there are more than two then. Growth is refused as
+    /// A copy with one more part at its end, which takes memory only where there are more than three then. Growth is refused as
     /// `NoMemory`, and so is a count of sharers that is full.
     pub fn and(&self, alloc: Global, last: Part) -> Result<MatchParts, NoMemory>
         ensures { IfOk result (λ all. all ≡ self.now ++ last ∷ []) }
@@ -148,6 +149,62 @@ impl MatchParts {
             before => return MatchParts::new(alloc, with_last(alloc, before, last)?),
         };
         Ok(MatchParts { held })
+    }
+}
+
+impl MatchParts {
+    /// A copy of up to three parts where each length is 1, and nothing elsewhere. It takes no memory, and fewer steps than a clone.
+    #[inline]
+    pub(crate) fn copy_of_ones(&self) -> Option<MatchParts>
+        ensures { IfSome result (λ copy. copy ≡ self.now) }
+    {
+        match &self.held {
+            Held::None => Some(MatchParts::none()),
+            Held::One([a]) => Some(MatchParts::one(a.copy_of_ones()?)),
+            Held::Two([a, b]) => Some(MatchParts::two([a.copy_of_ones()?, b.copy_of_ones()?])),
+            Held::Three([a, b, c]) => {
+                let parts = [a.copy_of_ones()?, b.copy_of_ones()?, c.copy_of_ones()?];
+                Some(MatchParts::three(parts))
+            }
+            _ => None,
+        }
+    }
+
+    /// Whether these are the same parts.
+    pub(crate) fn are(&self, others: &MatchParts) -> bool
+        ensures { result ≡ pointwise part_eq self.now others.now }
+    {
+        match (&self.held, &others.held) {
+            (Held::One([a]), Held::One([b])) => *a == *b,
+            (Held::Two([a, b]), Held::Two([c, d])) => *a == *c && *b == *d,
+            (Held::Three([a, b, c]), Held::Three([d, e, f])) => *a == *d && *b == *e && *c == *f,
+            _ => self.as_slice() == others.as_slice(),
+        }
+    }
+
+    /// Their order, part by part.
+    pub(crate) fn order(&self, others: &MatchParts) -> Ordering
+        ensures { result ≡ slice_cmp part_cmp self.now others.now }
+    {
+        match (&self.held, &others.held) {
+            (Held::One([a]), Held::One([b])) => a.cmp(b),
+            (Held::Two([a, b]), Held::Two([c, d])) => in_turn(a.cmp(c), b, d),
+            (Held::Three([a, b, c]), Held::Three([d, e, f])) => {
+                in_turn(in_turn(a.cmp(d), b, e), c, f)
+            }
+            _ => self.as_slice().cmp(others.as_slice()),
+        }
+    }
+}
+
+/// The order of parts behind others whose order is this.
+#[inline]
+fn in_turn(before: Ordering, part: &Part, other: &Part) -> Ordering
+    ensures { result ≡ ordering_then before (part_cmp part.now other.now) }
+{
+    match before {
+        Ordering::Equal => part.cmp(other),
+        unequal => unequal,
     }
 }
 
@@ -174,12 +231,13 @@ fn with_last(alloc: Global, before: &[Part], last: Part) -> Result<Vec<Part>, No
 impl Clone for MatchParts {
     ghost is_clone = { λ parts copy. copy ≡ parts };
 
+    #[inline(never)]
     fn clone(&self) -> Result<MatchParts, AllocError> {
         let held = match &self.held {
             Held::None => Held::None,
             Held::One([only]) => Held::One([only.clone()?]),
             Held::Two([first, last]) => Held::Two([first.clone()?, last.clone()?]),
-            Held::Three(parts) => Held::Three(parts.clone()?),
+            Held::Three([a, b, c]) => Held::Three([a.clone()?, b.clone()?, c.clone()?]),
             Held::Four(parts) => Held::Four(parts.clone()?),
             Held::More(parts) => Held::More(parts.clone()?),
         };

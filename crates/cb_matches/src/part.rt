@@ -1,5 +1,5 @@
 //! What one pattern of a match took.
-ghost use Rattle.std.specs.Prelude.{◌≡◌, [], refl};
+ghost use Rattle.std.specs.Prelude.{◌≡◌, [], IfSome, refl};
 ghost use Rattle.std.specs.Cmp.{partial_equiv_from_equiv, po};
 ghost use Rattle.std.specs.Ordering.{as_partial_cmp};
 ghost use Rattle.cb_matches.specs.Internal.KeyLaws.{part_equiv, part_tied, part_total};
@@ -30,6 +30,25 @@ impl Model for Part {
     ghost view = { λ p. record { index = p.index; cuts = p.cuts } };
 }
 
+impl Part {
+    /// A part where each length is 1, and nothing elsewhere. It takes no memory, and fewer steps than one with a clone.
+    #[inline]
+    pub fn of_ones(index: u64, cuts: &Cuts) -> Option<Part>
+        ensures { IfSome result (λ part. part ≡ record { index = index; cuts = cuts.now }) }
+    {
+        let cuts = cuts.copy_of_ones()?;
+        Some(Part { index, cuts })
+    }
+
+    /// A copy where each length is 1, and nothing elsewhere.
+    #[inline]
+    pub(crate) fn copy_of_ones(&self) -> Option<Part>
+        ensures { IfSome result (λ copy. copy ≡ self.now) }
+    {
+        Part::of_ones(self.index, &self.cuts)
+    }
+}
+
 impl Default for Part {
     ghost is_default = { λ part. part ≡ record { index = 0; cuts = [] } };
 
@@ -58,6 +77,7 @@ impl PartialEq for Part {
 
     ghost laws = { partial_equiv_from_equiv part_equiv };
 
+    #[inline]
     fn eq(&self, other: &Part) -> bool {
         self.index == other.index && self.cuts == other.cuts
     }
@@ -86,6 +106,7 @@ impl Ord for Part {
 
     ghost matches_eq = { part_tied };
 
+    #[inline]
     fn cmp(&self, other: &Part) -> Ordering {
         match self.index.cmp(&other.index) {
             Ordering::Equal => self.cuts.cmp(&other.cuts),

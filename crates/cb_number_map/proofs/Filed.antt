@@ -1,5 +1,5 @@
 -- What the look-up of numbers by keys keeps.
-use Rattle.std.proofs.Common.{◌≡◌, ◌≢◌, ◌⊎◌, ◌∙◌, inl, inr, ℕ, Bool, true, false, Option, Some, None, ap, if◌then◌else◌, nat_eq, refl, sym}
+use Rattle.std.proofs.Common.{◌≡◌, ◌≢◌, ◌⊎◌, ◌∙◌, inl, inr, ℕ, Bool, true, false, Option, Some, None, ap, ap₂, if◌then◌else◌, nat_eq, refl, sym}
 use Rattle.std.proofs.lemmas.Bool.{false_from_ne_true}
 use Rattle.std.specs.BTreeMap as tree
 use Rattle.std.specs.BTreeMap.{BTreeMap, is_at}
@@ -8,7 +8,7 @@ use Rattle.std.specs.Cmp.{unsigned_Decides}
 use Rattle.std.specs.Option.{option_or}
 use Rattle.std.specs.declared.cmp.Ordering.{Ordering}
 use Rattle.cb_number_map.specs.Filed.{AreFound, ChangesAt, LeavesAside, is_key, number_in, with_own_key}
-use Rattle.cb_number_map.specs.NumberMaps.{Updates, number_at}
+use Rattle.cb_number_map.specs.NumberMaps.{AreSameNumbers, Updates, number_at}
 use Rattle.cb_number_map.specs.declared.number_map.NumberMap.{NumberMap}
 
 number_by : (i j : ℕ) (b : Bool) → nat_eq i j ≡ b → (i ≡ j) ⊎ (i ≢ j)
@@ -61,6 +61,16 @@ module _ {K : Type 0} (eq : K → K → Bool) (order : K → K → Ordering) (mi
   own_same : (keys more : ℕ → Option K) (o : Option ℕ) (q : K) → ((n : ℕ) → is_key eq (more n) q ≡ is_key eq (keys n) q) → with_own_key eq more o q ≡ with_own_key eq keys o q
   own_same keys more None q h = refl
   own_same keys more (Some n) q h = ap (λ b. if b then Some n else None) (h n)
+
+  -- nothing is filed under the mix of a key, and it doesn't stand aside: no number has it
+  pub seen_absent : (keys : ℕ → Option K) (m : NumberMap) (a : BTreeMap K ℕ) (k : K) → AreFound (number_in eq order mix keys m a) keys → number_at m (mix k) ≡ None → tree.get order a k ≡ None → (i : ℕ) → keys i ≢ Some k
+  seen_absent keys m a k was filed aside i h =
+      some_none (number_in eq order mix keys m a k) ((was k i).1 h) (ap₂ (λ o p. option_or (with_own_key eq keys o k) p) filed aside)
+
+  pub same_found : (keys : ℕ → Option K) (m m' : NumberMap) (a : BTreeMap K ℕ) → AreSameNumbers m m' → AreFound (number_in eq order mix keys m a) keys → AreFound (number_in eq order mix keys m' a) keys
+  same_found keys m m' a same was k n =
+      let e : number_in eq order mix keys m' a k ≡ number_in eq order mix keys m a k = ap (λ o. option_or (with_own_key eq keys o k) (tree.get order a k)) (same (mix k)) in
+      (λ h. (was k n).0 (sym e ∙ h), λ h. e ∙ (was k n).1 h)
 
   -- an activation comes with a key that no other has
   module _ (keys more : ℕ → Option K) (n : ℕ) (k : K) (absent : (i : ℕ) → keys i ≢ Some k) (free : keys n ≡ None) (change : ChangesAt keys more n (Some k)) where

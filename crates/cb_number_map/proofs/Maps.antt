@@ -1,11 +1,11 @@
 -- What a change of the table, or of what stands aside, does to the map.
-use Rattle.std.proofs.Common.{◌≡◌, ◌≢◌, ◌∙◌, ◌⊎◌, ◌<◌, ℕ, List, [], Option, Some, None, Result, Ok, Err, OnErr, ap, ap₂, arith, get_or, inl, inr, length, nat_cmp, refl, sym}
+use Rattle.std.proofs.Common.{◌≡◌, ◌≢◌, ◌∙◌, ◌⊎◌, ◌<◌, ℕ, List, [], true, false, Option, Some, None, Result, Ok, Err, OnErr, ap, ap₂, arith, get_or, inl, inr, length, nat_cmp, refl, sym}
 use Rattle.std.proofs.lemmas.Bool.{false_from_ne_true}
 use Rattle.std.specs.BTreeMap as tree
 use Rattle.std.specs.BTreeMap.{BTreeMap, is_at}
 use Rattle.std.specs.Cmp.{unsigned_Decides, unsigned_ties}
 use Rattle.std.specs.Map.{lookup}
-use Rattle.std.specs.Option.{option_or}
+use Rattle.std.specs.Option.{is_some, option_or}
 use Rattle.cb_number_map.proofs.Windows.{found_table}
 use Rattle.cb_number_map.specs.Internal.{AreAmong}
 use Rattle.cb_number_map.specs.NumberMaps.{AreSameNumbers, Updates, number_at}
@@ -24,6 +24,10 @@ or_none : (o p : Option ℕ) → option_or o p ≡ None → (o ≡ None) × (p �
 or_none None p e = (refl, e)
 or_none (Some n) p e = absurd (cc)
 
+none_of : {A : Type 0} (o : Option A) → is_some o ≡ false → o ≡ None
+none_of None e = refl
+none_of (Some a) e = absurd (let no : true ≡ false = e in cc)
+
 -- ---- a map with other slots, or with other keys aside
 
 module _ (m m' : NumberMap) where
@@ -35,6 +39,10 @@ module _ (m m' : NumberMap) where
   pub absent_table : (key : ℕ) → number_at m key ≡ None → number_in m.slots.items key ≡ None
   unfolding number_at
   absent_table key e = (or_none (number_in m.slots.items key) (tree.get nat_cmp m.aside key) e).0
+
+  pub absent_parts : (key : ℕ) → number_in m.slots.items key ≡ None → is_some (tree.get nat_cmp m.aside key) ≡ false → number_at m key ≡ None
+  unfolding number_at
+  absent_parts key table aside = ap₂ option_or table (none_of (tree.get nat_cmp m.aside key) aside)
 
   pub same_parts : m'.slots.items ≡ m.slots.items → m'.aside.entries ≡ m.aside.entries → AreSameNumbers m m'
   unfolding number_at

@@ -1,16 +1,21 @@
 //! The map: a table, and an ordered map for what finds no room in it.
-ghost use Rattle.std.specs.Prelude.{◌≡◌, ◌≢◌, ℕ, None, OnErr, OnOk, Some, false, true};
+ghost use Rattle.std.specs.Prelude.{◌≡◌, ◌≢◌, ℕ, IfOk, None, OnErr, OnOk, Some, false, is_none, is_some, true};
+ghost use Rattle.std.specs.BTreeMap as tree;
+ghost use Rattle.std.specs.Ordering.{nat_cmp};
+ghost use Rattle.cb_number_map.specs.Filed.{LeavesAside};
 ghost use Rattle.cb_number_map.specs.Internal.{AreAmong, TakesOver};
 ghost use Rattle.cb_number_map.specs.NumberMaps.{AreSameNumbers, Updates, number_at};
 ghost use Rattle.cb_number_map.specs.Slots.{number_in};
 
-use crate::slots::{Slot, are_free, clear, free_slots, longer, number_in, places, put};
+use crate::slots::{
+    Slot, are_free, clear, clear_number, free_slots, longer, number_in, places, put, put_new,
+};
 use cb_forms::NoMemory;
 use std::alloc::Global;
 use std::collections::BTreeMap;
 
 /// A table of so many slots at most is kept when its last key goes.
-const KEPT: usize = 64;
+const KEPT: usize = 4096;
 
 /// A map from numbers, the keys, to numbers.
 ///
@@ -69,6 +74,25 @@ impl NumberMap {
         self.add(key, number)
     }
 
+    /// Adds a key with its number, unless the map has the key. The answer is whether it was added. Growth is refused as `NoMemory`, and
+    /// then nothing has changed.
+    pub fn insert_new(&mut self, key: u32, number: u32) -> Result<bool, NoMemory>
+        ensures added { IfOk result (λ added. added ≡ is_none (number_at self.old key)) }
+        ensures new { OnOk result (number_at self.old key ≡ None
+            → Updates self.old self.new key (Some number)) }
+        ensures there { OnOk result (number_at self.old key ≢ None → AreSameNumbers self.old self.new) }
+        ensures err { OnErr result (AreSameNumbers self.old self.new) }
+    {
+        if self.put_new(key, number) {
+            return Ok(true);
+        }
+        if self.get(key).is_some() {
+            return Ok(false);
+        }
+        self.insert(key, number)?;
+        Ok(true)
+    }
+
     /// Takes a key out, if the map has it. A long table is given back with the last key.
     pub fn remove(&mut self, key: u32)
         ensures { Updates self.old self.new key None }
@@ -87,8 +111,31 @@ impl NumberMap {
         if clear(self.slots.as_mut_slice(), key) {
             self.taken = self.taken.saturating_sub(1);
         }
-        if !self.aside.is_empty() {
+        self.forget_aside(key);
+    }
+
+    /// Takes a key out, if it has this number. The table keeps its memory for the keys that come next.
+    #[tactic(auto, unfolding(crate::specs::NumberMaps::number_at))]
+    pub fn take_out_number(&mut self, key: u32, number: usize)
+        ensures has { number_at self.old key ≡ Some number → Updates self.old self.new key None }
+        ensures other { number_at self.old key ≢ Some number → AreSameNumbers self.old self.new }
+    {
+        if clear_number(self.slots.as_mut_slice(), key, number) {
+            self.taken = self.taken.saturating_sub(1);
+            self.forget_aside(key);
+        } else if !self.aside.is_empty() && self.has_number(key, number) {
             self.aside.remove(&key);
+        }
+    }
+
+    /// Whether a key has this number.
+    fn has_number(&self, key: u32, number: usize) -> bool
+        ensures yes { result ≡ true → number_at self.now key ≡ Some number }
+        ensures no { result ≡ false → number_at self.now key ≢ Some number }
+    {
+        match self.get(key) {
+            Some(found) => found as usize == number,
+            None => false,
         }
     }
 
@@ -113,6 +160,39 @@ impl NumberMap {
         }
         self.taken = self.taken.saturating_add(1);
         true
+    }
+
+    /// Puts a key into the table, unless the map has the key or there is no room for it. The answer is whether it did.
+    fn put_new(&mut self, key: u32, number: u32) -> bool
+        ensures absent { result ≡ true → number_at self.old key ≡ None }
+        ensures put { result ≡ true → Updates self.old self.new key (Some number) }
+        ensures not { result ≡ false → AreSameNumbers self.old self.new }
+    {
+        if self.stands_aside(key) {
+            return false;
+        }
+        if !put_new(self.slots.as_mut_slice(), key, number) {
+            return false;
+        }
+        self.taken = self.taken.saturating_add(1);
+        true
+    }
+
+    /// Takes a key out of those that stand aside. Mostly none does.
+    fn forget_aside(&mut self, key: u32)
+        ensures table { self.new.slots ≡ self.old.slots }
+        ensures aside { LeavesAside nat_cmp self.old.aside self.new.aside key }
+    {
+        if !self.aside.is_empty() {
+            self.aside.remove(&key);
+        }
+    }
+
+    /// Whether a key stands aside. Mostly none does.
+    fn stands_aside(&self, key: u32) -> bool
+        ensures { result ≡ is_some (tree.get nat_cmp self.now.aside key) }
+    {
+        !self.aside.is_empty() && self.aside.contains_key(&key)
     }
 
     /// Adds a key that the map doesn't have, aside if there is no room for it in the table. Growth is refused as `NoMemory`, and then
@@ -177,12 +257,12 @@ impl NumberMap {
         requires { AreAmong self.old other.now }
         ensures { OnOk result (TakesOver self.old self.new other.now key) }
     {
-        if self.get(key).is_some() {
+        let Some(number) = other.get(key) else {
+            return Ok(());
+        };
+        if self.put_new(key, number) || self.get(key).is_some() {
             return Ok(());
         }
-        match other.get(key) {
-            Some(number) => self.add(key, number),
-            None => Ok(()),
-        }
+        self.add(key, number)
     }
 }

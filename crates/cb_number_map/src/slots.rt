@@ -1,5 +1,5 @@
 //! The slots of a table, and where a key stands.
-ghost use Rattle.std.specs.Prelude.{◌≡◌, ◌≤◌, ◌+◌, ◌-◌, ℕ, IfOk, IfSome, None, Some, false, min, true};
+ghost use Rattle.std.specs.Prelude.{◌≡◌, ◌≢◌, ◌≤◌, ◌+◌, ◌-◌, ℕ, IfOk, IfSome, None, Some, false, min, true};
 ghost use Rattle.cb_number_map.specs.Slots.{HasRoom, TableUpdates, first_slot, number_in, number_of, start_of};
 
 use cb_forms::NoMemory;
@@ -85,6 +85,43 @@ pub(crate) fn put(slots: &mut [Slot], key: u32, number: u32) -> bool
     true
 }
 
+/// Puts a key into the first free slot of its window, if the table doesn't have the key, the window has room, and the number isn't the
+/// greatest of 32 bits. The answer is whether it did. It takes constant time.
+pub(crate) fn put_new(slots: &mut [Slot], key: u32, number: u32) -> bool
+    ensures absent { result ≡ true → number_in slots.old key ≡ None }
+    ensures put { result ≡ true → TableUpdates slots.old slots.new key (Some number) }
+    ensures not { result ≡ false → slots.new ≡ slots.old }
+{
+    let Some(next) = number.checked_add(1) else {
+        return false;
+    };
+    let Some(index) = room_for(slots, key) else {
+        return false;
+    };
+    slots[index] = Slot { key, next };
+    true
+}
+
+/// The first free slot of a key's window, if no slot of the window has the key.
+fn room_for(slots: &[Slot], key: u32) -> Option<usize>
+    ensures room { IfSome result (HasRoom slots.now key) }
+    ensures absent { result ≢ None → number_in slots.now key ≡ None }
+{
+    let (from, to) = window(slots.len(), key);
+    let mut room = None;
+    for index in from..to {
+        let slot = slots[index];
+        if slot.number().is_some() {
+            if slot.key == key {
+                return None;
+            }
+        } else if room.is_none() {
+            room = Some(index);
+        }
+    }
+    room
+}
+
 /// The first free slot of a key's window.
 fn free_slot(slots: &[Slot], key: u32) -> Option<usize>
     ensures { IfSome result (HasRoom slots.now key) }
@@ -111,6 +148,21 @@ pub(crate) fn clear(slots: &mut [Slot], key: u32) -> bool
         }
     }
     found
+}
+
+/// Frees the slot of a key, if that has this number. The answer is whether it has. It takes constant time.
+pub(crate) fn clear_number(slots: &mut [Slot], key: u32, number: usize) -> bool
+    ensures has { result ≡ true → number_in slots.old key ≡ Some number }
+    ensures cleared { result ≡ true → TableUpdates slots.old slots.new key None }
+    ensures other { result ≡ false → (number_in slots.old key ≢ Some number) × (slots.new ≡ slots.old) }
+{
+    match number_in(slots, key) {
+        Some(found) if found as usize == number => {
+            clear(slots, key);
+            true
+        }
+        _ => false,
+    }
 }
 
 /// Whether all slots are free.

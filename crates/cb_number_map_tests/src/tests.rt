@@ -17,7 +17,11 @@ const SAME_SLOTS: u32 = 832_040;
 enum Call {
     /// The key has this number from now on.
     Set(u32, u32),
+    /// The same, unless the key has one.
+    Add(u32, u32),
     Remove(u32),
+    /// The key goes, if it has this number.
+    TakeOut(u32, u32),
 }
 
 /// The next state of the generator, a linear congruential one.
@@ -39,12 +43,14 @@ fn key_of(drawn: u64) -> u32 {
 /// The call that a state of the generator stands for. In the first half most keys come, in the second most go.
 fn call_of(state: u64, number: u64) -> Call {
     let drawn = state >> 33;
-    let key = key_of(drawn / 4);
+    let key = key_of(drawn / 24);
     let comes = if number < CALLS / 2 { 3 } else { 1 };
-    if drawn % 4 < comes {
-        Call::Set(key, (drawn % 1000) as u32)
-    } else {
-        Call::Remove(key)
+    let number = (drawn / 8 % 3) as u32;
+    match (drawn % 4 < comes, drawn / 4 % 2 == 0) {
+        (true, true) => Call::Set(key, number),
+        (true, false) => Call::Add(key, number),
+        (false, true) => Call::Remove(key),
+        (false, false) => Call::TakeOut(key, number),
     }
 }
 
@@ -60,9 +66,20 @@ fn make(
             numbers.insert(*key, *number)?;
             wanted.insert(*key, *number)?;
         }
+        Call::Add(key, number) => {
+            if numbers.insert_new(*key, *number)? {
+                wanted.insert(*key, *number)?;
+            }
+        }
         Call::Remove(key) => {
             numbers.remove(*key);
             wanted.remove(key);
+        }
+        Call::TakeOut(key, number) => {
+            numbers.take_out_number(*key, *number as usize);
+            if wanted.get(key) == Some(number) {
+                wanted.remove(key);
+            }
         }
     }
     Ok(())

@@ -1,8 +1,6 @@
 -- What is taken on the way down from a token. No public clause cites this module.
-use Rattle.std.specs.Prelude.{◌++◌, List, [], ◌∷◌, Option, Some, None}
-use Rattle.std.specs.Option.{option_map}
-use Rattle.cb_beta.specs.Tokens.{TakenValue, taken_value, with_taken}
-use Rattle.cb_beta.specs.declared.token.Taken.{Taken}
+use Rattle.std.specs.Prelude.{List, [], ◌∷◌, Option, Some, None}
+use Rattle.cb_beta.specs.Tokens.{TakenValue, with_taken}
 use Rattle.cb_matches.specs.Keys.{PartValue}
 use Rattle.cb_matches.specs.Matches.{Partial}
 use Rattle.cb_token_lists.specs.declared.path.Step.{Step}
@@ -21,11 +19,3 @@ with_path (s ∷ ss) m = with_step s (with_path ss m)
 abbrev pub parts_taken : Option TakenValue → List PartValue
 parts_taken None = []
 parts_taken (Some t) = record { index = t.index; cuts = t.way.cuts } ∷ []
-
--- the parts of what was taken last, and of what was taken before it
-abbrev pub last_parts : Option TakenValue → Option TakenValue → List PartValue
-last_parts first last = parts_taken first ++ parts_taken last
-
--- the same, as they are read
-abbrev pub last_taken_parts : Option Taken × Option Taken → List PartValue
-last_taken_parts known = last_parts (option_map taken_value known.0) (option_map taken_value known.1)

@@ -1,12 +1,14 @@
 //! What variables have by the partial match that a token stands for, and its parts.
-ghost use Rattle.std.specs.Prelude.{◌≡◌, ℕ, IfOk, MatchOption, suc, ⊤};
-ghost use Rattle.cb_beta.specs.Tokens.{with_taken};
+ghost use Rattle.std.specs.Prelude.{◌≡◌, ◌++◌, ℕ, [], IfOk, IfSome, MatchOption, Some, suc};
+ghost use Rattle.cb_beta.specs.Tokens.{taken_value, with_taken};
 ghost use Rattle.cb_matches.specs.Matches.{no_parts};
-ghost use Rattle.cb_token_lists.specs.Internal.{last_taken_parts, with_path};
+ghost use Rattle.cb_token_lists.specs.Internal.{parts_taken, with_path};
 ghost use Rattle.cb_token_lists.specs.Partials.{partial_at, partial_in};
 
 use crate::binding::bind_path;
-use crate::parts::{LastTaken, few_parts, many_parts, one_earlier};
+use crate::parts::{
+    LastTaken, four_parts, many_parts, one_part, part_of_ones, three_parts, two_parts,
+};
 use crate::path::{Path, add_step};
 use crate::source::Source;
 use cb_beta::{BetaMemory, Token};
@@ -15,6 +17,9 @@ use cb_exprs::Env;
 use cb_forms::NoMemory;
 use cb_matches::MatchParts;
 use std::alloc::Global;
+
+/// A branch with more lists is taken to have more than four parts.
+const MOST_LISTS: usize = 4;
 
 /// The lists of tokens of a branch, and what it takes to read them.
 #[derive(Clone, Copy)]
@@ -40,37 +45,98 @@ impl<'a> TokenLists<'a> {
         bind_path(self.alloc, self.path(list, number)?)
     }
 
+    /// The parts of the partial match with a number in a list, where there are up to three, each of lengths that are 1; mostly nothing
+    /// elsewhere. It takes some steps for each list that is gone down to, fewer than `parts`, and no memory.
+    #[inline(always)]
+    pub fn parts_of_ones(&self, list: usize, number: u32) -> Option<MatchParts>
+        ensures { IfSome result (λ parts. parts
+            ≡ (partial_at self.now.sources.now self.now.lists.now list number).parts) }
+    {
+        if list > MOST_LISTS {
+            return None;
+        }
+        let Some(c) = self.last_taken(list, number, list + 1) else {
+            return Some(MatchParts::none());
+        };
+        let last = part_of_ones(c.taken)?;
+        let Some(b) = self.last_taken(c.list, c.number, c.left) else {
+            return Some(MatchParts::one(last));
+        };
+        let middle = part_of_ones(b.taken)?;
+        let Some(a) = self.last_taken(b.list, b.number, b.left) else {
+            return Some(MatchParts::two([middle, last]));
+        };
+        let first = part_of_ones(a.taken)?;
+        match self.last_taken(a.list, a.number, a.left) {
+            None => Some(MatchParts::three([first, middle, last])),
+            Some(_) => None,
+        }
+    }
+
     /// The parts of the partial match with a number in a list. Growth is refused as `NoMemory`, and so is a count of sharers that
-    /// is full. It takes some steps for each list that is gone down to, and no memory where there are up to two parts.
+    /// is full. It takes some steps for each list that is gone down to, and no memory where there are up to three parts.
     pub fn parts(&self, list: usize, number: u32) -> Result<MatchParts, NoMemory>
         ensures { IfOk result (λ parts. parts
             ≡ (partial_at self.now.sources.now self.now.lists.now list number).parts) }
     {
-        if list <= 4 {
-            if let Some(taken) = self.last_taken(list, number) {
-                return few_parts(taken);
-            }
+        if list > MOST_LISTS {
+            return self.many_parts(list, number);
         }
-        many_parts(self.alloc, self.path(list, number)?)
+        let Some(d) = self.last_taken(list, number, list + 1) else {
+            return Ok(MatchParts::none());
+        };
+        let Some(c) = self.last_taken(d.list, d.number, d.left) else {
+            return one_part(d.taken);
+        };
+        let Some(b) = self.last_taken(c.list, c.number, c.left) else {
+            return two_parts(c.taken, d.taken);
+        };
+        let Some(a) = self.last_taken(b.list, b.number, b.left) else {
+            return three_parts(b.taken, c.taken, d.taken);
+        };
+        match self.last_taken(a.list, a.number, a.left) {
+            None => four_parts(self.alloc, a.taken, b.taken, c.taken, d.taken),
+            Some(_) => self.many_parts(list, number),
+        }
     }
 
-    /// What was taken on the way down from a token, if that are no more than two.
-    fn last_taken(&self, list: usize, number: u32) -> Option<LastTaken<'a>>
-        ensures { MatchOption result ⊤ (λ all. last_taken_parts all
+    /// What was taken last on the way down from a token by at most so many lists, if anything was.
+    #[inline(always)]
+    fn last_taken(&self, list: usize, number: u32, left: usize) -> Option<LastTaken<'a>>
+        ensures { MatchOption result
+            ((partial_in self.now.sources.now self.now.lists.now left list number).parts ≡ [])
+            (λ last. (partial_in self.now.sources.now self.now.lists.now left list number).parts
+            ≡ (partial_in self.now.sources.now self.now.lists.now last.left last.list last.number).parts
+            ++ parts_taken (Some (taken_value last.taken))) }
+    {
+        let mut list = list;
+        let mut number = number;
+        let mut left = left;
+        while left > 0 {
+            let (source, token) = self.read(list, number)?;
+            list = source.from as usize;
+            number = token.parent();
+            left -= 1;
+            if let Some(taken) = token.taken() {
+                return Some(LastTaken {
+                    taken,
+                    list,
+                    number,
+                    left,
+                });
+            }
+        }
+        None
+    }
+
+    /// The parts of a partial match of any number of parts. It takes no memory of its own where up to six facts were taken. It is apart
+    /// so that the usual case needs less of the stack.
+    #[inline(never)]
+    fn many_parts(&self, list: usize, number: u32) -> Result<MatchParts, NoMemory>
+        ensures { IfOk result (λ parts. parts
             ≡ (partial_at self.now.sources.now self.now.lists.now list number).parts) }
     {
-        let mut known = (None, None);
-        let mut reached = list;
-        let mut met = number;
-        for _ in 0..=list {
-            let Some((source, token)) = self.read(reached, met) else {
-                return Some(known);
-            };
-            known = one_earlier(token.taken(), known)?;
-            reached = source.from as usize;
-            met = token.parent();
-        }
-        Some(known)
+        many_parts(self.alloc, self.path(list, number)?)
     }
 
     /// What was taken on the way down from a token. Growth is refused as `NoMemory`.

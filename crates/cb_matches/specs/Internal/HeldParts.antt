@@ -10,6 +10,6 @@ abbrev pub parts_in : Held → List PartValue
 parts_in held.None = []
 parts_in (held.One parts) = parts
 parts_in (held.Two parts) = parts
-parts_in (held.Three parts) = rc_value {X = List PartValue} parts
+parts_in (held.Three parts) = parts
 parts_in (held.Four parts) = rc_value {X = List PartValue} parts
 parts_in (held.More parts) = (rc_value {X = SmallVec PartValue} parts).items

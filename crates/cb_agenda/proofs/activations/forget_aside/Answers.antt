@@ -1,14 +1,6 @@
-use Rattle.std.proofs.Common.{◌≡◌, ℕ, List, [], ◌∷◌, None, length, refl, rules}
-use Rattle.std.specs.BTreeMap.{is_at}
-use Rattle.std.specs.Map.{lookup}
-use Rattle.cb_agenda.proofs.NumberLaws.{other_key}
-use Rattle.cb_matches.specs.Keys.{KeyValue, key_cmp}
+use Rattle.std.proofs.Common.{None, refl, rules}
+use Rattle.cb_agenda.proofs.NumberLaws.{no_entry, other_key}
 use Rattle.cb_agenda.proofs.activations.forget_aside.Goals as goal
-
--- nothing is found where there is nothing
-no_entry : (es : List (KeyValue × ℕ)) (k : KeyValue) → length es ≡ 0 → lookup (is_at (key_cmp k)) es ≡ None
-no_entry [] k e = refl
-no_entry (e ∷ es) k h = absurd (cc)
 
 pub returns-then-not-is_empty : goal.returns-then-not-is_empty
 returns-then-not-is_empty c = record {

@@ -5,10 +5,14 @@ use Rattle.cb_constraints.specs.Holding.{Follows, Meets, after_demand, checks_in
 use Rattle.cb_constraints.proofs.FollowLaws.{known_follows}
 use Rattle.cb_constraints.specs.Internal.Values.{values_taken}
 use Rattle.cb_facts.specs.Facts.{content_of}
-use Rattle.cb_fit.proofs.Standing.{known-is, met-next, next-here}
+use Rattle.cb_fit.proofs.Standing.{holds-next, known-is, met-next, next-here}
 use Rattle.cb_fit.proofs.Takes.{ok-then}
 use Rattle.cb_fit.specs.Internal.Searches.{search_of}
 use Rattle.cb_fit.proofs.search.Search.field_holds.Goals as goal
+
+pub returns-then-branch : goal.returns-then-branch
+returns-then-branch g c n is =
+    holds-next (search_of g.L.Lookup.bindings c.args.self) c.args.cuts.now c.len.result n (constraint_of c.args.constraint.now) (tested_value c.args.tested) c.len.ensures (c.in_ok-holds_of_all.ensures c.if-branch.true) c.requires.next is
 
 pub meets_beyond_constants-requires-clause-follows : goal.meets_beyond_constants-requires-clause-follows
 meets_beyond_constants-requires-clause-follows g c =

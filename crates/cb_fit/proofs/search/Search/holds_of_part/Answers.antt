@@ -1,4 +1,4 @@
-use Rattle.std.proofs.Common.{◌∙◌, ◌++◌, ◌-◌, ◌∷◌, [], ap, drop, subst, sym, take, true}
+use Rattle.std.proofs.Common.{◌∙◌, ◌++◌, ◌-◌, ◌∷◌, [], ap, drop, length, refl, subst, sym, take, true}
 use Rattle.cb_constraints.specs.Binders.{constraints_in}
 use Rattle.cb_constraints.specs.Constraints.{constraint_of, demand_of}
 use Rattle.cb_constraints.specs.Holding.{Follows, Meets, after_demand, checks_in, tested_value}
@@ -8,7 +8,7 @@ use Rattle.cb_constraints.specs.Internal.RowFields.{row_fields}
 use Rattle.cb_constraints.specs.Internal.Values.{values_taken}
 use Rattle.cb_facts.specs.Facts.{content_of}
 use Rattle.cb_facts.specs.declared.value.Value.TheVariants as value
-use Rattle.cb_fit.proofs.Standing.{first-next, known-is, met-next, next-here, nothing-met, segment-met, segment-next, segment-tested}
+use Rattle.cb_fit.proofs.Standing.{first-next, holds-next, known-is, met-next, next-here, nothing-met, segment-met, segment-next, segment-tested}
 use Rattle.cb_fit.proofs.Takes.{ok-then}
 use Rattle.cb_fit.specs.Internal.{env_after}
 use Rattle.cb_fit.specs.Internal.Searches.{search_of}
@@ -22,6 +22,14 @@ returns-in-Nothing g c =
     (first-next (search_of g.L.Lookup.bindings c.args.self) (row_fields c.args.fields) c.args.cuts.now c.args.from (constraint_of c.args.constraint.now) [] c.requires.place)
     (segment-next (search_of g.L.Lookup.bindings c.args.self) (row_fields c.args.fields) c.args.cuts.now c.args.from c.args.to (constraint_of c.args.constraint.now) [] c.requires.place c.requires.segment)
     (nothing-met (demand_of c.args.constraint.now.demand) v (bindings_before (constraints_in c.args.self.body.now) (values_taken c.args.self.body.now (content_of c.args.self.content.now) c.args.cuts.now) v (g.L.Lookup.bindings c.args.self.before.now)) (ap demand_of c.in-Nothing.is)))
+
+pub returns-then-holds_of_all : goal.returns-then-holds_of_all
+returns-then-holds_of_all g c =
+    let v = value.Multi (take (c.args.to - c.args.from) (drop c.args.from (row_fields c.args.fields))) in
+    segment-met (constraint_of c.args.constraint.now) (take (c.args.to - c.args.from) (drop c.args.from (row_fields c.args.fields))) (env_after (search_of g.L.Lookup.bindings c.args.self) c.args.cuts.now) (env_after (search_of g.L.Lookup.bindings c.args.self) (c.args.cuts.now ++ (c.args.to - c.args.from) ∷ [])) true c.requires.segment
+    (holds-next (search_of g.L.Lookup.bindings c.args.self) c.args.cuts.now (length c.args.cuts.now) (c.args.to - c.args.from) (constraint_of c.args.constraint.now) v refl (c.requires.all c.if-holds_of_all.true)
+    (first-next (search_of g.L.Lookup.bindings c.args.self) (row_fields c.args.fields) c.args.cuts.now c.args.from (constraint_of c.args.constraint.now) [] c.requires.place)
+    (segment-next (search_of g.L.Lookup.bindings c.args.self) (row_fields c.args.fields) c.args.cuts.now c.args.from c.args.to (constraint_of c.args.constraint.now) [] c.requires.place c.requires.segment))
 
 pub meets-requires : goal.meets-requires
 meets-requires g c =
