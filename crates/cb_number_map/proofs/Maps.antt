@@ -1,15 +1,15 @@
 -- What a change of the table, or of what stands aside, does to the map.
-use Rattle.std.proofs.Common.{◌≡◌, ◌≢◌, ◌∙◌, ◌⊎◌, ◌<◌, ℕ, List, [], true, false, Option, Some, None, Result, Ok, Err, OnErr, ap, ap₂, arith, get_or, inl, inr, length, nat_cmp, refl, sym}
+use Rattle.std.proofs.Common.{◌≡◌, ◌≢◌, ◌∙◌, ◌⊎◌, ◌<◌, ℕ, List, [], false, Option, Some, None, Result, Ok, Err, OnErr, ap, ap₂, arith, get_or, inl, inr, length, nat_cmp, refl, sym}
 use Rattle.std.proofs.lemmas.Bool.{false_from_ne_true}
 use Rattle.std.specs.BTreeMap as tree
 use Rattle.std.specs.BTreeMap.{BTreeMap, is_at}
 use Rattle.std.specs.Cmp.{unsigned_Decides, unsigned_ties}
 use Rattle.std.specs.Map.{lookup}
 use Rattle.std.specs.Option.{is_some, option_or}
-use Rattle.cb_number_map.proofs.Windows.{found_table}
+use Rattle.cb_number_map.proofs.Windows.{found_table, none_of}
 use Rattle.cb_number_map.specs.Internal.{AreAmong}
 use Rattle.cb_number_map.specs.NumberMaps.{AreSameNumbers, Updates, number_at}
-use Rattle.cb_number_map.specs.Slots.{TableUpdates, free, number_for, number_in}
+use Rattle.cb_number_map.specs.Slots.{TableUpdates, number_for, number_in, unused}
 use Rattle.cb_number_map.specs.declared.number_map.NumberMap.{NumberMap}
 use Rattle.cb_number_map.specs.declared.slots.Slot.{Slot}
 
@@ -24,42 +24,38 @@ or_none : (o p : Option ℕ) → option_or o p ≡ None → (o ≡ None) × (p �
 or_none None p e = (refl, e)
 or_none (Some n) p e = absurd (cc)
 
-none_of : {A : Type 0} (o : Option A) → is_some o ≡ false → o ≡ None
-none_of None e = refl
-none_of (Some a) e = absurd (let no : true ≡ false = e in cc)
-
 -- ---- a map with other slots, or with other keys aside
 
 module _ (m m' : NumberMap) where
   -- no slot, and nothing aside
-  pub nothing_at : (key : ℕ) → number_in m.slots.items key ≡ None → m.aside.entries ≡ [] → number_at m key ≡ None
+  pub nothing_at : (key : ℕ) → number_in m.table key ≡ None → m.aside.entries ≡ [] → number_at m key ≡ None
   unfolding number_at
   nothing_at key table aside = ap₂ (λ o (es : List (ℕ × ℕ)). option_or o (lookup (is_at (nat_cmp key)) es)) table aside
 
-  pub absent_table : (key : ℕ) → number_at m key ≡ None → number_in m.slots.items key ≡ None
+  pub absent_table : (key : ℕ) → number_at m key ≡ None → number_in m.table key ≡ None
   unfolding number_at
-  absent_table key e = (or_none (number_in m.slots.items key) (tree.get nat_cmp m.aside key) e).0
+  absent_table key e = (or_none (number_in m.table key) (tree.get nat_cmp m.aside key) e).0
 
-  pub absent_parts : (key : ℕ) → number_in m.slots.items key ≡ None → is_some (tree.get nat_cmp m.aside key) ≡ false → number_at m key ≡ None
+  pub absent_parts : (key : ℕ) → number_in m.table key ≡ None → is_some (tree.get nat_cmp m.aside key) ≡ false → number_at m key ≡ None
   unfolding number_at
   absent_parts key table aside = ap₂ option_or table (none_of (tree.get nat_cmp m.aside key) aside)
 
-  pub same_parts : m'.slots.items ≡ m.slots.items → m'.aside.entries ≡ m.aside.entries → AreSameNumbers m m'
+  pub same_parts : m'.table ≡ m.table → m'.aside.entries ≡ m.aside.entries → AreSameNumbers m m'
   unfolding number_at
   same_parts slots aside key = ap₂ (λ (ss : List Slot) (es : List (ℕ × ℕ)). option_or (number_in ss key) (lookup (is_at (nat_cmp key)) es)) slots aside
 
-  pub table_updates : (key n : ℕ) → m'.aside ≡ m.aside → TableUpdates m.slots.items m'.slots.items key (Some n) → Updates m m' key (Some n)
+  pub table_updates : (key n : ℕ) → m'.aside ≡ m.aside → TableUpdates m.table m'.table key (Some n) → Updates m m' key (Some n)
   unfolding number_at
   table_updates key n aside is = record {
     changed = ap (λ o. option_or o (tree.get nat_cmp m'.aside key)) is.changed;
     others = λ k d. ap₂ (λ o (a : BTreeMap ℕ ℕ). option_or o (tree.get nat_cmp a k)) (is.others k d) aside;
   }
 
-  pub aside_updates : (key n : ℕ) → m'.slots.items ≡ m.slots.items → tree.Updates nat_cmp m.aside m'.aside key (Some n) → number_at m key ≡ None → Updates m m' key (Some n)
+  pub aside_updates : (key n : ℕ) → m'.table ≡ m.table → tree.Updates nat_cmp m.aside m'.aside key (Some n) → number_at m key ≡ None → Updates m m' key (Some n)
   unfolding number_at
   aside_updates key n slots is absent = record {
     changed =
-        let none : number_in m'.slots.items key ≡ None = ap (λ ss. number_in ss key) slots ∙ absent_table key absent in
+        let none : number_in m'.table key ≡ None = ap (λ ss. number_in ss key) slots ∙ absent_table key absent in
         ap (λ o. option_or o (tree.get nat_cmp m'.aside key)) none ∙ is.1;
     others = λ k d. ap₂ option_or (ap (λ ss. number_in ss k) slots)
         (is.2 k (false_from_ne_true (is_at (nat_cmp key) k) (λ t. d (sym ((unsigned_Decides key k).0 (unsigned_ties key k ∙ t))))));
@@ -80,7 +76,7 @@ on_err (Err e) p = p
 -- ---- each slot in turn
 
 abbrev pub AreTaken : NumberMap → NumberMap → List Slot → ℕ → Type 0
-AreTaken some all slots i = (key n j : ℕ) → j < i → number_for key (get_or slots j free) ≡ Some n → number_at some key ≡ number_at all key
+AreTaken some all slots i = (key n j : ℕ) → j < i → number_for key (get_or slots j unused) ≡ Some n → number_at some key ≡ number_at all key
 
 pub taken_all : (some all : NumberMap) (slots : List Slot) (i : ℕ) → length slots ≡ i → AreTaken some all slots i → (key : ℕ) → number_in slots key ≢ None → number_at some key ≡ number_at all key
 taken_all some all slots i e are key h = by_option (number_in slots key)
@@ -92,11 +88,11 @@ taken_all some all slots i e are key h = by_option (number_in slots key)
 abbrev pub AreLeft : NumberMap → NumberMap → List (ℕ × ℕ) → Type 0
 AreLeft some all left = (key n : ℕ) → tree.get nat_cmp all.aside key ≡ Some n → (number_at some key ≡ number_at all key) ⊎ (lookup (is_at (nat_cmp key)) left ≡ Some n)
 
-pub none_left : (some all : NumberMap) → AreAmong some all → ((key : ℕ) → number_in all.slots.items key ≢ None → number_at some key ≡ number_at all key) → AreLeft some all [] → AreSameNumbers all some
+pub none_left : (some all : NumberMap) → AreAmong some all → ((key : ℕ) → number_in all.table key ≢ None → number_at some key ≡ number_at all key) → AreLeft some all [] → AreSameNumbers all some
 unfolding number_at
-none_left some all among table aside key = by_option (number_in all.slots.items key)
+none_left some all among table aside key = by_option (number_in all.table key)
     (λ none. by_option (tree.get nat_cmp all.aside key)
     (λ no. let absent : number_at all key ≡ None = ap₂ option_or none no in
     elim (among key) as (λ _. number_at some key ≡ number_at all key) [ inl e ↦ e ∙ sym absent | inr e ↦ e ])
     (λ n is. elim (aside key n is) as (λ _. number_at some key ≡ number_at all key) [ inl e ↦ e | inr e ↦ absurd (let no : None ≡ Some n = e in cc) ]))
-    (λ n is. table key (λ none. some_none (number_in all.slots.items key) is none))
+    (λ n is. table key (λ none. some_none (number_in all.table key) is none))

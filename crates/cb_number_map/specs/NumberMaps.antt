@@ -8,7 +8,7 @@ use Rattle.cb_number_map.specs.declared.number_map.NumberMap.{NumberMap}
 
 -- the number of a key, if the map has the key
 unfoldable pub number_at : NumberMap → ℕ → Option ℕ
-number_at numbers key = option_or (number_in numbers.slots.items key) (get nat_cmp numbers.aside key)
+number_at numbers key = option_or (number_in numbers.table key) (get nat_cmp numbers.aside key)
 
 -- each key has the number that it had
 abbrev pub AreSameNumbers : NumberMap → NumberMap → Type 0

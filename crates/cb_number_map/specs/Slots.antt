@@ -3,9 +3,9 @@ use Rattle.std.specs.Prelude.{◌≡◌, ◌≢◌, ◌+◌, ◌-◌, ◌*◌, �
 use Rattle.std.specs.Option.{option_or}
 use Rattle.cb_number_map.specs.declared.slots.Slot.{Slot}
 
--- a slot without a key
-abbrev pub free : Slot
-free = record { key = 0; next = 0 }
+-- a slot that never had a key, or counts as one
+abbrev pub unused : Slot
+unused = record { key = 0; next = 0 }
 
 -- the number of a slot, if it has a key
 abbrev pub number_of : Slot → Option ℕ
@@ -40,9 +40,25 @@ pub record TableUpdates (old new : List Slot) (key : ℕ) (number : Option ℕ) 
   pub changed : number_in new key ≡ number
   pub others : (other : ℕ) → other ≢ key → number_in new other ≡ number_in old other
 
--- a slot of a key's window is free
-pub record HasRoom (slots : List Slot) (key index : ℕ) : Type 0 where
+-- no slot behind this one has a key in whose window both are
+abbrev pub NoneBehind : List Slot → ℕ → Type 0
+NoneBehind slots index =
+    (key j : ℕ) → first_slot key (length slots) ≤ index → index < j → j < first_slot key (length slots) + 8 → j < length slots
+    → number_for key (slice_index_or slots j unused) ≡ None
+
+-- behind a slot of a key's window that never had a key, no slot of the window has that key
+abbrev pub WindowsEndAtUnused : List Slot → Type 0
+WindowsEndAtUnused slots = (i : ℕ) → slice_index_or slots i unused ≡ unused → NoneBehind slots i
+
+-- this is the first free slot of a key's window
+pub record IsFirstFree (slots : List Slot) (key index : ℕ) : Type 0 where
   pub behind : first_slot key (length slots) ≤ index
   pub before : index < first_slot key (length slots) + 8
   pub within : index < length slots
-  pub room : number_of (slice_index_or slots index free) ≡ None
+  pub free : number_of (slice_index_or slots index unused) ≡ None
+  pub taken : (i : ℕ) → first_slot key (length slots) ≤ i → i < index → number_of (slice_index_or slots i unused) ≢ None
+
+-- a slot without a key, which counts as one that never had a key only where no look-up has to go on behind it
+pub record IsFreed (slots : List Slot) (index : ℕ) (slot : Slot) : Type 0 where
+  pub free : number_of slot ≡ None
+  pub last : slot ≡ unused → NoneBehind slots index

@@ -7,9 +7,7 @@ ghost use Rattle.cb_number_map.specs.Internal.{AreAmong, TakesOver};
 ghost use Rattle.cb_number_map.specs.NumberMaps.{AreSameNumbers, Updates, number_at};
 ghost use Rattle.cb_number_map.specs.Slots.{number_in};
 
-use crate::slots::{
-    Slot, are_free, clear, clear_number, free_slots, longer, number_in, places, put, put_new,
-};
+use crate::table::Table;
 use cb_forms::NoMemory;
 use std::alloc::Global;
 use std::collections::BTreeMap;
@@ -28,7 +26,7 @@ const KEPT: usize = 4096;
 #[derive(Drop)]
 pub struct NumberMap {
     alloc: Global,
-    slots: Vec<Slot>,
+    table: Table,
     /// How many keys stand in the table, by which it is chosen when it grows.
     taken: usize,
     /// The keys that found no room in the table.
@@ -42,7 +40,7 @@ impl NumberMap {
     {
         NumberMap {
             alloc,
-            slots: Vec::new(alloc),
+            table: Table::new(alloc),
             taken: 0,
             aside: BTreeMap::new(alloc),
         }
@@ -53,7 +51,7 @@ impl NumberMap {
     pub fn get(&self, key: u32) -> Option<u32>
         ensures { result ≡ number_at self.now key }
     {
-        match number_in(self.slots.as_slice(), key) {
+        match self.table.number(key) {
             Some(number) => Some(number),
             None => self.aside.get(&key).copied(),
         }
@@ -68,7 +66,7 @@ impl NumberMap {
         if self.put(key, number) {
             return Ok(());
         }
-        if self.taken >= places(self.slots.len()) / 2 {
+        if self.taken >= self.table.places() / 2 {
             self.grow()?;
         }
         self.add(key, number)
@@ -108,7 +106,7 @@ impl NumberMap {
     pub fn take_out(&mut self, key: u32)
         ensures { Updates self.old self.new key None }
     {
-        if clear(self.slots.as_mut_slice(), key) {
+        if self.table.clear(key) {
             self.taken = self.taken.saturating_sub(1);
         }
         self.forget_aside(key);
@@ -120,7 +118,7 @@ impl NumberMap {
         ensures has { number_at self.old key ≡ Some number → Updates self.old self.new key None }
         ensures other { number_at self.old key ≢ Some number → AreSameNumbers self.old self.new }
     {
-        if clear_number(self.slots.as_mut_slice(), key, number) {
+        if self.table.clear_number(key, number) {
             self.taken = self.taken.saturating_sub(1);
             self.forget_aside(key);
         } else if !self.aside.is_empty() && self.has_number(key, number) {
@@ -144,7 +142,7 @@ impl NumberMap {
     fn release(&mut self)
         ensures { AreSameNumbers self.old self.new }
     {
-        if self.slots.len() > KEPT && self.aside.is_empty() && are_free(self.slots.as_slice()) {
+        if self.table.len() > KEPT && self.aside.is_empty() && self.table.is_free() {
             *self = NumberMap::new(self.alloc);
         }
     }
@@ -155,7 +153,7 @@ impl NumberMap {
         ensures put { result ≡ true → Updates self.old self.new key (Some number) }
         ensures full { result ≡ false → AreSameNumbers self.old self.new }
     {
-        if !put(self.slots.as_mut_slice(), key, number) {
+        if !self.table.put(key, number) {
             return false;
         }
         self.taken = self.taken.saturating_add(1);
@@ -171,7 +169,7 @@ impl NumberMap {
         if self.stands_aside(key) {
             return false;
         }
-        if !put_new(self.slots.as_mut_slice(), key, number) {
+        if !self.table.put_new(key, number) {
             return false;
         }
         self.taken = self.taken.saturating_add(1);
@@ -180,7 +178,7 @@ impl NumberMap {
 
     /// Takes a key out of those that stand aside. Mostly none does.
     fn forget_aside(&mut self, key: u32)
-        ensures table { self.new.slots ≡ self.old.slots }
+        ensures table { self.new.table ≡ self.old.table }
         ensures aside { LeavesAside nat_cmp self.old.aside self.new.aside key }
     {
         if !self.aside.is_empty() {
@@ -214,7 +212,7 @@ impl NumberMap {
     {
         let mut longer = NumberMap {
             alloc: self.alloc,
-            slots: free_slots(self.alloc, longer(self.slots.len()))?,
+            table: self.table.longer(self.alloc)?,
             taken: 0,
             aside: BTreeMap::new(self.alloc),
         };
@@ -228,10 +226,10 @@ impl NumberMap {
     fn take_table(&mut self, other: &NumberMap) -> Result<(), NoMemory>
         requires { AreAmong self.old other.now }
         ensures among { OnOk result (AreAmong self.new other.now) }
-        ensures all { OnOk result ((key : ℕ) → number_in other.now.slots.items key ≢ None
+        ensures all { OnOk result ((key : ℕ) → number_in other.now.table key ≢ None
             → number_at self.new key ≡ number_at other.now key) }
     {
-        for slot in other.slots.as_slice() {
+        for slot in other.table.slots() {
             if slot.number().is_some() {
                 self.take_over(other, slot.key)?;
             }
@@ -242,7 +240,7 @@ impl NumberMap {
     /// Takes over what stands aside in another map. Growth is refused as `NoMemory`.
     fn take_aside(&mut self, other: &NumberMap) -> Result<(), NoMemory>
         requires among { AreAmong self.old other.now }
-        requires table { (key : ℕ) → number_in other.now.slots.items key ≢ None
+        requires table { (key : ℕ) → number_in other.now.table key ≢ None
             → number_at self.old key ≡ number_at other.now key }
         ensures { OnOk result (AreSameNumbers other.now self.new) }
     {

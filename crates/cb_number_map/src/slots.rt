@@ -1,9 +1,6 @@
 //! The slots of a table, and where a key stands.
-ghost use Rattle.std.specs.Prelude.{◌≡◌, ◌≢◌, ◌≤◌, ◌+◌, ◌-◌, ℕ, IfOk, IfSome, None, Some, false, min, true};
-ghost use Rattle.cb_number_map.specs.Slots.{HasRoom, TableUpdates, first_slot, number_in, number_of, start_of};
-
-use cb_forms::NoMemory;
-use std::alloc::Global;
+ghost use Rattle.std.specs.Prelude.{◌≡◌, ◌≢◌, ◌<◌, ◌≤◌, ◌+◌, ◌-◌, ◌↔◌, ℕ, IfSome, IsTrue, None, false, length, min, true};
+ghost use Rattle.cb_number_map.specs.Slots.{IsFirstFree, IsFreed, NoneBehind, TableUpdates, WindowsEndAtUnused, first_slot, number_for, number_in, number_of, start_of, unused};
 
 /// In so many slots, one after the other, a key may stand.
 pub(crate) const WINDOW: usize = 8;
@@ -11,15 +8,19 @@ pub(crate) const WINDOW: usize = 8;
 /// By this a key is multiplied, so that keys that are near each other stand apart.
 const MULTIPLIER: u64 = 11_400_714_819_323_198_485;
 
-/// A slot without a key.
-const FREE: Slot = Slot { key: 0, next: 0 };
+/// A slot that never had a key.
+pub(crate) const UNUSED: Slot = Slot { key: 0, next: 0 };
+
+/// A slot whose key went.
+const FREED: Slot = Slot { key: 1, next: 0 };
 
 /// A slot: a key with its number, or none.
 #[derive(Clone, Copy)]
 pub(crate) struct Slot {
+    /// The key. Where there is none, it tells a slot that never had a key from one whose key went.
     pub(crate) key: u32,
     /// The number after the key's, or 0 where there is no key.
-    next: u32,
+    pub(crate) next: u32,
 }
 
 impl Slot {
@@ -29,13 +30,20 @@ impl Slot {
     {
         self.next.checked_sub(1)
     }
-}
 
-/// So many free slots. Growth is refused as `NoMemory`.
-pub(crate) fn free_slots(alloc: Global, count: usize) -> Result<Vec<Slot>, NoMemory>
-    ensures { IfOk result (λ v. (key : ℕ) → number_in v.items key ≡ None) }
-{
-    Ok(vec![in alloc; FREE; count]?)
+    /// The number that the slot has for a key.
+    pub(crate) fn number_for(self, key: u32) -> Option<u32>
+        ensures { result ≡ number_for key self }
+    {
+        if self.key == key { self.number() } else { None }
+    }
+
+    /// Whether the slot never had a key.
+    pub(crate) fn is_unused(self) -> bool
+        ensures { IsTrue result ↔ self ≡ unused }
+    {
+        self.next == UNUSED.next && self.key == UNUSED.key
+    }
 }
 
 /// In so many slots of a table a key may stand first. Behind the last of them there is room for the rest of a window.
@@ -55,62 +63,19 @@ pub(crate) fn longer(length: usize) -> usize {
     }
 }
 
-/// The number that a table has for a key. It takes constant time.
-pub(crate) fn number_in(slots: &[Slot], key: u32) -> Option<u32>
-    ensures { result ≡ number_in slots.now key }
-{
-    let (from, to) = window(slots.len(), key);
-    for slot in &slots[from..to] {
-        if slot.key == key && slot.number().is_some() {
-            return slot.number();
-        }
-    }
-    None
-}
-
-/// Puts a key, which the table doesn't have, into the first free slot of its window. The answer is whether there is one, and the number
-/// isn't the greatest of 32 bits. It takes constant time.
-pub(crate) fn put(slots: &mut [Slot], key: u32, number: u32) -> bool
-    requires { number_in slots.old key ≡ None }
-    ensures put { result ≡ true → TableUpdates slots.old slots.new key (Some number) }
-    ensures full { result ≡ false → slots.new ≡ slots.old }
-{
-    let Some(next) = number.checked_add(1) else {
-        return false;
-    };
-    let Some(index) = free_slot(slots, key) else {
-        return false;
-    };
-    slots[index] = Slot { key, next };
-    true
-}
-
-/// Puts a key into the first free slot of its window, if the table doesn't have the key, the window has room, and the number isn't the
-/// greatest of 32 bits. The answer is whether it did. It takes constant time.
-pub(crate) fn put_new(slots: &mut [Slot], key: u32, number: u32) -> bool
-    ensures absent { result ≡ true → number_in slots.old key ≡ None }
-    ensures put { result ≡ true → TableUpdates slots.old slots.new key (Some number) }
-    ensures not { result ≡ false → slots.new ≡ slots.old }
-{
-    let Some(next) = number.checked_add(1) else {
-        return false;
-    };
-    let Some(index) = room_for(slots, key) else {
-        return false;
-    };
-    slots[index] = Slot { key, next };
-    true
-}
-
 /// The first free slot of a key's window, if no slot of the window has the key.
-fn room_for(slots: &[Slot], key: u32) -> Option<usize>
-    ensures room { IfSome result (HasRoom slots.now key) }
+pub(crate) fn room_for(slots: &[Slot], key: u32) -> Option<usize>
+    requires { WindowsEndAtUnused slots.now }
+    ensures room { IfSome result (IsFirstFree slots.now key) }
     ensures absent { result ≢ None → number_in slots.now key ≡ None }
 {
     let (from, to) = window(slots.len(), key);
     let mut room = None;
     for index in from..to {
         let slot = slots[index];
+        if slot.is_unused() {
+            return room.or(Some(index));
+        }
         if slot.number().is_some() {
             if slot.key == key {
                 return None;
@@ -123,8 +88,8 @@ fn room_for(slots: &[Slot], key: u32) -> Option<usize>
 }
 
 /// The first free slot of a key's window.
-fn free_slot(slots: &[Slot], key: u32) -> Option<usize>
-    ensures { IfSome result (HasRoom slots.now key) }
+pub(crate) fn free_slot(slots: &[Slot], key: u32) -> Option<usize>
+    ensures { IfSome result (IsFirstFree slots.now key) }
 {
     let (from, to) = window(slots.len(), key);
     for index in from..to {
@@ -137,32 +102,54 @@ fn free_slot(slots: &[Slot], key: u32) -> Option<usize>
 
 /// Frees the slot of a key, if there is one. The answer is whether there was. It takes constant time.
 pub(crate) fn clear(slots: &mut [Slot], key: u32) -> bool
-    ensures { TableUpdates slots.old slots.new key None }
+    requires { WindowsEndAtUnused slots.old }
+    ensures cleared { TableUpdates slots.old slots.new key None }
+    ensures end { WindowsEndAtUnused slots.new }
 {
     let mut found = false;
     let (from, to) = window(slots.len(), key);
     for index in from..to {
-        if slots[index].key == key {
-            found = found || slots[index].number().is_some();
-            slots[index].next = 0;
+        let slot = slots[index];
+        if slot.is_unused() {
+            return found;
+        }
+        if slot.number_for(key).is_some() {
+            slots[index] = freed(slots, index);
+            found = true;
         }
     }
     found
 }
 
-/// Frees the slot of a key, if that has this number. The answer is whether it has. It takes constant time.
-pub(crate) fn clear_number(slots: &mut [Slot], key: u32, number: usize) -> bool
-    ensures has { result ≡ true → number_in slots.old key ≡ Some number }
-    ensures cleared { result ≡ true → TableUpdates slots.old slots.new key None }
-    ensures other { result ≡ false → (number_in slots.old key ≢ Some number) × (slots.new ≡ slots.old) }
+/// What the slot at a place is once its key has gone. Where no look-up has to go on behind it, it counts as one that never had a key.
+fn freed(slots: &[Slot], index: usize) -> Slot
+    requires within { index < length slots.now }
+    requires end { WindowsEndAtUnused slots.now }
+    ensures { IsFreed slots.now index result }
 {
-    match number_in(slots, key) {
-        Some(found) if found as usize == number => {
-            clear(slots, key);
-            true
-        }
-        _ => false,
+    if has_behind(slots, index) {
+        FREED
+    } else {
+        UNUSED
     }
+}
+
+/// Whether a slot behind this one has a key in whose window both are. It takes constant time.
+fn has_behind(slots: &[Slot], index: usize) -> bool
+    requires within { index < length slots.now }
+    requires end { WindowsEndAtUnused slots.now }
+    ensures { result ≡ false → NoneBehind slots.now index }
+{
+    for behind in index + 1..slots.len().min(index + WINDOW) {
+        let slot = slots[behind];
+        if slot.is_unused() {
+            return false;
+        }
+        if slot.number().is_some() && window(slots.len(), slot.key).0 <= index {
+            return true;
+        }
+    }
+    false
 }
 
 /// Whether all slots are free.
@@ -178,7 +165,7 @@ pub(crate) fn are_free(slots: &[Slot]) -> bool
 }
 
 /// The slots in which a key may stand, of a table of so many: from the first number on, before the second.
-fn window(length: usize, key: u32) -> (usize, usize)
+pub(crate) fn window(length: usize, key: u32) -> (usize, usize)
     ensures from { result.0 ≡ first_slot key length }
     ensures to { result.1 ≡ min (first_slot key length + 8) length }
     ensures order { result.0 ≤ result.1 }

@@ -1,4 +1,4 @@
-//! Drawn calls of `NumberMap`, made of an ordered map as well.
+//! Calls of `NumberMap`, drawn and chosen, made of an ordered map as well.
 use cb_forms::NoMemory;
 use cb_number_map::NumberMap;
 use std::alloc::Global;
@@ -23,6 +23,22 @@ enum Call {
     /// The key goes, if it has this number.
     TakeOut(u32, u32),
 }
+
+/// Calls of keys that want the same slots. One is taken out before others, which are found behind its slot, and one comes into that.
+const SHARED: [Call; 12] = [
+    Call::Set(SAME_SLOTS, 1),
+    Call::Set(2 * SAME_SLOTS, 2),
+    Call::Set(3 * SAME_SLOTS, 3),
+    Call::Remove(SAME_SLOTS),
+    Call::Add(3 * SAME_SLOTS, 4),
+    Call::TakeOut(2 * SAME_SLOTS, 2),
+    Call::Add(3 * SAME_SLOTS, 5),
+    Call::Set(4 * SAME_SLOTS, 6),
+    Call::Remove(3 * SAME_SLOTS),
+    Call::Add(SAME_SLOTS, 7),
+    Call::Remove(4 * SAME_SLOTS),
+    Call::Add(SAME_SLOTS, 8),
+];
 
 /// The next state of the generator, a linear congruential one.
 fn next(state: u64) -> u64 {
@@ -111,9 +127,29 @@ fn wrong_call(alloc: Global) -> Result<Option<u64>, NoMemory> {
     Ok(None)
 }
 
+/// The place of the first of these calls after which the two differ.
+fn wrong_of(alloc: Global, calls: &[Call]) -> Result<Option<usize>, NoMemory> {
+    let mut numbers = NumberMap::new(alloc);
+    let mut wanted = BTreeMap::new(alloc);
+    for (place, call) in calls.iter().enumerate() {
+        make(&mut numbers, &mut wanted, call)?;
+        if !are_alike(&numbers, &wanted) {
+            return Ok(Some(place));
+        }
+    }
+    Ok(None)
+}
+
 #[test]
 fn drawn_calls_leave_the_numbers_of_a_map(rt: HostRuntime) -> Result<(), NoMemory> {
     let wrong = wrong_call(rt.alloc())?;
+    assert!(rt; wrong.is_none(), "{wrong:?}");
+    Ok(())
+}
+
+#[test]
+fn keys_behind_a_freed_slot_are_found(rt: HostRuntime) -> Result<(), NoMemory> {
+    let wrong = wrong_of(rt.alloc(), &SHARED)?;
     assert!(rt; wrong.is_none(), "{wrong:?}");
     Ok(())
 }

@@ -5,5 +5,5 @@ use Rattle.cb_number_map.proofs.number_map.NumberMap.grow.Goals as goal
 
 pub take_table-requires : goal.take_table-requires
 take_table-requires c = λ key.
-    let m : NumberMap = record { alloc = c.args.self.now.alloc; slots = c.in_ok-free_slots.field-0; taken = 0; aside = c.new.result } in
-    inl (nothing_at m m key (c.in_ok-free_slots.ensures key) c.new.ensures.empty)
+    let m : NumberMap = record { alloc = c.args.self.now.alloc; table = c.in_ok-longer.field-0; taken = 0; aside = c.new.result } in
+    inl (nothing_at m m key (c.in_ok-longer.ensures key) c.new.ensures.empty)

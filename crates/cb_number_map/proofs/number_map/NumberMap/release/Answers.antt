@@ -1,11 +1,10 @@
-use Rattle.std.proofs.Common.{◌≡◌, ◌∙◌, [], ap, refl, rules, sym}
+use Rattle.std.proofs.Common.{◌≡◌, ◌∙◌, [], refl, rules, sym}
 use Rattle.std.proofs.lemmas.List.{nil_from_length}
 use Rattle.cb_number_map.proofs.Maps.{nothing_at}
-use Rattle.cb_number_map.specs.Slots.{number_in}
 use Rattle.cb_number_map.proofs.number_map.NumberMap.release.Goals as goal
 
-pub returns-then-are_free : goal.returns-then-are_free
-returns-then-are_free c = λ key.
+pub returns-then-is_free : goal.returns-then-is_free
+returns-then-is_free c = λ key.
     let old = c.args.self.now in
     let none : old.aside.entries ≡ [] = nil_from_length old.aside.entries (search rules) in
-    c.new.ensures key ∙ sym (nothing_at old old key (ap (λ it. number_in it key) (sym c.as_slice.ensures.value) ∙ c.if-are_free.ensures refl key) none)
+    c.new.ensures key ∙ sym (nothing_at old old key (c.if-is_free.ensures refl key) none)

@@ -7,6 +7,6 @@ returns-clause-all c =
     let some = c.loop-slot.self in
     let all = c.args.other.now in
     let i = c.loop-slot.slot-index in
-    let items = c.as_slice-slot-items.ensures.value in
-    let long : length all.slots.items ≡ i = omega (arith, ap length items) in
-    taken_all some all all.slots.items i long (subst (λ it. AreTaken some all it i) items c.loop-slot.invariant.taken)
+    let items = c.slots-slot-items.ensures in
+    let long : length all.table ≡ i = omega (arith, ap length items) in
+    taken_all some all all.table i long (subst (λ it. AreTaken some all it i) items c.loop-slot.invariant.taken)
