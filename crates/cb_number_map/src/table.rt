@@ -73,19 +73,18 @@ impl Table {
         are_free(self.slots.as_slice())
     }
 
-    /// The number of a key. It takes constant time, and the less the sooner a slot never had a key.
-    #[inline]
+    /// The number of a key. It takes constant time: at most eight slots are read, to the first that never had a key.
     pub(crate) fn number(&self, key: u32) -> Option<u32>
         ensures { result ≡ number_in self.now key }
     {
         let slots = self.slots.as_slice();
         let (from, to) = window(slots.len(), key);
         for slot in &slots[from..to] {
-            if slot.is_unused() {
-                return None;
-            }
             if let Some(number) = slot.number_for(key) {
                 return Some(number);
+            }
+            if slot.is_unused() {
+                return None;
             }
         }
         None
