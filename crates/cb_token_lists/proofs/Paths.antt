@@ -1,5 +1,5 @@
 -- What was taken on the way down from a token.
-use Rattle.std.proofs.Common.{◌≡◌, ◌∙◌, ◌++◌, ◌<◌, ℕ, suc, true, false, List, [], ◌∷◌, Option, None, ap, arith, length, refl, sym}
+use Rattle.std.proofs.Common.{◌≡◌, ◌∙◌, ◌++◌, ◌<◌, ℕ, suc, true, false, List, [], ◌∷◌, Option, None, Result, Ok, Err, IfOk, ap, arith, length, refl, sym}
 use Rattle.cb_beta.specs.BetaMemories.{BetaMemoryValue}
 use Rattle.cb_beta.specs.Tokens.{TokenValue, with_taken}
 use Rattle.cb_matches.specs.Keys.{PartValue}
@@ -31,3 +31,8 @@ none_taken sources lists start n list i s t is goes none =
 pub nothing_left : {A : Type 0} (xs : List A) → (0 < length xs → false ≡ true) → xs ≡ []
 nothing_left [] h = refl
 nothing_left (x ∷ xs) h = absurd (let e : false ≡ true = h (omega arith) in cc)
+
+-- what follows from a result
+pub if_ok : {T E : Type 0} (P Q : T → Type 0) (r : Result T E) → ((x : T) → P x → Q x) → IfOk r P → IfOk r Q
+if_ok P Q (Ok x) from h = from x h
+if_ok P Q (Err e) from h = tt

@@ -1,5 +1,5 @@
 //! Which value a token gives a variable.
-ghost use Rattle.std.specs.Prelude.{◌≡◌, IfOk, option_copied};
+ghost use Rattle.std.specs.Prelude.{◌≡◌, IfOk, false, option_copied};
 ghost use Rattle.std.specs.Option.{option_or};
 ghost use Rattle.cb_beta.specs.GivenValues.{values_given, values_read};
 ghost use Rattle.cb_beta.specs.Tokens.{with_taken};
@@ -10,6 +10,22 @@ use crate::source::Source;
 use cb_beta::{Given, Gives, Sought, Token};
 use cb_facts::{Name, Value};
 use cb_forms::NoMemory;
+
+/// Whether a token may give a variable a value. Where it doesn't, that is mostly seen, and without a look at names.
+#[inline(always)]
+pub(crate) fn may_be_given(source: &Source, token: &Token, name: &Sought<'_>) -> bool
+    ensures { result ≡ false → (m : Partial)
+        → value_at name.now (with_taken source.now.address token.now.taken m).env.variables
+        ≡ value_at name.now m.env.variables }
+{
+    let Some(taken) = token.taken() else {
+        return false;
+    };
+    if taken.given.may_give(name) {
+        return true;
+    }
+    given_by_address(&source.address, taken.index, name.name()).is_some()
+}
 
 /// The value that a variable has by what a token took, or `None` where that gives it none. The value shares its bytes or fields. It
 /// is refused as `NoMemory` only where a count of sharers is full.
@@ -23,13 +39,7 @@ pub(crate) fn given_by_token(
         ≡ option_or found (value_at name.now m.env.variables)) }
 {
     match token.taken() {
-        Some(taken) => {
-            // mostly it doesn't, which is seen at once
-            if !taken.given.may_give(name) {
-                return Ok(given_by_address(&source.address, taken.index, name.name()));
-            }
-            given(taken.given, &source.address, taken.index, name)
-        }
+        Some(taken) => given(taken.given, &source.address, taken.index, name),
         None => Ok(None),
     }
 }
@@ -58,6 +68,7 @@ pub(crate) fn given_with(
 }
 
 /// The same by a fact with an index and by its way: the way counts before the variable of the fact's address.
+#[inline(always)]
 fn given(
     way: Gives<'_>,
     address: &Option<Name>,

@@ -1,15 +1,11 @@
-//! The parts of the partial match at the end of a path.
-ghost use Rattle.std.specs.Prelude.{◌≡◌, ◌++◌, IfOk, IfSome, OnOk, Some};
-ghost use Rattle.std.specs.Option.{option_map};
+//! The parts of what was taken on the way down from a token.
+ghost use Rattle.std.specs.Prelude.{◌≡◌, ◌++◌, IfOk, IfSome, Some};
 ghost use Rattle.cb_beta.specs.Tokens.{taken_value};
-ghost use Rattle.cb_matches.specs.Matches.{Partial, no_parts};
-ghost use Rattle.cb_token_lists.specs.Internal.{parts_taken, with_path, with_step};
+ghost use Rattle.cb_token_lists.specs.Internal.{parts_taken};
 
-use crate::path::{Path, Step};
 use cb_beta::Taken;
 use cb_forms::NoMemory;
 use cb_matches::{MatchParts, Part};
-use smallvec::SmallVec;
 use std::alloc::Global;
 
 /// What was taken last on the way down from a token.
@@ -63,36 +59,6 @@ pub(crate) fn four_parts(
     MatchParts::four(alloc, parts)
 }
 
-/// The parts of what was taken in the steps of a path. Growth is refused as `NoMemory`, and so is a count of sharers that is full.
-pub(crate) fn many_parts(alloc: Global, path: Path<'_>) -> Result<MatchParts, NoMemory>
-    ensures { IfOk result (λ parts. parts ≡ (with_path path.entry.items no_parts).parts) }
-{
-    let mut path = path;
-    let mut parts = SmallVec::with_capacity(alloc, path.len())?;
-    while let Some(step) = path.pop() {
-        add_part(&mut parts, step)?;
-    }
-    MatchParts::many(alloc, parts)
-}
-
-/// What was taken in a step.
-fn taken(step: Option<Step<'_>>) -> Option<Taken<'_>>
-    ensures { (m : Partial) → (with_step step.entry m).parts ≡ m.parts ++ parts_taken (option_map taken_value result) }
-{
-    step?.token.taken()
-}
-
-/// Adds the part of a step. Growth is refused as `NoMemory`, and so is a count of sharers that is full.
-fn add_part(parts: &mut SmallVec<Part, 6>, step: Option<Step<'_>>) -> Result<(), NoMemory>
-    ensures { OnOk result ((m : Partial) → m.parts ≡ parts.old.items
-        → parts.new.items ≡ (with_step step.entry m).parts) }
-{
-    if let Some(taken) = taken(step) {
-        parts.push(part_of(taken)?)?;
-    }
-    Ok(())
-}
-
 /// The part of what a token took, where each length is 1, and nothing elsewhere.
 #[inline]
 pub(crate) fn part_of_ones(taken: Taken<'_>) -> Option<Part>
@@ -103,10 +69,13 @@ pub(crate) fn part_of_ones(taken: Taken<'_>) -> Option<Part>
 }
 
 /// The part of what a token took. It is refused as `NoMemory` only where a count of sharers is full.
-fn part_of(taken: Taken<'_>) -> Result<Part, NoMemory>
+pub(crate) fn part_of(taken: Taken<'_>) -> Result<Part, NoMemory>
     ensures { IfOk result
         (λ part. part ≡ record { index = taken.entry.index; cuts = taken.entry.cuts.now }) }
 {
+    if let Some(part) = part_of_ones(taken) {
+        return Ok(part);
+    }
     Ok(Part {
         index: taken.index,
         cuts: taken.cuts.clone()?,

@@ -1,5 +1,5 @@
 //! What variables have by the partial match that a token stands for, and its parts.
-ghost use Rattle.std.specs.Prelude.{◌≡◌, ◌++◌, ℕ, [], IfOk, IfSome, MatchOption, Some, suc};
+ghost use Rattle.std.specs.Prelude.{◌≡◌, ◌++◌, ◌<◌, ℕ, [], IfOk, IfSome, MatchOption, Some, suc};
 ghost use Rattle.cb_beta.specs.Tokens.{taken_value, with_taken};
 ghost use Rattle.cb_matches.specs.Matches.{no_parts};
 ghost use Rattle.cb_token_lists.specs.Internal.{parts_taken, with_path};
@@ -7,7 +7,7 @@ ghost use Rattle.cb_token_lists.specs.Partials.{partial_at, partial_in};
 
 use crate::binding::bind_path;
 use crate::parts::{
-    LastTaken, four_parts, many_parts, one_part, part_of_ones, three_parts, two_parts,
+    LastTaken, four_parts, one_part, part_of, part_of_ones, three_parts, two_parts,
 };
 use crate::path::{Path, add_step};
 use crate::source::Source;
@@ -16,6 +16,7 @@ use cb_eval::Constants;
 use cb_exprs::Env;
 use cb_forms::NoMemory;
 use cb_matches::MatchParts;
+use smallvec::SmallVec;
 use std::alloc::Global;
 
 /// A branch with more lists is taken to have more than four parts.
@@ -100,14 +101,15 @@ impl<'a> TokenLists<'a> {
         }
     }
 
-    /// What was taken last on the way down from a token by at most so many lists, if anything was.
+    /// What was taken last on the way down from a token by at most so many lists, if anything was. By fewer lists it is gone on from there.
     #[inline(always)]
     fn last_taken(&self, list: usize, number: u32, left: usize) -> Option<LastTaken<'a>>
-        ensures { MatchOption result
+        ensures last { MatchOption result
             ((partial_in self.now.sources.now self.now.lists.now left list number).parts ≡ [])
             (λ last. (partial_in self.now.sources.now self.now.lists.now left list number).parts
             ≡ (partial_in self.now.sources.now self.now.lists.now last.left last.list last.number).parts
             ++ parts_taken (Some (taken_value last.taken))) }
+        ensures left { IfSome result (λ last. last.left < left) }
     {
         let mut list = list;
         let mut number = number;
@@ -129,14 +131,27 @@ impl<'a> TokenLists<'a> {
         None
     }
 
-    /// The parts of a partial match of any number of parts. It takes no memory of its own where up to six facts were taken. It is apart
-    /// so that the usual case needs less of the stack.
+    /// The parts of a partial match of any number of parts. It is apart so that the usual case needs less of the stack.
     #[inline(never)]
     fn many_parts(&self, list: usize, number: u32) -> Result<MatchParts, NoMemory>
         ensures { IfOk result (λ parts. parts
             ≡ (partial_at self.now.sources.now self.now.lists.now list number).parts) }
     {
-        many_parts(self.alloc, self.path(list, number)?)
+        if list >= self.lists.len() {
+            return Ok(MatchParts::none());
+        }
+        let mut parts = SmallVec::new(self.alloc);
+        let mut reached = list;
+        let mut met = number;
+        let mut left = list + 1;
+        while let Some(last) = self.last_taken(reached, met, left) {
+            parts.push(part_of(last.taken)?)?;
+            reached = last.list;
+            met = last.number;
+            left = last.left;
+        }
+        parts.as_mut_slice().reverse();
+        MatchParts::many(self.alloc, parts)
     }
 
     /// What was taken on the way down from a token. Growth is refused as `NoMemory`.

@@ -3,7 +3,7 @@ ghost use Rattle.std.specs.Prelude.{◌≡◌, IfOk};
 ghost use Rattle.cb_exprs.specs.Bindings.{value_at};
 ghost use Rattle.cb_token_lists.specs.Partials.{partial_at};
 
-use crate::giving::given_by_token;
+use crate::giving::{given_by_token, may_be_given};
 use crate::known::Reading;
 use crate::reading::TokenLists;
 use cb_beta::Sought;
@@ -29,8 +29,10 @@ impl<'a> TokenLists<'a> {
             let Some((source, token)) = self.read(reached, met) else {
                 return Ok(None);
             };
-            if let Some(value) = given_by_token(source, token, name)? {
-                return Ok(Some(value));
+            if may_be_given(source, token, name) {
+                if let Some(value) = given_by_token(source, token, name)? {
+                    return Ok(Some(value));
+                }
             }
             reached = source.from as usize;
             met = token.parent();

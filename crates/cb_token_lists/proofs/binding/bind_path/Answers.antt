@@ -1,14 +1,10 @@
-use Rattle.std.proofs.Common.{◌≡◌, ◌∙◌, Err, IfOk, List, Ok, Result, Option, ap, refl, sym}
+use Rattle.std.proofs.Common.{◌≡◌, ◌∙◌, List, Option, ap, refl, sym}
 use Rattle.cb_exprs.specs.Bindings.{no_bindings, with_variables}
 use Rattle.cb_matches.specs.Matches.{Partial, no_parts}
-use Rattle.cb_token_lists.proofs.Paths.{nothing_left, with_last}
+use Rattle.cb_token_lists.proofs.Paths.{if_ok, nothing_left, with_last}
 use Rattle.cb_token_lists.specs.Internal.{with_path, with_step}
 use Rattle.cb_token_lists.specs.declared.path.Step.{Step}
 use Rattle.cb_token_lists.proofs.binding.bind_path.Goals as goal
-
-if_ok : {T E : Type 0} (P Q : T → Type 0) (r : Result T E) → ((x : T) → P x → Q x) → IfOk r P → IfOk r Q
-if_ok P Q (Ok x) from h = from x h
-if_ok P Q (Err e) from h = tt
 
 pub loop-step-init : goal.loop-step-init
 loop-step-init c = (no_parts, ap (λ it. with_variables it no_bindings) (sym c.in_ok-bindings.ensures.items), refl)

@@ -1,11 +1,12 @@
-use Rattle.std.proofs.Common.{◌≡◌, ◌∙◌, ◌+◌, ◌-◌, ℕ, Some, None, ap, ap₂, arith, suc, sym}
+use Rattle.std.proofs.Common.{◌≡◌, ◌∙◌, ◌+◌, ◌-◌, ℕ, Some, None, ap, ap₂, arith, refl, suc, sym}
 use Rattle.std.specs.Option.{option_or}
+use Rattle.cb_beta.specs.Tokens.{with_taken}
 use Rattle.cb_exprs.specs.Bindings.{value_at}
 use Rattle.cb_matches.specs.Matches.{Partial}
 use Rattle.cb_token_lists.proofs.Values.{value_further}
 use Rattle.cb_token_lists.specs.Partials.{SourceValue, partial_at, partial_in}
 use Rattle.cb_token_lists.proofs.reading.TokenLists.value.Goals as goal
-use Rattle.cb_token_lists.proofs.reading.TokenLists.value.Goals.{else-loop-test, then-loop-test+in-Some+in_ok-value+in_default-2+else-counter-list}
+use Rattle.cb_token_lists.proofs.reading.TokenLists.value.Goals.{else-loop-test, else-may_be_given, then-loop-test+in-Some+else-counter-list, then-may_be_given+in_ok-value+in_default-2}
 
 pub loop-init : goal.loop-init
 loop-init c n e =
@@ -41,7 +42,10 @@ loop-preserved c n e =
     let left : suc n + c.loop.counter ≡ suc c.args.list = omega (arith, e) in
     value_further ss ls name (value_at name (partial_at ss ls c.args.list c.args.number).env.variables) n c.loop.reached c.loop.met c.in-Some.source.now c.in-Some.token.now None
     (c.loop.invariant (suc n) left) (c.in-Some.ensures n)
-    (λ (m : Partial). c.in_ok-value.ensures m ∙ ap (λ o. option_or o (value_at name m.env.variables)) c.in_default-2.is)
+    (elim c.if-may_be_given.branch as (λ _. (m : Partial) → value_at name (with_taken c.in-Some.source.now.address c.in-Some.token.now.taken m).env.variables ≡ value_at name m.env.variables) [
+      | then-may_be_given+in_ok-value+in_default-2 w ↦ λ m. w.in_ok-value.ensures m ∙ ap (λ o. option_or o (value_at name m.env.variables)) w.in_default-2.is
+      | else-may_be_given w ↦ w.if-may_be_given.ensures refl
+    ])
     ∙ ap₂ (λ (s : SourceValue) (p : ℕ). value_at name (partial_in ss ls n s.from p).env.variables) (sym c.source.view_is) (sym c.parent-met.ensures)
 
 pub returns : goal.returns
@@ -53,10 +57,13 @@ returns c =
       | else-loop-test w ↦
           let left : 0 + c.loop.counter ≡ suc c.args.list = omega (arith, w.loop-test.false) in
           sym (c.loop.invariant 0 left)
-      | then-loop-test+in-Some+in_ok-value+in_default-2+else-counter-list w ↦
+      | then-loop-test+in-Some+else-counter-list w ↦
           let left : suc 0 + c.loop.counter ≡ suc c.args.list = omega (arith, w) in
           sym
           (value_further ss ls name (value_at name (partial_at ss ls c.args.list c.args.number).env.variables) 0 c.loop.reached c.loop.met w.in-Some.source.now w.in-Some.token.now None
           (c.loop.invariant (suc 0) left) (w.in-Some.ensures 0)
-          (λ (m : Partial). w.in_ok-value.ensures m ∙ ap (λ o. option_or o (value_at name m.env.variables)) w.in_default-2.is))
+          (elim w.if-may_be_given.branch as (λ _. (m : Partial) → value_at name (with_taken w.in-Some.source.now.address w.in-Some.token.now.taken m).env.variables ≡ value_at name m.env.variables) [
+            | then-may_be_given+in_ok-value+in_default-2 v ↦ λ m. v.in_ok-value.ensures m ∙ ap (λ o. option_or o (value_at name m.env.variables)) v.in_default-2.is
+            | else-may_be_given v ↦ v.if-may_be_given.ensures refl
+          ]))
     ]

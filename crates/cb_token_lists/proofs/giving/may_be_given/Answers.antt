@@ -1,12 +1,18 @@
-use Rattle.std.proofs.Common.{◌≡◌, ◌∙◌, Option, Some, None, ap, rules, sym}
+use Rattle.std.proofs.Common.{◌≡◌, ◌∙◌, false, true, Option, Some, None, ap, refl, rules, sym}
+use Rattle.std.specs.Option.{is_some}
 use Rattle.cb_beta.specs.Tokens.{TakenValue, taken_value, with_taken}
 use Rattle.cb_exprs.specs.Bindings.{no_bindings, value_at, with_variables}
+use Rattle.cb_facts.specs.declared.value.Value.{Value}
 use Rattle.cb_matches.specs.Matches.{with_address}
 use Rattle.cb_token_lists.proofs.Values.{address_gives}
-use Rattle.cb_token_lists.proofs.giving.given_by_token.Goals as goal
+use Rattle.cb_token_lists.proofs.giving.may_be_given.Goals as goal
 
-pub returns-then-not-may_give : goal.returns-then-not-may_give
-returns-then-not-may_give c = λ m.
+none_of : (o : Option Value) → is_some o ≡ false → None ≡ o
+none_of None e = refl
+none_of (Some v) e = absurd (let no : true ≡ false = e in cc)
+
+pub returns : goal.returns
+returns c = λ no m.
     let name = c.args.name.now in
     let address = c.args.source.now.address in
     let taken = taken_value c.in-Some.taken in
@@ -14,4 +20,4 @@ returns-then-not-may_give c = λ m.
     let none : value_at name (with_variables taken.way.bound no_bindings).variables ≡ None = search rules in
     let gives : c.given_by_address.result ≡ value_at name (with_address address taken.index no_bindings).variables = search rules in
     ap (λ (t : Option TakenValue). value_at name (with_taken address t m).env.variables) took
-    ∙ address_gives name taken.way.bound address taken.index c.given_by_address.result (sym none) gives m.env
+    ∙ address_gives name taken.way.bound address taken.index None (sym none) (none_of c.given_by_address.result (sym c.is_some.ensures ∙ no) ∙ gives) m.env
