@@ -12,7 +12,7 @@ from pathlib import Path
 
 TOP = Path(__file__).resolve().parent.parent
 LISTED = {
-    "a call of the kit was refused, and what was done before it is taken back": """cb_branch/bound.rt:add
+    "a call of the kit was refused, and what was done before it is taken back": """cb_branch/bound.rt:add cb_groups/linked_groups.rt:take
         cb_rules/rule_table.rt:push cb_knowledge_base/globals.rt:push cb_knowledge_base/groups.rt:push""",
     "an error that can only be a refusal is handed on": """cb_io/putting.rt:put_text cb_session/session.rt:execute_last
         cb_command_line/arguments.rt:given_words cb_command_line/arguments.rt:given_words
@@ -20,7 +20,8 @@ LISTED = {
     "a number would not fit 32 bits, or 64": """cb_alpha/candidates.rt:insert cb_alpha/numbering.rt:add
         cb_alpha_network/network.rt:enter_first cb_beta/filing.rt:insert cb_beta/memory.rt:numbers cb_branch/tracing.rt:source cb_constraints/segments.rt:add_ones
         cb_constraints/segments.rt:add_segment cb_facts/multifield.rt:from_vec cb_facts/relation_counts.rt:one_more
-        cb_groups/lists.rt:push_to cb_groups/lists.rt:push_to cb_knowledge_base/groups.rt:next_number""",
+        cb_groups/linked_groups.rt:add cb_groups/linked_groups.rt:add cb_groups/lists.rt:push_to cb_groups/lists.rt:push_to
+        cb_knowledge_base/groups.rt:next_number""",
     "what is looked for is always there": "cb_constraints/taken.rt:read_at cb_eval/constants.rt:made",
     "a session counts as failed while a call is under way":
         "cb_session/session.rt:end cb_session/session.rt:feed_byte cb_session/session.rt:feed_run",

@@ -105,11 +105,11 @@ impl AlphaMemory {
         has_no_other(&self.candidates, self.come)
     }
 
-    /// The numbers of the facts that are there, in any order. Growth is refused as `NoMemory`.
-    pub fn numbers(&self, alloc: Global) -> Result<Vec<u32>, NoMemory>
-        ensures { IfOk result (λ all. AreLiveNumbers self.now all.items) }
+    /// The numbers of the facts that are there, in any order.
+    pub fn numbers(&self) -> &[u32]
+        ensures { AreLiveNumbers self.now result.now }
     {
-        Ok(self.all.members(0).to_vec(alloc)?)
+        self.all.members(0)
     }
 
     /// The numbers of the facts with these values in the fields of a join.

@@ -7,7 +7,7 @@ ghost use Rattle.cb_beta.specs.Tokens.{token_at};
 
 use crate::token::Token;
 use cb_forms::NoMemory;
-use cb_groups::Groups;
+use cb_groups::LinkedGroups;
 use slab::Slab;
 
 /// Puts a token under a free number, and returns that. Growth is refused as `NoMemory`, and then nothing has changed.
@@ -28,8 +28,8 @@ pub(crate) fn insert(tokens: &mut Slab<Token>, token: Token) -> Result<u32, NoMe
 /// Puts a number that has no groups into those of its parent and its fact, and behind those that came. Growth is refused as
 /// `NoMemory`, and then the number may stand in groups.
 pub(crate) fn file(
-    children: &mut Groups,
-    with_fact: &mut Groups,
+    children: &mut LinkedGroups,
+    with_fact: &mut LinkedGroups,
     come: &mut Vec<u32>,
     parent: u32,
     candidate: Option<u32>,
@@ -51,7 +51,11 @@ pub(crate) fn file(
 }
 
 /// Puts a number that has no group into this one, if one is given. Growth is refused as `NoMemory`.
-fn file_fact(with_fact: &mut Groups, candidate: Option<u32>, number: u32) -> Result<(), NoMemory>
+fn file_fact(
+    with_fact: &mut LinkedGroups,
+    candidate: Option<u32>,
+    number: u32,
+) -> Result<(), NoMemory>
     requires { group_of with_fact.old number ≡ None }
     ensures ok { OnOk result (Updates with_fact.old with_fact.new number candidate) }
     ensures others { KeepsOthers with_fact.old with_fact.new number }
@@ -65,8 +69,8 @@ fn file_fact(with_fact: &mut Groups, candidate: Option<u32>, number: u32) -> Res
 /// There is no token with this number any more, and the number is in no group.
 pub(crate) fn forget(
     tokens: &mut Slab<Token>,
-    children: &mut Groups,
-    with_fact: &mut Groups,
+    children: &mut LinkedGroups,
+    with_fact: &mut LinkedGroups,
     number: u32,
 )
     ensures tokens { IsForgotten tokens.old.slots tokens.new.slots number }
@@ -79,7 +83,7 @@ pub(crate) fn forget(
 }
 
 /// These numbers leave their groups.
-pub(crate) fn leave(groups: &mut Groups, numbers: &[u32])
+pub(crate) fn leave(groups: &mut LinkedGroups, numbers: &[u32])
     ensures { AreLeft groups.old groups.new numbers.now }
 {
     for number in numbers {

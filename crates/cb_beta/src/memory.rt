@@ -8,7 +8,7 @@ ghost use Rattle.cb_beta.specs.Tokens.{candidate_of, token_at};
 use crate::filing::{file, forget, free, insert, leave};
 use crate::token::Token;
 use cb_forms::NoMemory;
-use cb_groups::Groups;
+use cb_groups::LinkedGroups;
 use slab::Slab;
 use std::alloc::Global;
 use std::marker::Model;
@@ -25,9 +25,9 @@ pub struct BetaMemory {
     /// Those that are there, and until the end of a change those that are gone.
     tokens: Slab<Token>,
     /// Those that are there, by the number of their parent.
-    children: Groups,
+    children: LinkedGroups,
     /// Those of them that took a fact, by its number.
-    with_fact: Groups,
+    with_fact: LinkedGroups,
     gone: Vec<u32>,
     come: Vec<u32>,
 }
@@ -50,8 +50,8 @@ impl BetaMemory {
     {
         BetaMemory {
             tokens: Slab::new(alloc),
-            children: Groups::new(alloc),
-            with_fact: Groups::new(alloc),
+            children: LinkedGroups::new(alloc),
+            with_fact: LinkedGroups::new(alloc),
             gone: Vec::new(alloc),
             come: Vec::new(alloc),
         }

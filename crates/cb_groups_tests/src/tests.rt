@@ -1,6 +1,6 @@
-//! Drawn calls of `Groups`, made of a map from members to their groups as well.
+//! Drawn calls of `Groups` and `LinkedGroups`, made of a map from members to their groups as well.
 use cb_forms::NoMemory;
-use cb_groups::Groups;
+use cb_groups::{Groups, LinkedGroups};
 use std::alloc::Global;
 use std::collections::BTreeMap;
 
@@ -9,6 +9,13 @@ const CALLS: u64 = 2000;
 
 /// How many groups the members are put into.
 const GROUPS: u32 = 7;
+
+/// The same groups in both forms.
+#[derive(Drop)]
+struct Both {
+    listed: Groups,
+    linked: LinkedGroups,
+}
 
 #[derive(Clone, Copy)]
 enum Call {
@@ -61,45 +68,51 @@ fn members_in(
 }
 
 fn put(
-    groups: &mut Groups,
+    groups: &mut Both,
     owners: &mut BTreeMap<u32, u32>,
     group: u32,
     member: u32,
 ) -> Result<(), NoMemory> {
-    groups.remove(member);
-    groups.add(group, member)?;
+    groups.listed.remove(member);
+    groups.listed.add(group, member)?;
+    groups.linked.remove(member);
+    groups.linked.add(group, member)?;
     owners.insert(member, group)?;
     Ok(())
 }
 
-/// Takes a group. The answer is whether its members by the map were taken.
+/// Takes a group. The answer is whether its members by the map were taken, from both.
 fn take(
     alloc: Global,
-    groups: &mut Groups,
+    groups: &mut Both,
     owners: &mut BTreeMap<u32, u32>,
     group: u32,
 ) -> Result<bool, NoMemory> {
     let wanted = members_in(alloc, owners, group)?;
-    let mut taken = Vec::new(alloc);
-    groups.take(group, &mut taken)?;
+    let mut listed = Vec::new(alloc);
+    groups.listed.take(group, &mut listed)?;
+    let mut linked = Vec::new(alloc);
+    groups.linked.take(group, &mut linked)?;
     for member in wanted.as_slice() {
         owners.remove(member);
     }
-    let taken = in_order(alloc, taken.as_slice())?;
-    Ok(taken.as_slice() == wanted.as_slice())
+    let listed = in_order(alloc, listed.as_slice())?;
+    let linked = in_order(alloc, linked.as_slice())?;
+    Ok(listed.as_slice() == wanted.as_slice() && linked.as_slice() == wanted.as_slice())
 }
 
 /// Makes a call of both. The answer is whether they agree on what was taken.
 fn made_alike(
     alloc: Global,
-    groups: &mut Groups,
+    groups: &mut Both,
     owners: &mut BTreeMap<u32, u32>,
     call: &Call,
 ) -> Result<bool, NoMemory> {
     match call {
         Call::Put(group, member) => put(groups, owners, *group, *member)?,
         Call::Remove(member) => {
-            groups.remove(*member);
+            groups.listed.remove(*member);
+            groups.linked.remove(*member);
             owners.remove(member);
         }
         Call::Take(group) => return take(alloc, groups, owners, *group),
@@ -134,16 +147,24 @@ fn are_alike(
     Ok(true)
 }
 
-/// The number of the first call after which the two differ.
+/// The number of the first call after which they differ, at the end by all that is left.
 fn wrong_call(alloc: Global) -> Result<Option<u64>, NoMemory> {
-    let mut groups = Groups::new(alloc);
+    let mut groups = Both {
+        listed: Groups::new(alloc),
+        linked: LinkedGroups::new(alloc),
+    };
     let mut owners = BTreeMap::new(alloc);
     let mut state = 1;
     for number in 0..CALLS {
         state = next(state);
         let made = made_alike(alloc, &mut groups, &mut owners, &call_of(state))?;
-        if !made || !are_alike(alloc, &groups, &owners)? {
+        if !made || !are_alike(alloc, &groups.listed, &owners)? {
             return Ok(Some(number));
+        }
+    }
+    for group in 0..GROUPS {
+        if !take(alloc, &mut groups, &mut owners, group)? {
+            return Ok(Some(CALLS));
         }
     }
     Ok(None)

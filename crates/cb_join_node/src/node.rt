@@ -280,8 +280,7 @@ fn join_partial<T>(
             partials.add(number, values)
         }
         None => {
-            let numbers = alpha.numbers(lists.alloc)?;
-            let all = numbers.as_slice();
+            let all = alpha.numbers();
             join_facts(lists, from, asked, alpha, number, all, own, meter)?;
             strays.add(0, number)
         }

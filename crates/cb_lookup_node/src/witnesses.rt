@@ -17,7 +17,7 @@ use crate::values::values_of_number;
 use cb_alpha::{AlphaMemory, Buckets, JoinValues, values_of_variables};
 use cb_fit::{ComparedField, JoinField};
 use cb_forms::NoMemory;
-use cb_groups::Groups;
+use cb_groups::LinkedGroups;
 use cb_token_lists::TokenLists;
 use std::alloc::Global;
 
@@ -25,7 +25,7 @@ use std::alloc::Global;
 #[derive(Drop)]
 pub(crate) struct Witnesses {
     /// Those that have a witness, by its number in the alpha memory.
-    pub(crate) given: Groups,
+    pub(crate) given: LinkedGroups,
     /// Those that see no fact, by the values that they give to the fields by which facts are found.
     pub(crate) unseen: Buckets,
 }
@@ -37,7 +37,7 @@ impl Witnesses {
         ensures unseen { (n : ℕ) → values_at result.unseen n ≡ None }
     {
         Witnesses {
-            given: Groups::new(alloc),
+            given: LinkedGroups::new(alloc),
             unseen: Buckets::new(alloc),
         }
     }

@@ -1,4 +1,4 @@
-use Rattle.std.proofs.Common.{◌≡◌, ◌∙◌, List, None, Some, ap, arith, subst, sym}
+use Rattle.std.proofs.Common.{◌≡◌, ◌∙◌, List, None, Some, ap, arith, sym}
 use Rattle.cb_alpha.specs.AlphaMemories.{AreFactsWith, AreLiveNumbers}
 use Rattle.cb_alpha.specs.JoinValues.{variable_values}
 use Rattle.cb_beta.proofs.Losses.{on_ok}
@@ -67,8 +67,8 @@ returns-in_ok-join_facts-in-None-clause-come g c =
     let n = c.args.number in
     let m = partial_at c.args.lists.now.sources.now c.args.lists.now.lists.now c.args.from n in
     let none : filed_values js m ≡ None = sym (ap (λ it. filed_values it m) c.as_slice.ensures.value) ∙ (sym c.in_ok-values.ensures ∙ c.in-None.is) in
-    let xs = c.as_slice-all.result.now in
-    let these : AreLiveNumbers alpha xs = subst (AreLiveNumbers alpha) (sym c.as_slice-all.ensures.value) c.in_ok-numbers-in-None.ensures in
+    let xs = c.numbers-all.result.now in
+    let these : AreLiveNumbers alpha xs = c.numbers-all.ensures in
     on_ok c.add-in-None.result
     (λ added has fields knows selected.
     by_numbers x p ts m n alpha xs these c.args.own.now c.join_facts-in-None.new.own
@@ -78,8 +78,8 @@ returns-in_ok-join_facts-in-None-clause-come g c =
 pub returns-in_ok-join_facts-in-None-clause-probes : goal.returns-in_ok-join_facts-in-None-clause-probes
 returns-in_ok-join_facts-in-None-clause-probes g c =
     let alpha = c.args.alpha.now in
-    let xs = c.as_slice-all.result.now in
-    let these : AreLiveNumbers alpha xs = subst (AreLiveNumbers alpha) (sym c.as_slice-all.ensures.value) c.in_ok-numbers-in-None.ensures in
+    let xs = c.numbers-all.result.now in
+    let these : AreLiveNumbers alpha xs = c.numbers-all.ensures in
     on_ok c.add-in-None.result
     (λ added k has most.
     let all = most xs these.once these.are in
