@@ -21,7 +21,7 @@ LISTED = {
         cb_alpha_network/network.rt:enter_first cb_beta/filing.rt:insert cb_beta/memory.rt:numbers cb_branch/tracing.rt:source cb_constraints/segments.rt:add_ones
         cb_constraints/segments.rt:add_segment cb_facts/multifield.rt:from_vec cb_facts/relation_counts.rt:one_more
         cb_groups/linked_groups.rt:add cb_groups/linked_groups.rt:add cb_groups/lists.rt:push_to cb_groups/lists.rt:push_to
-        cb_knowledge_base/groups.rt:next_number""",
+        cb_knowledge_base/groups.rt:next_number cb_match_index/branches.rt:reach_branch cb_match_index/match_index.rt:put""",
     "what is looked for is always there": "cb_constraints/taken.rt:read_at cb_eval/constants.rt:made",
     "a session counts as failed while a call is under way":
         "cb_session/session.rt:end cb_session/session.rt:feed_byte cb_session/session.rt:feed_run",

@@ -25,12 +25,12 @@ use Rattle.cb_token_lists.specs.Partials.{SourceValue, partial_at}
 use Rattle.cb_token_lists.specs.Turns.{IsThere, StandFor, Turns}
 
 module _ {T : Type 0} (rule number : ℕ) (b : Branch T) (end : BranchEnd) (of : IsEndOf rule number b end) where
-  at_last : at_end end ≡ partial_at b.sources.items b.lists.items b.last
+  pub at_last : at_end end ≡ partial_at b.sources.items b.lists.items b.last
   at_last =
       ap (λ (it : List SourceValue). partial_at it end.lists.lists.now end.last) of.sources
       ∙ (ap (λ (it : List BetaMemoryValue). partial_at b.sources.items it end.last) of.lists ∙ ap (λ (k : ℕ). partial_at b.sources.items b.lists.items k) of.last)
 
-  is_there : (m : BetaMemoryValue) → slice_get b.lists.items b.last ≡ Some m → IsAtEnd end m
+  pub is_there : (m : BetaMemoryValue) → slice_get b.lists.items b.last ≡ Some m → IsAtEnd end m
   is_there m is = ap (λ (it : List BetaMemoryValue). slice_get it end.last) of.lists ∙ (ap (λ (k : ℕ). slice_get b.lists.items k) of.last ∙ is)
 
   keys_are : (ms : List Partial) → map (key_of end.rule end.branch) ms ≡ map (key_of rule number) ms

@@ -19,6 +19,7 @@ mod KindsOf
 mod LoneKind
 mod LookupKind
 mod Loop
+mod MatchNumbers
 mod Matched
 mod NodeProbes
 mod NodeScopes

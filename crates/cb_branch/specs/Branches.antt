@@ -1,5 +1,5 @@
 -- What is kept for a branch, and what its patterns have of the alpha network.
-use Rattle.std.specs.Prelude.{◌≡◌, ◌↔◌, ◌⊎◌, ◌+◌, ℕ, suc, Option, None, length, map}
+use Rattle.std.specs.Prelude.{◌≡◌, ◌↔◌, ◌⊎◌, ◌+◌, ℕ, suc, List, [], Option, None, Some, length, map, slice_get}
 use Rattle.cb_alpha_network.specs.Networks.{AlphaNetworkValue, IsShapeOf, MemoryValues, memory_at, use_count}
 use Rattle.cb_alpha_network.specs.declared.node_place.NodePlace.{NodePlace}
 use Rattle.cb_branch.specs.declared.branch.Branch.{Branch}
@@ -11,11 +11,17 @@ use Rattle.cb_facts.specs.FactLists.{IndexedFacts, fact_at, with_fact}
 use Rattle.cb_facts.specs.Facts.{FactValue}
 use Rattle.cb_flat.specs.Sources.{sources_of}
 use Rattle.cb_list_changes.specs.Resting.{AreResting}
+use Rattle.cb_beta.specs.BetaMemories.{BetaMemoryValue}
+use Rattle.cb_matches.specs.Changes.{Numbers}
+use Rattle.cb_matches.specs.Matches.{Partial}
 use Rattle.cb_matches.specs.Order.{IsRising}
 use Rattle.cb_nodes.specs.Flat.{branch_last, branch_nodes}
 use Rattle.cb_nodes.specs.Lists.{branch_lists}
 use Rattle.cb_branch.specs.Nodes.{flat_nodes}
+use Rattle.cb_rule_keys.specs.Keys.{key_of}
 use Rattle.cb_rules.specs.Elements.{Elements, element_of, elements}
+use Rattle.cb_token_lists.specs.Partials.{partial_at}
+use Rattle.cb_token_lists.specs.Turns.{numbers}
 
 -- its pattern is in the network with this place, and so is its join
 pub record IsUsed (v : AlphaNetworkValue) (place : NodePlace) (u : AlphaUse) : Type 0 where
@@ -31,6 +37,11 @@ pub record IsLeft (rule number patterns : ℕ) (old new : AlphaNetworkValue) : T
 abbrev pub DifferBy : ℕ × FactValue → IndexedFacts → IndexedFacts → Type 0
 DifferBy f fs fs' =
     ((fact_at fs f.0 ≡ None) × (fs' ≡ with_fact fs f.0 f.1)) ⊎ ((fact_at fs' f.0 ≡ None) × (fs ≡ with_fact fs' f.0 f.1))
+
+-- the matches that the tokens of a list stand for, each with the number of its token
+abbrev pub end_numbers : ℕ → ℕ → (ℕ → Partial) → Option BetaMemoryValue → Numbers
+end_numbers rule number at None = []
+end_numbers rule number at (Some m) = map (λ i. (key_of rule number (at i), i)) (numbers m)
 
 module _ {T : Type 0} where
   -- the elements of a branch
@@ -54,6 +65,14 @@ module _ {T : Type 0} where
     pub long : length b.lists.items ≡ suc (length b.nodes.items)
     pub rest : AreResting b.sources.items b.lists.items (branch_lists (flat_nodes b.nodes.items) fs)
     pub ready : AreNodesReady facts b.sources.items b.lists.items (branch_lists (flat_nodes b.nodes.items) fs) b.nodes.items
+
+  -- its matches, where it is the branch with this number of the rule with this number: each has the number of its token. The same where its
+  -- lists are these
+  abbrev pub numbers_of : ℕ → ℕ → Branch T → List BetaMemoryValue → Numbers
+  numbers_of rule number b lists = end_numbers rule number (partial_at b.sources.items lists b.last) (slice_get lists b.last)
+
+  abbrev pub branch_numbers : ℕ → ℕ → Branch T → Numbers
+  branch_numbers rule number b = numbers_of rule number b b.lists.items
 
   -- each pattern has the same of the alpha network
   abbrev pub HasSameAlphas : Branch T → Branch T → Type 0

@@ -3,7 +3,7 @@ ghost use Rattle.std.specs.Prelude.{◌≡◌, ◌≤◌, ◌+◌, ◌++◌, IfO
 ghost use Rattle.std.specs.Map.{lookup};
 ghost use Rattle.std.specs.Option.{option_map_or};
 ghost use Rattle.cb_alpha_network.specs.Networks.{AreAlphas, AreAtRest};
-ghost use Rattle.cb_branch.specs.Branches.{AreAdded, AreTurned, CanBeFilled, HasSameAlphas, IsBefore, IsBranchOver, IsEntered, IsLeft, branch_elements};
+ghost use Rattle.cb_branch.specs.Branches.{AreAdded, AreTurned, CanBeFilled, HasSameAlphas, IsBefore, IsBranchOver, IsEntered, IsLeft, branch_elements, branch_numbers};
 ghost use Rattle.cb_branch.specs.Alphas.{Facts, live_facts};
 ghost use Rattle.cb_branch.specs.Patterns.{branch_patterns, shape_tests};
 ghost use Rattle.cb_branch.specs.Entries.{GainsPatterns};
@@ -11,6 +11,7 @@ ghost use Rattle.cb_branch.specs.Internal.{IsEndOf};
 ghost use Rattle.cb_exprs.specs.Bindings.{no_bindings};
 ghost use Rattle.cb_facts.specs.FactLists.{IndexedFacts};
 ghost use Rattle.cb_facts.specs.Facts.{FactValue};
+ghost use Rattle.cb_matches.specs.Changes.{AddsNumbers, IsNumber, TellsMoreNumbers};
 ghost use Rattle.cb_matches.specs.Keys.{key_eq};
 ghost use Rattle.cb_matches.specs.Matches.{matches_of};
 ghost use Rattle.cb_matches.specs.Networks.{keyed};
@@ -120,7 +121,8 @@ impl<T> Branch<T> {
         leave_nodes(self.nodes.as_slice(), alloc, rule, number, network)
     }
 
-    /// Finds all matches, and what is kept, in place of what was. The keys stand behind those that are told of before, in their order.
+    /// Finds all matches, and what is kept, in place of what was. The keys stand behind those that are told of before, in their order,
+    /// and so do the numbers of the matches.
     pub fn fill(
         &mut self,
         alloc: Global,
@@ -129,6 +131,7 @@ impl<T> Branch<T> {
         rule: u64,
         number: u64,
         come: &mut Vec<Key>,
+        come_numbers: &mut Vec<u32>,
         meter: &mut Meter<T>,
     ) -> Result<(), NoMemory>
         requires { CanBeFilled self.old }
@@ -138,6 +141,8 @@ impl<T> Branch<T> {
             → IsBranchOver (live_facts alphas.now) fs self.new) }
         ensures come { OnOk result ((fs : IndexedFacts) → IsRising fs → AreTurned alphas.now fs fs self.old
             → come.new.items ≡ come.old.items ++ keys_in_branch rule number (branch_elements self.old) fs) }
+        ensures numbers { OnOk result ((fs : IndexedFacts) → IsRising fs → AreTurned alphas.now fs fs self.old
+            → AddsNumbers (IsNumber (branch_numbers rule number self.new)) come.old.items come.new.items come_numbers.old.items come_numbers.new.items) }
     {
         the_ways_rise_by_their_cuts();
         self.lists = empty_lists(alloc, self.sources.len() + 1)?;
@@ -146,16 +151,19 @@ impl<T> Branch<T> {
         let mut delta = Delta {
             gone: Vec::new(alloc),
             come: Vec::new(alloc),
+            gone_numbers: Vec::new(alloc),
+            come_numbers: Vec::new(alloc),
         };
         turn(
             self, alloc, constants, alphas, rule, number, &mut delta, meter,
         )?;
         come.append(&mut delta.come)?;
+        come_numbers.append(&mut delta.come_numbers)?;
         Ok(())
     }
 
     /// Changes the facts, where the alpha memories have changed already. The keys of the matches that go and come stand behind those
-    /// that are told of before, in their order.
+    /// that are told of before, in their order, and so do their numbers.
     pub fn change(
         &mut self,
         alloc: Global,
@@ -173,6 +181,8 @@ impl<T> Branch<T> {
         ensures told { OnOk result ((fs fs' : IndexedFacts) → IsBefore alphas.now fs fs' self.old
             → Tells delta.old delta.new (keys_in_branch rule number (branch_elements self.old) fs)
             (keys_in_branch rule number (branch_elements self.old) fs')) }
+        ensures numbers { OnOk result ((fs fs' : IndexedFacts) → IsBefore alphas.now fs fs' self.old
+            → TellsMoreNumbers (IsNumber (branch_numbers rule number self.old)) (IsNumber (branch_numbers rule number self.new)) delta.old delta.new) }
         ensures probes { OnOk result ((fs fs' : IndexedFacts) (added : Option FactValue)
             → IsBefore alphas.now fs fs' self.old → AreAdded alphas.now added self.old
             → meter.new + shape_tests added (branch_elements self.old)
@@ -182,7 +192,7 @@ impl<T> Branch<T> {
         turn(self, alloc, constants, alphas, rule, number, delta, meter)
     }
 
-    /// Tells the keys of all matches, in their order, behind those that are told of before.
+    /// Tells the keys of all matches, in their order, and their numbers, behind those that are told of before.
     pub fn tell(
         &self,
         alloc: Global,
@@ -190,13 +200,17 @@ impl<T> Branch<T> {
         rule: u64,
         number: u64,
         keys: &mut Vec<Key>,
+        numbers: &mut Vec<u32>,
     ) -> Result<(), NoMemory>
-        ensures { OnOk result ((facts : Facts) (fs : IndexedFacts) → IsRising fs
+        ensures told { OnOk result ((facts : Facts) (fs : IndexedFacts) → IsRising fs
             → IsBranchOver facts fs self.now
             → keys.new.items ≡ keys.old.items ++ keys_in_branch rule number (branch_elements self.now) fs) }
+        ensures numbers { OnOk result ((facts : Facts) (fs : IndexedFacts) → IsBranchOver facts fs self.now
+            → AddsNumbers (IsNumber (branch_numbers rule number self.now)) keys.old.items keys.new.items numbers.old.items numbers.new.items) }
     {
         the_ways_rise_by_their_cuts();
-        self.end(alloc, constants, rule, number).tell_all(keys)
+        self.end(alloc, constants, rule, number)
+            .tell_all(keys, numbers)
     }
 
     /// What variables have by the match with this key, nothing where the branch has none.

@@ -2,5 +2,6 @@ mod AtEnd
 mod ComingKeys
 mod KeyOrder
 mod LookedUp
+mod Pairs
 mod SameKeys
 mod ToldKeys

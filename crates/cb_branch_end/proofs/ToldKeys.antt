@@ -1,28 +1,31 @@
 -- What is told of keys: those that went and those that came, and all of them.
-use Rattle.std.proofs.Common.{◌≡◌, ◌≢◌, ◌∙◌, ◌+◌, ◌++◌, ◌<◌, ℕ, List, [], ◌∷◌, ap, drop, get_or, inl, inr, length, map, refl, subst, sym}
-use Rattle.std.proofs.lemmas.List.{append_assoc, at_drop_more}
-use Rattle.std.specs.List.Sorted.{IsPermutation}
+use Rattle.std.proofs.Common.{◌≡◌, ◌≢◌, ◌∙◌, ◌++◌, ℕ, List, [], ◌∷◌, ap, inl, inr, map, refl, subst, sym}
+use Rattle.std.proofs.lemmas.List.Sorted.{IsPermutation-map}
+use Rattle.std.specs.List.Sorted.{IsPermutation, IsSorted}
 use Rattle.cb_beta.specs.BetaMemories.{AreLiveNumbers, BetaMemoryValue}
 use Rattle.cb_branch_end.proofs.KeyOrder.{keys_in_order, one_sorted, sorted_come}
 use Rattle.cb_branch_end.specs.Internal.{AddsInOrder}
 use Rattle.cb_branch_end.specs.TellingKeys.{AreApart, Tells, key_of}
 use Rattle.cb_matches.proofs.Lists.{in_map, map_in}
 use Rattle.cb_matches.specs.Chains.{AreSame, Chain, In}
-use Rattle.cb_matches.specs.Keys.{KeyValue}
+use Rattle.cb_matches.specs.Keys.{KeyValue, key_cmp}
 use Rattle.cb_matches.specs.Matches.{Partial}
-use Rattle.cb_matches.specs.Order.{IsSorted}
+use Rattle.cb_matches.specs.Order.{IsSorted as IsSortedPartials}
 use Rattle.cb_matches.specs.declared.delta.Delta.{Delta}
 use Rattle.cb_nodes.proofs.Moves.{swapped}
 use Rattle.cb_nodes.specs.Changes.{parts_of_partial}
 use Rattle.cb_token_lists.proofs.Told.{come_told_once, gone_told_once, told}
 use Rattle.cb_token_lists.specs.Turns.{IsThere, StandFor, Turns}
 
--- the keys so far, and then those of the numbers that are left
-pub one_key_more : (key : ℕ → KeyValue) (xs : List ℕ) (i : ℕ) (ks ks' all : List KeyValue) → i < length xs → ks ++ map key (drop i xs) ≡ all → ks' ≡ ks ++ key (get_or xs i 0) ∷ []
-    → ks' ++ map key (drop (i + 1) xs) ≡ all
-one_key_more key xs i ks ks' all l is more =
-    ap (λ it. it ++ map key (drop (i + 1) xs)) more
-    ∙ (append_assoc ks (key (get_or xs i 0) ∷ []) (map key (drop (i + 1) xs)) ∙ (sym (at_drop_more (λ (it : List ℕ). ks ++ map key it) xs i 0 l) ∙ is))
+-- the keys of tokens, in the order of keys, stand behind those that were there
+pub record AddsKeys (ks old new : List KeyValue) : Type 0 where
+  pub more : List KeyValue
+  pub is : new ≡ old ++ more
+  pub permutes : IsPermutation ks more
+  pub sorted : IsSorted key_cmp more
+
+pub adds_keys : (key : ℕ → KeyValue) (ns : List ℕ) (old new : List KeyValue) (was now : List ℕ) → AddsInOrder key ns old new was now → AddsKeys (map key ns) old new
+adds_keys key ns old new was now adds = record { more = map key adds.more; is = adds.is; permutes = IsPermutation-map key ns adds.more adds.permutes; sorted = adds.sorted }
 
 module _ (rule branch : ℕ) (at : ℕ → Partial) (m : BetaMemoryValue) where
   abbrev key : ℕ → KeyValue
@@ -33,8 +36,8 @@ module _ (rule branch : ℕ) (at : ℕ → Partial) (m : BetaMemoryValue) where
   mapped (n ∷ ns) = ap (λ it. key n ∷ it) (mapped ns)
 
   -- the keys of what went and of what came
-  pub tells : (old new : List Partial) → Turns at m old new → IsSorted old → IsSorted new → (delta delta' : Delta) → AddsInOrder (map key m.gone) delta.gone.items delta'.gone.items
-      → AddsInOrder (map key m.come) delta.come.items delta'.come.items → Tells delta delta' (map (key_of rule branch) old) (map (key_of rule branch) new)
+  pub tells : (old new : List Partial) → Turns at m old new → IsSortedPartials old → IsSortedPartials new → (delta delta' : Delta) → AddsKeys (map key m.gone) delta.gone.items delta'.gone.items
+      → AddsKeys (map key m.come) delta.come.items delta'.come.items → Tells delta delta' (map (key_of rule branch) old) (map (key_of rule branch) new)
   tells old new turns old_sorted new_sorted delta delta' gone come =
       let moves = told at m old new turns in record {
         gone = gone.is ∙ ap (λ it. delta.gone.items ++ it)
@@ -54,8 +57,8 @@ module _ (rule branch : ℕ) (at : ℕ → Partial) (m : BetaMemoryValue) where
   )
 
   -- all keys
-  pub all_told : (ns : List ℕ) (ms : List Partial) (old new : List KeyValue) → AreLiveNumbers m ns → StandFor at (IsThere m) ms → AreApart at m → IsSorted ms
-      → AddsInOrder (map key ns) old new → new ≡ old ++ map (key_of rule branch) ms
+  pub all_told : (ns : List ℕ) (ms : List Partial) (old new : List KeyValue) → AreLiveNumbers m ns → StandFor at (IsThere m) ms → AreApart at m → IsSortedPartials ms
+      → AddsKeys (map key ns) old new → new ≡ old ++ map (key_of rule branch) ms
   all_told ns ms old new live stand apart sorted adds =
       adds.is
       ∙ ap (λ it. old ++ it)

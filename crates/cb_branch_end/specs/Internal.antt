@@ -1,6 +1,7 @@
 -- The keys of tokens, and what is told and found of them. No public clause cites this module.
-use Rattle.std.specs.Prelude.{◌≡◌, ◌++◌, ℕ, List, Option, Some, None}
-use Rattle.std.specs.List.Sorted.{IsPermutation, IsSorted}
+use Rattle.std.specs.Prelude.{◌≡◌, ◌++◌, ℕ, List, Option, Some, None, map}
+use Rattle.std.specs.List.Sorted.{IsPermutation, IsSorted, IsSortedBy}
+use Rattle.std.specs.Ordering.{is_lt}
 use Rattle.cb_beta.specs.BetaMemories.{BetaMemoryValue}
 use Rattle.cb_branch_end.specs.TellingKeys.{at_end, key_of}
 use Rattle.cb_branch_end.specs.declared.branch_end.BranchEnd.{BranchEnd}
@@ -12,12 +13,21 @@ use Rattle.cb_token_lists.specs.Turns.{IsThere}
 abbrev pub key_at : BranchEnd → ℕ → KeyValue
 key_at end n = key_of end.rule end.branch (at_end end n)
 
--- these keys, in their order, stand behind those that were there
-pub record AddsInOrder (ks old new : List KeyValue) : Type 0 where
-  pub more : List KeyValue
-  pub is : new ≡ old ++ more
-  pub permutes : IsPermutation ks more
-  pub sorted : IsSorted key_cmp more
+-- the keys of these tokens, in the order of keys, stand behind those that were there, and so do the numbers of the tokens
+pub record AddsInOrder (key : ℕ → KeyValue) (ns : List ℕ) (old new : List KeyValue) (old_numbers new_numbers : List ℕ) : Type 0 where
+  pub more : List ℕ
+  pub is : new ≡ old ++ map key more
+  pub numbers_are : new_numbers ≡ old_numbers ++ more
+  pub permutes : IsPermutation ns more
+  pub sorted : IsSorted key_cmp (map key more)
+
+-- keys, each with a number, in the order of keys stand behind those that were there
+pub record AddsPairs (pairs : List (KeyValue × ℕ)) (old new : List KeyValue) (old_numbers new_numbers : List ℕ) : Type 0 where
+  pub more : List (KeyValue × ℕ)
+  pub is : new ≡ old ++ map (λ p. p.0) more
+  pub numbers_are : new_numbers ≡ old_numbers ++ map (λ p. p.1) more
+  pub permutes : IsPermutation pairs more
+  pub sorted : IsSortedBy (λ p q. is_lt (key_cmp p.0 q.0)) more
 
 -- a token is there, and its match has these parts
 abbrev pub IsMatch : (ℕ → Partial) → BetaMemoryValue → List PartValue → ℕ → Type 0

@@ -2,7 +2,8 @@
 use Rattle.std.specs.Prelude.{◌≡◌, ◌++◌, ℕ, List, Some, slice_get}
 use Rattle.cb_beta.specs.BetaMemories.{BetaMemoryValue}
 use Rattle.cb_branch_end.specs.declared.branch_end.BranchEnd.{BranchEnd}
-use Rattle.cb_matches.specs.Changes.{come_of}
+use Rattle.cb_matches.specs.Chains.{In}
+use Rattle.cb_matches.specs.Changes.{AddsNumbers, come_of}
 use Rattle.cb_matches.specs.Keys.{KeyValue}
 use Rattle.cb_matches.specs.Matches.{Partial}
 use Rattle.cb_matches.specs.declared.delta.Delta.{Delta}
@@ -29,3 +30,13 @@ key_of rule branch m = record { rule = rule; branch = branch; parts = m.parts }
 pub record Tells (delta delta' : Delta) (old new : List KeyValue) : Type 0 where
   pub gone : delta'.gone.items ≡ delta.gone.items ++ come_of new old
   pub come : delta'.come.items ≡ delta.come.items ++ come_of old new
+
+-- the match with this key is that of one of these tokens, which has this number
+abbrev pub IsTokenOf : BranchEnd → (ℕ → Type 0) → KeyValue → ℕ → Type 0
+IsTokenOf end There k n = There n × (k ≡ key_of end.rule end.branch (at_end end n))
+
+-- A delta got the numbers more of all tokens that went, and of those that came, in the order of their keys.
+pub record TellsTokens (end : BranchEnd) (m : BetaMemoryValue) (delta delta' : Delta) : Type 0 where
+  pub gone : AddsNumbers (IsTokenOf end (λ n. In n m.gone)) delta.gone.items delta'.gone.items delta.gone_numbers.items delta'.gone_numbers.items
+  pub come : AddsNumbers (IsTokenOf end (λ n. In n m.come)) delta.come.items delta'.come.items delta.come_numbers.items delta'.come_numbers.items
+  pub went : (n : ℕ) → In n m.gone → In (key_of end.rule end.branch (at_end end n)) gone.more

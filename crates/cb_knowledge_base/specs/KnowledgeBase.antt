@@ -5,7 +5,7 @@ use Rattle.cb_knowledge_base.specs.declared.asserted.Asserted.{Asserted}
 use Rattle.cb_rules.specs.Elements.{Elements}
 use Rattle.cb_facts.specs.FactLists.{IndexedFacts, fact_at}
 use Rattle.cb_facts.specs.Facts.{FactValue, fact_eq}
-use Rattle.cb_matches.specs.Changes.{IsDelta}
+use Rattle.cb_matches.specs.Changes.{IsDelta, IsNumber, Numbers, TellsNumbers}
 use Rattle.cb_matches.specs.Networks as network
 use Rattle.cb_matches.specs.Networks.{Network, empty_network, with_one, without_one, with_rule, without_rule}
 use Rattle.cb_matches.specs.declared.delta.Delta.{Delta}
@@ -24,6 +24,11 @@ pub record Memory : Type 0 where
   pub network : Network
   pub last : ℕ
   pub last_rule : ℕ
+
+-- what contracts see of the knowledge base: the memory, and the numbers of the matches
+pub record KnowledgeBaseValue : Type 0 where
+  pub memory : Memory
+  pub numbers : Numbers
 
 -- no rules and no facts
 abbrev pub empty_memory : Memory
@@ -65,3 +70,13 @@ Asserts old fact new NoIndex = (index_of old.network.facts fact ≡ None) × (gr
 abbrev pub Retracts : Memory → ℕ → Memory → Option Delta → Type 0
 Retracts old ix new None = (fact_at old.network.facts ix ≡ None) × (new ≡ old)
 Retracts old ix new (Some delta) = IsSome (fact_at old.network.facts ix) × (new ≡ without ix old) × IsDelta old.network (without ix old).network delta
+
+-- What the two tell of the numbers of the matches, which were `old` and are `new`: they are the same where nothing changed.
+abbrev pub AssertTells : Numbers → Numbers → Asserted → Type 0
+AssertTells old new (There ix) = new ≡ old
+AssertTells old new (Added ix delta) = TellsNumbers (IsNumber old) (IsNumber new) delta
+AssertTells old new NoIndex = new ≡ old
+
+abbrev pub RetractTells : Numbers → Numbers → Option Delta → Type 0
+RetractTells old new None = new ≡ old
+RetractTells old new (Some delta) = TellsNumbers (IsNumber old) (IsNumber new) delta

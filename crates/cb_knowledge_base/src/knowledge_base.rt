@@ -4,9 +4,9 @@ ghost use Rattle.std.specs.List.{list_any};
 ghost use Rattle.std.specs.Str.{bytes_eq};
 ghost use Rattle.cb_facts.specs.FactLists.{IsAbsent, IsFactBase, fact_at};
 ghost use Rattle.cb_knowledge_base.specs.Internal.WorkingMemories.{IsLessBy, without_rules};
-ghost use Rattle.cb_knowledge_base.specs.KnowledgeBase.{Asserts, Retracts, cleared, empty_memory, greatest_index, put_back, restarted, with_next_rule, without_one_rule};
+ghost use Rattle.cb_knowledge_base.specs.KnowledgeBase.{AssertTells, Asserts, RetractTells, Retracts, cleared, empty_memory, greatest_index, put_back, restarted, with_next_rule, without_one_rule};
 ghost use Rattle.cb_rules.specs.Elements.{branches_of};
-ghost use Rattle.cb_matches.specs.Changes.{IsDelta, IsRestart};
+ghost use Rattle.cb_matches.specs.Changes.{HaveNumbers, IsDelta, IsNumber, IsRestart, TellsNumbers};
 ghost use Rattle.cb_matches.specs.Networks.{bindings_of, empty_network};
 
 use crate::asserted::Asserted;
@@ -26,6 +26,8 @@ const GREATEST_INDEX: u64 = 9_223_372_036_854_775_807;
 
 /// Rules and facts, and the numbers that were given last.
 ///
+/// Contracts see these as the memory, and the numbers that the matches have by the matcher.
+///
 /// After `NoMemory` it may be any.
 #[derive(Drop)]
 pub struct KnowledgeBase<M: Matcher<Mark>> {
@@ -38,7 +40,7 @@ pub struct KnowledgeBase<M: Matcher<Mark>> {
     /// How many facts name each relation.
     counts: RelationCounts,
     /// The numbers of the rules.
-    numbers: BTreeSet<u64>,
+    rule_numbers: BTreeSet<u64>,
     last: u64,
     last_rule: u64,
 }
@@ -46,16 +48,16 @@ pub struct KnowledgeBase<M: Matcher<Mark>> {
 impl<M: Matcher<Mark>> Model for KnowledgeBase<M> {
     ghost use Rattle.std.specs.Prelude.{◌≡◌, false};
     ghost use Rattle.std.specs.Coded.{codes};
-    ghost use Rattle.cb_knowledge_base.specs.Internal.WorkingMemories.{AreKept, memory_code};
-    ghost use Rattle.cb_knowledge_base.specs.KnowledgeBase.{Memory};
+    ghost use Rattle.cb_knowledge_base.specs.Internal.WorkingMemories.{AreKept, base_code};
+    ghost use Rattle.cb_knowledge_base.specs.KnowledgeBase.{KnowledgeBaseValue};
 
-    ghost Value = { Memory };
+    ghost Value = { KnowledgeBaseValue };
 
-    ghost coded = { memory_code (Prim.hlevel codes) (Prim.hlevel codes) (Prim.hlevel codes) (Prim.hlevel codes) };
+    ghost coded = { base_code (Prim.hlevel codes) (Prim.hlevel codes) (Prim.hlevel codes) (Prim.hlevel codes) };
 
-    ghost view = { λ m. record { network = M.network m.matcher; last = m.last; last_rule = m.last_rule } };
+    ghost view = { λ m. record { memory = record { network = M.network m.matcher; last = m.last; last_rule = m.last_rule }; numbers = M.numbers m.matcher } };
 
-    ghost invariant = { λ m. M.is_failed m.matcher ≡ false → AreKept m.counts m.numbers.keys m.last m.last_rule (M.network m.matcher) };
+    ghost invariant = { λ m. M.is_failed m.matcher ≡ false → AreKept m.counts m.rule_numbers.keys m.last m.last_rule (M.network m.matcher) };
 }
 
 impl<M: Matcher<Mark>> KnowledgeBase<M> {
@@ -63,7 +65,8 @@ impl<M: Matcher<Mark>> KnowledgeBase<M> {
     /// memory yet.
     pub fn new(alloc: Global, matcher: M) -> KnowledgeBase<M>
         requires { M.network matcher ≡ empty_network }
-        ensures { result ≡ empty_memory }
+        ensures memory { result.memory ≡ empty_memory }
+        ensures numbers { result.numbers ≡ M.numbers matcher }
     {
         KnowledgeBase::starting_at(alloc, matcher, 0, 0)
     }
@@ -74,7 +77,8 @@ impl<M: Matcher<Mark>> KnowledgeBase<M> {
         requires none { M.network matcher ≡ empty_network }
         requires index { index ≤ greatest_index }
         requires rule { rule ≤ greatest_index }
-        ensures { result ≡ record empty_memory { last = index; last_rule = rule } }
+        ensures memory { result.memory ≡ record empty_memory { last = index; last_rule = rule } }
+        ensures numbers { result.numbers ≡ M.numbers matcher }
     {
         KnowledgeBase {
             alloc,
@@ -82,7 +86,7 @@ impl<M: Matcher<Mark>> KnowledgeBase<M> {
             meter: Meter::new(Mark),
             other_meter: Meter::new(Mark),
             counts: RelationCounts::new(alloc),
-            numbers: BTreeSet::new(alloc),
+            rule_numbers: BTreeSet::new(alloc),
             last: index,
             last_rule: rule,
         }
@@ -96,15 +100,15 @@ impl<M: Matcher<Mark>> KnowledgeBase<M> {
 
     /// The facts.
     pub fn facts(&self) -> &FactList
-        ensures { result.now ≡ self.now.network.facts }
+        ensures { result.now ≡ self.now.memory.network.facts }
     {
         self.matcher.facts()
     }
 
     /// Whether a fact names a relation. It takes logarithmic time, whatever the relations are.
     pub fn mentions(&self, relation: &Name) -> Result<bool, NoMemory>
-        ensures { IfOk result (λ it. it
-            ≡ list_any (λ entry. bytes_eq entry.1.relation relation.now) self.now.network.facts) }
+        ensures { IfOk result (λ it. it ≡ list_any
+            (λ entry. bytes_eq entry.1.relation relation.now) self.now.memory.network.facts) }
     {
         if self.matcher.failed() {
             return Err(NoMemory);
@@ -114,15 +118,16 @@ impl<M: Matcher<Mark>> KnowledgeBase<M> {
 
     /// What variables have by the match with this key.
     pub fn bindings(&self, key: &Key) -> Result<Env, NoMemory>
-        ensures { IfOk result (λ env. env ≡ bindings_of self.now.network key.now) }
+        ensures { IfOk result (λ env. env ≡ bindings_of self.now.memory.network key.now) }
     {
         self.matcher.bindings(key)
     }
 
     /// Asserts a fact.
     pub fn assert_one(&mut self, fact: Fact) -> Result<Asserted, NoMemory>
-        ensures asserts { IfOk result (Asserts self.old fact self.new) }
-        ensures rising { self.old.last_rule ≤ self.new.last_rule }
+        ensures asserts { IfOk result (Asserts self.old.memory fact self.new.memory) }
+        ensures numbers { IfOk result (AssertTells self.old.numbers self.new.numbers) }
+        ensures rising { self.old.memory.last_rule ≤ self.new.memory.last_rule }
     {
         if self.matcher.failed() {
             return Err(NoMemory);
@@ -144,7 +149,8 @@ impl<M: Matcher<Mark>> KnowledgeBase<M> {
 
     /// The index that the next fact gets, if one is left.
     pub fn next_index(&self) -> Option<u64>
-        ensures { result ≡ (if nat_lt self.now.last greatest_index then Some (self.now.last + 1) else None) }
+        ensures { result ≡ (if nat_lt self.now.memory.last greatest_index
+            then Some (self.now.memory.last + 1) else None) }
     {
         if self.last >= GREATEST_INDEX {
             return None;
@@ -154,8 +160,9 @@ impl<M: Matcher<Mark>> KnowledgeBase<M> {
 
     /// Retracts the fact with an index, and returns what went and came. Where there is none, nothing changes.
     pub fn retract_one(&mut self, ix: u64) -> Result<Option<Delta>, NoMemory>
-        ensures retracts { IfOk result (Retracts self.old ix self.new) }
-        ensures rising { self.old.last_rule ≤ self.new.last_rule }
+        ensures retracts { IfOk result (Retracts self.old.memory ix self.new.memory) }
+        ensures numbers { IfOk result (RetractTells self.old.numbers self.new.numbers) }
+        ensures rising { self.old.memory.last_rule ≤ self.new.memory.last_rule }
     {
         if self.matcher.failed() {
             return Err(NoMemory);
@@ -171,9 +178,9 @@ impl<M: Matcher<Mark>> KnowledgeBase<M> {
 
     /// The fact with an index, if there is one. Then that index was given before.
     pub fn fact(&self, ix: u64) -> Result<Option<Fact>, NoMemory>
-        ensures fact { IfOk result (λ found. found ≡ fact_at self.now.network.facts ix) }
-        ensures given { IfOk result (λ found. IsSome found → ix ≤ self.now.last) }
-        ensures base { OnOk result (IsFactBase self.now.network.facts) }
+        ensures fact { IfOk result (λ found. found ≡ fact_at self.now.memory.network.facts ix) }
+        ensures given { IfOk result (λ found. IsSome found → ix ≤ self.now.memory.last) }
+        ensures base { OnOk result (IsFactBase self.now.memory.network.facts) }
     {
         if self.matcher.failed() {
             return Err(NoMemory);
@@ -188,13 +195,15 @@ impl<M: Matcher<Mark>> KnowledgeBase<M> {
     /// Adds a fact under an index that was given before, and that no fact has now. It is equal to no fact that is there. The next
     /// index stays as it is.
     pub fn put_back(&mut self, ix: u64, fact: Fact) -> Result<Delta, NoMemory>
-        requires given { ix ≤ self.old.last }
-        requires free { fact_at self.old.network.facts ix ≡ None }
-        requires absent { IsAbsent self.old.network.facts fact }
-        ensures memory { OnOk result (self.new ≡ put_back ix fact self.old) }
+        requires given { ix ≤ self.old.memory.last }
+        requires free { fact_at self.old.memory.network.facts ix ≡ None }
+        requires absent { IsAbsent self.old.memory.network.facts fact }
+        ensures memory { OnOk result (self.new.memory ≡ put_back ix fact self.old.memory) }
         ensures delta { IfOk result
-            (IsDelta self.old.network (put_back ix fact self.old).network) }
-        ensures rising { self.old.last_rule ≤ self.new.last_rule }
+            (IsDelta self.old.memory.network (put_back ix fact self.old.memory).network) }
+        ensures numbers { IfOk result
+            (TellsNumbers (IsNumber self.old.numbers) (IsNumber self.new.numbers)) }
+        ensures rising { self.old.memory.last_rule ≤ self.new.memory.last_rule }
     {
         if self.matcher.failed() {
             return Err(NoMemory);
@@ -208,33 +217,35 @@ impl<M: Matcher<Mark>> KnowledgeBase<M> {
 
     /// Whether a number is left for a rule.
     pub fn has_rule_number(&self) -> bool
-        ensures { result ≡ nat_lt self.now.last_rule greatest_index }
+        ensures { result ≡ nat_lt self.now.memory.last_rule greatest_index }
     {
         self.last_rule < GREATEST_INDEX
     }
 
     /// The number that the next rule gets.
     pub fn next_rule(&self) -> u64
-        requires { self.now.last_rule < greatest_index }
-        ensures { result ≡ self.now.last_rule + 1 }
+        requires { self.now.memory.last_rule < greatest_index }
+        ensures { result ≡ self.now.memory.last_rule + 1 }
     {
         self.last_rule + 1
     }
 
     /// Adds a rule, with the next number.
     pub fn add_rule(&mut self, branches: Vec<Vec<Ce<Mark>>>) -> Result<Delta, NoMemory>
-        requires { self.old.last_rule < greatest_index }
+        requires { self.old.memory.last_rule < greatest_index }
         ensures rule { OnOk result
-            (self.new ≡ with_next_rule (branches_of branches.items) self.old) }
-        ensures delta { IfOk result (IsDelta self.old.network
-            (with_next_rule (branches_of branches.items) self.old).network) }
-        ensures rising { self.old.last_rule ≤ self.new.last_rule }
+            (self.new.memory ≡ with_next_rule (branches_of branches.items) self.old.memory) }
+        ensures delta { IfOk result (IsDelta self.old.memory.network
+            (with_next_rule (branches_of branches.items) self.old.memory).network) }
+        ensures numbers { IfOk result
+            (TellsNumbers (IsNumber self.old.numbers) (IsNumber self.new.numbers)) }
+        ensures rising { self.old.memory.last_rule ≤ self.new.memory.last_rule }
     {
         if self.matcher.failed() {
             return Err(NoMemory);
         }
         let id = self.last_rule + 1;
-        self.numbers.insert(id)?;
+        self.rule_numbers.insert(id)?;
         let delta = self.matcher.add_rule(id, branches, &mut self.other_meter)?;
         self.last_rule = id;
         Ok(delta)
@@ -242,24 +253,28 @@ impl<M: Matcher<Mark>> KnowledgeBase<M> {
 
     /// Takes a rule away, if there is one with this number.
     pub fn drop_rule(&mut self, id: u64) -> Result<Delta, NoMemory>
-        ensures rule { OnOk result (self.new ≡ without_one_rule id self.old) }
+        ensures rule { OnOk result (self.new.memory ≡ without_one_rule id self.old.memory) }
         ensures delta { IfOk result
-            (IsDelta self.old.network (without_one_rule id self.old).network) }
-        ensures rising { self.old.last_rule ≤ self.new.last_rule }
+            (IsDelta self.old.memory.network (without_one_rule id self.old.memory).network) }
+        ensures numbers { IfOk result
+            (TellsNumbers (IsNumber self.old.numbers) (IsNumber self.new.numbers)) }
+        ensures rising { self.old.memory.last_rule ≤ self.new.memory.last_rule }
     {
         if self.matcher.failed() {
             return Err(NoMemory);
         }
         let delta = self.matcher.drop_rule(id)?;
-        self.numbers.remove(&id);
+        self.rule_numbers.remove(&id);
         Ok(delta)
     }
 
     /// Takes all facts away. The next index is 1, and the matches over no facts come anew.
     pub fn restart(&mut self) -> Result<Delta, NoMemory>
-        ensures memory { OnOk result (self.new ≡ restarted self.old) }
-        ensures delta { IfOk result (IsRestart (restarted self.old).network) }
-        ensures rising { self.old.last_rule ≤ self.new.last_rule }
+        ensures memory { OnOk result (self.new.memory ≡ restarted self.old.memory) }
+        ensures delta { IfOk result (IsRestart (restarted self.old.memory).network) }
+        ensures numbers { IfOk result (λ delta.
+            HaveNumbers (IsNumber self.new.numbers) delta.come.items delta.come_numbers.items) }
+        ensures rising { self.old.memory.last_rule ≤ self.new.memory.last_rule }
     {
         if self.matcher.failed() {
             return Err(NoMemory);
@@ -272,15 +287,15 @@ impl<M: Matcher<Mark>> KnowledgeBase<M> {
 
     /// Takes all rules and all facts away. The next index is 1, and the numbers of rules go on.
     pub fn clear(&mut self) -> Result<(), NoMemory>
-        ensures memory { OnOk result (self.new ≡ cleared self.old) }
-        ensures rising { self.old.last_rule ≤ self.new.last_rule }
+        ensures memory { OnOk result (self.new.memory ≡ cleared self.old.memory) }
+        ensures rising { self.old.memory.last_rule ≤ self.new.memory.last_rule }
     {
         if self.matcher.failed() {
             return Err(NoMemory);
         }
-        drop_rules(&mut self.matcher, &self.numbers)?;
+        drop_rules(&mut self.matcher, &self.rule_numbers)?;
         drop(self.matcher.restart(&mut self.other_meter)?);
-        self.numbers = BTreeSet::new(self.alloc);
+        self.rule_numbers = BTreeSet::new(self.alloc);
         self.counts = RelationCounts::new(self.alloc);
         self.last = 0;
         Ok(())

@@ -2,7 +2,7 @@
 ghost use Rattle.std.specs.Prelude.{◌≡◌, None, false, true, IfOk, IsErr, IsSome, OnOk, is_err};
 ghost use Rattle.cb_rules.specs.Elements.{branches_of};
 ghost use Rattle.cb_facts.specs.FactLists.{IsAbsent, fact_at};
-ghost use Rattle.cb_matches.specs.Changes.{IsAbove, IsDelta, IsRestart};
+ghost use Rattle.cb_matches.specs.Changes.{HaveNumbers, IsAbove, IsDelta, IsNumber, IsRestart, TellsNumbers};
 ghost use Rattle.cb_matches.specs.Networks.{bindings_of, restarted, with_one, with_rule, without_one, without_rule};
 
 use crate::delta::Delta;
@@ -19,13 +19,20 @@ use cb_rules::Ce;
 /// counts the tests of patterns with the meter that it is handed. `T` is the mark of these meters: a matcher has no `T`, so it
 /// can make none of its own.
 ///
+/// Each match has a number, from when it comes to when it goes. Mostly no other match of its branch has the same; contracts don't say
+/// so.
+///
 /// Growth is refused as `NoMemory`. From then on each such call is refused, and so is `bindings`; nothing is promised of `facts`.
 pub trait Matcher<T> {
     ghost use Rattle.std.specs.Prelude.{Bool};
+    ghost use Rattle.cb_matches.specs.Changes.{Numbers};
     ghost use Rattle.cb_matches.specs.Networks.{Network};
 
     // its rules and its facts
     ghost network: { Self → Network };
+
+    // the numbers of the matches
+    ghost numbers: { Self → Numbers };
 
     // whether a call that changes them was refused
     ghost is_failed: { Self → Bool };
@@ -42,6 +49,7 @@ pub trait Matcher<T> {
             (network self.new ≡ with_rule id (branches_of branches.items) (network self.old)) }
         ensures delta { IfOk result
             (IsDelta (network self.old) (with_rule id (branches_of branches.items) (network self.old))) }
+        ensures numbers { IfOk result (TellsNumbers (IsNumber (numbers self.old)) (IsNumber (numbers self.new))) }
         ensures failed { is_failed self.new ≡ is_err result }
         ensures once { is_failed self.old ≡ true → IsErr result };
 
@@ -50,6 +58,7 @@ pub trait Matcher<T> {
         ensures network { OnOk result (network self.new ≡ without_rule id (network self.old)) }
         ensures delta { IfOk result
             (IsDelta (network self.old) (without_rule id (network self.old))) }
+        ensures numbers { IfOk result (TellsNumbers (IsNumber (numbers self.old)) (IsNumber (numbers self.new))) }
         ensures failed { is_failed self.new ≡ is_err result }
         ensures once { is_failed self.old ≡ true → IsErr result };
 
@@ -60,6 +69,7 @@ pub trait Matcher<T> {
         ensures network { OnOk result (network self.new ≡ with_one ix fact (network self.old)) }
         ensures delta { IfOk result
             (IsDelta (network self.old) (with_one ix fact (network self.old))) }
+        ensures numbers { IfOk result (TellsNumbers (IsNumber (numbers self.old)) (IsNumber (numbers self.new))) }
         ensures failed { is_failed self.new ≡ is_err result }
         ensures once { is_failed self.old ≡ true → IsErr result };
 
@@ -69,6 +79,7 @@ pub trait Matcher<T> {
         ensures network { OnOk result (network self.new ≡ without_one ix (network self.old)) }
         ensures delta { IfOk result
             (IsDelta (network self.old) (without_one ix (network self.old))) }
+        ensures numbers { IfOk result (TellsNumbers (IsNumber (numbers self.old)) (IsNumber (numbers self.new))) }
         ensures failed { is_failed self.new ≡ is_err result }
         ensures once { is_failed self.old ≡ true → IsErr result };
 
@@ -76,6 +87,7 @@ pub trait Matcher<T> {
     fn restart(&mut self, meter: &mut Meter<T>) -> Result<Delta, NoMemory>
         ensures network { OnOk result (network self.new ≡ restarted (network self.old)) }
         ensures delta { IfOk result (IsRestart (restarted (network self.old))) }
+        ensures numbers { IfOk result (λ delta. HaveNumbers (IsNumber (numbers self.new)) delta.come.items delta.come_numbers.items) }
         ensures failed { is_failed self.new ≡ is_err result }
         ensures once { is_failed self.old ≡ true → IsErr result };
 

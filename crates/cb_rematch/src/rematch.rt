@@ -1,14 +1,15 @@
 //! The matcher.
-ghost use Rattle.std.specs.Prelude.{◌≡◌, IfOk, IsErr, OnOk, is_err, nat_eq, not, true};
+ghost use Rattle.std.specs.Prelude.{◌≡◌, IfOk, IsErr, OnOk, is_err, nat_eq, not, replicate, true};
 ghost use Rattle.std.specs.List.{filter};
 ghost use Rattle.std.specs.Map.{keys_of, lookup};
 ghost use Rattle.std.specs.Option.{option_map_or};
 ghost use Rattle.cb_rules.specs.Elements.{branches_of};
 ghost use Rattle.cb_exprs.specs.Bindings.{no_bindings};
-ghost use Rattle.cb_matches.specs.Changes.{IsAbove, IsDelta};
+ghost use Rattle.cb_matches.specs.Changes.{IsAbove, IsDelta, IsNumber, TellsNumbers};
 ghost use Rattle.cb_matches.specs.Keys.{key_eq};
 ghost use Rattle.cb_matches.specs.Networks.{Network, all_matches, with_rule};
 ghost use Rattle.cb_matches.specs.Matchers.{new_matcher};
+ghost use Rattle.cb_rematch.specs.Numbering.{zero_numbers};
 
 use crate::branch::Match;
 use crate::come::keys_come;
@@ -25,7 +26,7 @@ use std::alloc::Global;
 use std::marker::Model;
 use std::mem;
 
-/// A matcher that finds all matches anew at each change, and keeps them with what variables have by each.
+/// A matcher that finds all matches anew at each change, and keeps them with what variables have by each. Each match has the number 0.
 #[derive(Drop)]
 pub struct Rematch<T> {
     alloc: Global,
@@ -43,19 +44,20 @@ impl<T> Model for Rematch<T> {
     ghost use Rattle.cb_matches.specs.Networks.{all_matches};
     ghost use Rattle.cb_matches.specs.Internal.{matcher_code};
     ghost use Rattle.cb_matches.specs.Matchers.{MatcherValue};
+    ghost use Rattle.cb_rematch.specs.Numbering.{zero_numbers};
 
     ghost Value = { MatcherValue };
 
     ghost coded = { matcher_code (Prim.hlevel codes) (Prim.hlevel codes) (Prim.hlevel codes) (Prim.hlevel codes) };
 
-    ghost view = { λ m. record { network = record { rules = m.rules.items; facts = m.facts }; is_failed = m.failed } };
+    ghost view = { λ m. record { network = record { rules = m.rules.items; facts = m.facts }; numbers = zero_numbers (record { rules = m.rules.items; facts = m.facts }); is_failed = m.failed } };
 
     ghost invariant = { λ m. m.failed ≡ false → m.matches.items ≡ all_matches (record { rules = m.rules.items; facts = m.facts }) };
 }
 
 impl<T> Rematch<T> {
     /// A matcher without rules and facts. It takes no memory yet.
-    #[tactic(auto, unfolding(cb_matches::specs::Networks::all_matches))]
+    #[tactic(auto, unfolding(cb_matches::specs::Networks::all_keys, cb_matches::specs::Networks::all_matches))]
     pub fn new(alloc: Global) -> Rematch<T>
         ensures { result ≡ new_matcher }
     {
@@ -73,6 +75,8 @@ impl<T> Rematch<T> {
 impl<T> Matcher<T> for Rematch<T> {
     ghost network = { λ m. m.network };
 
+    ghost numbers = { λ m. m.numbers };
+
     ghost is_failed = { λ m. m.is_failed };
 
     fn add_rule(
@@ -86,6 +90,8 @@ impl<T> Matcher<T> for Rematch<T> {
             (self.new.network ≡ with_rule id (branches_of branches.items) self.old.network) }
         ensures delta { IfOk result
             (IsDelta self.old.network (with_rule id (branches_of branches.items) self.old.network)) }
+        ensures numbers { IfOk result
+            (TellsNumbers (IsNumber self.old.numbers) (IsNumber self.new.numbers)) }
         ensures failed { self.new.is_failed ≡ is_err result }
         ensures once { self.old.is_failed ≡ true → IsErr result }
     {
@@ -170,10 +176,13 @@ impl<T> Matcher<T> for Rematch<T> {
             meter,
         )?);
         let come = copy_keys(self.alloc, self.matches.as_slice())?;
+        let come_numbers = zeros(self.alloc, come.len())?;
         self.failed = false;
         Ok(Delta {
             gone: Vec::new(self.alloc),
             come,
+            gone_numbers: Vec::new(self.alloc),
+            come_numbers,
         })
     }
 
@@ -207,6 +216,9 @@ fn find_anew<T>(
         ≡ all_matches (record { rules = rules.now; facts = facts.now })) }
     ensures delta { (old : Network) → matches.old.items ≡ all_matches old
         → IfOk result (IsDelta old (record { rules = rules.now; facts = facts.now })) }
+    ensures numbers { (old : Network) → matches.old.items ≡ all_matches old
+        → IfOk result (TellsNumbers (IsNumber (zero_numbers old))
+        (IsNumber (zero_numbers (record { rules = rules.now; facts = facts.now })))) }
 {
     let setting = Setting {
         alloc,
@@ -227,11 +239,28 @@ fn replace_matches(
     ensures matches { OnOk result (matches.new.items ≡ found.items) }
     ensures delta { (old new : Network) → matches.old.items ≡ all_matches old
         → found.items ≡ all_matches new → IfOk result (IsDelta old new) }
+    ensures numbers { (old new : Network) → matches.old.items ≡ all_matches old
+        → found.items ≡ all_matches new
+        → IfOk result (TellsNumbers (IsNumber (zero_numbers old)) (IsNumber (zero_numbers new))) }
 {
     let gone = keys_come(alloc, found.as_slice(), matches.as_slice())?;
     let come = keys_come(alloc, matches.as_slice(), found.as_slice())?;
+    let gone_numbers = zeros(alloc, gone.len())?;
+    let come_numbers = zeros(alloc, come.len())?;
     *matches = found;
-    Ok(Delta { gone, come })
+    Ok(Delta {
+        gone,
+        come,
+        gone_numbers,
+        come_numbers,
+    })
+}
+
+/// The numbers of so many matches.
+fn zeros(alloc: Global, count: usize) -> Result<Vec<u32>, NoMemory>
+    ensures { IfOk result (λ numbers. numbers.items ≡ replicate count 0) }
+{
+    Ok(vec![in alloc; 0; count]?)
 }
 
 /// The matches of all rules but the one with this number.

@@ -30,7 +30,7 @@ pub(crate) fn read_construct<M: Matcher<Mark>>(
 ) -> Result<Request, Refused>
     ensures { Settles request_by result
         (construct_request context.now.relations.now context.now.env.now
-        (is_in_use context.now.memory.now context.now.rules.now context.now.deffacts.now)
+        (is_in_use context.now.memory.now.memory context.now.rules.now context.now.deffacts.now)
         construct (members args.now)) }
 {
     match construct {
@@ -47,7 +47,7 @@ fn read_deftemplate<M: Matcher<Mark>>(
     args: &[Form],
 ) -> Result<Request, Refused>
     ensures { Settles request_by result (template_request
-        (is_in_use context.now.memory.now context.now.rules.now context.now.deffacts.now)
+        (is_in_use context.now.memory.now.memory context.now.rules.now context.now.deffacts.now)
         (members args.now)) }
 {
     let Some((relation, _)) = split_head(args) else {

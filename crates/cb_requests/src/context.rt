@@ -30,7 +30,7 @@ impl<M: Matcher<Mark>> Context<'_, M> {
     /// `deffacts` names it. It looks at each relation that the rules name, and takes logarithmic time besides. `NoMemory`
     /// comes only where the knowledge base was refused memory before.
     pub(crate) fn is_in_use(&self, relation: &Name) -> Result<bool, NoMemory>
-        ensures { IfOk result (λ it. it ≡ is_in_use self.now.memory.now self.now.rules.now
+        ensures { IfOk result (λ it. it ≡ is_in_use self.now.memory.now.memory self.now.rules.now
             self.now.deffacts.now relation.now) }
     {
         let of_fact = self.memory.mentions(relation)?;

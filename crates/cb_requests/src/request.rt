@@ -64,7 +64,7 @@ pub fn read_request<M: Matcher<Mark>>(
     item: &Item,
 ) -> Result<Request, Refused>
     ensures { Settles request_by result (request_of context.now.relations.now context.now.env.now
-        (is_in_use context.now.memory.now context.now.rules.now context.now.deffacts.now)
+        (is_in_use context.now.memory.now.memory context.now.rules.now context.now.deffacts.now)
         (reading_of item.now)) }
 {
     match item {
@@ -79,7 +79,7 @@ fn read_form<M: Matcher<Mark>>(
     form: &Form,
 ) -> Result<Request, Refused>
     ensures { Settles request_by result (form_request context.now.relations.now context.now.env.now
-        (is_in_use context.now.memory.now context.now.rules.now context.now.deffacts.now)
+        (is_in_use context.now.memory.now.memory context.now.rules.now context.now.deffacts.now)
         (tree_of form.now)) }
 {
     let Some((name, args)) = form.call() else {

@@ -27,7 +27,7 @@ module _ {T : Type 0} (rules rules' : BTreeMap ℕ (Rule T)) (rule new : Rule T)
   same_number = ap (λ (q : ℕ × List Elements). q.0) same
 
   module _ (v v' : AlphaNetworkValue) (fs : IndexedFacts) (keeping : IsKeeping v fs rules) where
-    last : rules'.entries ≡ rules.entries ++ (new.id, new) ∷ []
+    pub last : rules'.entries ≡ rules.entries ++ (new.id, new) ∷ []
     last = put ∙ put_above kept_rule new.id new rules.entries keeping.named (subst (λ n. IsAbove n (kept_rules (values rules))) (sym same_number) above)
 
     pub kept_with : kept_rules (values rules') ≡ kept_rules (values rules) ++ kept_rule rule ∷ []

@@ -9,6 +9,7 @@ use Rattle.cb_branch.specs.Branches.{branch_elements}
 use Rattle.cb_branch.specs.declared.branch.Branch.{Branch}
 use Rattle.cb_matches.specs.Changes.{come_of}
 use Rattle.cb_matches.specs.declared.delta.Delta.{Delta}
+use Rattle.cb_rete.proofs.BranchNumbers.{AreToldTo, told_all, told_further, told_none, told_one}
 use Rattle.cb_rete.proofs.Lists.{got_before}
 use Rattle.cb_rete.proofs.FoundPlaces.{branch_of, branches_rise, no_place}
 use Rattle.cb_rete.specs.Changing.{AreBranchesChanged, AreBranchesReady, IsBranchChangedAt, IsBranchChangedFrom, IsBranchDone, IsBranchReady, TurnValue, join_tests}
@@ -28,12 +29,14 @@ module _ {T : Type 0} (turn : TurnValue) (found : List NodePlace) (rule from end
         delta'.gone.items (delta.gone.items ++ come_of (branch_keys rule 0 (kept_branches old) turn.after) (branch_keys rule 0 (kept_branches old) turn.before))
         delta'.come.items (delta.come.items ++ come_of (branch_keys rule 0 (kept_branches old) turn.before) (branch_keys rule 0 (kept_branches old) turn.after))
         meter' (meter + branches_sum (join_tests turn) (kept_branches old))
+    pub numbers : AreToldTo rule below old bs delta delta'
 
   pub turned_none : (bs : List (Branch T)) (delta : Delta) (meter : ℕ) → AreBranchesReady turn rule bs → AreTurnedTo from bs bs delta delta meter meter
   turned_none bs delta meter ready = record {
     below = 0;
     bound = begins branch_of found from end;
     turned = branches_left branch_elements (IsBranchReady turn rule) (IsBranchDone turn rule) turn.before turn.after (join_tests turn) rule bs ready delta.gone.items delta.come.items meter;
+    numbers = told_none rule bs delta;
   }
 
   module _ (sorted : IsStrictlySortedBy place_cmp found) (of : AreAllOfRule found from end rule)
@@ -68,6 +71,7 @@ module _ {T : Type 0} (turn : TurnValue) (found : List NodePlace) (rule from end
         come = branches_told branch_elements (IsBranchReady turn rule) (IsBranchDone turn rule) turn.before turn.after (join_tests turn) rule (kept_branches old) _ _ _ bs b delta'.gone.items delta'.come.items meter' past done;
       };
       paid = branches_paid branch_elements (IsBranchReady turn rule) (IsBranchDone turn rule) turn.before turn.after (join_tests turn) rule (kept_branches old) _ _ _ bs b delta'.gone.items delta'.come.items meter' past done;
+      numbers = told_all rule was.below old bs delta delta' was.numbers;
     }
 
     -- and to the end
@@ -90,6 +94,9 @@ module _ {T : Type 0} (turn : TurnValue) (found : List NodePlace) (rule from end
 
     -- and is changed
     module _ (within : at < end) (bs' : List (Branch T)) (delta'' : Delta) (meter'' : ℕ) where
+      below_next : was.below ≤ (get_or found at no_place).branch
+      below_next = bound_below branch_of found from end of.within (branches_rise found sorted from end rule of) at was.below was.bound no_place within
+
       -- the branches are done up to the one behind it
       abbrev DoneWith : List (Branch T) → Delta → ℕ → Type 0
       DoneWith them it n =
@@ -101,7 +108,7 @@ module _ {T : Type 0} (turn : TurnValue) (found : List NodePlace) (rule from end
       by_branch : (o : Option (Branch T)) → slice_get bs (get_or found at no_place).branch ≡ o → IsBranchChangedFrom turn rule (get_or found at no_place).branch o bs bs' delta' delta'' meter' meter'' → DoneWith bs' delta'' meter''
       by_branch (Some b) h now =
           subst (λ (them : List (Branch T)). DoneWith them delta'' meter'') (sym now.1)
-          (change_one branch_elements (IsBranchReady turn rule) (IsBranchDone turn rule) turn.before turn.after (join_tests turn) rule (kept_branches old) _ _ _ bs (get_or found at no_place).branch b now.0 delta' delta'' meter' meter'' h now.2 (up_to_next within))
+          (change_one branch_elements (IsBranchReady turn rule) (IsBranchDone turn rule) turn.before turn.after (join_tests turn) rule (kept_branches old) _ _ _ bs (get_or found at no_place).branch b now.0 delta' delta'' meter' meter'' h now.2.changed (up_to_next within))
       by_branch None h now =
           subst (λ (n : ℕ). DoneWith bs' delta'' n) (sym now.2)
           (subst (λ (it : Delta). DoneWith bs' it meter') (sym now.1)
@@ -109,10 +116,21 @@ module _ {T : Type 0} (turn : TurnValue) (found : List NodePlace) (rule from end
           (pass_one branch_elements (IsBranchReady turn rule) (IsBranchDone turn rule) turn.before turn.after (join_tests turn) rule (kept_branches old) _ _ _ bs (get_or found at no_place).branch delta'.gone.items delta'.come.items meter'
           (λ x i. let no : Some x ≡ None = sym i ∙ h in absurd cc) (up_to_next within))))
 
+      numbers_by_branch : (o : Option (Branch T)) → slice_get bs (get_or found at no_place).branch ≡ o → IsBranchChangedFrom turn rule (get_or found at no_place).branch o bs bs' delta' delta'' meter' meter''
+          → AreToldTo rule ((get_or found at no_place).branch + 1) old bs' delta delta''
+      numbers_by_branch (Some b) h now =
+          subst (λ (them : List (Branch T)). AreToldTo rule ((get_or found at no_place).branch + 1) old them delta delta'') (sym now.1)
+          (told_one rule was.below old bs delta delta' was.numbers (get_or found at no_place).branch b now.0 delta'' below_next h now.2.numbers)
+      numbers_by_branch None h now =
+          subst (λ (it : Delta). AreToldTo rule ((get_or found at no_place).branch + 1) old bs' delta it) (sym now.1)
+          (subst (λ (them : List (Branch T)). AreToldTo rule ((get_or found at no_place).branch + 1) old them delta delta') (sym now.0)
+          (told_further rule was.below old bs delta delta' was.numbers ((get_or found at no_place).branch + 1) (let l = below_next in omega (arith, l))))
+
       pub turned_on : (next : ℕ) → at < next → next ≤ end → AreOfBranch found at next → IsOtherBranch found at next end
           → IsBranchChangedAt turn rule (get_or found at no_place).branch bs bs' delta' delta'' meter' meter'' → AreTurnedTo next old bs' delta delta'' meter meter''
       turned_on next up low passed stops now = record {
         below = (get_or found at no_place).branch + 1;
         bound = goes_on branch_of found from end of.within (branches_rise found sorted from end rule of) at was.below was.bound no_place within next up low passed stops;
         turned = by_branch (slice_get bs (get_or found at no_place).branch) refl now;
+        numbers = numbers_by_branch (slice_get bs (get_or found at no_place).branch) refl now;
       }

@@ -10,12 +10,15 @@ use Rattle.cb_branch.specs.Patterns.{branch_patterns}
 use Rattle.cb_branch.specs.declared.branch.Branch.{Branch}
 use Rattle.cb_facts.specs.FactLists.{IndexedFacts, fact_at, with_fact, without_fact}
 use Rattle.cb_facts.specs.Facts.{FactValue}
-use Rattle.cb_matches.specs.Changes.{IsDelta, come_of}
+use Rattle.cb_matches.specs.Changes.{IsDelta, IsNumber, come_of}
 use Rattle.cb_matches.specs.Order.{IsRising}
 use Rattle.cb_matches.specs.declared.delta.Delta.{Delta}
 use Rattle.cb_nodes.proofs.Facts.{added_fact, before_taken, left_in, rising_with, rising_without, taken_fact}
 use Rattle.cb_rete.proofs.Entered.{entered_in_change}
+use Rattle.cb_rete.proofs.Listed.{numbers_found, numbers_listed}
+use Rattle.cb_rete.proofs.Numbers.{IsOnce, tells_alike, tells_from_none}
 use Rattle.cb_rete.specs.Changing.{AreRulesChanged, AreRulesReady, AreRulesTurned, IsTurning, TurnValue}
+use Rattle.cb_rete.specs.Numbers.{IsNumberInRules, kept_numbers}
 use Rattle.cb_rete.specs.Rules.{IsKeeping, kept_rules}
 use Rattle.cb_rete.specs.declared.rule.Rule.{Rule}
 use Rattle.cb_rule_keys.proofs.Answered.{come_is, gone_is, over}
@@ -93,8 +96,9 @@ module _ {T : Type 0} (stays : (facts facts' : Facts) (fs : IndexedFacts) (b : B
   -- and where the change has ended, they are as they are between changes
   pub all_turned : (turn : TurnValue) (v : AlphaNetworkValue) (old new : BTreeMap ℕ (Rule T)) (none delta : Delta) (meter meter' : ℕ) → v.shapes ≡ turn.network.shapes → v.users ≡ turn.network.users
       → ((n : ℕ) → IsEnded (memory_at turn.network n) (memory_at v n)) → AreAlphas v turn.after → none.gone.items ≡ [] → none.come.items ≡ []
+      → none.gone_numbers.items ≡ [] → none.come_numbers.items ≡ [] → IsOnce (IsNumberInRules old.entries) → IsOnce (IsNumberInRules new.entries)
       → AreRulesChanged turn old new none delta meter meter' → AreRulesTurned turn v old new delta meter meter'
-  all_turned turn v old new none delta meter meter' shapes users ended alphas none_gone none_come changed = record {
+  all_turned turn v old new none delta meter meter' shapes users ended alphas none_gone none_come no_gone_numbers no_come_numbers once once_now changed = record {
     stay = changed.stay;
     named = changed.named;
     alphas = alphas;
@@ -104,6 +108,9 @@ module _ {T : Type 0} (stays : (facts facts' : Facts) (fs : IndexedFacts) (b : B
     gone = changed.told.gone ∙ ap (λ it. it ++ come_of (rule_keys (kept_rules (values old)) turn.after) (rule_keys (kept_rules (values old)) turn.before)) none_gone;
     come = changed.told.come ∙ ap (λ it. it ++ come_of (rule_keys (kept_rules (values old)) turn.before) (rule_keys (kept_rules (values old)) turn.after)) none_come;
     paid = changed.paid;
+    numbers = tells_alike (IsNumberInRules old.entries) (IsNumber (kept_numbers (values old))) (IsNumberInRules new.entries) (IsNumber (kept_numbers (values new))) delta
+        (numbers_listed old.entries) (numbers_found old.entries) (numbers_listed new.entries) (numbers_found new.entries)
+        (tells_from_none (IsNumberInRules old.entries) (IsNumberInRules new.entries) none delta none_gone none_come no_gone_numbers no_come_numbers once once_now changed.numbers);
   }
 
 module _ {T : Type 0} (turn : TurnValue) (v : AlphaNetworkValue) (old new : BTreeMap ℕ (Rule T)) (delta : Delta) (meter meter' : ℕ) (turned : AreRulesTurned turn v old new delta meter meter') where

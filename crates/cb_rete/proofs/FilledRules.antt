@@ -10,9 +10,13 @@ use Rattle.cb_branch.specs.Alphas.{live_facts}
 use Rattle.cb_facts.specs.FactLists.{IndexedFacts}
 use Rattle.cb_matches.proofs.Lists.{in_either}
 use Rattle.cb_matches.specs.Chains.{In}
+use Rattle.cb_matches.specs.Changes.{AddsNumbers}
 use Rattle.cb_matches.specs.Keys.{KeyValue}
 use Rattle.cb_matches.specs.Networks.{Conditions}
+use Rattle.cb_rete.proofs.MoreNumbers.{numbers_of_last, numbers_with}
+use Rattle.cb_rete.proofs.Numbers.{Implies, adds_none, adds_on, adds_weaker}
 use Rattle.cb_rete.specs.Filling.{AreBranchesFilled}
+use Rattle.cb_rete.specs.Numbers.{IsNumberInBranches, IsNumberInRules}
 use Rattle.cb_rete.specs.Rules.{AreBranchesEntered, AreBranchesOver, AreRulesEntered, CanRuleBeFilled, kept_rule, kept_rules}
 use Rattle.cb_rete.specs.declared.rule.Rule.{Rule}
 use Rattle.cb_rule_keys.proofs.Networks.{rule_keys_more}
@@ -37,10 +41,11 @@ module _ {T : Type 0} where
     pub entered : AreBranchesEntered v r.id r.branches.items
 
   -- those that are filled are so, and what is told by then and at the end
-  pub record AreFilled (v : AlphaNetworkValue) (fs : IndexedFacts) (all : List KeyValue) (filled left_over : List (ℕ × Rule T)) (told_of : List KeyValue) : Type 0 where
+  pub record AreFilled (v : AlphaNetworkValue) (fs : IndexedFacts) (all : List KeyValue) (filled left_over : List (ℕ × Rule T)) (told told_of : List KeyValue) (numbers numbers_of : List ℕ) : Type 0 where
     pub done : (e : ℕ × Rule T) → In e filled → IsFilled v fs e.1
     pub left : AreRulesEntered v left_over
-    pub told : told_of ++ rule_keys (kept_rules (values_of left_over)) fs ≡ all
+    pub keys : told_of ++ rule_keys (kept_rules (values_of left_over)) fs ≡ all
+    pub told_numbers : AddsNumbers (IsNumberInRules filled) told told_of numbers numbers_of
 
   pub move_none : (es left filled : List (ℕ × Rule T)) → left ≡ es → filled ≡ [] → AreNamed kept_rule es → IsStrictlySortedBy nat_cmp (keys_of es) → All CanRuleBeFilled (values_of es) → IsMoved (kept_rules (values_of es)) filled left
   move_none es left filled all none named rising plans = record {
@@ -52,12 +57,13 @@ module _ {T : Type 0} where
     plans = λ e i. all_in CanRuleBeFilled (values_of es) plans e.1 (in_value es e (subst (In e) all i));
   }
 
-  pub fill_none : (v : AlphaNetworkValue) (fs : IndexedFacts) (es left filled : List (ℕ × Rule T)) (told : List KeyValue) → left ≡ es → filled ≡ [] → AreRulesEntered v es
-      → AreFilled v fs (told ++ rule_keys (kept_rules (values_of es)) fs) filled left told
-  fill_none v fs es left filled told all none entered = record {
+  pub fill_none : (v : AlphaNetworkValue) (fs : IndexedFacts) (es left filled : List (ℕ × Rule T)) (told : List KeyValue) (numbers : List ℕ) → left ≡ es → filled ≡ [] → AreRulesEntered v es
+      → AreFilled v fs (told ++ rule_keys (kept_rules (values_of es)) fs) filled left told told numbers numbers
+  fill_none v fs es left filled told numbers all none entered = record {
     done = λ e i. absurd (subst (In e) none i);
     left = λ e i. entered e (subst (In e) all i);
-    told = ap (λ (them : List (ℕ × Rule T)). told ++ rule_keys (kept_rules (values_of them)) fs) all;
+    keys = ap (λ (them : List (ℕ × Rule T)). told ++ rule_keys (kept_rules (values_of them)) fs) all;
+    told_numbers = adds_none (IsNumberInRules filled) told numbers;
   }
 
   -- one rule more
@@ -98,9 +104,15 @@ module _ {T : Type 0} where
     pub plan_here : CanRuleBeFilled r
     plan_here = was.plans (id, r) (subst (In (id, r)) (sym cut) (inl refl))
 
-    pub fill_one : (v : AlphaNetworkValue) (fs : IndexedFacts) (all ks ls : List KeyValue) → (AreBranchesEntered v r.id r.branches.items → AreBranchesFilled v fs r.id (kept_rule r).1 r'.branches.items ks ls)
-        → AreFilled v fs all es its ks → AreFilled v fs all es' rest ls
-    fill_one v fs all ks ls fills before =
+    numbers_before : Implies (IsNumberInRules es) (IsNumberInRules es')
+    numbers_before = numbers_with id r' es es' last
+
+    numbers_here : Implies (IsNumberInBranches r.id r'.branches.items) (IsNumberInRules es')
+    numbers_here k n h = numbers_of_last id r' es es' last k n (subst (λ (m : ℕ). IsNumberInBranches m r'.branches.items k n) (sym same_id) h)
+
+    pub fill_one : (v : AlphaNetworkValue) (fs : IndexedFacts) (all told ks ls : List KeyValue) (numbers ns ms : List ℕ) → (AreBranchesEntered v r.id r.branches.items → AreBranchesFilled v fs r.id (kept_rule r).1 r'.branches.items ks ls ns ms)
+        → AreFilled v fs all es its told ks numbers ns → AreFilled v fs all es' rest told ls numbers ms
+    fill_one v fs all told ks ls numbers ns ms fills before =
         let filled = fills (before.left (id, r) (subst (In (id, r)) (sym cut) (inl refl))) in
         record {
           done = in_more (λ e. IsFilled v fs e.1) before.done (record {
@@ -108,15 +120,18 @@ module _ {T : Type 0} where
             entered = subst (λ n. AreBranchesEntered v n r'.branches.items) (sym same_id) filled.entered;
           });
           left = λ e i. before.left e (subst (In e) (sym cut) (inr i));
-          told = ap (λ it. it ++ rule_keys (kept_rules (values_of rest)) fs) filled.come
+          keys = ap (λ it. it ++ rule_keys (kept_rules (values_of rest)) fs) filled.come
               ∙ (append_assoc ks (branch_keys r.id 0 (kept_rule r).1 fs) (rule_keys (kept_rules (values_of rest)) fs)
               ∙ (ap (λ it. ks ++ it) (sym (rule_keys_more (kept_rule r) (kept_rules (values_of rest)) fs))
-              ∙ subst (λ (them : List (ℕ × Rule T)). ks ++ rule_keys (kept_rules (values_of them)) fs ≡ all) cut before.told));
+              ∙ subst (λ (them : List (ℕ × Rule T)). ks ++ rule_keys (kept_rules (values_of them)) fs ≡ all) cut before.keys));
+          told_numbers = adds_on (IsNumberInRules es') told ks ls numbers ns ms
+              (adds_weaker (IsNumberInRules es) (IsNumberInRules es') numbers_before told ks numbers ns before.told_numbers)
+              (adds_weaker (IsNumberInBranches r.id r'.branches.items) (IsNumberInRules es') numbers_here ks ls ns ms filled.told_numbers);
         }
 
   -- at the end
   pub moved_all : (rs : Conditions) (es left : List (ℕ × Rule T)) → left ≡ [] → IsMoved rs es left → kept_rules (values_of es) ≡ rs
   moved_all rs es left none was = sym (append-nil (kept_rules (values_of es))) ∙ (ap (λ (them : List (ℕ × Rule T)). kept_rules (values_of es) ++ kept_rules (values_of them)) (sym none) ∙ was.stays)
 
-  pub filled_all : (v : AlphaNetworkValue) (fs : IndexedFacts) (all told : List KeyValue) (es left : List (ℕ × Rule T)) → left ≡ [] → AreFilled v fs all es left told → told ≡ all
-  filled_all v fs all told es left none was = sym (append-nil told) ∙ (ap (λ (them : List (ℕ × Rule T)). told ++ rule_keys (kept_rules (values_of them)) fs) (sym none) ∙ was.told)
+  pub filled_all : (v : AlphaNetworkValue) (fs : IndexedFacts) (all first told : List KeyValue) (numbers ns : List ℕ) (es left : List (ℕ × Rule T)) → left ≡ [] → AreFilled v fs all es left first told numbers ns → told ≡ all
+  filled_all v fs all first told numbers ns es left none was = sym (append-nil told) ∙ (ap (λ (them : List (ℕ × Rule T)). told ++ rule_keys (kept_rules (values_of them)) fs) (sym none) ∙ was.keys)

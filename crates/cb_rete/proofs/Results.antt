@@ -11,9 +11,9 @@ pub on_two : {X E A B G : Type 0} (r : Result X E) → OnOk r A → OnOk r B →
 on_two (Ok x) a b all = all a b
 on_two (Err x) a b all = tt
 
-pub on_five : {X E A B C D F G : Type 0} (r : Result X E) → OnOk r A → OnOk r B → OnOk r C → OnOk r D → OnOk r F → (A → B → C → D → F → G) → OnOk r G
-on_five (Ok x) a b c d f all = all a b c d f
-on_five (Err x) a b c d f all = tt
+pub on_six : {X E A B C D F H G : Type 0} (r : Result X E) → OnOk r A → OnOk r B → OnOk r C → OnOk r D → OnOk r F → OnOk r H → (A → B → C → D → F → H → G) → OnOk r G
+on_six (Ok x) a b c d f h all = all a b c d f h
+on_six (Err x) a b c d f h all = tt
 
 pub if_one : {X E : Type 0} {P Q : X → Type 0} (r : Result X E) → IfOk r P → ((x : X) → P x → Q x) → IfOk r Q
 if_one (Ok x) p all = all x p

@@ -8,6 +8,7 @@ use Rattle.cb_alpha_network.specs.declared.node_place.NodePlace.{NodePlace}
 use Rattle.cb_matches.specs.Changes.{come_of}
 use Rattle.cb_matches.specs.declared.delta.Delta.{Delta}
 use Rattle.cb_rete.proofs.FoundPlaces.{all_of_rule, no_place, rule_of, rules_rise}
+use Rattle.cb_rete.proofs.RuleNumbers.{AreRulesToldTo, rules_told_all, rules_told_further, rules_told_none, rules_told_one}
 use Rattle.cb_rete.specs.Changing.{AreRulesChanged, AreRulesReady, IsRuleChangedAt, IsRuleChangedFrom, IsRuleDone, IsRuleReady, TurnValue, join_tests}
 use Rattle.cb_rete.specs.Found.{AreAllOfRule, AreOfRule, IsOtherRule}
 use Rattle.cb_rete.specs.Rules.{kept_rule, kept_rules}
@@ -44,12 +45,14 @@ module _ {T : Type 0} (turn : TurnValue) (found : List NodePlace) where
     pub below : ℕ
     pub bound : IsBound rule_of found 0 (length found) at below
     pub turned : AreLeftFrom old (nat_le below) rules.entries delta delta' meter meter'
+    pub numbers : AreRulesToldTo below old.entries rules.entries delta delta'
 
   pub rules_none : (rules : BTreeMap ℕ (Rule T)) (delta : Delta) (meter : ℕ) → IsStrictlySortedBy nat_cmp (keys_of rules.entries) → AreRulesReady turn rules.entries → AreRulesTurnedTo 0 rules rules delta delta meter meter
   rules_none rules delta meter sorted ready = record {
     below = 0;
     bound = begins rule_of found 0 (length found);
     turned = all_left kept_rule (IsRuleReady turn) (IsRuleDone turn) turn.before turn.after (join_tests turn) rules.entries ready.named sorted ready.each delta.gone.items delta.come.items meter;
+    numbers = rules_told_none rules.entries delta;
   }
 
   module _ (sorted : IsStrictlySortedBy place_cmp found)
@@ -86,6 +89,7 @@ module _ {T : Type 0} (turn : TurnValue) (found : List NodePlace) where
             come = all_told kept_rule (IsRuleReady turn) (IsRuleDone turn) turn.before turn.after (join_tests turn) (kept_rules (values old)) rules.entries delta'.gone.items _ delta'.come.items _ meter' _ end;
           };
           paid = all_paid kept_rule (IsRuleReady turn) (IsRuleDone turn) turn.before turn.after (join_tests turn) (kept_rules (values old)) rules.entries delta'.gone.items _ delta'.come.items _ meter' _ end;
+          numbers = rules_told_all was.below old.entries rules.entries delta delta' was.numbers;
         }
 
     -- the rule that is found next
@@ -100,6 +104,9 @@ module _ {T : Type 0} (turn : TurnValue) (found : List NodePlace) where
       bound_next : IsBound rule_of found 0 (length found) next ((get_or found at no_place).rule + 1)
       bound_next = goes_on rule_of found 0 (length found) (omega arith) (rules_rise found sorted) at was.below was.bound no_place within next up low of stops
 
+      below_next : was.below ≤ (get_or found at no_place).rule
+      below_next = bound_below rule_of found 0 (length found) (omega arith) (rules_rise found sorted) at was.below was.bound no_place within
+
       -- its places
       pub places_here : AreAllOfRule found at next (get_or found at no_place).rule
       places_here = all_of_rule found at next was.below was.bound up low (bound_below rule_of found 0 (length found) (omega arith) (rules_rise found sorted) at was.below was.bound no_place within) bound_next of
@@ -110,16 +117,27 @@ module _ {T : Type 0} (turn : TurnValue) (found : List NodePlace) where
             → AreLeftFrom old (nat_le ((get_or found at no_place).rule + 1)) rules'.entries delta delta'' meter meter''
         by_rule (Some r) h now =
             subst (λ (es : List (ℕ × Rule T)). AreLeftFrom old (nat_le ((get_or found at no_place).rule + 1)) es delta delta'' meter meter'') (sym now.1)
-            (one_changed kept_rule (IsRuleReady turn) (IsRuleDone turn) turn.before turn.after (join_tests turn) (kept_rules (values old)) rules.entries (get_or found at no_place).rule delta' _ _ meter' _ (rules_to_next within) r now.0 delta'' meter'' h now.2)
+            (one_changed kept_rule (IsRuleReady turn) (IsRuleDone turn) turn.before turn.after (join_tests turn) (kept_rules (values old)) rules.entries (get_or found at no_place).rule delta' _ _ meter' _ (rules_to_next within) r now.0 delta'' meter'' h now.2.changed)
         by_rule None h now =
             subst (λ (n : ℕ). AreLeftFrom old (nat_le ((get_or found at no_place).rule + 1)) rules'.entries delta delta'' meter n) (sym now.2)
             (subst (λ (it : Delta). AreLeftFrom old (nat_le ((get_or found at no_place).rule + 1)) rules'.entries delta it meter meter') (sym now.1)
             (subst (λ (es : List (ℕ × Rule T)). AreLeftFrom old (nat_le ((get_or found at no_place).rule + 1)) es delta delta' meter meter') (sym now.0)
             (none_changed kept_rule (IsRuleReady turn) (IsRuleDone turn) turn.before turn.after (join_tests turn) (kept_rules (values old)) rules.entries (get_or found at no_place).rule delta' _ _ meter' _ (rules_to_next within) h)))
 
+        numbers_by_rule : (o : Option (Rule T)) → lookup (is_at (nat_cmp (get_or found at no_place).rule)) rules.entries ≡ o → IsRuleChangedFrom turn (get_or found at no_place).rule o rules rules' delta' delta'' meter' meter''
+            → AreRulesToldTo ((get_or found at no_place).rule + 1) old.entries rules'.entries delta delta''
+        numbers_by_rule (Some r) h now =
+            subst (λ (es : List (ℕ × Rule T)). AreRulesToldTo ((get_or found at no_place).rule + 1) old.entries es delta delta'') (sym now.1)
+            (rules_told_one was.below old.entries rules.entries delta delta' was.numbers (get_or found at no_place).rule r now.0 delta'' below_next was.turned.rising h now.2.numbers)
+        numbers_by_rule None h now =
+            subst (λ (it : Delta). AreRulesToldTo ((get_or found at no_place).rule + 1) old.entries rules'.entries delta it) (sym now.1)
+            (subst (λ (es : List (ℕ × Rule T)). AreRulesToldTo ((get_or found at no_place).rule + 1) old.entries es delta delta') (sym now.0)
+            (rules_told_further was.below old.entries rules.entries delta delta' was.numbers ((get_or found at no_place).rule + 1) (let l = below_next in omega (arith, l))))
+
         pub rules_on : IsRuleChangedAt turn (get_or found at no_place).rule rules rules' delta' delta'' meter' meter'' → AreRulesTurnedTo next old rules' delta delta'' meter meter''
         rules_on now = record {
           below = (get_or found at no_place).rule + 1;
           bound = bound_next;
           turned = by_rule (lookup (is_at (nat_cmp (get_or found at no_place).rule)) rules.entries) refl now;
+          numbers = numbers_by_rule (lookup (is_at (nat_cmp (get_or found at no_place).rule)) rules.entries) refl now;
         }

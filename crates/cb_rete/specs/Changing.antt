@@ -5,7 +5,7 @@ use Rattle.std.specs.Map.{set_value}
 use Rattle.std.specs.Ordering.{nat_cmp}
 use Rattle.cb_alpha_network.specs.Networks.{AlphaNetworkValue, AlphasTurn, AreAlphas, HasChanged, IsShapeAt, MemoryValues}
 use Rattle.cb_alpha_network.specs.declared.node_place.NodePlace.{NodePlace}
-use Rattle.cb_branch.specs.Branches.{DifferBy, IsBranchOver, IsEntered, branch_elements}
+use Rattle.cb_branch.specs.Branches.{DifferBy, IsBranchOver, IsEntered, branch_elements, branch_numbers}
 use Rattle.cb_branch.specs.Alphas.{live_facts, were_facts}
 use Rattle.cb_branch.specs.Patterns.{shape_tests}
 use Rattle.cb_branch.specs.declared.branch.Branch.{Branch}
@@ -13,10 +13,11 @@ use Rattle.cb_constraints.specs.PatternValues.{PatternValue}
 use Rattle.cb_facts.specs.FactLists.{IndexedFacts}
 use Rattle.cb_facts.specs.Facts.{FactValue}
 use Rattle.cb_matches.specs.Chains.{In}
-use Rattle.cb_matches.specs.Changes.{come_of}
+use Rattle.cb_matches.specs.Changes.{IsNumber, TellsMoreNumbers, TellsNumbers, come_of}
 use Rattle.cb_matches.specs.Order.{IsRising}
 use Rattle.cb_matches.specs.Probes.{branch_probes}
 use Rattle.cb_matches.specs.declared.delta.Delta.{Delta}
+use Rattle.cb_rete.specs.Numbers.{IsNumberInBranches, IsNumberInRules, kept_numbers}
 use Rattle.cb_rete.specs.Rules.{AreRulesEntered, AreRulesOver, kept_branches, kept_rule, kept_rules}
 use Rattle.cb_rete.specs.declared.rule.Rule.{Rule}
 use Rattle.cb_rule_keys.specs.Changing.{IsBranchChanged, IsRuleChanged}
@@ -77,11 +78,15 @@ module _ {T : Type 0} where
   abbrev pub IsRuleDone : TurnValue → Rule T → Type 0
   IsRuleDone turn r = AreBranchesDone turn r.id r.branches.items
 
+  -- a branch is changed, the one with this number of the rule with this number
+  pub record IsBranchTurned (turn : TurnValue) (rule n : ℕ) (old new : Branch T) (delta delta' : Delta) (meter meter' : ℕ) : Type 0 where
+    pub changed : IsBranchChanged branch_elements (IsBranchDone turn rule) turn.before turn.after (join_tests turn) rule n old new delta delta' meter meter'
+    pub numbers : TellsMoreNumbers (IsNumber (branch_numbers rule n old)) (IsNumber (branch_numbers rule n new)) delta delta'
+
   -- the branch at a place is changed, if there is one, and no other
   abbrev pub IsBranchChangedFrom : TurnValue → ℕ → ℕ → Option (Branch T) → List (Branch T) → List (Branch T) → Delta → Delta → ℕ → ℕ → Type 0
   IsBranchChangedFrom turn rule n (Some old) bs bs' delta delta' meter meter' =
-      (new : Branch T) × (bs' ≡ slice_set bs n new)
-      × IsBranchChanged branch_elements (IsBranchDone turn rule) turn.before turn.after (join_tests turn) rule n old new delta delta' meter meter'
+      (new : Branch T) × (bs' ≡ slice_set bs n new) × IsBranchTurned turn rule n old new delta delta' meter meter'
   IsBranchChangedFrom turn rule n None bs bs' delta delta' meter meter' = (bs' ≡ bs) × (delta' ≡ delta) × (meter' ≡ meter)
 
   abbrev pub IsBranchChangedAt : TurnValue → ℕ → ℕ → List (Branch T) → List (Branch T) → Delta → Delta → ℕ → ℕ → Type 0
@@ -93,10 +98,12 @@ module _ {T : Type 0} where
     pub done : AreBranchesDone turn rule new
     pub told : Tells delta delta' (branch_keys rule 0 (kept_branches old) turn.before) (branch_keys rule 0 (kept_branches old) turn.after)
     pub paid : meter' ≤ meter + branches_sum (join_tests turn) (kept_branches old)
+    pub numbers : TellsMoreNumbers (IsNumberInBranches rule old) (IsNumberInBranches rule new) delta delta'
 
   -- a rule is, and the one with a number, if there is one, and no other
-  abbrev pub IsRuleTurned : TurnValue → Rule T → Rule T → Delta → Delta → ℕ → ℕ → Type 0
-  IsRuleTurned turn old new delta delta' meter meter' = IsRuleChanged kept_rule (IsRuleDone turn) turn.before turn.after (join_tests turn) old new delta delta' meter meter'
+  pub record IsRuleTurned (turn : TurnValue) (old new : Rule T) (delta delta' : Delta) (meter meter' : ℕ) : Type 0 where
+    pub changed : IsRuleChanged kept_rule (IsRuleDone turn) turn.before turn.after (join_tests turn) old new delta delta' meter meter'
+    pub numbers : TellsMoreNumbers (IsNumberInBranches old.id old.branches.items) (IsNumberInBranches new.id new.branches.items) delta delta'
 
   abbrev pub IsRuleChangedFrom : TurnValue → ℕ → Option (Rule T) → BTreeMap ℕ (Rule T) → BTreeMap ℕ (Rule T) → Delta → Delta → ℕ → ℕ → Type 0
   IsRuleChangedFrom turn id (Some old) rules rules' delta delta' meter meter' =
@@ -118,6 +125,7 @@ module _ {T : Type 0} where
     pub done : (e : ℕ × Rule T) → In e new.entries → IsRuleDone turn e.1
     pub told : Tells delta delta' (rule_keys (kept_rules (values old)) turn.before) (rule_keys (kept_rules (values old)) turn.after)
     pub paid : meter' ≤ meter + rules_sum (join_tests turn) (kept_rules (values old))
+    pub numbers : TellsMoreNumbers (IsNumberInRules old.entries) (IsNumberInRules new.entries) delta delta'
 
   -- what the change leaves when it has ended
   pub record AreRulesTurned (turn : TurnValue) (v : AlphaNetworkValue) (old new : BTreeMap ℕ (Rule T)) (delta : Delta) (meter meter' : ℕ) : Type 0 where
@@ -129,3 +137,4 @@ module _ {T : Type 0} where
     pub gone : delta.gone.items ≡ come_of (rule_keys (kept_rules (values old)) turn.after) (rule_keys (kept_rules (values old)) turn.before)
     pub come : delta.come.items ≡ come_of (rule_keys (kept_rules (values old)) turn.before) (rule_keys (kept_rules (values old)) turn.after)
     pub paid : meter' ≤ meter + rules_sum (join_tests turn) (kept_rules (values old))
+    pub numbers : TellsNumbers (IsNumber (kept_numbers (values old))) (IsNumber (kept_numbers (values new))) delta

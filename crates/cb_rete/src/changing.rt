@@ -22,7 +22,7 @@ use cb_matches::Delta;
 use std::collections::BTreeMap;
 
 /// Changes the rules of which places are found, where the alpha memories have changed already. The keys of the matches that go and
-/// come stand behind those that are told of before, in their order.
+/// come stand behind those that are told of before, in their order, and so do their numbers.
 pub(crate) fn change_rules<T>(
     setting: &Setting<'_>,
     found: &[NodePlace],

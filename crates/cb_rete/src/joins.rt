@@ -1,7 +1,7 @@
 //! The matcher.
 ghost use Rattle.std.specs.Prelude.{◌≡◌, ◌≤◌, ◌+◌, None, Some, IfOk, IsErr, IsSome, OnOk, is_err, true};
 ghost use Rattle.cb_facts.specs.FactLists.{IsAbsent, fact_at, with_fact, without_fact};
-ghost use Rattle.cb_matches.specs.Changes.{IsAbove, IsDelta, IsRestart};
+ghost use Rattle.cb_matches.specs.Changes.{IsAbove, IsDelta, IsNumber, IsRestart, TellsNumbers};
 ghost use Rattle.cb_matches.specs.Matchers.{new_matcher};
 ghost use Rattle.cb_matches.specs.Networks.{bindings_of, with_one, with_rule, without_one, without_rule};
 ghost use Rattle.cb_matches.specs.Probes.{rules_probes};
@@ -44,13 +44,14 @@ impl<T> Model for Joins<T> {
     ghost use Rattle.std.specs.Coded.{codes};
     ghost use Rattle.cb_matches.specs.Internal.{matcher_code};
     ghost use Rattle.cb_matches.specs.Matchers.{MatcherValue};
+    ghost use Rattle.cb_rete.specs.Numbers.{kept_numbers};
     ghost use Rattle.cb_rete.specs.Rules.{IsKeeping, kept_rules};
 
     ghost Value = { MatcherValue };
 
     ghost coded = { matcher_code (Prim.hlevel codes) (Prim.hlevel codes) (Prim.hlevel codes) (Prim.hlevel codes) };
 
-    ghost view = { λ m. record { network = record { rules = kept_rules (values m.rules); facts = m.facts }; is_failed = m.failed } };
+    ghost view = { λ m. record { network = record { rules = kept_rules (values m.rules); facts = m.facts }; numbers = kept_numbers (values m.rules); is_failed = m.failed } };
 
     ghost invariant = { λ m. m.failed ≡ false → IsKeeping m.alphas m.facts m.rules };
 }
@@ -75,6 +76,8 @@ impl<T> Joins<T> {
 impl<T> Matcher<T> for Joins<T> {
     ghost network = { λ m. m.network };
 
+    ghost numbers = { λ m. m.numbers };
+
     ghost is_failed = { λ m. m.is_failed };
 
     fn add_rule(
@@ -88,6 +91,7 @@ impl<T> Matcher<T> for Joins<T> {
             (self.new.network ≡ with_rule id (branches_of branches.items) self.old.network) }
         ensures delta { IfOk result
             (IsDelta self.old.network (with_rule id (branches_of branches.items) self.old.network)) }
+        ensures numbers { IfOk result (TellsNumbers (IsNumber self.old.numbers) (IsNumber self.new.numbers)) }
         ensures failed { self.new.is_failed ≡ is_err result }
         ensures once { self.old.is_failed ≡ true → IsErr result }
     {
@@ -132,6 +136,7 @@ impl<T> Matcher<T> for Joins<T> {
         ensures network { OnOk result (self.new.network ≡ with_one ix fact self.old.network) }
         ensures delta { IfOk result
             (IsDelta self.old.network (with_one ix fact self.old.network)) }
+        ensures numbers { IfOk result (TellsNumbers (IsNumber self.old.numbers) (IsNumber self.new.numbers)) }
         ensures failed { self.new.is_failed ≡ is_err result }
         ensures once { self.old.is_failed ≡ true → IsErr result }
         ensures probes { OnOk result
@@ -162,6 +167,7 @@ impl<T> Matcher<T> for Joins<T> {
         ensures network { OnOk result (self.new.network ≡ without_one ix self.old.network) }
         ensures delta { IfOk result
             (IsDelta self.old.network (without_one ix self.old.network)) }
+        ensures numbers { IfOk result (TellsNumbers (IsNumber self.old.numbers) (IsNumber self.new.numbers)) }
         ensures failed { self.new.is_failed ≡ is_err result }
         ensures once { self.old.is_failed ≡ true → IsErr result }
         ensures probes { OnOk result
@@ -193,7 +199,7 @@ impl<T> Matcher<T> for Joins<T> {
         }
         self.failed = true;
         self.facts = FactList::new(self.alloc);
-        let come = fill_anew(
+        let delta = fill_anew(
             self.alloc,
             &mut self.constants,
             &mut self.alphas,
@@ -201,10 +207,7 @@ impl<T> Matcher<T> for Joins<T> {
             meter,
         )?;
         self.failed = false;
-        Ok(Delta {
-            gone: Vec::new(self.alloc),
-            come,
-        })
+        Ok(delta)
     }
 
     fn bindings(&self, key: &Key) -> Result<Env, NoMemory> {

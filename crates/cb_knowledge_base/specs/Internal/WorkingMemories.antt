@@ -1,6 +1,6 @@
 -- What only the code needs.
 use Rattle.std.specs.Prelude.{◌≡◌, ◌≤◌, ◌-◌, ℕ, List, [], ◌∷◌, Option, option_map, refl}
-use Rattle.std.specs.Coded.{Coded, code_by, coded_ℕ, coded×}
+use Rattle.std.specs.Coded.{Coded, code_by, coded_list, coded_ℕ, coded×}
 use Rattle.std.specs.List.{All}
 use Rattle.std.specs.List.Sorted.{IsStrictlySortedBy}
 use Rattle.std.specs.Map.{keys_of, values_of}
@@ -13,8 +13,9 @@ use Rattle.cb_facts.specs.Facts.{FactValue}
 use Rattle.cb_facts.specs.RelationCounts.{Counts, count_of, one_if}
 use Rattle.cb_facts.specs.declared.value.Value.{Value}
 use Rattle.cb_knowledge_base.specs.Internal.Namings.{IsCountOf}
-use Rattle.cb_knowledge_base.specs.KnowledgeBase.{Memory}
-use Rattle.cb_matches.specs.Internal.{network_code}
+use Rattle.cb_knowledge_base.specs.KnowledgeBase.{KnowledgeBaseValue, Memory}
+use Rattle.cb_matches.specs.Changes.{Numbers}
+use Rattle.cb_matches.specs.Internal.{key_code, network_code}
 use Rattle.cb_matches.specs.Networks.{Conditions, Network, without_rule}
 
 -- no fact has an index after this one
@@ -47,8 +48,12 @@ abbrev pub without_rules : List ℕ → Network → Network
 without_rules [] n = n
 without_rules (id ∷ ids) n = without_rules ids (without_rule id n)
 
--- how the logic stores it
+-- how the logic stores it, alone and with the numbers of the matches
 abbrev pub memory_code : Coded Value → Coded (List ℕ) → Coded Piece → Coded IndexedFacts → Coded Memory
 memory_code value name piece facts =
     code_by (Network × (ℕ × ℕ)) (coded× (network_code value name piece facts) (coded× coded_ℕ coded_ℕ)) (λ m. (m.network, (m.last, m.last_rule)))
     (λ p. record { network = p.0; last = p.1.0; last_rule = p.1.1 }) (λ _. refl)
+
+abbrev pub base_code : Coded Value → Coded (List ℕ) → Coded Piece → Coded IndexedFacts → Coded KnowledgeBaseValue
+base_code value name piece facts =
+    code_by (Memory × Numbers) (coded× (memory_code value name piece facts) (coded_list (coded× key_code coded_ℕ))) (λ b. (b.memory, b.numbers)) (λ p. record { memory = p.0; numbers = p.1 }) (λ _. refl)

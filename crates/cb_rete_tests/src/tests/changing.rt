@@ -29,6 +29,8 @@ fn nothing(alloc: Global) -> Delta {
     Delta {
         gone: Vec::new(alloc),
         come: Vec::new(alloc),
+        gone_numbers: Vec::new(alloc),
+        come_numbers: Vec::new(alloc),
     }
 }
 

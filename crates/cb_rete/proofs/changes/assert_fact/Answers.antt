@@ -40,6 +40,7 @@ returns g c =
           (let most = c.requires.keeping.count in omega (arith, count, uses, most)));
       delta = if_one c.change_facts.result c.change_facts.ensures.turned
           (λ delta turned. delta_after turn c.change_facts.new.alphas c.args.rules.now c.change_facts.new.rules delta c.assert.new.meter c.change_facts.new.meter (turned turn refl turning ready));
+      numbers = if_one c.change_facts.result c.change_facts.ensures.turned (λ delta turned. (turned turn refl turning ready).numbers);
       probes = if_on c.change_facts.result c.change_facts.ensures.turned
           (λ delta turned. let paid = (turned turn refl turning ready).paid in omega (arith, most, few, within, paid));
     }

@@ -3,9 +3,13 @@ use Rattle.cb_alpha_network.specs.Networks.{AlphaNetworkValue, AlphasTurn, HasCh
 use Rattle.cb_alpha.specs.AlphaMemories.{IsEnded}
 use Rattle.cb_alpha_network.specs.declared.node_place.NodePlace.{NodePlace}
 use Rattle.cb_constraints.specs.PatternValues.{PatternValue}
+use Rattle.cb_branch.specs.Alphas.{live_facts, were_facts}
 use Rattle.cb_rete.proofs.Ended.{all_turned}
+use Rattle.cb_rete.proofs.Listed.{rules_once}
+use Rattle.cb_rete.proofs.Numbers.{IsOnce}
 use Rattle.cb_rete.proofs.changes.change_facts.Goals as goal
 use Rattle.cb_rete.specs.Changing.{IsTurn}
+use Rattle.cb_rete.specs.Numbers.{IsNumberInRules}
 
 pub returns-clause-turned : goal.returns-clause-turned
 returns-clause-turned g c =
@@ -25,8 +29,14 @@ returns-clause-turned g c =
     } in
     let done = c.in_ok-change_rules.ensures turn is ready in
     let end = c.end_change.ensures in
+    let once : IsOnce (IsNumberInRules c.args.rules.now.entries) =
+    rules_once c.args.rules.now.entries c.len-count.ensures.ordered ready.named
+    (λ e i j b h k m n. c.a_match_has_one_number.ensures (were_facts turn.network.memories) turn.before b e.1.id j k m n (ready.each e i j b h).over) in
+    let once_now : IsOnce (IsNumberInRules c.change_rules.new.rules.entries) =
+    rules_once c.change_rules.new.rules.entries c.len-changed.ensures.ordered done.named
+    (λ e i j b h k m n. c.a_match_has_one_number.ensures (live_facts turn.network.memories) turn.after b e.1.id j k m n (done.done e i j b h).over) in
     all_turned c.what_is_kept_stays.ensures turn c.end_change.new.self c.args.rules.now c.change_rules.new.rules c.no_delta-delta.result c.change_rules.new.delta c.args.meter.now c.change_rules.new.meter
     (end.shapes ∙ ap (λ (it : AlphaNetworkValue). it.shapes) (sym same)) (end.users ∙ ap (λ (it : AlphaNetworkValue). it.users) (sym same))
     (λ n. subst (λ (it : AlphaNetworkValue). IsEnded (memory_at it n) (memory_at c.end_change.new.self n)) (sym same) (end.ended n))
     (end.alphas turn.before turn.after (subst (λ (it : AlphaNetworkValue). AlphasTurn it turn.before turn.after) same turning.alphas))
-    c.no_delta-delta.ensures.gone c.no_delta-delta.ensures.come done
+    c.no_delta-delta.ensures.gone c.no_delta-delta.ensures.come c.no_delta-delta.ensures.gone_numbers c.no_delta-delta.ensures.come_numbers once once_now done

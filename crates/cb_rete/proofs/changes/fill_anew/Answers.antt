@@ -1,5 +1,6 @@
 use Rattle.std.proofs.Common.{◌≡◌, ◌<◌, ◌∙◌, ◌++◌, ℕ, List, [], ap, arith, length, subst, sym}
 use Rattle.std.specs.BTreeMap.{values}
+use Rattle.std.specs.Map.{values_of}
 use Rattle.cb_alpha_network.specs.Networks.{AlphaNetworkValue, IsShapeAt, MemoryValues, use_count}
 use Rattle.cb_alpha_network.specs.declared.user.User.{User}
 use Rattle.cb_branch.specs.Branches.{CanBeFilled}
@@ -7,11 +8,16 @@ use Rattle.cb_branch.specs.Alphas.{live_facts}
 use Rattle.cb_branch.specs.Patterns.{branch_patterns}
 use Rattle.cb_constraints.specs.PatternValues.{PatternValue}
 use Rattle.cb_facts.specs.FactLists.{IndexedFacts}
+use Rattle.cb_matches.specs.Changes.{IsNumber}
 use Rattle.cb_rete.proofs.Entered.{entered_in_change}
+use Rattle.cb_rete.proofs.Listed.{numbers_listed}
+use Rattle.cb_rete.proofs.Numbers.{adds_all, have_weaker}
 use Rattle.cb_rete.proofs.Lists.{got_all}
 use Rattle.cb_rete.proofs.changes.fill_anew.Goals as goal
 use Rattle.cb_rete.specs.Filling.{IsFilling}
+use Rattle.cb_rete.specs.Numbers.{IsNumberInRules, kept_numbers}
 use Rattle.cb_rete.specs.Rules.{AreRulesEntered, CanRuleBeFilled, kept_rules}
+use Rattle.cb_rete.specs.declared.rule.Rule.{Rule}
 use Rattle.cb_rule_keys.proofs.Numbered.{in_all, value_in}
 use Rattle.cb_rule_keys.specs.Keys.{rule_keys}
 use Rattle.cb_rule_keys.specs.Sums.{rules_sum}
@@ -49,8 +55,8 @@ returns-clause-keeping g c =
       count = let e = ap (rules_sum branch_patterns) c.in_ok-fill_rules.ensures.stay in let most = keeping.count in omega (arith, e, uses, most);
     }
 
-pub returns-clause-keys : goal.returns-clause-keys
-returns-clause-keys g c =
+pub returns-clause-come : goal.returns-clause-come
+returns-clause-come g c =
     let keeping = c.requires.1 in
     let v : AlphaNetworkValue = c.args.alphas.now in
     let v' : AlphaNetworkValue = c.clear.new.self in
@@ -63,4 +69,23 @@ returns-clause-keys g c =
     } in
     let entered : AreRulesEntered v' c.args.rules.now.entries = λ e i n b h. entered_in_change v v' e.1.id n b clear.shapes clear.users clear.joins (keeping.entered e i n b h) in
     let filled = c.in_ok-fill_rules.ensures.filled v' [] is entered in
-    filled.come ∙ ap (λ it. it ++ rule_keys (kept_rules (values c.args.rules.now)) []) c.new-come.ensures.items
+    filled.come ∙ ap (λ it. it ++ rule_keys (kept_rules (values c.args.rules.now)) []) c.no_delta-delta.ensures.come
+
+pub returns-clause-numbers : goal.returns-clause-numbers
+returns-clause-numbers g c =
+    let keeping = c.requires.1 in
+    let v : AlphaNetworkValue = c.args.alphas.now in
+    let v' : AlphaNetworkValue = c.clear.new.self in
+    let clear = c.clear.ensures in
+    let is : IsFilling v' [] c.memories.result.now = record {
+      memories = c.memories.ensures.memories;
+      within = subst (λ (ms : MemoryValues). (n : ℕ) (p : PatternValue) → IsShapeAt v' n p → n < length ms) (sym c.memories.ensures.memories) c.memories.ensures.within;
+      rising = tt;
+      alphas = clear.alphas;
+    } in
+    let entered : AreRulesEntered v' c.args.rules.now.entries = λ e i n b h. entered_in_change v v' e.1.id n b clear.shapes clear.users clear.joins (keeping.entered e i n b h) in
+    let filled = c.in_ok-fill_rules.ensures.filled v' [] is entered in
+    let es' : List (ℕ × Rule g.row.T.Denot) = c.fill_rules.new.rules.entries in
+    have_weaker (IsNumberInRules es') (IsNumber (kept_numbers (values_of es'))) (numbers_listed es') c.fill_rules.new.come.items c.fill_rules.new.come_numbers.items
+    (adds_all (IsNumberInRules es') c.no_delta-delta.result.come.items c.fill_rules.new.come.items c.no_delta-delta.result.come_numbers.items c.fill_rules.new.come_numbers.items
+    c.no_delta-delta.ensures.come c.no_delta-delta.ensures.come_numbers filled.told_numbers)

@@ -17,5 +17,5 @@ invariant-loop-branch g l =
       stays : kept_branches l.branches ≡ bs;
       left : (k : ℕ) (b : Branch g.row.T.Denot) → l.branch-index ≤ k → slice_get l.branches k ≡ Some b → CanBeFilled b;
       filled : (v : AlphaNetworkValue) (fs : IndexedFacts) → IsFilling v fs l.setting.alphas.now → AreBranchesEntered v l.rule l.initial.branches
-          → AreFilledTo v fs l.rule l.branch-index bs l.branches l.initial.come.items l.come.items;
+          → AreFilledTo v fs l.rule l.branch-index bs l.branches l.initial.come.items l.come.items l.initial.come_numbers.items l.come_numbers.items;
     }

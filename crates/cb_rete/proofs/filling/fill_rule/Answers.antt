@@ -13,6 +13,6 @@ returns-clause-filled g c =
     let items = with_items_is r.branches new (c.fill_branches.auto.branches ∙ c.as_mut_slice.ensures.len) in
     on_one c.fill_branches.result c.fill_branches.ensures.filled
     (λ filled v fs is entered.
-    subst (λ (bs : List (Branch g.row.T.Denot)). AreBranchesFilled v fs r.id (kept_branches r.branches.items) bs c.args.come.now.items c.fill_branches.new.come.items) (sym items)
-    (subst (λ (bs : List (Branch g.row.T.Denot)). AreBranchesFilled v fs r.id (kept_branches bs) new c.args.come.now.items c.fill_branches.new.come.items) c.as_mut_slice.ensures.value
+    subst (λ (bs : List (Branch g.row.T.Denot)). AreBranchesFilled v fs r.id (kept_branches r.branches.items) bs c.args.come.now.items c.fill_branches.new.come.items c.args.come_numbers.now.items c.fill_branches.new.come_numbers.items) (sym items)
+    (subst (λ (bs : List (Branch g.row.T.Denot)). AreBranchesFilled v fs r.id (kept_branches bs) new c.args.come.now.items c.fill_branches.new.come.items c.args.come_numbers.now.items c.fill_branches.new.come_numbers.items) c.as_mut_slice.ensures.value
     (filled v fs is (subst (λ (bs : List (Branch g.row.T.Denot)). AreBranchesEntered v r.id bs) (sym c.as_mut_slice.ensures.value) entered))))

@@ -13,7 +13,7 @@ loop-id-init g c =
     let none : c.new-filled.result.entries ≡ [] = c.new-filled.ensures.empty in
     record {
       moved = move_none rules.entries c.into_iter-id-iterator.result c.new-filled.result.entries all none c.requires.named c.len-count.ensures.ordered c.requires.plans;
-      filled = λ v fs is entered. fill_none v fs rules.entries c.into_iter-id-iterator.result c.new-filled.result.entries c.args.come.now.items all none entered;
+      filled = λ v fs is entered. fill_none v fs rules.entries c.into_iter-id-iterator.result c.new-filled.result.entries c.args.come.now.items c.args.come_numbers.now.items all none entered;
     }
 
 pub loop-id-preserved : goal.loop-id-preserved
@@ -27,7 +27,7 @@ loop-id-preserved g c =
       moved = move_one rs c.loop-id.filled.entries c.insert.new.self.entries c.loop-id.id-iterator c.next.new.self c.in-Some.id c.in-Some.rule c.fill_rule.new.rule cut put now.stay was.moved;
       filled = λ v fs is entered.
           fill_one rs c.loop-id.filled.entries c.insert.new.self.entries c.loop-id.id-iterator c.next.new.self c.in-Some.id c.in-Some.rule c.fill_rule.new.rule cut put now.stay was.moved v fs
-          (c.args.come.now.items ++ rule_keys rs fs) c.loop-id.come.items c.fill_rule.new.come.items (λ before. now.filled v fs is before) (was.filled v fs is entered);
+          (c.args.come.now.items ++ rule_keys rs fs) c.args.come.now.items c.loop-id.come.items c.fill_rule.new.come.items c.args.come_numbers.now.items c.loop-id.come_numbers.items c.fill_rule.new.come_numbers.items (λ before. now.filled v fs is before) (was.filled v fs is entered);
     }
 
 pub loop-id-preserved-in_ok-insert : goal.loop-id-preserved-in_ok-insert
@@ -41,7 +41,7 @@ loop-id-preserved-in_ok-insert g c =
       moved = move_one rs c.loop-id.filled.entries c.insert.new.self.entries c.loop-id.id-iterator c.next.new.self c.in-Some.id c.in-Some.rule c.fill_rule.new.rule cut put now.stay was.moved;
       filled = λ v fs is entered.
           fill_one rs c.loop-id.filled.entries c.insert.new.self.entries c.loop-id.id-iterator c.next.new.self c.in-Some.id c.in-Some.rule c.fill_rule.new.rule cut put now.stay was.moved v fs
-          (c.args.come.now.items ++ rule_keys rs fs) c.loop-id.come.items c.fill_rule.new.come.items (λ before. now.filled v fs is before) (was.filled v fs is entered);
+          (c.args.come.now.items ++ rule_keys rs fs) c.args.come.now.items c.loop-id.come.items c.fill_rule.new.come.items c.args.come_numbers.now.items c.loop-id.come_numbers.items c.fill_rule.new.come_numbers.items (λ before. now.filled v fs is before) (was.filled v fs is entered);
     }
 
 pub returns-clause-filled : goal.returns-clause-filled
@@ -52,5 +52,6 @@ returns-clause-filled g c =
     record {
       over = λ e i. (was.done e i).over;
       entered = λ e i. (was.done e i).entered;
-      come = filled_all v fs (c.args.come.now.items ++ rule_keys (kept_rules (values c.args.rules.now)) fs) c.loop-id.come.items c.loop-id.filled.entries c.loop-id.id-iterator none was;
+      come = filled_all v fs (c.args.come.now.items ++ rule_keys (kept_rules (values c.args.rules.now)) fs) c.args.come.now.items c.loop-id.come.items c.args.come_numbers.now.items c.loop-id.come_numbers.items c.loop-id.filled.entries c.loop-id.id-iterator none was;
+      told_numbers = was.told_numbers;
     }

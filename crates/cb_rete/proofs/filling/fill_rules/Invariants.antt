@@ -14,5 +14,5 @@ invariant-loop-id g l =
     record {
       moved : IsMoved rs l.filled.entries l.id-iterator;
       filled : (v : AlphaNetworkValue) (fs : IndexedFacts) → IsFilling v fs l.setting.alphas.now → AreRulesEntered v l.fn.rules.entries
-          → AreFilled v fs (l.initial.come.items ++ rule_keys rs fs) l.filled.entries l.id-iterator l.come.items;
+          → AreFilled v fs (l.initial.come.items ++ rule_keys rs fs) l.filled.entries l.id-iterator l.initial.come.items l.come.items l.initial.come_numbers.items l.come_numbers.items;
     }

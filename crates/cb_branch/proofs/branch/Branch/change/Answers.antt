@@ -37,6 +37,17 @@ returns-clause-told g c =
     (told b.lists.items fs fs' (no_parts ∷ []) (no_parts ∷ []) (branch_lists ns fs) (branch_lists ns fs') w))
     c.turn.ensures.told
 
+pub returns-clause-numbers : goal.returns-clause-numbers
+returns-clause-numbers g c =
+    let b = c.args.self.now in
+    let ns = flat_nodes b.nodes.items in
+    let rise = ways_rise c.the_ways_rise_by_their_cuts.ensures in
+    on_ok c.turn.result
+    (λ told fs fs' before.
+    let w = change_turning c.args.alphas.now fs fs' b rise before in
+    told b.lists.items fs fs' (no_parts ∷ []) (no_parts ∷ []) (branch_lists ns fs) (branch_lists ns fs') w)
+    c.turn.ensures.numbers
+
 pub returns-clause-probes : goal.returns-clause-probes
 returns-clause-probes g c =
     let b = c.args.self.now in

@@ -106,3 +106,45 @@ returns-clause-come g c fs rising turned =
     ∙ (ap (λ (ms : List Partial). come_of (map (key_of rule number) ms) ks) (nothing_of_nothing ns fs b.last)
     ∙ (all_come ks ∙ ap (map (key_of rule number)) (last_is_matches b₁ planned₁ rise fs rising)))) in
     c.in_ok-append.ensures.items ∙ ap (λ it. c.args.come.now.items ++ it) come
+
+pub returns-clause-numbers : goal.returns-clause-numbers
+returns-clause-numbers g c fs rising turned =
+    let alphas = c.args.alphas.now in
+    let rule = c.args.rule in
+    let number = c.args.number in
+    let rise = ways_rise c.the_ways_rise_by_their_cuts.ensures in
+    let b = c.args.self.now in
+    let planned = c.requires in
+    let nodes = c.clear_nodes.new.nodes in
+    let empties = c.in_ok-self.field-0 in
+    let lists = c.add_first.new.lists in
+    let b₁ : Branch g.row.T.Denot =
+    record { elements = b.elements; nodes = with_items b.nodes nodes; sources = b.sources; last = b.last; lists = with_items empties lists } in
+    let nodes_are = with_items_is b.nodes nodes (c.clear_nodes.auto.nodes ∙ c.as_mut_slice.ensures.len) in
+    let lists_are = with_items_is empties lists (c.add_first.auto.lists ∙ c.as_mut_slice-2.ensures.len) in
+    let same : AreSameNodes b.nodes.items nodes = subst (λ (it : List (Node g.row.T.Denot)). AreSameNodes it nodes) c.as_mut_slice.ensures.value c.clear_nodes.ensures.same in
+    let planned₁ : CanBeFilled b₁ = record {
+      nodes = ap flat_nodes nodes_are ∙ (same.flat ∙ planned.nodes);
+      sources = planned.sources ∙ ap sources_of (sym (ap flat_nodes nodes_are ∙ same.flat));
+      last = planned.last;
+      prepared = subst (λ (it : List (Node g.row.T.Denot)). ArePrepared it) (sym nodes_are) (same.prepared planned.prepared);
+    } in
+    let many = sources_long b₁ planned₁ in
+    let len : c.len.result ≡ length b.sources.items = search rules in
+    let count = c.in_ok-self.ensures.long in
+    let long : length empties.items ≡ suc (length (with_items b.nodes nodes).items) = omega (arith, count, len, many) in
+    let cleared = subst (λ (it : List (Node g.row.T.Denot)). AreNodesCleared it) (sym nodes_are)
+    (c.clear_nodes.ensures.cleared (subst (λ (it : List (Node g.row.T.Denot)). ArePrepared it) (sym c.as_mut_slice.ensures.value) planned.prepared)) in
+    let first : BeginsFilling empties.items (with_items empties lists).items = subst (λ (it : List BetaMemoryValue). BeginsFilling empties.items it) (sym lists_are)
+    (subst (λ (it : List BetaMemoryValue). BeginsFilling it lists) c.as_mut_slice-2.ensures.value c.in_ok-add_first.ensures) in
+    let turned₁ : AreTurned alphas fs fs b₁ = λ k u h. turned k u ((same.uses k u).1 (subst (λ (it : List (Node g.row.T.Denot)). HasUse it k u) nodes_are h)) in
+    let w = fill_turning alphas fs rise rising b₁ planned₁ empties.items long c.in_ok-self.ensures.empty cleared first turned₁ in
+    let ns = flat_nodes (with_items b.nodes nodes).items in
+    let told = c.in_ok-turn.ensures.numbers empties.items fs fs [] (no_parts ∷ []) (lists_of ns fs []) (branch_lists ns fs) w in
+    record {
+      more = told.come.more;
+      more_numbers = told.come.more_numbers;
+      keys_are = c.in_ok-append.ensures.items ∙ ap (λ it. c.args.come.now.items ++ it) (told.come.keys_are ∙ ap (λ it. it ++ told.come.more) c.new-2.ensures.items);
+      numbers_are = c.in_ok-append-2.ensures.items ∙ ap (λ it. c.args.come_numbers.now.items ++ it) (told.come.numbers_are ∙ ap (λ it. it ++ told.come.more_numbers) c.new-4.ensures.items);
+      have = told.come.have;
+    }

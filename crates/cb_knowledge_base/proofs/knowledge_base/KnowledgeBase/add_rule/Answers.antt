@@ -8,4 +8,4 @@ invariant_of-self-2 g c = λ _.
     let works : g.M.Matcher.is_failed c.self.inside.matcher ≡ false = search rules in
     let kept = c.self.invariant works in
     let n = g.M.Matcher.network c.self.inside.matcher in
-    kept_added c.self.inside.counts c.self.inside.numbers.keys c.insert.new.self.keys c.self.inside.last c.self.inside.last_rule (branches_of c.args.branches.items) n _ kept c.in_ok-insert.ensures.keys c.insert.ensures.ordered c.in_ok-delta.ensures.network
+    kept_added c.self.inside.counts c.self.inside.rule_numbers.keys c.insert.new.self.keys c.self.inside.last c.self.inside.last_rule (branches_of c.args.branches.items) n _ kept c.in_ok-insert.ensures.keys c.insert.ensures.ordered c.in_ok-delta.ensures.network

@@ -6,22 +6,22 @@ use Rattle.cb_knowledge_base.proofs.IndexLaws.{free_after, up_to_next}
 use Rattle.cb_knowledge_base.proofs.IndexOf.{index_of-there, index_of-absent}
 use Rattle.cb_knowledge_base.proofs.knowledge_base.KnowledgeBase.assert_one.Goals as goal
 use Rattle.cb_knowledge_base.specs.Internal.WorkingMemories.{AreKept}
-use Rattle.cb_knowledge_base.specs.KnowledgeBase.{Asserts, Memory, greatest_index}
+use Rattle.cb_knowledge_base.specs.KnowledgeBase.{Asserts, KnowledgeBaseValue, Memory, greatest_index}
 use Rattle.cb_knowledge_base.specs.declared.asserted.Asserted.TheVariants.{Added}
 use Rattle.cb_matches.specs.Networks.{Network}
 
 pub returns-in-Some-clause-asserts : goal.returns-in-Some-clause-asserts
 returns-in-Some-clause-asserts g c =
-    let base : IsFactBase c.args.self.now.network.facts = search rules in
-    let at : fact_at c.args.self.now.network.facts c.in-Some.ix ≡ Some c.args.fact = search rules in
-    (index_of-there c.args.self.now.network.facts c.args.fact c.in-Some.ix base at, refl)
+    let base : IsFactBase c.args.self.now.memory.network.facts = search rules in
+    let at : fact_at c.args.self.now.memory.network.facts c.in-Some.ix ≡ Some c.args.fact = search rules in
+    (index_of-there c.args.self.now.memory.network.facts c.args.fact c.in-Some.ix base at, refl)
 
 pub returns-then-self-ge-GREATEST_INDEX-clause-asserts : goal.returns-then-self-ge-GREATEST_INDEX-clause-asserts
 returns-then-self-ge-GREATEST_INDEX-clause-asserts g c =
-    let base : IsFactBase c.args.self.now.network.facts = search rules in
-    let absent : IsAbsent c.args.self.now.network.facts c.args.fact = search rules in
-    let full : greatest_index ≤ c.args.self.now.last = search rules in
-    (index_of-absent c.args.self.now.network.facts c.args.fact base absent, full, refl)
+    let base : IsFactBase c.args.self.now.memory.network.facts = search rules in
+    let absent : IsAbsent c.args.self.now.memory.network.facts c.args.fact = search rules in
+    let full : greatest_index ≤ c.args.self.now.memory.last = search rules in
+    (index_of-absent c.args.self.now.memory.network.facts c.args.fact base absent, full, refl)
 
 pub assert-requires-clause-free : goal.assert-requires-clause-free
 assert-requires-clause-free g c =
@@ -37,7 +37,7 @@ invariant_of-self-2 g c = λ _.
     let free = free_after c.self.inside.last (c.self.inside.last + 1) n.facts (omega arith) kept.indices in
     let same : c.in_ok-relation.relation ≡ c.args.fact.relation = search rules in
     let one = subst (HasOneMore c.self.inside.counts c.add.new.self) same c.in_ok-add.ensures.ok in
-    subst (AreKept c.add.new.self c.self.inside.numbers.keys (c.self.inside.last + 1) c.self.inside.last_rule) (sym c.in_ok-delta.ensures.network) (record {
+    subst (AreKept c.add.new.self c.self.inside.rule_numbers.keys (c.self.inside.last + 1) c.self.inside.last_rule) (sym c.in_ok-delta.ensures.network) (record {
       indices = up_to_next c.self.inside.last c.args.fact n.facts kept.indices;
       counted = counted-add n.facts c.self.inside.counts c.add.new.self (c.self.inside.last + 1) c.args.fact base kept.counted free one;
       rising = kept.rising;
@@ -52,7 +52,7 @@ returns-clause-asserts g c =
     let absent : IsAbsent n.facts c.args.fact = search rules in
     let ix = c.self.inside.last + 1 in
     let after : Memory = record { network = g.M.Matcher.network c.assert.new.self; last = ix; last_rule = c.self.inside.last_rule } in
-    let P : Memory → Type 0 = λ m. Asserts m c.args.fact after (Added ix c.in_ok-delta.delta) in
+    let P : KnowledgeBaseValue → Type 0 = λ b. Asserts b.memory c.args.fact after (Added ix c.in_ok-delta.delta) in
     subst P c.self.view_is (
       index_of-absent n.facts c.args.fact base absent,
       omega arith,
