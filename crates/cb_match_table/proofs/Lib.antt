@@ -1,0 +1,3 @@
+pub mod Equality
+pub mod EntriesLeft
+mod FilingLaws
