@@ -3,19 +3,21 @@ ghost use Rattle.std.specs.Prelude.{◌≡◌, ◌<◌, ◌∷◌, ◌++◌, [],
 ghost use Rattle.std.specs.List.{filter};
 ghost use Rattle.cb_actions.specs.Commands.{rule_defined};
 ghost use Rattle.cb_actions.specs.Runs.{added_rule, defined_rule, dropped_rule, numbered, replaced};
+ghost use Rattle.cb_actions.specs.Internal.{IsMoved};
 ghost use Rattle.cb_knowledge_base.specs.KnowledgeBase.{greatest_index, with_next_rule, without_one_rule};
 ghost use Rattle.cb_rules.specs.RuleTables.{rule_named};
 ghost use Rattle.cb_actions.specs.Went.{Went};
 ghost use Rattle.cb_rules.specs.Elements.{branches_of};
 ghost use Rattle.cb_rules.specs.RuleValues.{rule_value};
-ghost use Rattle.cb_matches.specs.Changes.{IsDelta};
 
 use crate::act::{Break, EarlyEnd, Limit};
+use crate::change::tell_change;
+use crate::rescheduled::{Rescheduled, reschedule};
 use crate::world::World;
 use cb_facts::{Name, Value};
 use cb_forms::{NoMemory, Out, Sink};
 use cb_knowledge_base::Mark;
-use cb_matches::{Delta, Matcher};
+use cb_matches::Matcher;
 use cb_rules::{Ce, DefinedRule, Rule, split_rule};
 
 impl<M: Matcher<Mark>> World<M> {
@@ -85,20 +87,31 @@ impl<M: Matcher<Mark>> World<M> {
         ensures rules { OnOk result
             (self.new.rules ≡ filter (λ r. not (nat_eq id r.id)) self.old.rules) }
     {
-        let delta = self.take_rule(id)?;
-        self.tell_and_apply(b"".as_slice(), &delta, out)?;
+        let done = self.take_rule(id)?;
+        tell_change(b"".as_slice(), &done, out)?;
         self.forget_rule(id);
         Ok(())
     }
 
-    /// Takes a rule from the knowledge base.
-    fn take_rule(&mut self, id: u64) -> Result<Delta, NoMemory>
-        ensures state { OnOk result
-            (self.new ≡ record self.old { memory = without_one_rule id self.old.memory }) }
-        ensures delta { IfOk result
-            (IsDelta self.old.memory.network (without_one_rule id self.old.memory).network) }
+    /// Takes a rule from the knowledge base, and gives the agenda what came of it.
+    fn take_rule(&mut self, id: u64) -> Result<Rescheduled, NoMemory>
+        ensures moved { IfOk result
+            (IsMoved (without_one_rule id self.old.memory) self.old self.new) }
+        ensures rules { OnOk result (self.new.rules ≡ self.old.rules) }
     {
-        self.memory.drop_rule(id)
+        let in_step = self.in_step;
+        self.in_step = false;
+        let delta = self.memory.drop_rule(id)?;
+        let done = reschedule(
+            self.alloc,
+            &mut self.agenda,
+            &self.rules,
+            self.watched.activations,
+            in_step,
+            &delta,
+        )?;
+        self.in_step = done.keeps_step(in_step);
+        Ok(done)
     }
 
     /// Keeps nothing of a rule any more.
@@ -107,6 +120,7 @@ impl<M: Matcher<Mark>> World<M> {
             ≡ record self.old { rules = filter (λ r. not (nat_eq id r.id)) self.old.rules } }
     {
         self.rules.remove(id);
+        self.agenda.forget_rule(id);
     }
 
     /// Adds a rule, with the next number.
@@ -124,29 +138,36 @@ impl<M: Matcher<Mark>> World<M> {
         if !self.memory.has_rule_number() {
             return Err(Break::Ended(EarlyEnd::Limit(Limit::Numbers)));
         }
-        let delta = self.keep_rule(rule, branches)?;
-        self.tell_and_apply(b"".as_slice(), &delta, out)
+        let done = self.keep_rule(rule, branches)?;
+        tell_change(b"".as_slice(), &done, out)
     }
 
-    /// Gives the knowledge base a rule, and keeps the rest of it.
+    /// Gives the knowledge base a rule, keeps the rest of it, and gives the agenda what came of it.
     fn keep_rule(
         &mut self,
         rule: DefinedRule,
         branches: Vec<Vec<Ce<Mark>>>,
-    ) -> Result<Delta, NoMemory>
+    ) -> Result<Rescheduled, NoMemory>
         requires room { self.old.memory.last_rule < greatest_index }
         requires absent { rule_named rule.name self.old.rules ≡ None }
-        ensures state { OnOk result (self.new ≡ record self.old {
-          memory = with_next_rule (branches_of branches.items) self.old.memory;
-          rules = self.old.rules ++ numbered self.old rule ∷ [];
-        }) }
-        ensures delta { IfOk result (IsDelta self.old.memory.network
-            (with_next_rule (branches_of branches.items) self.old.memory).network) }
+        ensures { IfOk result (IsMoved (with_next_rule (branches_of branches.items) self.old.memory)
+            (record self.old { rules = self.old.rules ++ numbered self.old rule ∷ [] }) self.new) }
     {
+        let in_step = self.in_step;
+        self.in_step = false;
         let mut rule = rule;
         rule.id = self.memory.next_rule();
         let delta = self.memory.add_rule(branches)?;
         self.rules.push(rule)?;
-        Ok(delta)
+        let done = reschedule(
+            self.alloc,
+            &mut self.agenda,
+            &self.rules,
+            self.watched.activations,
+            in_step,
+            &delta,
+        )?;
+        self.in_step = done.keeps_step(in_step);
+        Ok(done)
     }
 }

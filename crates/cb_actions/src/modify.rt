@@ -1,15 +1,17 @@
 //! Facts that are modified.
 ghost use Rattle.std.specs.Prelude.{◌≡◌, ◌≤◌, IfOk, IsSome, None, OnOk, Some, drop, false, take};
 ghost use Rattle.cb_actions.specs.Acts.{give, give_or_fault};
-ghost use Rattle.cb_actions.specs.Effects.{changed_to, fact_back, fact_replaced, fact_said, index_said, modified, modified_at, replaced_if_new, shared_out, unchanged_value};
+ghost use Rattle.cb_actions.specs.Effects.{fact_back, fact_replaced, fact_said, index_said, modified, modified_at, replaced_if_new, shared_out, unchanged_value};
+ghost use Rattle.cb_actions.specs.Internal.{IsMoved};
 ghost use Rattle.cb_actions.specs.Went.{Quietly, Went};
 ghost use Rattle.cb_actions.specs.Worlds.{World as State};
 ghost use Rattle.cb_facts.specs.FactLists.{IsAbsent, fact_at};
 ghost use Rattle.cb_knowledge_base.specs.KnowledgeBase.{put_back};
-ghost use Rattle.cb_matches.specs.Changes.{IsDelta};
 ghost use Rattle.cb_templates.specs.Building.{changed};
 
 use crate::act::{Break, EarlyEnd};
+use crate::change::tell_change;
+use crate::rescheduled::{Rescheduled, reschedule};
 use crate::retract::index_named;
 use crate::world::World;
 use cb_exprs::{ModifiedSlot, ModifiedSlots};
@@ -17,7 +19,7 @@ use cb_facts::{Fact, Value};
 use cb_forms::{Fault, NoMemory, Out, Sink};
 use cb_knowledge_base::Mark;
 use cb_knowledge_base::laws::a_fact_is_found_at_its_index;
-use cb_matches::{Delta, Matcher};
+use cb_matches::Matcher;
 use cb_templates::{GivenSlot, change_fact};
 use std::alloc::Global;
 
@@ -139,21 +141,30 @@ impl<M: Matcher<Mark>> World<M> {
         ensures { Went K.writes out.old out.new self.new result (fact_back ix fact self.old) }
     {
         let line = self.come_line(ix, &fact)?;
-        let delta = self.recall(ix, fact)?;
-        self.tell_and_apply(line.as_slice(), &delta, out)
+        let done = self.recall(ix, fact)?;
+        tell_change(line.as_slice(), &done, out)
     }
 
-    /// Gives the knowledge base a fact under an index that it gave before.
-    fn recall(&mut self, ix: u64, fact: Fact) -> Result<Delta, NoMemory>
+    /// Gives the knowledge base a fact under an index that it gave before, and the agenda what came of it.
+    fn recall(&mut self, ix: u64, fact: Fact) -> Result<Rescheduled, NoMemory>
         requires given { ix ≤ self.old.memory.last }
         requires free { fact_at self.old.memory.network.facts ix ≡ None }
         requires absent { IsAbsent self.old.memory.network.facts fact }
-        ensures memory { OnOk result (self.new.memory ≡ put_back ix fact self.old.memory) }
-        ensures delta { IfOk result
-            (IsDelta self.old.memory.network (put_back ix fact self.old.memory).network) }
-        ensures others { OnOk result (self.new ≡ record self.old { memory = self.new.memory }) }
+        ensures { IfOk result (IsMoved (put_back ix fact self.old.memory) self.old self.new) }
     {
-        self.memory.put_back(ix, fact)
+        let in_step = self.in_step;
+        self.in_step = false;
+        let delta = self.memory.put_back(ix, fact)?;
+        let done = reschedule(
+            self.alloc,
+            &mut self.agenda,
+            &self.rules,
+            self.watched.activations,
+            in_step,
+            &delta,
+        )?;
+        self.in_step = done.keeps_step(in_step);
+        Ok(done)
     }
 }
 

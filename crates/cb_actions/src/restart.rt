@@ -1,13 +1,13 @@
 //! Everything dropped: the facts alone, or the rules too.
-ghost use Rattle.std.specs.Prelude.{◌≡◌, IfOk, OnOk, false};
+ghost use Rattle.std.specs.Prelude.{◌≡◌, [], IfOk, OnOk, false};
 ghost use Rattle.cb_actions.specs.Changes.{if_watched};
-ghost use Rattle.cb_actions.specs.Runs.{all_gone, cleared_world, gone_lines, restarted_world, started_anew, without_all, without_facts};
+ghost use Rattle.cb_actions.specs.Internal.{left_to_do};
+ghost use Rattle.cb_actions.specs.Runs.{all_gone, cleared_world, gone_lines, restarted_world, started_anew, without_all};
 ghost use Rattle.cb_actions.specs.Went.{Went};
-ghost use Rattle.cb_knowledge_base.specs.KnowledgeBase.{restarted};
-ghost use Rattle.cb_matches.specs.Changes.{IsRestart};
 
 use crate::act::Break;
 use crate::change::tell;
+use crate::rescheduled::{Rescheduled, reschedule};
 use crate::world::World;
 use cb_exprs::Env;
 use cb_facts::FactList;
@@ -62,28 +62,55 @@ impl<M: Matcher<Mark>> World<M> {
         requires { out.old.fault ≡ false }
         ensures { Went K.writes out.old out.new self.new result (started_anew self.old) }
     {
-        let delta = self.drop_all_facts()?;
-        self.apply(&delta, out)
+        let done = self.drop_all_facts()?;
+        done.tell_rest(out)
     }
 
-    fn drop_all_facts(&mut self) -> Result<Delta, NoMemory>
-        ensures state { OnOk result (self.new ≡ without_facts self.old) }
-        ensures delta { IfOk result (IsRestart (restarted self.old.memory).network) }
+    /// Takes all facts from the knowledge base, and gives the agenda, on which nothing is due then, what came of it.
+    fn drop_all_facts(&mut self) -> Result<Rescheduled, NoMemory>
+        ensures { IfOk result (λ done. started_anew self.old ≡ left_to_do done self.new) }
     {
+        self.in_step = false;
         let delta = self.memory.restart()?;
         self.agenda.drop_all();
-        Ok(delta)
+        let told = only_come(self.alloc, delta);
+        let done = reschedule(
+            self.alloc,
+            &mut self.agenda,
+            &self.rules,
+            self.watched.activations,
+            true,
+            &told,
+        )?;
+        self.in_step = done.keeps_step(true);
+        Ok(done)
     }
 
     fn drop_all(&mut self) -> Result<(), NoMemory>
         ensures { OnOk result (self.new ≡ without_all self.old) }
     {
-        self.memory.clear()?;
         self.agenda.drop_all();
+        self.in_step = true;
+        self.memory.clear()?;
         self.rules = RuleTable::new(self.alloc);
         self.relations = Relations::new(self.alloc);
         self.env = Env::new(self.alloc);
         Ok(())
+    }
+}
+
+/// What came of a change, without what went.
+fn only_come(alloc: Global, delta: Delta) -> Delta
+    ensures gone { result.gone.items ≡ [] }
+    ensures gone_numbers { result.gone_numbers.items ≡ [] }
+    ensures come { result.come.items ≡ delta.come.items }
+    ensures come_numbers { result.come_numbers.items ≡ delta.come_numbers.items }
+{
+    Delta {
+        gone: Vec::new(alloc),
+        come: delta.come,
+        gone_numbers: Vec::new(alloc),
+        come_numbers: delta.come_numbers,
     }
 }
 

@@ -5,17 +5,19 @@ ghost use Rattle.std.specs.Map.{keys_of};
 ghost use Rattle.cb_actions.specs.Acts.{each};
 ghost use Rattle.cb_actions.specs.Changes.{gone_line};
 ghost use Rattle.cb_actions.specs.Effects.{fact_gone, fact_taken, index_named, is_retractable, retracted, retracted_one, taken_by};
+ghost use Rattle.cb_actions.specs.Internal.{IsForgotten};
 ghost use Rattle.cb_actions.specs.Went.{Went};
 ghost use Rattle.cb_facts.specs.FactLists.{fact_at};
-ghost use Rattle.cb_knowledge_base.specs.KnowledgeBase.{Retracts};
 
 use crate::act::{Break, EarlyEnd};
+use crate::change::tell_change;
+use crate::rescheduled::{Rescheduled, reschedule};
 use crate::world::World;
 use cb_facts::{FactList, Value};
 use cb_forms::{Fault, NoMemory, Out, Sink};
 use cb_knowledge_base::Mark;
 use cb_lines::add_fact_line;
-use cb_matches::{Delta, Matcher};
+use cb_matches::Matcher;
 use std::alloc::Global;
 
 impl<M: Matcher<Mark>> World<M> {
@@ -109,7 +111,7 @@ impl<M: Matcher<Mark>> World<M> {
     {
         let line = self.gone_line(ix)?;
         match self.forget(ix)? {
-            Some(delta) => self.tell_and_apply(line.as_slice(), &delta, out),
+            Some(done) => tell_change(line.as_slice(), &done, out),
             None => Ok(()),
         }
     }
@@ -129,12 +131,30 @@ impl<M: Matcher<Mark>> World<M> {
         Ok(line)
     }
 
-    /// Takes the fact with an index from the knowledge base.
-    fn forget(&mut self, ix: u64) -> Result<Option<Delta>, NoMemory>
-        ensures memory { IfOk result (Retracts self.old.memory ix self.new.memory) }
-        ensures others { OnOk result (self.new ≡ record self.old { memory = self.new.memory }) }
+    /// Takes the fact with an index from the knowledge base, if there is one, and gives the agenda what came of it.
+    fn forget(&mut self, ix: u64) -> Result<Option<Rescheduled>, NoMemory>
+        ensures { IfOk result (IsForgotten ix self.old self.new) }
     {
-        self.memory.retract_one(ix)
+        let in_step = self.in_step;
+        self.in_step = false;
+        match self.memory.retract_one(ix)? {
+            None => {
+                self.in_step = in_step;
+                Ok(None)
+            }
+            Some(delta) => {
+                let done = reschedule(
+                    self.alloc,
+                    &mut self.agenda,
+                    &self.rules,
+                    self.watched.activations,
+                    in_step,
+                    &delta,
+                )?;
+                self.in_step = done.keeps_step(in_step);
+                Ok(Some(done))
+            }
+        }
     }
 }
 

@@ -42,6 +42,8 @@ pub struct World<M: Matcher<Mark>> {
     constants: Option<Constants>,
     pub(crate) memory: KnowledgeBase<M>,
     pub(crate) agenda: Agenda,
+    /// Whether the agenda is in step with the matcher: each match that is due has the number that the matcher gave it.
+    pub(crate) in_step: bool,
     pub(crate) rules: RuleTable,
     pub(crate) watched: Watched,
     pub(crate) relations: Relations,
@@ -54,16 +56,16 @@ pub struct World<M: Matcher<Mark>> {
 impl<M: Matcher<Mark>> Model for World<M> {
     ghost use Rattle.std.specs.Coded.{codes};
     ghost use Rattle.cb_actions.specs.Worlds.{World as State};
-    ghost use Rattle.cb_actions.specs.Internal.{AreRulesGiven, world_code};
+    ghost use Rattle.cb_actions.specs.Internal.{AreTied, world_code};
     ghost use Rattle.cb_knowledge_base.specs.Internal.WorkingMemories.{memory_code};
 
     ghost Value = { State };
 
     ghost coded = { world_code (memory_code (Prim.hlevel codes) (Prim.hlevel codes) (Prim.hlevel codes) (Prim.hlevel codes)) (Prim.hlevel codes) (Prim.hlevel codes) (Prim.hlevel codes) (Prim.hlevel codes) (Prim.hlevel codes) (Prim.hlevel codes) };
 
-    ghost view = { λ w. record { memory = w.memory; agenda = w.agenda; rules = w.rules; watched = w.watched; templates = w.relations; env = w.env; turns = w.turns; firings = w.firings; is_halted = w.is_halted } };
+    ghost view = { λ w. record { memory = w.memory.memory; agenda = w.agenda.agenda; rules = w.rules; watched = w.watched; templates = w.relations; env = w.env; turns = w.turns; firings = w.firings; is_halted = w.is_halted } };
 
-    ghost invariant = { λ w. AreRulesGiven w.memory.last_rule w.rules };
+    ghost invariant = { λ w. AreTied w.memory.memory.last_rule w.rules w.in_step w.agenda.numbers w.memory.numbers };
 }
 
 impl<M: Matcher<Mark>> World<M> {
@@ -97,6 +99,7 @@ impl<M: Matcher<Mark>> World<M> {
             constants: None,
             memory: KnowledgeBase::starting_at(alloc, matcher, numbers.index, numbers.rule),
             agenda: Agenda::starting_at(alloc, numbers.stamp),
+            in_step: true,
             rules: RuleTable::new(alloc),
             watched: Watched {
                 facts: false,
@@ -118,7 +121,7 @@ impl<M: Matcher<Mark>> World<M> {
 
     /// The rules and the facts.
     pub fn memory(&self) -> &KnowledgeBase<M>
-        ensures { result.now ≡ self.now.memory }
+        ensures { result.now.memory ≡ self.now.memory }
     {
         &self.memory
     }
@@ -132,7 +135,7 @@ impl<M: Matcher<Mark>> World<M> {
 
     /// The agenda.
     pub fn agenda(&self) -> &Agenda
-        ensures { result.now ≡ self.now.agenda }
+        ensures { result.now.agenda ≡ self.now.agenda }
     {
         &self.agenda
     }

@@ -6,15 +6,14 @@ use Rattle.std.specs.List.{AllByRecursion, list_any}
 use Rattle.std.specs.Map.{remove_entry}
 use Rattle.cb_agenda.proofs.CurrentLaws.{Find, Older, all_current, apart_older, current_append, current_filter, current_same, entry_of, in_shown, key_here, key_is, key_of, key_other, rises_current, shown_in}
 use Rattle.cb_agenda.proofs.EntryLaws.{all_append, all_filter, all_first, all_more, all_second, all_weaker, at_itself, here_more, in_filter, in_more, not_at, rises_filter, rises_more, rises_second, rises_without}
-use Rattle.cb_agenda.proofs.Equality.{key-Decides}
+use Rattle.cb_match_table.proofs.Equality.{key-Decides}
 use Rattle.cb_agenda.proofs.Firing.{breadth_fires, level}
 use Rattle.cb_number_map.proofs.Filed.{number_cases, same_some, some_none}
 use Rattle.cb_agenda.proofs.PopLaws.{last_is_top, last_removed}
 use Rattle.cb_agenda.specs.Agendas.{Activation, Entries, first_to_fire, top_of}
-use Rattle.cb_agenda.specs.Internal.{In, IsFiled, IsFirst, IsNext, IsStampedUpTo, Numbered, Rises, Thinned, current, current_key, is_current, key_in, left_and_key, stays, with_current}
+use Rattle.cb_agenda.specs.Internal.{Active, In, IsFiled, IsFirst, IsNext, IsStampedUpTo, Placed, Rises, Thinned, current, current_key, is_current, key_in, left_and_key, stays, with_current}
 use Rattle.cb_agenda.specs.Internal.RankLaws.{rank_tied}
 use Rattle.cb_agenda.specs.Ranks.{fires_before, rank_cmp, rank_eq}
-use Rattle.cb_agenda.specs.declared.activations.Entry.{Entry}
 use Rattle.cb_agenda.specs.declared.rank.Rank.{Rank}
 use Rattle.cb_agenda.specs.declared.strategy.Strategy.{Strategy}
 use Rattle.cb_agenda.specs.declared.strategy.Strategy.TheVariants.{Breadth, Depth}
@@ -22,7 +21,7 @@ use Rattle.cb_number_map.specs.Filed.{ChangesAt}
 use Rattle.cb_matches.specs.Keys.{KeyValue, key_eq}
 
 -- an activation goes
-pub filed_less : (xs : List Numbered) (find found : Find) (n : ℕ) → ChangesAt find found n None → IsFiled xs find → IsFiled xs found
+pub filed_less : (xs : List Placed) (find found : Find) (n : ℕ) → ChangesAt find found n None → IsFiled xs find → IsFiled xs found
 filed_less xs find found n change was = record {
   rising = was.rising;
   has = λ m e h. elim (number_cases n m) as (λ _. In (e.rank, m) xs) [
@@ -41,49 +40,49 @@ passes : (b c : Bool) → c ≡ true → (b || c) ≡ true
 passes true c h = refl
 passes false c h = h
 
-pub thinned_is : (find : Find) (s : ℤ) (xs ys : List Numbered) → (ys ≡ xs) ⊎ (ys ≡ filter (stays find s) xs) → Thinned find xs ys
+pub thinned_is : (find : Find) (s : ℤ) (xs ys : List Placed) → (ys ≡ xs) ⊎ (ys ≡ filter (stays find s) xs) → Thinned find xs ys
 thinned_is find s xs ys (inl is) = record {
   same = ap (current find) is;
-  has = λ x there h. subst (λ (zs : List Numbered). In x zs) (sym is) there;
+  has = λ x there h. subst (λ (zs : List Placed). In x zs) (sym is) there;
   stamped = λ n h. subst (IsStampedUpTo n) (sym is) h;
 }
 thinned_is find s xs ys (inr is) = record {
   same = ap (current find) is ∙ current_filter (stays find s) find xs (λ x h. stale_by (not (is_at (int_cmp s) x.0.salience)) (is_current find x) (key_of find x) h refl);
-  has = λ x there h. subst (λ (zs : List Numbered). In x zs) (sym is) (in_filter (stays find s) xs x there (passes (not (is_at (int_cmp s) x.0.salience)) (is_current find x) h));
-  stamped = λ n h. subst (IsStampedUpTo n) (sym is) (all_filter (λ (x : Numbered). x.0.stamp ≤ n) (stays find s) xs h);
+  has = λ x there h. subst (λ (zs : List Placed). In x zs) (sym is) (in_filter (stays find s) xs x there (passes (not (is_at (int_cmp s) x.0.salience)) (is_current find x) h));
+  stamped = λ n h. subst (IsStampedUpTo n) (sym is) (all_filter (λ (x : Placed). x.0.stamp ≤ n) (stays find s) xs h);
 }
 
-pub thin_rises : (find : Find) (s : ℤ) (xs ys : List Numbered) → (ys ≡ xs) ⊎ (ys ≡ filter (stays find s) xs) → Rises xs → Rises ys
-thin_rises find s xs ys (inl is) h = subst (λ (zs : List Numbered). Rises zs) (sym is) h
-thin_rises find s xs ys (inr is) h = subst (λ (zs : List Numbered). Rises zs) (sym is) (rises_filter (stays find s) xs h)
+pub thin_rises : (find : Find) (s : ℤ) (xs ys : List Placed) → (ys ≡ xs) ⊎ (ys ≡ filter (stays find s) xs) → Rises xs → Rises ys
+thin_rises find s xs ys (inl is) h = subst (λ (zs : List Placed). Rises zs) (sym is) h
+thin_rises find s xs ys (inr is) h = subst (λ (zs : List Placed). Rises zs) (sym is) (rises_filter (stays find s) xs h)
 
-own_current : (find : Find) (n : ℕ) (e : Entry) → find n ≡ Some e → key_of find (e.rank, n) ≡ Some e.key
+own_current : (find : Find) (n : ℕ) (e : Active) → find n ≡ Some e → key_of find (e.rank, n) ≡ Some e.key
 own_current find n e h = ap (λ o. current_key o e.rank) h ∙ key_here e.key e.rank
 
-pub filed_thinned : (xs ys : List Numbered) (find : Find) → IsFiled xs find → Thinned find xs ys → Rises ys → IsFiled ys find
+pub filed_thinned : (xs ys : List Placed) (find : Find) → IsFiled xs find → Thinned find xs ys → Rises ys → IsFiled ys find
 filed_thinned xs ys find was thin up = record { rising = up; has = λ n e h. thin.has (e.rank, n) (was.has n e h) (ap is_some (own_current find n e h)) }
 
 -- an activation comes with a stamp above all others
-all_apart : (t : Rank) (xs : List Numbered) → AllByRecursion (Older t) xs → AllByRecursion (λ (x : Numbered). is_at (rank_cmp t) x.0 ≡ false) xs
-all_apart t xs h = all_weaker (Older t) (λ (x : Numbered). is_at (rank_cmp t) x.0 ≡ false) (apart_older t) xs h
+all_apart : (t : Rank) (xs : List Placed) → AllByRecursion (Older t) xs → AllByRecursion (λ (x : Placed). is_at (rank_cmp t) x.0 ≡ false) xs
+all_apart t xs h = all_weaker (Older t) (λ (x : Placed). is_at (rank_cmp t) x.0 ≡ false) (apart_older t) xs h
 
-pub filed_more : (xs : List Numbered) (find found : Find) (n : ℕ) (e : Entry) → ChangesAt find found n (Some e) → AllByRecursion (Older e.rank) xs → IsFiled xs find → IsFiled (insert_entry rank_cmp xs e.rank n) found
+pub filed_more : (xs : List Placed) (find found : Find) (n : ℕ) (e : Active) → ChangesAt find found n (Some e) → AllByRecursion (Older e.rank) xs → IsFiled xs find → IsFiled (insert_entry rank_cmp xs e.rank n) found
 filed_more xs find found n e change older was = record {
   rising = rises_more e.rank n xs was.rising;
   has = λ m f h. elim (number_cases n m) as (λ _. In (f.rank, m) (insert_entry rank_cmp xs e.rank n)) [
     | inl same ↦
         let is : e ≡ f = same_some (found m) (ap found (sym same) ∙ change.here) h in
-        subst (λ (i : ℕ). In (f.rank, i) (insert_entry rank_cmp xs e.rank n)) same (subst (λ (g : Entry). In (g.rank, n) (insert_entry rank_cmp xs e.rank n)) is (here_more e.rank n xs (all_apart e.rank xs older)))
+        subst (λ (i : ℕ). In (f.rank, i) (insert_entry rank_cmp xs e.rank n)) same (subst (λ (g : Active). In (g.rank, n) (insert_entry rank_cmp xs e.rank n)) is (here_more e.rank n xs (all_apart e.rank xs older)))
     | inr other ↦ in_more e.rank n xs (all_apart e.rank xs older) (f.rank, m) (was.has m f (sym (change.others m other) ∙ h))
   ];
 }
 
-pub stamped_more : (n : ℕ) (t : Rank) (i : ℕ) (xs : List Numbered) → n < t.stamp → IsStampedUpTo n xs → IsStampedUpTo t.stamp (insert_entry rank_cmp xs t i)
+pub stamped_more : (n : ℕ) (t : Rank) (i : ℕ) (xs : List Placed) → n < t.stamp → IsStampedUpTo n xs → IsStampedUpTo t.stamp (insert_entry rank_cmp xs t i)
 stamped_more n t i xs below h =
-    all_more (λ (u : Rank). u.stamp ≤ t.stamp) t i xs (omega arith) (all_weaker (λ (x : Numbered). x.0.stamp ≤ n) (λ (x : Numbered). x.0.stamp ≤ t.stamp) (λ x le. omega (arith, below, le)) xs h)
+    all_more (λ (u : Rank). u.stamp ≤ t.stamp) t i xs (omega arith) (all_weaker (λ (x : Placed). x.0.stamp ≤ n) (λ (x : Placed). x.0.stamp ≤ t.stamp) (λ x le. omega (arith, below, le)) xs h)
 
-pub older_all : (n : ℕ) (t : Rank) (xs : List Numbered) → n < t.stamp → IsStampedUpTo n xs → AllByRecursion (Older t) xs
-older_all n t xs below h = all_weaker (λ (x : Numbered). x.0.stamp ≤ n) (Older t) (λ x le. omega (arith, below, le)) xs h
+pub older_all : (n : ℕ) (t : Rank) (xs : List Placed) → n < t.stamp → IsStampedUpTo n xs → AllByRecursion (Older t) xs
+older_all n t xs below h = all_weaker (λ (x : Placed). x.0.stamp ≤ n) (Older t) (λ x le. omega (arith, below, le)) xs h
 
 -- the keys that are found are those that are due
 or_true : (b : Bool) → (b || true) ≡ true
@@ -106,13 +105,13 @@ in_any : (k : KeyValue) (es : Entries) → list_any (λ (x : Activation). key_eq
 in_any k [] h = absurd (false≢true h)
 in_any k (x ∷ xs) h = in_any_by (key_eq k x.1) k x xs refl h (in_any k xs)
 
-has_some : (o : Option Entry) (xs : List Numbered) (find : Find) (n : ℕ) (k : KeyValue) → IsFiled xs find → find n ≡ o → key_in o ≡ Some k → list_any (λ (e : Activation). key_eq k e.1) (current find xs) ≡ true
+has_some : (o : Option Active) (xs : List Placed) (find : Find) (n : ℕ) (k : KeyValue) → IsFiled xs find → find n ≡ o → key_in o ≡ Some k → list_any (λ (e : Activation). key_eq k e.1) (current find xs) ≡ true
 has_some None xs find n k was is h = cc
 has_some (Some e) xs find n k was is h =
     let key : k ≡ e.key = cc in
     any_in k (current find xs) (e.rank, e.key) (shown_in find xs (e.rank, n) e.key (was.has n e is) (own_current find n e is)) key
 
-pub has_is : (r : Option ℕ) (xs : List Numbered) (find : Find) (k : KeyValue) → IsFiled xs find → ((n : ℕ) → (r ≡ Some n → key_in (find n) ≡ Some k) × (key_in (find n) ≡ Some k → r ≡ Some n))
+pub has_is : (r : Option ℕ) (xs : List Placed) (find : Find) (k : KeyValue) → IsFiled xs find → ((n : ℕ) → (r ≡ Some n → key_in (find n) ≡ Some k) × (key_in (find n) ≡ Some k → r ≡ Some n))
     → is_some r ≡ list_any (λ (e : Activation). key_eq k e.1) (current find xs)
 has_is (Some n) xs find k was is = sym (has_some (find n) xs find n k was refl ((is n).0 refl))
 has_is None xs find k was is = sym (false_from_ne_true (list_any (λ (e : Activation). key_eq k e.1) (current find xs)) (λ any.
@@ -122,28 +121,28 @@ has_is None xs find k was is = sym (false_from_ne_true (list_any (λ (e : Activa
     some_none None ((is x.0.1).1 own) refl))
 
 -- one entry, that fires first, is taken out
-below_it : (xs ys : List Numbered) (x : Numbered) → Rises (xs ++ x ∷ ys) → AllByRecursion (λ (y : Numbered). rank_cmp y.0 x.0 ≡ Less) xs
+below_it : (xs ys : List Placed) (x : Placed) → Rises (xs ++ x ∷ ys) → AllByRecursion (λ (y : Placed). rank_cmp y.0 x.0 ≡ Less) xs
 below_it [] ys x up = tt
-below_it (z ∷ zs) ys x up = ((all_second (λ (y : Numbered). rank_cmp z.0 y.0 ≡ Less) zs (x ∷ ys) up.0).0, below_it zs ys x up.1)
+below_it (z ∷ zs) ys x up = ((all_second (λ (y : Placed). rank_cmp z.0 y.0 ≡ Less) zs (x ∷ ys) up.0).0, below_it zs ys x up.1)
 
-in_without : (xs ys : List Numbered) (x y : Numbered) → y ≢ x → In y (xs ++ x ∷ ys) → In y (xs ++ ys)
+in_without : (xs ys : List Placed) (x y : Placed) → y ≢ x → In y (xs ++ x ∷ ys) → In y (xs ++ ys)
 in_without [] ys x y apart (inl is) = absurd (apart is)
 in_without [] ys x y apart (inr there) = there
 in_without (z ∷ zs) ys x y apart (inl is) = inl is
 in_without (z ∷ zs) ys x y apart (inr there) = inr (in_without zs ys x y apart there)
 
-module _ (st : Strategy) (xs fs : List Numbered) (x : Numbered) (next : IsNext st xs x fs) where
+module _ (st : Strategy) (xs fs : List Placed) (x : Placed) (next : IsNext st xs x fs) where
   pub stamped_left : (n : ℕ) → IsStampedUpTo n xs → IsStampedUpTo n fs
   stamped_left n h =
       let all = subst (IsStampedUpTo n) next.whole h in
-      subst (IsStampedUpTo n) (sym next.left) (all_append (λ (y : Numbered). y.0.stamp ≤ n) next.before next.behind (all_first (λ (y : Numbered). y.0.stamp ≤ n) next.before (x ∷ next.behind) all)
-      (all_second (λ (y : Numbered). y.0.stamp ≤ n) next.before (x ∷ next.behind) all).1)
+      subst (IsStampedUpTo n) (sym next.left) (all_append (λ (y : Placed). y.0.stamp ≤ n) next.before next.behind (all_first (λ (y : Placed). y.0.stamp ≤ n) next.before (x ∷ next.behind) all)
+      (all_second (λ (y : Placed). y.0.stamp ≤ n) next.before (x ∷ next.behind) all).1)
 
   left_rises : Rises xs → Rises fs
-  left_rises up = subst (λ (zs : List Numbered). Rises zs) (sym next.left) (rises_without next.before next.behind x (subst (λ (zs : List Numbered). Rises zs) next.whole up))
+  left_rises up = subst (λ (zs : List Placed). Rises zs) (sym next.left) (rises_without next.before next.behind x (subst (λ (zs : List Placed). Rises zs) next.whole up))
 
-  left_in : (y : Numbered) → y ≢ x → In y xs → In y fs
-  left_in y apart there = subst (λ (zs : List Numbered). In y zs) (sym next.left) (in_without next.before next.behind x y apart (subst (λ (zs : List Numbered). In y zs) next.whole there))
+  left_in : (y : Placed) → y ≢ x → In y xs → In y fs
+  left_in y apart there = subst (λ (zs : List Placed). In y zs) (sym next.left) (in_without next.before next.behind x y apart (subst (λ (zs : List Placed). In y zs) next.whole there))
 
   -- it was stale
   pub stale_left : (find : Find) → IsFiled xs find → key_of find x ≡ None → (current find fs ≡ current find xs) × IsFiled fs find
@@ -191,7 +190,7 @@ first_fires : (es fs : Entries) (e : Activation) → Rises (es ++ e ∷ fs) → 
 first_fires es fs e up lower same =
     ap (left_and_key (es ++ e ∷ fs)) (higher_top es (e ∷ fs) e lower (lane_top e.0.salience e fs refl same (rises_second es (e ∷ fs) up))) ∙ ap (λ (gs : Entries). (gs, Some e.1)) (removed_behind es e fs lower)
 
-fires : (st : Strategy) (find : Find) (xs ys : List Numbered) (x : Numbered) (k : KeyValue) → IsFirst st xs x ys → Rises (current find xs ++ (x.0, k) ∷ current find ys) → Fires st (current find xs) (x.0, k) (current find ys)
+fires : (st : Strategy) (find : Find) (xs ys : List Placed) (x : Placed) (k : KeyValue) → IsFirst st xs x ys → Rises (current find xs ++ (x.0, k) ∷ current find ys) → Fires st (current find xs) (x.0, k) (current find ys)
 fires Depth find xs ys x k first up =
     let none : current find ys ≡ [] = ap (current find) first in
     subst (λ (es : Entries). Fires Depth (current find xs) (x.0, k) es) (sym none) (last_fires (current find xs) (x.0, k) (subst (λ (es : Entries). Rises (current find xs ++ (x.0, k) ∷ es)) none up))
@@ -199,8 +198,8 @@ fires Breadth find xs ys x k first up =
     first_fires (current find xs) (current find ys) (x.0, k) up (all_current (λ (t : Rank). int_cmp t.salience x.0.salience ≡ Less) find xs first.0) (all_current (λ (t : Rank). t.salience ≡ x.0.salience) find ys first.1)
 
 -- it was current
-module _ (st : Strategy) (xs fs : List Numbered) (x : Numbered) (k : KeyValue) (next : IsNext st xs x fs) (find found : Find) (was : IsFiled xs find) (there : key_of find x ≡ Some k) (change : ChangesAt find found x.1 None) where
-  gone_same : (y : Numbered) → rank_eq x.0 y.0 ≡ false → key_of found y ≡ key_of find y
+module _ (st : Strategy) (xs fs : List Placed) (x : Placed) (k : KeyValue) (next : IsNext st xs x fs) (find found : Find) (was : IsFiled xs find) (there : key_of find x ≡ Some k) (change : ChangesAt find found x.1 None) where
+  gone_same : (y : Placed) → rank_eq x.0 y.0 ≡ false → key_of found y ≡ key_of find y
   gone_same y apart = elim (number_cases x.1 y.1) as (λ _. key_of found y ≡ key_of find y) [
     | inl same ↦
         let now : key_of found y ≡ None = ap (λ o. current_key o y.0) (ap found (sym same) ∙ change.here) in
@@ -210,17 +209,17 @@ module _ (st : Strategy) (xs fs : List Numbered) (x : Numbered) (k : KeyValue) (
   ]
 
   up_whole : Rises (next.before ++ x ∷ next.behind)
-  up_whole = subst (λ (zs : List Numbered). Rises zs) next.whole was.rising
+  up_whole = subst (λ (zs : List Placed). Rises zs) next.whole was.rising
 
   same_before : current found next.before ≡ current find next.before
   same_before =
       current_same find found next.before
-      (all_weaker (λ (y : Numbered). rank_cmp y.0 x.0 ≡ Less) (λ (y : Numbered). key_of found y ≡ key_of find y) (λ y h. gone_same y (rank_tied x.0 y.0 ∙ not_at x.0 y.0 h)) next.before (below_it next.before next.behind x up_whole))
+      (all_weaker (λ (y : Placed). rank_cmp y.0 x.0 ≡ Less) (λ (y : Placed). key_of found y ≡ key_of find y) (λ y h. gone_same y (rank_tied x.0 y.0 ∙ not_at x.0 y.0 h)) next.before (below_it next.before next.behind x up_whole))
 
   same_behind : current found next.behind ≡ current find next.behind
   same_behind =
       current_same find found next.behind
-      (all_weaker (λ (y : Numbered). rank_cmp x.0 y.0 ≡ Less) (λ (y : Numbered). key_of found y ≡ key_of find y) (λ y h. gone_same y (rank_tied x.0 y.0 ∙ ap is_eq h)) next.behind (rises_second next.before (x ∷ next.behind) up_whole).0)
+      (all_weaker (λ (y : Placed). rank_cmp x.0 y.0 ≡ Less) (λ (y : Placed). key_of found y ≡ key_of find y) (λ y h. gone_same y (rank_tied x.0 y.0 ∙ ap is_eq h)) next.behind (rises_second next.before (x ∷ next.behind) up_whole).0)
 
   whole_is : current find xs ≡ current find next.before ++ (x.0, k) ∷ current find next.behind
   whole_is = ap (current find) next.whole ∙ current_append find next.before (x ∷ next.behind) ∙ ap (λ o. current find next.before ++ with_current o x.0 (current find next.behind)) there
@@ -239,6 +238,6 @@ module _ (st : Strategy) (xs fs : List Numbered) (x : Numbered) (k : KeyValue) (
     rising = left_rises st xs fs x next was.rising;
     has = λ n e h. elim (number_cases x.1 n) as (λ _. In (e.rank, n) fs) [
       | inl same ↦ absurd (some_none (found n) h (ap found (sym same) ∙ change.here))
-      | inr other ↦ left_in st xs fs x next (e.rank, n) (λ is. other (ap (λ (z : Numbered). z.1) (sym is))) (was.has n e (sym (change.others n other) ∙ h))
+      | inr other ↦ left_in st xs fs x next (e.rank, n) (λ is. other (ap (λ (z : Placed). z.1) (sym is))) (was.has n e (sym (change.others n other) ∙ h))
     ];
   }

@@ -8,9 +8,8 @@ use Rattle.cb_agenda.proofs.CurrentLaws.{current_append}
 use Rattle.cb_agenda.proofs.EntryLaws.{rises_more, rises_without}
 use Rattle.cb_agenda.proofs.LaneLaws.{Lanes, SaliencesRise, last_found, popped_last, ranked_append, set_same, settled_filled, settled_same, thinned_lane}
 use Rattle.cb_agenda.specs.Agendas.{Entries, key_and_salience}
-use Rattle.cb_agenda.specs.Internal.{AreFilled, IsNext, Line, Numbered, Rises, TookAt, current, is_current, laned, ranked, ranked_all, stays}
+use Rattle.cb_agenda.specs.Internal.{Active, AreFilled, IsNext, Line, Placed, Rises, TookAt, current, is_current, laned, ranked, ranked_all, stays}
 use Rattle.cb_agenda.specs.Ranks.{rank_cmp}
-use Rattle.cb_agenda.specs.declared.activations.Entry.{Entry}
 use Rattle.cb_agenda.specs.declared.lanes.Popped.{Popped}
 use Rattle.cb_agenda.specs.declared.rank.Rank.{Rank}
 use Rattle.cb_agenda.specs.declared.strategy.Strategy.{Strategy}
@@ -36,11 +35,11 @@ pub pushed_filled : {T E : Type 0} (r : Result T E) (x : ℕ × ℕ) (xs ys : Li
 pushed_filled (Ok u) x xs ys ok err some is = not_nil xs x (sym ok ∙ is)
 pushed_filled (Err e) x xs ys ok err some is = some (sym err ∙ is)
 
-pub popped_rises : (st : Strategy) (es fs : List Numbered) (o : Option Numbered) → IfSome o (λ x. IsNext st es x fs) → (o ≡ None → (es ≡ []) × (fs ≡ [])) → Rises es → Rises fs
-popped_rises st es fs None some none up = subst (λ (gs : List Numbered). Rises gs) (sym (none refl).1) tt
-popped_rises st es fs (Some x) some none up = subst (λ (gs : List Numbered). Rises gs) (sym some.left) (rises_without some.before some.behind x (subst (λ (gs : List Numbered). Rises gs) some.whole up))
+pub popped_rises : (st : Strategy) (es fs : List Placed) (o : Option Placed) → IfSome o (λ x. IsNext st es x fs) → (o ≡ None → (es ≡ []) × (fs ≡ [])) → Rises es → Rises fs
+popped_rises st es fs None some none up = subst (λ (gs : List Placed). Rises gs) (sym (none refl).1) tt
+popped_rises st es fs (Some x) some none up = subst (λ (gs : List Placed). Rises gs) (sym some.left) (rises_without some.before some.behind x (subst (λ (gs : List Placed). Rises gs) some.whole up))
 
-pub thin_lane : (find : ℕ → Option Entry) (s : ℤ) (xs ys : Line) (ls ms : Lanes) → SaliencesRise ls → lookup (is_at (int_cmp s)) ls ≡ Some xs → ms ≡ set_value (is_at (int_cmp s)) ls ys
+pub thin_lane : (find : ℕ → Option Active) (s : ℤ) (xs ys : Line) (ls ms : Lanes) → SaliencesRise ls → lookup (is_at (int_cmp s)) ls ≡ Some xs → ms ≡ set_value (is_at (int_cmp s)) ls ys
     → (ys ≡ xs) ⊎ (ys ≡ filter (λ (x : ℕ × ℕ). is_current find (ranked s x)) xs) → (laned ms ≡ laned ls) ⊎ (laned ms ≡ filter (stays find s) (laned ls))
 thin_lane find s xs ys ls ms up there set (inl is) = inl (ap laned (set ∙ ap (set_value (is_at (int_cmp s)) ls) is ∙ set_same (is_at (int_cmp s)) xs ls there))
 thin_lane find s xs ys ls ms up there set (inr is) = inr (ap laned (set ∙ ap (set_value (is_at (int_cmp s)) ls) is) ∙ thinned_lane find s xs ls up there)
@@ -59,11 +58,11 @@ pub settled_after : (p : ℤ → Bool) (ls ms ns : Lanes) (v : Line) → AreFill
 settled_after p ls ms ns v h is settled =
     settled_filled p ls ns v h (λ e. settled.0 (ap (lookup p) is ∙ e) ∙ ap (remove_entry p) is) (λ e. settled.1 (λ f. e (sym (ap (lookup p) is) ∙ f)) ∙ is)
 
-pub pushed_rises : {T E : Type 0} (r : Result T E) (t : Rank) (k : ℕ) (es fs : List Numbered) → OnOk r (fs ≡ insert_entry rank_cmp es t k) → OnErr r (fs ≡ es) → Rises es → Rises fs
-pushed_rises (Ok x) t k es fs ok err up = subst (λ (gs : List Numbered). Rises gs) (sym ok) (rises_more t k es up)
-pushed_rises (Err e) t k es fs ok err up = subst (λ (gs : List Numbered). Rises gs) (sym err) up
+pub pushed_rises : {T E : Type 0} (r : Result T E) (t : Rank) (k : ℕ) (es fs : List Placed) → OnOk r (fs ≡ insert_entry rank_cmp es t k) → OnErr r (fs ≡ es) → Rises es → Rises fs
+pushed_rises (Ok x) t k es fs ok err up = subst (λ (gs : List Placed). Rises gs) (sym ok) (rises_more t k es up)
+pushed_rises (Err e) t k es fs ok err up = subst (λ (gs : List Placed). Rises gs) (sym err) up
 
-pub thinned_there : (find : ℕ → Option Entry) (s : ℤ) (p : ℤ → Bool) (es : List Numbered) (ms ns : Lanes) → (laned ms ≡ es) ⊎ (laned ms ≡ filter (stays find s) es) → IsSettled p ms ns → (laned ns ≡ es) ⊎ (laned ns ≡ filter (stays find s) es)
+pub thinned_there : (find : ℕ → Option Active) (s : ℤ) (p : ℤ → Bool) (es : List Placed) (ms ns : Lanes) → (laned ms ≡ es) ⊎ (laned ms ≡ filter (stays find s) es) → IsSettled p ms ns → (laned ns ≡ es) ⊎ (laned ns ≡ filter (stays find s) es)
 thinned_there find s p es ms ns (inl is) settled = inl (settled_same p ms ns settled.0 settled.1 ∙ is)
 thinned_there find s p es ms ns (inr is) settled = inr (settled_same p ms ns settled.0 settled.1 ∙ is)
 
@@ -130,10 +129,10 @@ module _ (st : Strategy) (s : ℤ) (x : Popped) (xs : Line) (ls ms : Lanes) (up 
   other_settles h =
       settled_kept (is_at (int_cmp s)) ms (λ e. (took (last_found s xs ls up last)).other h (some_same (sym left_at ∙ e)))
 
-  pub popped_is : (ns : Lanes) → IsSettled (is_at (int_cmp s)) ms ns → IsNext st (laned ls) (ranked s (x.stamp, x.number)) (laned ns)
+  pub popped_is : (ns : Lanes) → IsSettled (is_at (int_cmp s)) ms ns → IsNext st (laned ls) (ranked s (x.stamp, x.place)) (laned ns)
   popped_is ns settled =
       let took_it = took (last_found s xs ls up last) in
-      subst (λ (es : List Numbered). IsNext st (laned ls) (ranked s (x.stamp, x.number)) es) (ap laned (sym took_it.set) ∙ sym (settled_same (is_at (int_cmp s)) ms ns settled.0 settled.1)) (popped_last st s (x.stamp, x.number) xs took_it.left ls up last took_it.some)
+      subst (λ (es : List Placed). IsNext st (laned ls) (ranked s (x.stamp, x.place)) es) (ap laned (sym took_it.set) ∙ sym (settled_same (is_at (int_cmp s)) ms ns settled.0 settled.1)) (popped_last st s (x.stamp, x.place) xs took_it.left ls up last took_it.some)
 
   pub popped_filled : (ns : Lanes) → AreFilled ls → IsSettled (is_at (int_cmp s)) ms ns → AreFilled ns
   popped_filled ns filled settled =
@@ -141,16 +140,16 @@ module _ (st : Strategy) (s : ℤ) (x : Popped) (xs : Line) (ls ms : Lanes) (up 
       settled_after (is_at (int_cmp s)) ls ms ns took_it.left filled took_it.set settled
 
 -- what is listed of a lane in two pieces
-pub both_listed : (find : ℕ → Option Entry) (s : ℤ) (listed : List (KeyValue × ℤ)) (xs ys zs : Line) → xs ++ ys ≡ zs
+pub both_listed : (find : ℕ → Option Active) (s : ℤ) (listed : List (KeyValue × ℤ)) (xs ys zs : Line) → xs ++ ys ≡ zs
     → (listed ++ map key_and_salience (current find (ranked_all s xs))) ++ map key_and_salience (current find (ranked_all s ys)) ≡ listed ++ map key_and_salience (current find (ranked_all s zs))
 both_listed find s listed xs ys zs is =
     append_assoc listed (map key_and_salience (current find (ranked_all s xs))) (map key_and_salience (current find (ranked_all s ys)))
     ∙ ap (λ (all : List (KeyValue × ℤ)). listed ++ all) (sym (map-append key_and_salience (current find (ranked_all s xs)) (current find (ranked_all s ys))))
     ∙ ap (λ (es : Entries). listed ++ map key_and_salience es) (sym (current_append find (ranked_all s xs) (ranked_all s ys)))
-    ∙ ap (λ (es : List Numbered). listed ++ map key_and_salience (current find es)) (sym (ranked_append s xs ys)) ∙ ap (λ (ws : Line). listed ++ map key_and_salience (current find (ranked_all s ws))) is
+    ∙ ap (λ (es : List Placed). listed ++ map key_and_salience (current find es)) (sym (ranked_append s xs ys)) ∙ ap (λ (ws : Line). listed ++ map key_and_salience (current find (ranked_all s ws))) is
 
 -- what is listed of one lane and of those after it
-pub lane_listed : (find : ℕ → Option Entry) (s : ℤ) (xs : Line) (ls ms : Lanes) (listed more all : List (KeyValue × ℤ)) → ms ≡ (s, xs) ∷ ls → more ≡ listed ++ map key_and_salience (current find (ranked_all s xs))
+pub lane_listed : (find : ℕ → Option Active) (s : ℤ) (xs : Line) (ls ms : Lanes) (listed more all : List (KeyValue × ℤ)) → ms ≡ (s, xs) ∷ ls → more ≡ listed ++ map key_and_salience (current find (ranked_all s xs))
     → listed ++ map key_and_salience (current find (laned ms)) ≡ all → more ++ map key_and_salience (current find (laned ls)) ≡ all
 lane_listed find s xs ls ms listed more all is adds so_far =
     ap (λ (es : List (KeyValue × ℤ)). es ++ map key_and_salience (current find (laned ls))) adds ∙ append_assoc listed (map key_and_salience (current find (ranked_all s xs))) (map key_and_salience (current find (laned ls)))

@@ -8,9 +8,8 @@ use Rattle.std.specs.Map.{keys_of, lookup, remove_entry, set_value}
 use Rattle.std.specs.Ordering.{match_ordering, ordering_reverse}
 use Rattle.cb_agenda.proofs.EntryLaws.{all_append, all_first, all_second, filter_all, filter_append, front, skip}
 use Rattle.cb_agenda.proofs.Firing.{level}
-use Rattle.cb_agenda.specs.Internal.{AreFilled, IsNext, Line, Numbered, is_current, laned, put_back, ranked, ranked_all, stays}
+use Rattle.cb_agenda.specs.Internal.{Active, AreFilled, IsNext, Line, Placed, is_current, laned, put_back, ranked, ranked_all, stays}
 use Rattle.cb_agenda.specs.Ranks.{rank_cmp}
-use Rattle.cb_agenda.specs.declared.activations.Entry.{Entry}
 use Rattle.cb_agenda.specs.declared.rank.Rank.{Rank}
 use Rattle.cb_agenda.specs.declared.strategy.Strategy.{Strategy}
 use Rattle.cb_agenda.specs.declared.strategy.Strategy.TheVariants.{Breadth, Depth}
@@ -62,29 +61,29 @@ laned_append : (ls ms : Lanes) → laned (ls ++ ms) ≡ laned ls ++ laned ms
 laned_append [] ms = refl
 laned_append (l ∷ ls) ms = ap (λ es. ranked_all l.0 l.1 ++ es) (laned_append ls ms) ∙ sym (append_assoc (ranked_all l.0 l.1) (laned ls) (laned ms))
 
-ranked_over : (t : Rank) (s : ℤ) (xs : Line) → int_cmp t.salience s ≡ Greater → AllByRecursion (λ (e : Numbered). rank_cmp t e.0 ≡ Greater) (ranked_all s xs)
+ranked_over : (t : Rank) (s : ℤ) (xs : Line) → int_cmp t.salience s ≡ Greater → AllByRecursion (λ (e : Placed). rank_cmp t e.0 ≡ Greater) (ranked_all s xs)
 ranked_over t s [] h = tt
 ranked_over t s (x ∷ xs) h = let over : rank_cmp t (ranked s x).0 ≡ Greater = rw (h) refl in (over, ranked_over t s xs h)
 
-ranked_under : (t : Rank) (s : ℤ) (xs : Line) → int_cmp t.salience s ≡ Less → AllByRecursion (λ (e : Numbered). rank_cmp t e.0 ≡ Less) (ranked_all s xs)
+ranked_under : (t : Rank) (s : ℤ) (xs : Line) → int_cmp t.salience s ≡ Less → AllByRecursion (λ (e : Placed). rank_cmp t e.0 ≡ Less) (ranked_all s xs)
 ranked_under t s [] h = tt
 ranked_under t s (x ∷ xs) h = let under : rank_cmp t (ranked s x).0 ≡ Less = rw (h) refl in (under, ranked_under t s xs h)
 
-ranked_older : (t : Rank) (s : ℤ) (xs : Line) → int_cmp t.salience s ≡ Equal → AllByRecursion (λ (e : Numbered). e.0.stamp < t.stamp) (ranked_all s xs) → AllByRecursion (λ (e : Numbered). rank_cmp t e.0 ≡ Greater) (ranked_all s xs)
+ranked_older : (t : Rank) (s : ℤ) (xs : Line) → int_cmp t.salience s ≡ Equal → AllByRecursion (λ (e : Placed). e.0.stamp < t.stamp) (ranked_all s xs) → AllByRecursion (λ (e : Placed). rank_cmp t e.0 ≡ Greater) (ranked_all s xs)
 ranked_older t s [] e h = tt
 ranked_older t s (x ∷ xs) e h =
     let stamps : nat_cmp t.stamp x.0 ≡ Greater = sym (nat_cmp_is t.stamp x.0 Greater h.0) in
     let over : rank_cmp t (ranked s x).0 ≡ Greater = rw (e, stamps) refl in
     (over, ranked_older t s xs e h.1)
 
-laned_under : (t : Rank) (ls : Lanes) → AllByRecursion (λ (m : ℤ × Line). int_cmp t.salience m.0 ≡ Less) ls → AllByRecursion (λ (e : Numbered). rank_cmp t e.0 ≡ Less) (laned ls)
+laned_under : (t : Rank) (ls : Lanes) → AllByRecursion (λ (m : ℤ × Line). int_cmp t.salience m.0 ≡ Less) ls → AllByRecursion (λ (e : Placed). rank_cmp t e.0 ≡ Less) (laned ls)
 laned_under t [] h = tt
-laned_under t (l ∷ ls) h = all_append (λ (e : Numbered). rank_cmp t e.0 ≡ Less) (ranked_all l.0 l.1) (laned ls) (ranked_under t l.0 l.1 h.0) (laned_under t ls h.1)
+laned_under t (l ∷ ls) h = all_append (λ (e : Placed). rank_cmp t e.0 ≡ Less) (ranked_all l.0 l.1) (laned ls) (ranked_under t l.0 l.1 h.0) (laned_under t ls h.1)
 
 abbrev rank_of : ℤ → ℕ → Rank
 rank_of s n = record { salience = s; stamp = n }
 
-abbrev IsOlder : ℕ → Numbered → Type 0
+abbrev IsOlder : ℕ → Placed → Type 0
 IsOlder n e = e.0.stamp < n
 
 -- one more entry at the end of a lane that is there
@@ -244,15 +243,15 @@ laned_last : (s : ℤ) (xs : Line) (init : Lanes) → laned (init ++ (s, xs) ∷
 laned_last s xs init = laned_append init ((s, xs) ∷ []) ∙ ap (λ es. laned init ++ es) (append-nil (ranked_all s xs))
 
 -- other lanes have lower saliences, and a lane has its own
-lower_ranked : (s u : ℤ) (xs : Line) → int_cmp u s ≡ Less → AllByRecursion (λ (x : Numbered). int_cmp x.0.salience s ≡ Less) (ranked_all u xs)
+lower_ranked : (s u : ℤ) (xs : Line) → int_cmp u s ≡ Less → AllByRecursion (λ (x : Placed). int_cmp x.0.salience s ≡ Less) (ranked_all u xs)
 lower_ranked s u [] h = tt
 lower_ranked s u (x ∷ xs) h = (h, lower_ranked s u xs h)
 
-lower_laned : (s : ℤ) (ls : Lanes) → AllByRecursion (λ (m : ℤ × Line). int_cmp m.0 s ≡ Less) ls → AllByRecursion (λ (x : Numbered). int_cmp x.0.salience s ≡ Less) (laned ls)
+lower_laned : (s : ℤ) (ls : Lanes) → AllByRecursion (λ (m : ℤ × Line). int_cmp m.0 s ≡ Less) ls → AllByRecursion (λ (x : Placed). int_cmp x.0.salience s ≡ Less) (laned ls)
 lower_laned s [] h = tt
-lower_laned s (l ∷ ls) h = all_append (λ (x : Numbered). int_cmp x.0.salience s ≡ Less) (ranked_all l.0 l.1) (laned ls) (lower_ranked s l.0 l.1 h.0) (lower_laned s ls h.1)
+lower_laned s (l ∷ ls) h = all_append (λ (x : Placed). int_cmp x.0.salience s ≡ Less) (ranked_all l.0 l.1) (laned ls) (lower_ranked s l.0 l.1 h.0) (lower_laned s ls h.1)
 
-level_ranked : (s : ℤ) (xs : Line) → AllByRecursion (λ (x : Numbered). x.0.salience ≡ s) (ranked_all s xs)
+level_ranked : (s : ℤ) (xs : Line) → AllByRecursion (λ (x : Placed). x.0.salience ≡ s) (ranked_all s xs)
 level_ranked s [] = tt
 level_ranked s (x ∷ xs) = (refl, level_ranked s xs)
 
@@ -281,8 +280,8 @@ popped_last st s x xs ys (l ∷ ls) up h is =
     let all : laned (l ∷ ls) ≡ laned split.0 ++ ranked_all s (put_back st x ys) = ap laned split.1 ∙ laned_last s xs split.0 ∙ ap (λ zs. laned split.0 ++ ranked_all s zs) is in
     let left : laned (set_value (is_at (int_cmp s)) (l ∷ ls) ys) ≡ laned split.0 ++ ranked_all s ys =
     ap (λ (ms : Lanes). laned (set_value (is_at (int_cmp s)) ms ys)) split.1 ∙ ap laned (set_last s xs ys split.0 below) ∙ laned_last s ys split.0 in
-    subst (λ (es : List Numbered). IsNext st es (ranked s x) (laned (set_value (is_at (int_cmp s)) (l ∷ ls) ys))) (sym all)
-    (subst (λ (fs : List Numbered). IsNext st (laned split.0 ++ ranked_all s (put_back st x ys)) (ranked s x) fs) (sym left) (popped_by st s x ys split.0 below))
+    subst (λ (es : List Placed). IsNext st es (ranked s x) (laned (set_value (is_at (int_cmp s)) (l ∷ ls) ys))) (sym all)
+    (subst (λ (fs : List Placed). IsNext st (laned split.0 ++ ranked_all s (put_back st x ys)) (ranked s x) fs) (sym left) (popped_by st s x ys split.0 below))
 
 pub last_found : (s : ℤ) (xs : Line) (ls : Lanes) → SaliencesRise ls → slice_get ls (length ls - 1) ≡ Some (s, xs) → lookup (is_at (int_cmp s)) ls ≡ Some xs
 last_found s xs [] up h = cc
@@ -295,29 +294,29 @@ own_by : (b : Bool) (s : ℤ) (x : ℕ × ℕ) (zs : Line) → ranked_all s (con
 own_by true s x zs = refl
 own_by false s x zs = refl
 
-stays_own : (find : ℕ → Option Entry) (s u : ℤ) (x : ℕ × ℕ) → is_at (int_cmp s) u ≡ true → stays find s (ranked u x) ≡ is_current find (ranked u x)
+stays_own : (find : ℕ → Option Active) (s u : ℤ) (x : ℕ × ℕ) → is_at (int_cmp s) u ≡ true → stays find s (ranked u x) ≡ is_current find (ranked u x)
 stays_own find s u x h = rw (h) refl
 
-stays_other : (find : ℕ → Option Entry) (s u : ℤ) (x : ℕ × ℕ) → is_at (int_cmp s) u ≡ false → stays find s (ranked u x) ≡ true
+stays_other : (find : ℕ → Option Active) (s u : ℤ) (x : ℕ × ℕ) → is_at (int_cmp s) u ≡ false → stays find s (ranked u x) ≡ true
 stays_other find s u x h = rw (h) refl
 
-own_lane : (find : ℕ → Option Entry) (s u : ℤ) (xs : Line) → is_at (int_cmp s) u ≡ true → ranked_all u (filter (λ (x : ℕ × ℕ). is_current find (ranked u x)) xs) ≡ filter (stays find s) (ranked_all u xs)
+own_lane : (find : ℕ → Option Active) (s u : ℤ) (xs : Line) → is_at (int_cmp s) u ≡ true → ranked_all u (filter (λ (x : ℕ × ℕ). is_current find (ranked u x)) xs) ≡ filter (stays find s) (ranked_all u xs)
 own_lane find s u [] h = refl
 own_lane find s u (x ∷ xs) h =
     own_by (is_current find (ranked u x)) u x (filter (λ (x : ℕ × ℕ). is_current find (ranked u x)) xs)
-    ∙ ap (λ (es : List Numbered). cond (is_current find (ranked u x)) (ranked u x ∷ es) es) (own_lane find s u xs h)
+    ∙ ap (λ (es : List Placed). cond (is_current find (ranked u x)) (ranked u x ∷ es) es) (own_lane find s u xs h)
     ∙ ap (λ b. cond b (ranked u x ∷ filter (stays find s) (ranked_all u xs)) (filter (stays find s) (ranked_all u xs))) (sym (stays_own find s u x h))
 
-all_stay : (find : ℕ → Option Entry) (s u : ℤ) (xs : Line) → is_at (int_cmp s) u ≡ false → AllByRecursion (λ (e : Numbered). stays find s e ≡ true) (ranked_all u xs)
+all_stay : (find : ℕ → Option Active) (s u : ℤ) (xs : Line) → is_at (int_cmp s) u ≡ false → AllByRecursion (λ (e : Placed). stays find s e ≡ true) (ranked_all u xs)
 all_stay find s u [] h = tt
 all_stay find s u (x ∷ xs) h = (stays_other find s u x h, all_stay find s u xs h)
 
-laned_stay : (find : ℕ → Option Entry) (s : ℤ) (ls : Lanes) → AllByRecursion (λ (m : ℤ × Line). int_cmp s m.0 ≡ Less) ls → AllByRecursion (λ (e : Numbered). stays find s e ≡ true) (laned ls)
+laned_stay : (find : ℕ → Option Active) (s : ℤ) (ls : Lanes) → AllByRecursion (λ (m : ℤ × Line). int_cmp s m.0 ≡ Less) ls → AllByRecursion (λ (e : Placed). stays find s e ≡ true) (laned ls)
 laned_stay find s [] h = tt
 laned_stay find s (l ∷ ls) h =
-    all_append (λ (e : Numbered). stays find s e ≡ true) (ranked_all l.0 l.1) (laned ls) (all_stay find s l.0 l.1 (apart_above s l.0 h.0)) (laned_stay find s ls h.1)
+    all_append (λ (e : Placed). stays find s e ≡ true) (ranked_all l.0 l.1) (laned ls) (all_stay find s l.0 l.1 (apart_above s l.0 h.0)) (laned_stay find s ls h.1)
 
-thin_by : (b : Bool) (find : ℕ → Option Entry) (s : ℤ) (xs : Line) (l : ℤ × Line) (ls : Lanes) → is_at (int_cmp s) l.0 ≡ b → AllByRecursion (λ (m : ℤ × Line). int_cmp l.0 m.0 ≡ Less) ls → lookup (is_at (int_cmp s)) (l ∷ ls) ≡ Some xs
+thin_by : (b : Bool) (find : ℕ → Option Active) (s : ℤ) (xs : Line) (l : ℤ × Line) (ls : Lanes) → is_at (int_cmp s) l.0 ≡ b → AllByRecursion (λ (m : ℤ × Line). int_cmp l.0 m.0 ≡ Less) ls → lookup (is_at (int_cmp s)) (l ∷ ls) ≡ Some xs
     → (lookup (is_at (int_cmp s)) ls ≡ Some xs → laned (set_value (is_at (int_cmp s)) ls (filter (λ (x : ℕ × ℕ). is_current find (ranked s x)) xs)) ≡ filter (stays find s) (laned ls))
     → laned (set_value (is_at (int_cmp s)) (l ∷ ls) (filter (λ (x : ℕ × ℕ). is_current find (ranked s x)) xs)) ≡ filter (stays find s) (laned (l ∷ ls))
 thin_by true find s xs l ls e above h next =
@@ -340,7 +339,7 @@ thin_by false find s xs l ls e above h next =
     ap laned put ∙ ap (λ es. ranked_all l.0 l.1 ++ es) (next (sym rest ∙ h)) ∙ ap (λ es. es ++ filter (stays find s) (laned ls)) (sym (filter_all (stays find s) (ranked_all l.0 l.1) (all_stay find s l.0 l.1 e)))
     ∙ sym (filter_append (stays find s) (ranked_all l.0 l.1) (laned ls))
 
-pub thinned_lane : (find : ℕ → Option Entry) (s : ℤ) (xs : Line) (ls : Lanes) → SaliencesRise ls → lookup (is_at (int_cmp s)) ls ≡ Some xs
+pub thinned_lane : (find : ℕ → Option Active) (s : ℤ) (xs : Line) (ls : Lanes) → SaliencesRise ls → lookup (is_at (int_cmp s)) ls ≡ Some xs
     → laned (set_value (is_at (int_cmp s)) ls (filter (λ (x : ℕ × ℕ). is_current find (ranked s x)) xs)) ≡ filter (stays find s) (laned ls)
 thinned_lane find s xs [] up h = cc
 thinned_lane find s xs (l ∷ ls) up h = thin_by (is_at (int_cmp s) l.0) find s xs l ls refl up.0 h (thinned_lane find s xs ls up.1)

@@ -2,9 +2,9 @@
 ghost use Rattle.std.specs.Prelude.{◌≡◌, ◌≢◌, ◌⊎◌, ◌++◌, ◌∷◌, [], IfOk, IfSome, None, OnErr, OnOk, false, map, true};
 ghost use Rattle.std.specs.List.{filter};
 ghost use Rattle.cb_agenda.specs.Agendas.{key_and_salience};
-ghost use Rattle.cb_agenda.specs.Internal.{Line, current, entry_at, is_current, put_back, ranked, ranked_all};
+ghost use Rattle.cb_agenda.specs.Internal.{Line, current, active_at, is_current, put_back, ranked, ranked_all};
 
-use crate::activations::Activations;
+use crate::activations::{Activations, current_key};
 use crate::rank::Rank;
 use crate::strategy::Strategy;
 use cb_forms::NoMemory;
@@ -13,12 +13,12 @@ use std::alloc::Global;
 use std::collections::VecDeque;
 use std::marker::Model;
 
-/// The entries of one salience by rising stamp, one for each activation that came: its stamp and its number.
+/// The entries of one salience by rising stamp, one for each activation that came: its stamp and its place.
 ///
 /// An entry whose activation was taken out is stale. It stays until more than half of the entries are stale, or until it stands at
 /// the end where activations fire. So each entry is passed over a constant number of times.
 ///
-/// Contracts see stamps and numbers.
+/// Contracts see stamps and places.
 #[derive(Drop)]
 pub(crate) struct Lane {
     entries: VecDeque<(u64, usize)>,
@@ -46,11 +46,11 @@ impl Lane {
     }
 
     /// One entry. Growth is refused as `NoMemory`.
-    pub(crate) fn of(alloc: Global, stamp: u64, number: usize) -> Result<Lane, NoMemory>
-        ensures { IfOk result (λ lane. lane ≡ (stamp, number) ∷ []) }
+    pub(crate) fn of(alloc: Global, stamp: u64, place: usize) -> Result<Lane, NoMemory>
+        ensures { IfOk result (λ lane. lane ≡ (stamp, place) ∷ []) }
     {
         let mut lane = Lane::new(alloc);
-        lane.push(stamp, number)?;
+        lane.push(stamp, place)?;
         Ok(lane)
     }
 
@@ -63,11 +63,11 @@ impl Lane {
     }
 
     /// Adds the entry of the greatest stamp. Growth is refused as `NoMemory`, and then nothing has changed.
-    pub(crate) fn push(&mut self, stamp: u64, number: usize) -> Result<(), NoMemory>
-        ensures ok { OnOk result (self.new ≡ self.old ++ (stamp, number) ∷ []) }
+    pub(crate) fn push(&mut self, stamp: u64, place: usize) -> Result<(), NoMemory>
+        ensures ok { OnOk result (self.new ≡ self.old ++ (stamp, place) ∷ []) }
         ensures err { OnErr result (self.new ≡ self.old) }
     {
-        self.entries.push_back((stamp, number))?;
+        self.entries.push_back((stamp, place))?;
         Ok(())
     }
 
@@ -85,7 +85,7 @@ impl Lane {
     /// One more entry has become stale. Where more than half of them may be, those that are are let go. It takes no memory.
     pub(crate) fn thin(&mut self, salience: i64, activations: &Activations)
         ensures { (self.new ≡ self.old)
-            ⊎ (self.new ≡ filter (λ x. is_current (entry_at activations.now) (ranked salience x)) self.old) }
+            ⊎ (self.new ≡ filter (λ x. is_current (active_at activations.now) (ranked salience x)) self.old) }
     {
         self.stale = self.stale.saturating_add(1);
         if self.entries.len() / 2 < self.stale {
@@ -102,7 +102,7 @@ impl Lane {
         listed: &mut Vec<(Key, i64)>,
     ) -> Result<(), NoMemory>
         ensures { OnOk result (listed.new.items ≡ listed.old.items
-            ++ map key_and_salience (current (entry_at activations.now) (ranked_all salience self.now))) }
+            ++ map key_and_salience (current (active_at activations.now) (ranked_all salience self.now))) }
     {
         let (first, second) = self.entries.as_slices();
         add_listed(first, salience, activations, listed)?;
@@ -114,14 +114,14 @@ impl Lane {
 /// Lets the stale entries of a lane go.
 fn let_go(entries: &mut VecDeque<(u64, usize)>, salience: i64, activations: &Activations)
     ensures { entries.new.items
-        ≡ filter (λ x. is_current (entry_at activations.now) (ranked salience x)) entries.old.items }
+        ≡ filter (λ x. is_current (active_at activations.now) (ranked salience x)) entries.old.items }
 {
     entries.retain(|entry| {
         let rank = Rank {
             salience,
             stamp: entry.0,
         };
-        activations.current_key(entry.1, rank).is_some()
+        current_key(activations, entry.1, rank).is_some()
     });
 }
 
@@ -133,14 +133,14 @@ fn add_listed(
     listed: &mut Vec<(Key, i64)>,
 ) -> Result<(), NoMemory>
     ensures { OnOk result (listed.new.items ≡ listed.old.items
-        ++ map key_and_salience (current (entry_at activations.now) (ranked_all salience entries.now))) }
+        ++ map key_and_salience (current (active_at activations.now) (ranked_all salience entries.now))) }
 {
-    for (stamp, number) in entries {
+    for (stamp, place) in entries {
         let rank = Rank {
             salience,
             stamp: *stamp,
         };
-        if let Some(key) = activations.current_key(*number, rank) {
+        if let Some(key) = current_key(activations, *place, rank) {
             listed.push((key.clone()?, salience))?;
         }
     }

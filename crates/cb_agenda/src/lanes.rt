@@ -5,7 +5,7 @@ ghost use Rattle.std.specs.List.{AllByRecursion, filter};
 ghost use Rattle.std.specs.Map.{set_value};
 ghost use Rattle.std.specs.Ordering.{int_cmp};
 ghost use Rattle.cb_agenda.specs.Agendas.{key_and_salience};
-ghost use Rattle.cb_agenda.specs.Internal.{AreFilled, IsNext, Line, Rises, Thinned, TookAt, current, entry_at, laned, stays};
+ghost use Rattle.cb_agenda.specs.Internal.{AreFilled, IsNext, Line, Rises, Thinned, TookAt, current, active_at, laned, stays};
 ghost use Rattle.cb_agenda.specs.Ranks.{rank_cmp};
 
 use crate::activations::Activations;
@@ -18,7 +18,7 @@ use std::alloc::Global;
 use std::collections::BTreeMap;
 use std::marker::Model;
 
-/// The entries of an agenda: a lane for each salience that has some. An entry has the number of its activation, and is stale where that
+/// The entries of an agenda: a lane for each salience that has some. An entry has the place of its activation, and is stale where that
 /// was taken out.
 ///
 /// What comes has the greatest stamp, and what fires stands at an end of its lane, so neither is searched for but by its salience.
@@ -32,9 +32,9 @@ pub(crate) struct Lanes {
 
 impl Model for Lanes {
     ghost use Rattle.std.specs.Prelude.{List};
-    ghost use Rattle.cb_agenda.specs.Internal.{AreFilled, Numbered, Rises, laned};
+    ghost use Rattle.cb_agenda.specs.Internal.{AreFilled, Placed, Rises, laned};
 
-    ghost Value = { List Numbered };
+    ghost Value = { List Placed };
 
     ghost view = { λ l. laned l.lanes.entries };
 
@@ -60,13 +60,13 @@ impl Lanes {
     }
 
     /// Adds an entry with a stamp that is greater than all others. Growth is refused as `NoMemory`, and then nothing has changed.
-    pub(crate) fn push(&mut self, rank: Rank, number: usize) -> Result<(), NoMemory>
+    pub(crate) fn push(&mut self, rank: Rank, place: usize) -> Result<(), NoMemory>
         requires { AllByRecursion (λ e. e.0.stamp < rank.stamp) self.old }
-        ensures ok { OnOk result (self.new ≡ insert_entry rank_cmp self.old rank number) }
+        ensures ok { OnOk result (self.new ≡ insert_entry rank_cmp self.old rank place) }
         ensures err { OnErr result (self.new ≡ self.old) }
         ensures rising { Rises self.new }
     {
-        push_to(self.alloc, &mut self.lanes, rank, number)
+        push_to(self.alloc, &mut self.lanes, rank, place)
     }
 
     /// Takes the entry out that fires first, stale or not, if there is one.
@@ -80,7 +80,7 @@ impl Lanes {
 
     /// An entry of this salience has become stale. Where more than half of that lane is, those entries are let go.
     pub(crate) fn thin(&mut self, salience: i64, activations: &Activations)
-        ensures thinned { Thinned (entry_at activations.now) self.old self.new }
+        ensures thinned { Thinned (active_at activations.now) self.old self.new }
         ensures rising { Rises self.new }
     {
         if thin_at(&mut self.lanes, salience, activations) {
@@ -91,7 +91,7 @@ impl Lanes {
     /// The keys and saliences of the activations by rising rank. Growth is refused as `NoMemory`.
     pub(crate) fn by_rank(&self, activations: &Activations) -> Result<Vec<(Key, i64)>, NoMemory>
         ensures all { IfOk result
-            (λ v. v.items ≡ map key_and_salience (current (entry_at activations.now) self.now)) }
+            (λ v. v.items ≡ map key_and_salience (current (active_at activations.now) self.now)) }
         ensures rising { Rises self.now }
     {
         let mut listed = Vec::new(self.alloc);
@@ -105,7 +105,7 @@ impl Lanes {
 /// An entry that was taken out of its lane.
 struct Popped {
     stamp: u64,
-    number: usize,
+    place: usize,
     /// Whether the lane is empty now.
     emptied: bool,
 }
@@ -115,18 +115,18 @@ fn push_to(
     alloc: Global,
     lanes: &mut BTreeMap<i64, Lane>,
     rank: Rank,
-    number: usize,
+    place: usize,
 ) -> Result<(), NoMemory>
     requires { AllByRecursion (λ e. e.0.stamp < rank.stamp) (laned lanes.old.entries) }
     ensures ok { OnOk result
-        (laned lanes.new.entries ≡ insert_entry rank_cmp (laned lanes.old.entries) rank number) }
+        (laned lanes.new.entries ≡ insert_entry rank_cmp (laned lanes.old.entries) rank place) }
     ensures err { OnErr result (laned lanes.new.entries ≡ laned lanes.old.entries) }
     ensures filled { AreFilled lanes.old.entries → AreFilled lanes.new.entries }
 {
     match lanes.get_mut(&rank.salience) {
-        Some(lane) => lane.push(rank.stamp, number),
+        Some(lane) => lane.push(rank.stamp, place),
         None => {
-            let lane = Lane::of(alloc, rank.stamp, number)?;
+            let lane = Lane::of(alloc, rank.stamp, place)?;
             lanes.insert(rank.salience, lane)?;
             Ok(())
         }
@@ -146,13 +146,13 @@ fn pop_from(lanes: &mut BTreeMap<i64, Lane>, strategy: Strategy) -> Option<(Rank
     let salience = greatest(lanes)?;
     let Popped {
         stamp,
-        number,
+        place,
         emptied,
     } = pop_at(lanes, salience, strategy)?;
     if emptied {
         drop(lanes.remove(&salience));
     }
-    Some((Rank { salience, stamp }, number))
+    Some((Rank { salience, stamp }, place))
 }
 
 /// The greatest salience that has a lane, if there is one.
@@ -171,10 +171,10 @@ fn pop_at(lanes: &mut BTreeMap<i64, Lane>, salience: i64, strategy: Strategy) ->
     ensures ordered { IsOrdered int_cmp lanes.old }
 {
     let lane = lanes.get_mut(&salience)?;
-    let (stamp, number) = lane.pop(strategy)?;
+    let (stamp, place) = lane.pop(strategy)?;
     Some(Popped {
         stamp,
-        number,
+        place,
         emptied: lane.is_empty(),
     })
 }
@@ -182,7 +182,7 @@ fn pop_at(lanes: &mut BTreeMap<i64, Lane>, salience: i64, strategy: Strategy) ->
 /// An entry of this salience has become stale. The answer is whether there is a lane of this salience that is empty now.
 fn thin_at(lanes: &mut BTreeMap<i64, Lane>, salience: i64, activations: &Activations) -> bool
     ensures thinned { (laned lanes.new.entries ≡ laned lanes.old.entries)
-        ⊎ (laned lanes.new.entries ≡ filter (stays (entry_at activations.now) salience) (laned lanes.old.entries)) }
+        ⊎ (laned lanes.new.entries ≡ filter (stays (active_at activations.now) salience) (laned lanes.old.entries)) }
     ensures set { (xs : Line) × (lanes.new.entries ≡ set_value (is_at (int_cmp salience)) lanes.old.entries xs) }
     ensures empty { result ≡ true → get int_cmp lanes.new salience ≡ Some [] }
     ensures other { result ≡ false → get int_cmp lanes.new salience ≢ Some [] }

@@ -38,7 +38,7 @@ pub(crate) fn put_agenda_lines<K: Sink>(
 ) -> Result<(), Stop>
     requires { out.old.fault ≡ false }
     ensures { Puts K.writes out.old out.new (stop_extent result)
-        (agenda_lines rules.now (agenda_list agenda.now)) }
+        (agenda_lines rules.now (agenda_list agenda.now.agenda)) }
 {
     let activations = agenda.list()?;
     put_activation_lines(alloc, rules, activations.as_slice(), out)

@@ -1,41 +1,22 @@
-//! The calls of an agenda, step by step.
+//! The calls of an agenda, step by step, by the numbers of matches and by their keys.
+ghost use Rattle.std.specs.Prelude.{◌≤◌};
+ghost use Rattle.cb_agenda.specs.Ranks.{greatest_stamp};
+
+use super::by_key::ByKey;
+use super::by_number::ByNumber;
+use super::called::Called;
+use super::matches::which;
 use super::steps::{AMID, Call, GONE, LAST_STAMPS, STEPS, Step};
-use cb_agenda::{Agenda, ApplyFault, Strategy};
+use cb_agenda::{Agenda, Strategy};
 use cb_forms::NoMemory;
-use cb_matches::{Delta, Key};
+use cb_matches::Key;
 use std::alloc::Global;
 
-fn key(alloc: Global, rule: u64) -> Result<Key, NoMemory> {
-    Key::new(alloc, rule, 0, Vec::new(alloc))
-}
-
-pub(super) fn keys(alloc: Global, rules: &[u64]) -> Result<Vec<Key>, NoMemory> {
-    let mut keys = Vec::new(alloc);
-    for rule in rules {
-        keys.push(key(alloc, *rule)?)?;
-    }
-    Ok(keys)
-}
-
-pub(super) fn delta(alloc: Global, gone: &[u64], come: &[u64]) -> Result<Delta, NoMemory> {
-    let gone = keys(alloc, gone)?;
-    let come = keys(alloc, come)?;
-    Ok(Delta { gone, come })
-}
-
-fn applied(outcome: Result<(), ApplyFault>) -> Result<&'static str, NoMemory> {
-    match outcome {
-        Ok(()) => Ok("done"),
-        Err(ApplyFault::Exhausted) => Ok("exhausted"),
-        Err(ApplyFault::NoMemory) => Err(NoMemory),
-    }
-}
-
-fn rule_text(alloc: Global, key: Option<Key>) -> Result<String, NoMemory> {
+fn match_text(alloc: Global, key: Option<Key>) -> Result<String, NoMemory> {
     match key {
         Some(key) => {
-            let rule = key.rule();
-            Ok(format!(in alloc; "{rule}")?)
+            let which = which(&key);
+            Ok(format!(in alloc; "{which}")?)
         }
         None => Ok(format!(in alloc; "none")?),
     }
@@ -48,40 +29,24 @@ fn strategy_text(strategy: Strategy) -> &'static str {
     }
 }
 
-fn change(
-    alloc: Global,
-    agenda: &mut Agenda,
-    delta: &Delta,
-    saliences: &[i64],
-) -> Result<String, NoMemory> {
-    let answer = applied(agenda.apply(delta, saliences))?;
-    Ok(format!(in alloc; "{answer}")?)
+fn text(alloc: Global, text: &str) -> Result<String, NoMemory> {
+    Ok(format!(in alloc; "{text}")?)
 }
 
-fn has(alloc: Global, agenda: &Agenda, rule: u64) -> Result<String, NoMemory> {
-    let answer = if agenda.has(&key(alloc, rule)?) {
-        "yes"
-    } else {
-        "no"
-    };
-    Ok(format!(in alloc; "{answer}")?)
-}
-
-fn set(alloc: Global, agenda: &mut Agenda, strategy: Strategy) -> Result<String, NoMemory> {
-    let answer = strategy_text(agenda.set_strategy(strategy));
-    Ok(format!(in alloc; "{answer}")?)
-}
-
-fn answer(alloc: Global, agenda: &mut Agenda, call: &Call) -> Result<String, NoMemory> {
+fn answer<A: Called>(alloc: Global, agenda: &mut A, call: &Call) -> Result<String, NoMemory> {
     match call {
         Call::Change(gone, come, saliences) => {
-            change(alloc, agenda, &delta(alloc, gone, come)?, saliences)
+            text(alloc, agenda.change(alloc, gone, come, saliences)?)
         }
-        Call::Has(rule) => has(alloc, agenda, *rule),
-        Call::Pop => rule_text(alloc, agenda.pop()),
-        Call::Set(strategy) => set(alloc, agenda, *strategy),
+        Call::Has(which) => text(alloc, if agenda.has(*which) { "yes" } else { "no" }),
+        Call::Pop => match_text(alloc, agenda.pop()),
+        Call::Set(strategy) => text(alloc, strategy_text(agenda.set_strategy(*strategy))),
         Call::DropAll => {
             agenda.drop_all();
+            Ok(String::new(alloc))
+        }
+        Call::Forget(rule) => {
+            agenda.forget_rule(*rule);
             Ok(String::new(alloc))
         }
     }
@@ -90,28 +55,24 @@ fn answer(alloc: Global, agenda: &mut Agenda, call: &Call) -> Result<String, NoM
 fn list_text(alloc: Global, listed: &[(Key, i64)]) -> Result<String, NoMemory> {
     let mut text = String::new(alloc);
     for (key, salience) in listed {
-        let rule = key.rule();
-        let shown = format!(in alloc; "{rule}:{salience} ")?;
+        let which = which(key);
+        let shown = format!(in alloc; "{which}:{salience} ")?;
         text.push_str(&shown)?;
     }
     Ok(text)
 }
 
-fn listed(alloc: Global, agenda: &Agenda) -> Result<String, NoMemory> {
-    let listed = agenda.list()?;
-    list_text(alloc, &listed)
-}
-
-fn goes_so(alloc: Global, agenda: &mut Agenda, step: &Step) -> Result<bool, NoMemory> {
+fn goes_so<A: Called>(alloc: Global, agenda: &mut A, step: &Step) -> Result<bool, NoMemory> {
     let answer = answer(alloc, agenda, &step.call)?;
-    let list = listed(alloc, agenda)?;
+    let listed = agenda.list()?;
+    let list = list_text(alloc, &listed)?;
     Ok(answer.as_bytes() == step.answer.as_bytes() && list.as_bytes() == step.list.as_bytes())
 }
 
 /// The first step that does not go so.
-fn wrong_step(
+fn wrong_step<A: Called>(
     alloc: Global,
-    agenda: &mut Agenda,
+    agenda: &mut A,
     steps: &[Step],
 ) -> Result<Option<usize>, NoMemory> {
     for (i, step) in steps.iter().enumerate() {
@@ -122,34 +83,48 @@ fn wrong_step(
     Ok(None)
 }
 
+/// The first step that does not go so by numbers, and the first by keys, from as many stamps on.
+fn wrong_steps(
+    alloc: Global,
+    stamp: u64,
+    steps: &[Step],
+) -> Result<(Option<usize>, Option<usize>), NoMemory>
+    requires { stamp ≤ greatest_stamp }
+{
+    let mut by_number = ByNumber::starting_at(alloc, stamp);
+    let mut by_key = ByKey {
+        agenda: Agenda::starting_at(alloc, stamp),
+    };
+    Ok((
+        wrong_step(alloc, &mut by_number, steps)?,
+        wrong_step(alloc, &mut by_key, steps)?,
+    ))
+}
+
 #[test]
 fn goes_step_by_step(rt: HostRuntime) -> Result<(), NoMemory> {
-    let mut agenda = Agenda::new(rt.alloc());
-    let wrong = wrong_step(rt.alloc(), &mut agenda, &STEPS)?;
-    assert!(rt; wrong.is_none(), "{wrong:?}");
+    let wrong = wrong_steps(rt.alloc(), 0, &STEPS)?;
+    assert!(rt; wrong == (None, None), "{wrong:?}");
     Ok(())
 }
 
 #[test]
 fn takes_out_what_is_gone(rt: HostRuntime) -> Result<(), NoMemory> {
-    let mut agenda = Agenda::new(rt.alloc());
-    let wrong = wrong_step(rt.alloc(), &mut agenda, &GONE)?;
-    assert!(rt; wrong.is_none(), "{wrong:?}");
+    let wrong = wrong_steps(rt.alloc(), 0, &GONE)?;
+    assert!(rt; wrong == (None, None), "{wrong:?}");
     Ok(())
 }
 
 #[test]
 fn takes_out_what_stands_amid_others(rt: HostRuntime) -> Result<(), NoMemory> {
-    let mut agenda = Agenda::new(rt.alloc());
-    let wrong = wrong_step(rt.alloc(), &mut agenda, &AMID)?;
-    assert!(rt; wrong.is_none(), "{wrong:?}");
+    let wrong = wrong_steps(rt.alloc(), 0, &AMID)?;
+    assert!(rt; wrong == (None, None), "{wrong:?}");
     Ok(())
 }
 
 #[test]
 fn ends_with_the_last_stamp(rt: HostRuntime) -> Result<(), NoMemory> {
-    let mut agenda = Agenda::starting_at(rt.alloc(), 9_223_372_036_854_775_805);
-    let wrong = wrong_step(rt.alloc(), &mut agenda, &LAST_STAMPS)?;
-    assert!(rt; wrong.is_none(), "{wrong:?}");
+    let wrong = wrong_steps(rt.alloc(), 9_223_372_036_854_775_805, &LAST_STAMPS)?;
+    assert!(rt; wrong == (None, None), "{wrong:?}");
     Ok(())
 }

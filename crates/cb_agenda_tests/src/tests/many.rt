@@ -1,97 +1,110 @@
 //! Three hundred activations of twenty saliences, a hundred of which are taken out.
-use super::calls::keys;
-use cb_agenda::{Agenda, ApplyFault, Strategy};
+use super::by_key::ByKey;
+use super::by_number::ByNumber;
+use super::called::Called;
+use super::matches::which;
+use cb_agenda::{Agenda, Strategy};
 use cb_forms::NoMemory;
-use cb_matches::Delta;
 use std::alloc::Global;
 
-/// The salience of a rule, from -10 to 9. So each has fifteen rules.
-fn salience(rule: u64) -> i64 {
-    (rule % 20 * 7 % 20) as i64 - 10
+/// The salience of a match, from -10 to 9. So each has fifteen matches.
+fn salience(which: u64) -> i64 {
+    (which % 20 * 7 % 20) as i64 - 10
 }
 
-/// The numbers of the rules, and the saliences of their matches.
-fn rules(alloc: Global) -> Result<(Vec<u64>, Vec<i64>), NoMemory> {
-    let mut rules = Vec::new(alloc);
+/// The matches, and their saliences.
+fn matches(alloc: Global) -> Result<(Vec<u64>, Vec<i64>), NoMemory> {
+    let mut matches = Vec::new(alloc);
     let mut saliences = Vec::new(alloc);
-    for rule in 0..300 {
-        rules.push(rule)?;
-        saliences.push(salience(rule))?;
+    for which in 0..300 {
+        matches.push(which)?;
+        saliences.push(salience(which))?;
     }
-    Ok((rules, saliences))
+    Ok((matches, saliences))
 }
 
-/// Each third of the rules.
+/// Each third of the matches.
 fn thirds(alloc: Global) -> Result<Vec<u64>, NoMemory> {
-    let mut rules = Vec::new(alloc);
+    let mut matches = Vec::new(alloc);
     for third in 0..100 {
-        rules.push(third * 3)?;
+        matches.push(third * 3)?;
     }
-    Ok(rules)
+    Ok(matches)
 }
 
-fn due(alloc: Global, strategy: Strategy) -> Result<Agenda, NoMemory> {
-    let (rules, saliences) = rules(alloc)?;
-    let mut agenda = Agenda::new(alloc);
+/// Makes these activations due.
+fn make_due<A: Called>(alloc: Global, agenda: &mut A, strategy: Strategy) -> Result<(), NoMemory> {
+    let (matches, saliences) = matches(alloc)?;
     agenda.set_strategy(strategy);
-    let come = keys(alloc, &rules)?;
-    let gone = Vec::new(alloc);
-    applied(agenda.apply(&Delta { gone, come }, &saliences))?;
-    let gone = keys(alloc, &thirds(alloc)?)?;
-    let come = Vec::new(alloc);
-    applied(agenda.apply(&Delta { gone, come }, &[]))?;
-    Ok(agenda)
+    agenda.change(alloc, &[], &matches, &saliences)?;
+    agenda.change(alloc, &thirds(alloc)?, &[], &[])?;
+    Ok(())
 }
 
-fn applied(outcome: Result<(), ApplyFault>) -> Result<(), NoMemory> {
-    outcome.map_err(|_| NoMemory)
-}
-
-/// Whether the match of a rule may fire right after another's.
-fn is_behind(strategy: Strategy, before: u64, rule: u64) -> bool {
-    if salience(before) != salience(rule) {
-        return salience(rule) < salience(before);
+/// Whether a match may fire right after another.
+fn is_behind(strategy: Strategy, before: u64, which: u64) -> bool {
+    if salience(before) != salience(which) {
+        return salience(which) < salience(before);
     }
     match strategy {
-        Strategy::Depth => rule < before,
-        Strategy::Breadth => before < rule,
+        Strategy::Depth => which < before,
+        Strategy::Breadth => before < which,
     }
 }
 
 /// How many fire in their order until nothing is due.
-fn fired(agenda: &mut Agenda, strategy: Strategy) -> u64 {
+fn fired<A: Called>(agenda: &mut A, strategy: Strategy) -> u64 {
     let mut last = None;
     let mut count: u64 = 0;
     for _turn in 0..301 {
         let Some(key) = agenda.pop() else {
             return count;
         };
-        let rule = key.rule() % 300;
+        let which = which(&key) % 300;
         if let Some(before) = last {
-            if !is_behind(strategy, before, rule) {
+            if !is_behind(strategy, before, which) {
                 return 0;
             }
         }
-        last = Some(rule);
+        last = Some(which);
         count = count.saturating_add(1);
     }
     count
 }
 
+/// How many are listed, and how many fire in their order.
+fn counts<A: Called>(
+    alloc: Global,
+    agenda: &mut A,
+    strategy: Strategy,
+) -> Result<(usize, u64), NoMemory> {
+    make_due(alloc, agenda, strategy)?;
+    let listed = agenda.list()?.len();
+    Ok((listed, fired(agenda, strategy)))
+}
+
 #[test]
 fn newest_first(rt: HostRuntime) -> Result<(), NoMemory> {
-    let mut agenda = due(rt.alloc(), Strategy::Depth)?;
-    let listed = agenda.list()?.len();
-    let count = fired(&mut agenda, Strategy::Depth);
-    assert!(rt; (listed, count) == (200, 200), "{listed} {count}");
+    let mut agenda = ByNumber::new(rt.alloc());
+    let counts = counts(rt.alloc(), &mut agenda, Strategy::Depth)?;
+    assert!(rt; counts == (200, 200), "{counts:?}");
     Ok(())
 }
 
 #[test]
 fn oldest_first(rt: HostRuntime) -> Result<(), NoMemory> {
-    let mut agenda = due(rt.alloc(), Strategy::Breadth)?;
-    let listed = agenda.list()?.len();
-    let count = fired(&mut agenda, Strategy::Breadth);
-    assert!(rt; (listed, count) == (200, 200), "{listed} {count}");
+    let mut agenda = ByNumber::new(rt.alloc());
+    let counts = counts(rt.alloc(), &mut agenda, Strategy::Breadth)?;
+    assert!(rt; counts == (200, 200), "{counts:?}");
+    Ok(())
+}
+
+#[test]
+fn newest_first_by_key(rt: HostRuntime) -> Result<(), NoMemory> {
+    let mut agenda = ByKey {
+        agenda: Agenda::new(rt.alloc()),
+    };
+    let counts = counts(rt.alloc(), &mut agenda, Strategy::Depth)?;
+    assert!(rt; counts == (200, 200), "{counts:?}");
     Ok(())
 }

@@ -1,18 +1,18 @@
 //! Growth that is refused. `rt try --test --fail-alloc N` refuses the Nth growth of each test; this passes however great N is.
-use super::calls::delta;
+use super::matches::delta;
 use cb_agenda::{Agenda, ApplyFault};
 use cb_forms::NoMemory;
 use cb_matches::Delta;
 use std::alloc::Global;
 
-/// Changes by the rules whose matches are gone and those whose matches come. Two stamps are left, so that the second change is
+/// Changes by the matches that are gone and those that come. Two stamps are left, so that the second change is
 /// refused as `Exhausted` where no growth was.
 const CHANGES: [(&[u64], &[u64]); 3] = [(&[], &[1, 2]), (&[1], &[3]), (&[2], &[])];
 
 /// Whether the agenda has failed after a change exactly if a growth was refused in it, and goes on failing once it has.
 fn is_reported(agenda: &mut Agenda, delta: &Delta) -> bool {
     let had_failed = agenda.failed();
-    let is_refused = agenda.apply(delta, &[]) == Err(ApplyFault::NoMemory);
+    let is_refused = agenda.apply_by_key(delta, &[]) == Err(ApplyFault::NoMemory);
     agenda.failed() == is_refused && (is_refused || !had_failed)
 }
 

@@ -1,7 +1,7 @@
 //! Steps of an agenda: a call, its answer, and the list after it.
 use cb_agenda::Strategy;
 
-/// A call. A number stands for the key of a match of the rule with this number.
+/// A call. A number stands for a match.
 pub enum Call {
     /// These are gone, those come, and the saliences of those.
     Change(&'static [u64], &'static [u64], &'static [i64]),
@@ -9,9 +9,10 @@ pub enum Call {
     Pop,
     Set(Strategy),
     DropAll,
+    Forget(u64),
 }
 
-/// A call, its answer, and the list after it, each activation as `RULE:SALIENCE`.
+/// A call, its answer, and the list after it, each activation as `MATCH:SALIENCE`.
 pub struct Step {
     pub call: Call,
     pub answer: &'static str,
@@ -19,7 +20,7 @@ pub struct Step {
 }
 
 /// From nothing.
-pub const STEPS: [Step; 20] = [
+pub const STEPS: [Step; 22] = [
     Step {
         call: Call::Pop,
         answer: "none",
@@ -38,6 +39,11 @@ pub const STEPS: [Step; 20] = [
     Step {
         call: Call::Has(9),
         answer: "no",
+        list: "4:5 2:5 3:0 1:0 ",
+    },
+    Step {
+        call: Call::Forget(0),
+        answer: "",
         list: "4:5 2:5 3:0 1:0 ",
     },
     Step {
@@ -93,6 +99,11 @@ pub const STEPS: [Step; 20] = [
     Step {
         call: Call::Has(5),
         answer: "no",
+        list: "",
+    },
+    Step {
+        call: Call::Forget(0),
+        answer: "",
         list: "",
     },
     Step {

@@ -1,54 +1,53 @@
-use Rattle.std.proofs.Common.{◌≡◌, ℕ, IfSome, Option, Some, ap, rules, subst, ◌∙◌}
+use Rattle.std.proofs.Common.{◌≡◌, ◌∙◌, None, Some, ap, rules, subst, sym}
+use Rattle.std.proofs.lemmas.Result.{on_err_weaker, on_ok_weaker}
 use Rattle.std.specs.BTreeMap.{insert_entry}
-use Rattle.cb_agenda.proofs.CurrentLaws.{without_absent}
-use Rattle.cb_agenda.proofs.LaneCalls.{on_err, on_ok}
-use Rattle.cb_agenda.specs.Agendas.{Entries, without_key}
-use Rattle.cb_agenda.specs.Internal.{Held, IsAdded, current, entry_at}
+use Rattle.cb_agenda.proofs.NumberLaws.{changes_active, gets_after, names_more}
+use Rattle.cb_agenda.specs.Agendas.{Entries}
+use Rattle.cb_agenda.specs.Internal.{GetsName, active_at, active_in}
 use Rattle.cb_agenda.specs.Ranks.{rank_cmp}
+use Rattle.cb_agenda.specs.declared.rank.Rank.{Rank}
+use Rattle.cb_match_table.specs.MatchTables.{Held, entry_at}
 use Rattle.cb_matches.specs.Keys.{KeyValue}
 use Rattle.cb_number_map.specs.Filed.{ChangesAt}
 use Rattle.cb_agenda.proofs.due.put_in.Goals as goal
 
-pub push_number-requires-in-None : goal.push_number-requires-in-None
-push_number-requires-in-None c = record { above = (c.requires.above.0, c.remove_from.ensures.stamped c.requires.above.0 c.requires.above.1, c.requires.above.2) }
+pub push_place-requires : goal.push_place-requires
+push_place-requires c = record { above = (c.requires.above.0, c.remove_from.ensures.stamped c.requires.above.0 c.requires.above.1, c.requires.above.2) }
 
-pub returns-in-Some-clause-filed : goal.returns-in-Some-clause-filed
-returns-in-Some-clause-filed c =
+pub returns-clause-filed : goal.returns-clause-filed
+returns-clause-filed c =
+    let mid = c.remove_from.new.activations in
+    let place = c.in_ok-place.place in
+    let k = c.args.key.now in
+    let own : c.in_ok-own.own ≡ k = search rules in
+    let change : ChangesAt (active_at mid) (active_at c.add.new.self) place (Some (record { key = k; rank = c.args.rank })) =
+    subst (λ (l : KeyValue). ChangesAt (active_at mid) (active_at c.add.new.self) place (Some (record { key = l; rank = c.args.rank }))) own (changes_active mid c.add.new.self place _ c.in_ok-place.ensures.ok) in
+    c.push_place.ensures.filed (active_at mid) k c.remove_from.ensures.filed (ap active_in c.in_ok-place.ensures.free) change
+
+pub returns-clause-due : goal.returns-clause-due
+returns-clause-due c =
+    let mid = c.remove_from.new.activations in
+    let place = c.in_ok-place.place in
+    let k = c.args.key.now in
+    let own : c.in_ok-own.own ≡ k = search rules in
+    let change : ChangesAt (active_at mid) (active_at c.add.new.self) place (Some (record { key = k; rank = c.args.rank })) =
+    subst (λ (l : KeyValue). ChangesAt (active_at mid) (active_at c.add.new.self) place (Some (record { key = l; rank = c.args.rank }))) own (changes_active mid c.add.new.self place _ c.in_ok-place.ensures.ok) in
+    on_ok_weaker c.push_place.result
+    (λ due. due (active_at mid) k c.remove_from.ensures.filed (ap active_in c.in_ok-place.ensures.free) change
+    ∙ ap (λ (fs : Entries). insert_entry rank_cmp fs c.args.rank k) c.remove_from.ensures.due)
+    c.push_place.ensures.due
+
+pub returns-clause-names : goal.returns-clause-names
+returns-clause-names c =
     let old = c.args.activations.now in
+    let mid = c.remove_from.new.activations in
     let k = c.args.key.now in
-    let added : IsAdded old c.add_new.new.self k c.args.rank c.in-Some.number = subst (λ (o : Option ℕ). IfSome o (IsAdded old c.add_new.new.self k c.args.rank)) c.in-Some.is c.in_ok-number.ensures.some in
-    c.push_number.ensures.filed (entry_at old) k c.requires.filed added.free added.change
+    let n = c.args.number in
+    let own : c.in_ok-own.own ≡ k = search rules in
+    let gets : GetsName mid c.add.new.self k n = subst (λ (l : KeyValue). GetsName mid c.add.new.self l n) own (names_more mid c.add.new.self c.in_ok-place.place c.in_ok-own.own n c.args.rank c.in_ok-place.ensures.ok) in
+    on_ok_weaker c.push_place.result
+    (λ same. gets_after old mid c.push_place.new.activations k n c.remove_from.ensures.names (subst (λ (held : Held Rank). GetsName mid held k n) (sym same) gets))
+    c.push_place.ensures.same
 
-pub returns-in-Some-clause-due : goal.returns-in-Some-clause-due
-returns-in-Some-clause-due c =
-    let old = c.args.activations.now in
-    let k = c.args.key.now in
-    let added : IsAdded old c.add_new.new.self k c.args.rank c.in-Some.number = subst (λ (o : Option ℕ). IfSome o (IsAdded old c.add_new.new.self k c.args.rank)) c.in-Some.is c.in_ok-number.ensures.some in
-    on_ok _ _ c.push_number.result
-    (λ due. due (entry_at old) k c.requires.filed added.free added.change
-    ∙ ap (λ (fs : Entries). insert_entry rank_cmp fs c.args.rank k) (without_absent (entry_at old) k added.absent c.args.lanes.now))
-    c.push_number.ensures.due
-
-pub returns-in_ok-number-in-None-clause-filed : goal.returns-in_ok-number-in-None-clause-filed
-returns-in_ok-number-in-None-clause-filed c =
-    let find = entry_at c.remove_from.new.activations in
-    let k = c.args.key.now in
-    let own : c.in_ok-own-in-None.own ≡ k = search rules in
-    let change : ChangesAt find (entry_at c.add.new.self) c.in_ok-number-in-None.number (Some (record { key = k; rank = c.args.rank })) = subst (λ (l : KeyValue). ChangesAt find (entry_at c.add.new.self) c.in_ok-number-in-None.number (Some (record { key = l; rank = c.args.rank }))) own c.in_ok-number-in-None.ensures.ok in
-    c.push_number-in-None.ensures.filed find k c.remove_from.ensures.filed c.in_ok-number-in-None.ensures.free change
-
-pub returns-in_ok-number-in-None-clause-due : goal.returns-in_ok-number-in-None-clause-due
-returns-in_ok-number-in-None-clause-due c =
-    let find = entry_at c.remove_from.new.activations in
-    let k = c.args.key.now in
-    let own : c.in_ok-own-in-None.own ≡ k = search rules in
-    let change : ChangesAt find (entry_at c.add.new.self) c.in_ok-number-in-None.number (Some (record { key = k; rank = c.args.rank })) = subst (λ (l : KeyValue). ChangesAt find (entry_at c.add.new.self) c.in_ok-number-in-None.number (Some (record { key = l; rank = c.args.rank }))) own c.in_ok-number-in-None.ensures.ok in
-    let same : c.add_new.new.self ≡ c.args.activations.now = c.in_ok-number.ensures.none c.in-None.is in
-    on_ok _ _ c.push_number-in-None.result
-    (λ due. due find k c.remove_from.ensures.filed c.in_ok-number-in-None.ensures.free change
-    ∙ ap (λ (fs : Entries). insert_entry rank_cmp fs c.args.rank k) (c.remove_from.ensures.due ∙ ap (λ (held : Held). without_key (current (entry_at held) c.args.lanes.now) k) same))
-    c.push_number-in-None.ensures.due
-
-pub returns-in_ok-number-in-None-clause-err : goal.returns-in_ok-number-in-None-clause-err
-returns-in_ok-number-in-None-clause-err c =
-    on_err _ _ c.push_number-in-None.result (λ more n h. more n (c.remove_from.ensures.stamped n h)) c.push_number-in-None.ensures.err
+pub returns-clause-err : goal.returns-clause-err
+returns-clause-err c = on_err_weaker c.push_place.result (λ more n h. more n (c.remove_from.ensures.stamped n h)) c.push_place.ensures.err

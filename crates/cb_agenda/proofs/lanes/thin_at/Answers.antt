@@ -3,15 +3,15 @@ use Rattle.std.specs.BTreeMap.{get, is_at}
 use Rattle.std.specs.Map.{lookup, set_value}
 use Rattle.cb_agenda.proofs.LaneCalls.{found_set, none_set, some_same, thin_lane}
 use Rattle.cb_agenda.proofs.LaneLaws.{saliences_rise}
-use Rattle.cb_agenda.specs.Internal.{Line, laned, entry_at, stays}
+use Rattle.cb_agenda.specs.Internal.{Line, laned, active_at, stays}
 use Rattle.cb_agenda.proofs.lanes.thin_at.Goals as goal
 
 pub returns-in-Some-clause-thinned : goal.returns-in-Some-clause-thinned
 returns-in-Some-clause-thinned c =
     let level : to_z w64 (of_z w64 c.args.salience) ≡ c.args.salience = search rules in
     let new = (c.get_mut.follows.lender c.thin.new.self).entries in
-    subst (λ (u : ℤ). (laned new ≡ laned c.args.lanes.now.entries) ⊎ (laned new ≡ filter (stays (entry_at c.args.activations.now) u) (laned c.args.lanes.now.entries))) level
-    (thin_lane (entry_at c.args.activations.now) (to_z w64 (of_z w64 c.args.salience)) c.in-Some.lane.now c.thin.new.self c.args.lanes.now.entries new
+    subst (λ (u : ℤ). (laned new ≡ laned c.args.lanes.now.entries) ⊎ (laned new ≡ filter (stays (active_at c.args.activations.now) u) (laned c.args.lanes.now.entries))) level
+    (thin_lane (active_at c.args.activations.now) (to_z w64 (of_z w64 c.args.salience)) c.in-Some.lane.now c.thin.new.self c.args.lanes.now.entries new
     (saliences_rise c.args.lanes.now.entries c.get_mut.ensures.ordered) (sym c.in-Some.ensures.value) (c.get_mut.follows.holds c.thin.new.self).0 c.thin.ensures)
 
 pub returns-in-Some-clause-set : goal.returns-in-Some-clause-set

@@ -9,9 +9,9 @@ use Rattle.cb_session.proofs.listing.put_agenda_lines.Goals as goal
 pub returns-in_err-activations : goal.returns-in_err-activations
 returns-in_err-activations g c =
     let r : c.from_residual.result ≡ Err stop.NoMemory = search rules in
-    puts_as g.K.Sink.writes _ _ _ _ _ _ (ap stop_extent r) refl (puts_nothing g.K.Sink.writes _ (agenda_lines c.args.rules.now (agenda_list c.args.agenda.now)) c.requires)
+    puts_as g.K.Sink.writes _ _ _ _ _ _ (ap stop_extent r) refl (puts_nothing g.K.Sink.writes _ (agenda_lines c.args.rules.now (agenda_list c.args.agenda.now.agenda)) c.requires)
 
 pub returns : goal.returns
 returns g c =
-    let all : c.as_slice.result.now ≡ agenda_list c.args.agenda.now = search rules in
+    let all : c.as_slice.result.now ≡ agenda_list c.args.agenda.now.agenda = search rules in
     puts_as g.K.Sink.writes _ _ _ _ _ _ refl (ap (agenda_lines c.args.rules.now) (sym all)) c.put_activation_lines.ensures

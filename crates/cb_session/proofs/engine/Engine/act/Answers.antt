@@ -18,7 +18,7 @@ returns-in-Err g c =
     let inside = c.self.inside in
     let state : State = record { world = inside.world; deffacts = inside.deffacts; globals = inside.globals; is_faulted = inside.is_faulted } in
     let reading = reading_of c.args.item.now in
-    let tells = refused_so state reading c.relations.result.now c.env.result.now c.memory.result.now c.rules.result.now inside.deffacts c.relations.ensures c.env.ensures c.memory.ensures c.rules.ensures refl c.in-Err.refused c.in-Err.ensures in
+    let tells = refused_so state reading c.relations.result.now c.env.result.now c.memory.result.now.memory c.rules.result.now inside.deffacts c.relations.ensures c.env.ensures c.memory.ensures c.rules.ensures refl c.in-Err.refused c.in-Err.ensures in
     went_as g.K.Sink.writes _ _ _ _ _ _ _ (ap Err c.from.ensures) (ap (acted reading) (sym c.self.view_is)) (went_refused g.K.Sink.writes _ state reading c.in-Err.refused c.requires tells)
 
 pub returns-in_err-value : goal.returns-in_err-value
@@ -27,7 +27,7 @@ returns-in_err-value g c =
     let state : State = record { world = inside.world; deffacts = inside.deffacts; globals = inside.globals; is_faulted = inside.is_faulted } in
     let reading = reading_of c.args.item.now in
     let request = request_by c.in-Ok.request in
-    let is = requested_so state reading c.relations.result.now c.env.result.now c.memory.result.now c.rules.result.now inside.deffacts c.relations.ensures c.env.ensures c.memory.ensures c.rules.ensures refl (Ok request) c.in-Ok.ensures in
+    let is = requested_so state reading c.relations.result.now c.env.result.now c.memory.result.now.memory c.rules.result.now inside.deffacts c.relations.ensures c.env.ensures c.memory.ensures c.rules.ensures refl (Ok request) c.in-Ok.ensures in
     let r : c.from_residual.result ≡ Err c.in_err-value.field-0.0 = search rules in
     went_as g.K.Sink.writes _ _ _ _ _ _ _ r (ap (acted reading) (sym c.self.view_is) ∙ acted-request state reading request is)
     (went_off g.K.Sink.writes _ _ _ c.in_err-value.field-0.0 (performed request state) shown c.in_err-value.ensures)
@@ -38,7 +38,7 @@ returns-in_err-show g c =
     let state : State = record { world = inside.world; deffacts = inside.deffacts; globals = inside.globals; is_faulted = inside.is_faulted } in
     let reading = reading_of c.args.item.now in
     let request = request_by c.in-Ok.request in
-    let is = requested_so state reading c.relations.result.now c.env.result.now c.memory.result.now c.rules.result.now inside.deffacts c.relations.ensures c.env.ensures c.memory.ensures c.rules.ensures refl (Ok request) c.in-Ok.ensures in
+    let is = requested_so state reading c.relations.result.now c.env.result.now c.memory.result.now.memory c.rules.result.now inside.deffacts c.relations.ensures c.env.ensures c.memory.ensures c.rules.ensures refl (Ok request) c.in-Ok.ensures in
     let r : c.from_residual-in_err-show.result ≡ Err (break.Stop c.in_err-show.field-0.0) = search rules in
     went_as g.K.Sink.writes _ _ _ _ _ _ _ r (ap (acted reading) (sym c.self.view_is) ∙ acted-request state reading request is)
     (went_not_shown g.K.Sink.writes _ _ _ state _ request c.in_ok-value.value c.in_err-show.field-0.0 c.in_ok-value.ensures c.in_err-show.ensures)
@@ -49,6 +49,6 @@ returns g c =
     let state : State = record { world = inside.world; deffacts = inside.deffacts; globals = inside.globals; is_faulted = inside.is_faulted } in
     let reading = reading_of c.args.item.now in
     let request = request_by c.in-Ok.request in
-    let is = requested_so state reading c.relations.result.now c.env.result.now c.memory.result.now c.rules.result.now inside.deffacts c.relations.ensures c.env.ensures c.memory.ensures c.rules.ensures refl (Ok request) c.in-Ok.ensures in
+    let is = requested_so state reading c.relations.result.now c.env.result.now c.memory.result.now.memory c.rules.result.now inside.deffacts c.relations.ensures c.env.ensures c.memory.ensures c.rules.ensures refl (Ok request) c.in-Ok.ensures in
     went_as g.K.Sink.writes _ _ _ _ _ _ _ refl (ap (acted reading) (sym c.self.view_is) ∙ acted-request state reading request is)
     (went_shown g.K.Sink.writes _ _ _ state _ request c.in_ok-value.value c.in_ok-value.ensures c.in_ok-show.ensures)
