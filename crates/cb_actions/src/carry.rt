@@ -186,7 +186,7 @@ impl<M: Matcher<Mark>> World<M> {
             (carried_values function [] (terms_of exprs.now) self.old) }
         ensures fine { OnOk result (out.new.fault ≡ false) }
     {
-        let mut values = self.no_values();
+        let mut values = Vec::new(self.alloc);
         for expr in exprs {
             let value = self.carry_value(expr, out)?;
             let is_last = ends(function, &value);

@@ -62,7 +62,7 @@ impl<M: Matcher<Mark>> World<M> {
     fn one(&self, value: Value) -> Result<Vec<Value>, NoMemory>
         ensures { IfOk result (λ values. values.items ≡ value ∷ []) }
     {
-        let mut values = self.no_values();
+        let mut values = Vec::with_capacity(self.alloc, 1)?;
         values.push(value)?;
         Ok(values)
     }

@@ -226,13 +226,6 @@ impl<M: Matcher<Mark>> World<M> {
         Constants::made(self.alloc, &mut self.constants)?.truth(false)
     }
 
-    /// No values yet.
-    pub(crate) fn no_values(&self) -> Vec<Value>
-        ensures { result.items ≡ [] }
-    {
-        Vec::new(self.alloc)
-    }
-
     /// What a function without an effect returns for these values.
     pub(crate) fn call(
         &mut self,
@@ -403,7 +396,7 @@ fn parts_of(alloc: Global, shape: &FactShape, values: Vec<Value>) -> Result<Part
 fn give_each(alloc: Global, names: &[Name], values: Vec<Value>) -> Result<Vec<GivenSlot>, NoMemory>
     ensures { IfOk result (λ given. given.items ≡ each_given names.now values.items) }
 {
-    let mut given = Vec::new(alloc);
+    let mut given = Vec::with_capacity(alloc, names.len())?;
     for value in values {
         let Some(name) = names.get(given.len()) else {
             return Ok(given);
@@ -416,7 +409,7 @@ fn give_each(alloc: Global, names: &[Name], values: Vec<Value>) -> Result<Vec<Gi
 fn give_one(alloc: Global, name: &Name, value: Value) -> Result<GivenSlot, NoMemory>
     ensures { IfOk result (λ slot. slot ≡ (name.now, value ∷ [])) }
 {
-    let mut values = Vec::new(alloc);
+    let mut values = Vec::with_capacity(alloc, 1)?;
     values.push(value)?;
     Ok(GivenSlot::new(name.clone()?, values))
 }

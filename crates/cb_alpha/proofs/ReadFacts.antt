@@ -1,10 +1,12 @@
 -- The facts of an alpha memory that can be read: those that are there, that were, and the one that came.
-use Rattle.std.proofs.Common.{◌≡◌, ◌≢◌, ◌∙◌, ℕ, Bool, true, false, Option, Some, None, ap, arith, cond, nat_eq, refl, sym}
+use Rattle.std.proofs.Common.{◌≡◌, ◌≢◌, ◌∙◌, ℕ, Bool, true, false, List, Option, Some, None, ap, arith, cond, nat_eq, refl, slice_get, sym}
 use Rattle.std.proofs.lemmas.Bool.{eqb-true, false_from_ne_true}
 use Rattle.std.specs.Option.{option_map_or}
-use Rattle.cb_alpha.specs.AlphaMemories.{AlphaMemoryValue, candidate_in, index_of, live, live_in}
-use Rattle.cb_alpha.specs.Turning.{came_in, is_number, were_in}
+use Rattle.cb_alpha.specs.AlphaMemories.{AlphaMemoryValue, AreSameFields, candidate_in, index_of, live, live_in, values_in}
+use Rattle.cb_alpha.specs.Turning.{HasJoin, IsApart, came_in, is_number, were_in}
 use Rattle.cb_facts.specs.Facts.{FactValue}
+use Rattle.cb_facts.specs.declared.value.Value.{Value}
+use Rattle.cb_fit.specs.declared.join_fields.JoinField.{JoinField}
 use Rattle.cb_matches.proofs.Lists.{by_test}
 
 pub same_some : {A : Type 0} {a b : A} (o : Option A) → o ≡ Some a → o ≡ Some b → a ≡ b
@@ -84,3 +86,16 @@ module _ (m : AlphaMemoryValue) (n : ℕ) where
 pub with_index : (o : Option (ℕ × FactValue)) (ix : ℕ) → index_of o ≡ Some ix → (f : ℕ × FactValue) × (o ≡ Some f) × (f.0 ≡ ix)
 with_index None ix h = absurd (let no : None ≡ Some ix = h in cc)
 with_index (Some f) ix h = (f, refl, (let e : Some f.0 ≡ Some ix = h in cc))
+
+-- where it didn't go too, the fact that came is there
+pub came_live : (m : AlphaMemoryValue) (n : ℕ) → m.come ≡ Some n → IsApart m → live m n ≡ candidate_in m.candidates n
+came_live m n come apart = read_live m n (false_from_ne_true (is_number m.gone n) (λ t. apart n come (number_is m.gone n t)))
+
+same_values : (fs fields : List JoinField) → AreSameFields fs fields → (o : Option (ℕ × FactValue)) → values_in fs o ≡ values_in fields o
+same_values fs fields same None = refl
+same_values fs fields same (Some f) = same f.1.content
+
+-- the values by which a fact is found
+pub found_values : (m : AlphaMemoryValue) (join n : ℕ) (fields : List JoinField) → HasJoin m join fields → (o : Option (List Value))
+    → ((fs : List JoinField) → slice_get m.joins join ≡ Some fs → o ≡ values_in fs (live m n)) → o ≡ values_in fields (live m n)
+found_values m join n fields has o is = is has.0 has.1 ∙ same_values has.0 fields has.2 (live m n)

@@ -1,5 +1,5 @@
 -- The values of fields and of variables, found one after another.
-use Rattle.std.proofs.Common.{◌≡◌, List, [], ◌∷◌, ◌++◌, Option, Some, None, ap, ap₂, append_assoc, arith, get_or, length, option_map, refl, sym}
+use Rattle.std.proofs.Common.{◌≡◌, List, [], ◌∷◌, ◌++◌, Option, Some, None, ap, ap₂, append_assoc, arith, get_or, length, option_map, refl, sym, ◌∙◌}
 use Rattle.cb_facts.specs.declared.value.Value.{Value}
 use Rattle.cb_alpha.specs.JoinValues.{with_first}
 use Rattle.cb_fit.specs.declared.join_fields.JoinField.{JoinField}
@@ -19,3 +19,12 @@ two_fields [] a b l e f = absurd (omega (arith, l))
 two_fields (x ∷ []) a b l e f = absurd (omega (arith, l))
 two_fields (x ∷ y ∷ []) a b l e f = ap₂ (λ (p q : JoinField). p ∷ q ∷ []) (sym e) (sym f)
 two_fields (x ∷ y ∷ z ∷ zs) a b l e f = absurd (omega (arith, l))
+
+-- and three
+pub three_fields : (fields : List JoinField) (a b d : JoinField) → length fields ≡ 3 → a ≡ get_or fields 0 a → b ≡ get_or fields 1 b → d ≡ get_or fields 2 d → fields ≡ a ∷ b ∷ d ∷ []
+three_fields [] a b d l e f g = absurd (omega (arith, l))
+three_fields (x ∷ []) a b d l e f g = absurd (omega (arith, l))
+three_fields (x ∷ y ∷ []) a b d l e f g = absurd (omega (arith, l))
+three_fields (x ∷ y ∷ z ∷ []) a b d l e f g =
+    ap (λ (it : JoinField). it ∷ y ∷ z ∷ []) (sym e) ∙ (ap (λ (it : JoinField). a ∷ it ∷ z ∷ []) (sym f) ∙ ap (λ (it : JoinField). a ∷ b ∷ it ∷ []) (sym g))
+three_fields (x ∷ y ∷ z ∷ w ∷ ws) a b d l e f g = absurd (omega (arith, l))

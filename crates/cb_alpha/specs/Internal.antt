@@ -6,9 +6,10 @@ pub mod Numbered
 use Rattle.std.specs.Prelude.{List}
 use Rattle.cb_facts.specs.declared.value.Value.{Value}
 use Rattle.cb_alpha.specs.declared.join_values.Kept.{Kept}
-use Rattle.cb_alpha.specs.declared.join_values.Kept.TheVariants.{One, Two, Many}
+use Rattle.cb_alpha.specs.declared.join_values.Kept.TheVariants.{One, Two, Three, Many}
 
 abbrev pub values_in : Kept → List Value
 values_in (One value) = value
 values_in (Two values) = values
+values_in (Three values) = values
 values_in (Many values) = values.items

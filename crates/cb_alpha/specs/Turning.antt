@@ -40,13 +40,17 @@ pub record IsAlphaOver (p : PatternValue) (fs : IndexedFacts) (m : AlphaMemoryVa
   pub none_gone : m.gone ≡ None
   pub none_come : m.come ≡ None
 
+-- the fact that came isn't the one that went
+abbrev pub IsApart : AlphaMemoryValue → Type 0
+IsApart m = (n : ℕ) → m.come ≡ Some n → m.gone ≡ Some n → ⊥
+
 -- a change leads from one list of facts to another: the memory had the candidates of the first and has those of the second, each
 -- index under one number. A fact came or one went, not both
 pub record AlphaTurns (p : PatternValue) (m : AlphaMemoryValue) (fs fs' : IndexedFacts) : Type 0 where
   pub was : AreCandidates p fs (were_in m)
   pub is : AreCandidates p fs' (live m)
   pub one : IsOncePerIndex m
-  pub apart : (n : ℕ) → m.come ≡ Some n → m.gone ≡ Some n → ⊥
+  pub apart : IsApart m
   pub single : (m.gone ≡ None) ⊎ (m.come ≡ None)
 
 -- the facts are found by the values of these fields, under this number of a join

@@ -1,6 +1,6 @@
 //! An alpha memory.
 ghost use Rattle.std.specs.Prelude.{◌≡◌, ◌≢◌, ◌↔◌, [], ℕ, IfOk, IfSome, List, None, OnErr, Some, option_copied, slice_get, true};
-ghost use Rattle.cb_alpha.specs.AlphaMemories.{AreFactsWith, AreFirstInFacts, AreLastInFacts, AreLiveNumbers, GainsFact, GainsJoin, IsEnded, IsSameMemory, LosesFact, candidate_in, index_of, live};
+ghost use Rattle.cb_alpha.specs.AlphaMemories.{AreFactsWith, AreFirstInFacts, AreLastInFacts, AreLiveNumbers, GainsFact, GainsJoin, IsEnded, IsSameMemory, LosesFact, candidate_in, index_of, live, values_in};
 ghost use Rattle.cb_alpha.specs.Turning.{were_in};
 ghost use Rattle.cb_fit.specs.declared.join_fields.JoinField.{JoinField as Field};
 
@@ -25,13 +25,13 @@ pub struct AlphaMemory {
     alloc: Global,
     /// Those that are there, and until the end of a change the one that is gone.
     candidates: Slab<Candidate>,
+    gone: Option<u32>,
+    come: Option<u32>,
+    joins: Vec<JoinIndex>,
     /// The numbers of those that are there, by index.
     numbers: FactNumbers,
     /// The same numbers, all in the group 0.
     all: Groups,
-    gone: Option<u32>,
-    come: Option<u32>,
-    joins: Vec<JoinIndex>,
 }
 
 impl Model for AlphaMemory {
@@ -110,6 +110,15 @@ impl AlphaMemory {
         ensures { AreLiveNumbers self.now result.now }
     {
         self.all.members(0)
+    }
+
+    /// The values of the fact of a number in the fields of a join, if it is there and has them all. They are as they were filed, so it
+    /// takes constant time.
+    pub fn values_of(&self, join: usize, number: u32) -> Option<&JoinValues>
+        ensures { (fields : List Field) → slice_get self.now.joins join ≡ Some fields
+            → option_copied result ≡ values_in fields (live self.now number) }
+    {
+        self.joins.get(join)?.values_of(number)
     }
 
     /// The numbers of the facts with these values in the fields of a join.

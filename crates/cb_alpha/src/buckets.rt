@@ -97,6 +97,14 @@ impl Buckets {
         drop_empty(&mut self.numbers, &mut self.buckets, &self.members, bucket);
     }
 
+    /// The values of a member, if it is filed.
+    pub(crate) fn values_of(&self, member: u32) -> Option<&JoinValues>
+        ensures { option_copied result ≡ values_at self.now member }
+    {
+        let bucket = self.members.group(member)?;
+        self.buckets.get(bucket as usize)
+    }
+
     /// Whether nothing is filed.
     pub fn is_empty(&self) -> bool
         ensures { result ≡ true → (member : ℕ) → values_at self.now member ≡ None }

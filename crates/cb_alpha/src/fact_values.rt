@@ -19,6 +19,7 @@ pub fn values_of_fact(
     match fields {
         [field] => value_of_fact(field, fact),
         [first, second] => values_of_two(first, second, fact),
+        [first, second, third] => values_of_three(first, second, third, fact),
         _ => values_of_many(alloc, fields, fact),
     }
 }
@@ -65,6 +66,28 @@ fn values_of_two(
     };
     match second.value_in(fact)? {
         Some(second) => Ok(Some(JoinValues::two([first, second]))),
+        None => Ok(None),
+    }
+}
+
+/// The same of three fields.
+fn values_of_three(
+    first: &JoinField,
+    second: &JoinField,
+    third: &JoinField,
+    fact: &Fact,
+) -> Result<Option<JoinValues>, NoMemory>
+    ensures { IfOk result (λ found. found
+        ≡ field_values (first.now ∷ second.now ∷ third.now ∷ []) fact.now.content) }
+{
+    let Some(first) = first.value_in(fact)? else {
+        return Ok(None);
+    };
+    let Some(second) = second.value_in(fact)? else {
+        return Ok(None);
+    };
+    match third.value_in(fact)? {
+        Some(third) => Ok(Some(JoinValues::three([first, second, third]))),
         None => Ok(None),
     }
 }

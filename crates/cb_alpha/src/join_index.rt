@@ -91,6 +91,13 @@ impl JoinIndex {
         self.facts = Buckets::with_order(self.alloc, self.is_ordered);
     }
 
+    /// The values of a fact, if it is filed.
+    pub(crate) fn values_of(&self, number: u32) -> Option<&JoinValues>
+        ensures { option_copied result ≡ values_at self.now.facts number }
+    {
+        self.facts.values_of(number)
+    }
+
     /// The numbers of the facts with these values.
     pub(crate) fn facts_with(&self, values: &JoinValues) -> &[u32]
         ensures { AreWithValues self.now.facts values.now result.now }

@@ -14,17 +14,18 @@ use std::alloc::Global;
 use std::cmp::Ordering;
 use std::marker::Model;
 
-/// Where the values stand: one or two in place, as most patterns are joined on one variable or two.
+/// Where the values stand: up to three in place, as most patterns are joined on no more variables.
 #[derive(Drop)]
 enum Kept {
     One([Value; 1]),
     Two([Value; 2]),
+    Three([Value; 3]),
     Many(Vec<Value>),
 }
 
 /// Values of variables, in the order of the fields that have to be equal to them.
 ///
-/// One value takes no memory of its own, and neither do two. Contracts see the list of the values. They compare value by value.
+/// Up to three values take no memory of their own. Contracts see the list of the values. They compare value by value.
 #[derive(Drop)]
 pub struct JoinValues {
     kept: Kept,
@@ -59,6 +60,15 @@ impl JoinValues {
         }
     }
 
+    /// Three values.
+    pub fn three(values: [Value; 3]) -> JoinValues
+        ensures { result ≡ values }
+    {
+        JoinValues {
+            kept: Kept::Three(values),
+        }
+    }
+
     /// These values, taken over.
     pub fn many(values: Vec<Value>) -> JoinValues
         ensures { result ≡ values.items }
@@ -87,6 +97,7 @@ impl JoinValues {
         match &self.kept {
             Kept::One([value]) => Ok(JoinValues::one(value.clone()?)),
             Kept::Two([first, second]) => Ok(JoinValues::two([first.clone()?, second.clone()?])),
+            Kept::Three([first, second, third]) => three_copied(first, second, third),
             Kept::Many(values) => Ok(JoinValues::many(copied(alloc, values.as_slice())?)),
         }
     }
@@ -98,9 +109,20 @@ impl JoinValues {
         match &self.kept {
             Kept::One(value) => value.as_slice(),
             Kept::Two(values) => values.as_slice(),
+            Kept::Three(values) => values.as_slice(),
             Kept::Many(values) => values.as_slice(),
         }
     }
+}
+
+/// Three values, each copied. It is refused as `NoMemory` only where a count of sharers is full.
+fn three_copied(first: &Value, second: &Value, third: &Value) -> Result<JoinValues, NoMemory>
+    ensures { IfOk result (λ copy. copy ≡ first.now ∷ second.now ∷ third.now ∷ []) }
+{
+    let first = first.clone()?;
+    let second = second.clone()?;
+    let third = third.clone()?;
+    Ok(JoinValues::three([first, second, third]))
 }
 
 /// A list of the same values. Growth is refused as `NoMemory`.
@@ -123,6 +145,7 @@ impl PartialEq for JoinValues {
         match (&self.kept, &other.kept) {
             (Kept::One([one]), Kept::One([another])) => one == another,
             (Kept::Two([a, b]), Kept::Two([c, d])) => a == c && b == d,
+            (Kept::Three([a, b, c]), Kept::Three([d, e, f])) => a == d && b == e && c == f,
             _ => self.as_slice() == other.as_slice(),
         }
     }

@@ -8,7 +8,7 @@ use cb_fit::JoinField;
 use cb_forms::NoMemory;
 use std::alloc::Global;
 
-/// The values of the variables of these fields, or `None` where one has none. Those of one field or two take no memory of their own. It is
+/// The values of the variables of these fields, or `None` where one has none. Those of up to three fields take no memory of their own. It is
 /// refused as `NoMemory` where a look-up is, or growth.
 pub fn values_of_variables<L: Lookup>(
     alloc: Global,
@@ -20,6 +20,7 @@ pub fn values_of_variables<L: Lookup>(
     match fields {
         [field] => value_of_variable(field, known),
         [first, second] => values_of_two(first, second, known),
+        [first, second, third] => values_of_three(first, second, third, known),
         _ => values_of_many(alloc, fields, known),
     }
 }
@@ -69,6 +70,28 @@ fn values_of_two<L: Lookup>(
     };
     match known.variable(&second.variable)? {
         Some(second) => Ok(Some(JoinValues::two([first, second]))),
+        None => Ok(None),
+    }
+}
+
+/// The same of three fields.
+fn values_of_three<L: Lookup>(
+    first: &JoinField,
+    second: &JoinField,
+    third: &JoinField,
+    known: &L,
+) -> Result<Option<JoinValues>, NoMemory>
+    ensures { IfOk result (λ found. found
+        ≡ variable_values (first.now ∷ second.now ∷ third.now ∷ []) (L.bindings known.now)) }
+{
+    let Some(first) = known.variable(&first.variable)? else {
+        return Ok(None);
+    };
+    let Some(second) = known.variable(&second.variable)? else {
+        return Ok(None);
+    };
+    match known.variable(&third.variable)? {
+        Some(third) => Ok(Some(JoinValues::three([first, second, third]))),
         None => Ok(None),
     }
 }

@@ -1,12 +1,15 @@
 //! What a token gives variables.
 ghost use Rattle.std.specs.Prelude.{◌≡◌, ◌++◌, IfOk, None, OnOk, false, option_copied};
+ghost use Rattle.std.specs.Option.{option_map};
 ghost use Rattle.std.specs.Rc.{rc_value};
 ghost use Rattle.cb_beta.specs.GivenValues.{IsTaken, values_read, way_by_fields, way_in};
+ghost use Rattle.cb_constraints.specs.Holding.{tested_value};
 ghost use Rattle.cb_exprs.specs.Bindings.{no_bindings, value_at, with_variables};
 ghost use Rattle.cb_fit.specs.WayValues.{way_of};
 
 use crate::marks::Sought;
 use crate::taken_fields::TakenFields;
+use cb_constraints::Tested;
 use cb_facts::{Fact, Name, Value};
 use cb_fit::Way;
 use cb_forms::NoMemory;
@@ -91,17 +94,16 @@ pub struct Gives<'a> {
     pub(crate) held: &'a Held,
 }
 
-impl Gives<'_> {
-    /// The value that it gives a variable, of which the last counts, or `None` where it gives none. The value shares its bytes or
-    /// fields. It is refused as `NoMemory` only where a count of sharers is full.
-    pub fn value(self, name: &Sought<'_>) -> Result<Option<Value>, NoMemory>
-        ensures { IfOk result (λ found. found
-            ≡ value_at name.now (with_variables (values_read self.entry) no_bindings).variables) }
+impl<'a> Gives<'a> {
+    /// What it gives a variable, borrowed: the last of its values, or `None` where it gives none.
+    pub fn find(self, name: &Sought<'_>) -> Option<Tested<'a>>
+        ensures { option_map tested_value result
+            ≡ value_at name.now (with_variables (values_read self.entry) no_bindings).variables }
     {
         match self.held {
-            Held::Nothing => Ok(None),
-            Held::Found(way) => copied(value_in(way.bound.as_slice(), name.name())),
-            Held::Fields(taken, fact) => taken.value(fact, name),
+            Held::Nothing => None,
+            Held::Found(way) => Some(Tested::Whole(value_in(way.bound.as_slice(), name.name())?)),
+            Held::Fields(taken, fact) => taken.field(fact, name),
         }
     }
 
@@ -142,16 +144,6 @@ fn value_in<'a>(bound: &'a [(Name, Value)], name: &Name) -> Option<&'a Value>
         left = others;
     }
     None
-}
-
-/// A copy of what was found.
-fn copied(found: Option<&Value>) -> Result<Option<Value>, NoMemory>
-    ensures { IfOk result (λ copy. copy ≡ option_copied found.entry) }
-{
-    match found {
-        Some(value) => Ok(Some(value.clone()?)),
-        None => Ok(None),
-    }
 }
 
 /// Adds variables and their values behind these.

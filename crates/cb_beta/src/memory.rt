@@ -24,12 +24,12 @@ const ROOM: usize = 64;
 pub struct BetaMemory {
     /// Those that are there, and until the end of a change those that are gone.
     tokens: Slab<Token>,
+    gone: Vec<u32>,
+    come: Vec<u32>,
     /// Those that are there, by the number of their parent.
     children: LinkedGroups,
     /// Those of them that took a fact, by its number.
     with_fact: LinkedGroups,
-    gone: Vec<u32>,
-    come: Vec<u32>,
 }
 
 impl Model for BetaMemory {

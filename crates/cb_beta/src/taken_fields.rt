@@ -1,11 +1,14 @@
 //! The fields of a fact that give variables their values.
-ghost use Rattle.std.specs.Prelude.{◌≡◌, ◌++◌, IfOk, None, OnOk, false};
+ghost use Rattle.std.specs.Prelude.{◌≡◌, ◌++◌, None, OnOk, false};
+ghost use Rattle.std.specs.Option.{option_map};
 ghost use Rattle.cb_beta.specs.GivenValues.{values_taken};
+ghost use Rattle.cb_constraints.specs.Holding.{tested_value};
 ghost use Rattle.cb_exprs.specs.Bindings.{no_bindings, value_at, with_variables};
 ghost use Rattle.cb_facts.specs.Facts.{FactValue};
 ghost use Rattle.cb_fit.specs.Decided.{taken_by};
 
 use crate::marks::{Sought, marks_of};
+use cb_constraints::Tested;
 use cb_facts::{Fact, Name, Value};
 use cb_fit::{Cuts, JoinField};
 use cb_forms::NoMemory;
@@ -61,16 +64,16 @@ impl TakenFields {
         name.is_marked(self.marks)
     }
 
-    /// The value that the fields give a variable in a fact, of which the last counts. Where they don't give it, that is mostly seen
-    /// without a look at their names.
-    pub(crate) fn value(&self, fact: &Fact, name: &Sought<'_>) -> Result<Option<Value>, NoMemory>
-        ensures { IfOk result (λ found. found ≡ value_at name.now
-            (with_variables (values_taken self.now.fields fact.now.content) no_bindings).variables) }
+    /// The field of a fact that gives a variable its value, of which the last counts, or `None` where none does. That none does is mostly
+    /// seen without a look at their names.
+    pub(crate) fn field<'a>(&self, fact: &'a Fact, name: &Sought<'_>) -> Option<Tested<'a>>
+        ensures { option_map tested_value result ≡ value_at name.now
+            (with_variables (values_taken self.now.fields fact.now.content) no_bindings).variables }
     {
         if !name.is_marked(self.marks) {
-            return Ok(None);
+            return None;
         }
-        value_of_fields(self.fields.as_slice(), fact, name.name())
+        field_of(self.fields.as_slice(), fact, name.name())
     }
 
     /// Adds the variables of the fields and their values in a fact behind these, in order.
@@ -86,34 +89,30 @@ impl TakenFields {
     }
 }
 
-/// The value that these fields of a fact give a variable, of which the last counts.
-fn value_of_fields(
-    fields: &[JoinField],
-    fact: &Fact,
-    name: &Name,
-) -> Result<Option<Value>, NoMemory>
-    ensures { IfOk result (λ found. found ≡ value_at name.now
-        (with_variables (values_taken fields.now fact.now.content) no_bindings).variables) }
+/// The same of these fields.
+fn field_of<'a>(fields: &[JoinField], fact: &'a Fact, name: &Name) -> Option<Tested<'a>>
+    ensures { option_map tested_value result ≡ value_at name.now
+        (with_variables (values_taken fields.now fact.now.content) no_bindings).variables }
 {
     let mut left = fields;
     while let Some((last, others)) = left.split_last() {
-        if let Some(value) = value_of_field(last, fact, name)? {
-            return Ok(Some(value));
+        if let Some(field) = own_field(last, fact, name) {
+            return Some(field);
         }
         left = others;
     }
-    Ok(None)
+    None
 }
 
-/// The value that a field of a fact gives a variable, if that is the field's own.
-fn value_of_field(field: &JoinField, fact: &Fact, name: &Name) -> Result<Option<Value>, NoMemory>
-    ensures { IfOk result (λ found. found ≡ value_at name.now
-        (with_variables (taken_by no_bindings fact.now.content field.now) no_bindings).variables) }
+/// The same of one field: it, if the variable is its own.
+fn own_field<'a>(field: &JoinField, fact: &'a Fact, name: &Name) -> Option<Tested<'a>>
+    ensures { option_map tested_value result ≡ value_at name.now
+        (with_variables (taken_by no_bindings fact.now.content field.now) no_bindings).variables }
 {
     if *name == field.variable {
-        field.value_in(fact)
+        field.field_in(fact)
     } else {
-        Ok(None)
+        None
     }
 }
 

@@ -20,8 +20,23 @@ impl BranchEnd<'_> {
         ensures { OnOk result
             (AddsInOrder (key_at self.now) numbers.now told.old.items told.new.items told_numbers.old.items told_numbers.new.items) }
     {
+        if numbers.is_empty() {
+            return Ok(());
+        }
+        self.add_some_keys(numbers, told, told_numbers)
+    }
+
+    /// The same. It is apart so that the usual case, in which there are none, stays short.
+    fn add_some_keys(
+        &self,
+        numbers: &[u32],
+        told: &mut Vec<Key>,
+        told_numbers: &mut Vec<u32>,
+    ) -> Result<(), NoMemory>
+        ensures { OnOk result
+            (AddsInOrder (key_at self.now) numbers.now told.old.items told.new.items told_numbers.old.items told_numbers.new.items) }
+    {
         match numbers {
-            [] => Ok(()),
             [only] => {
                 told_numbers.push(*only)?;
                 told.push(self.key(*only)?)?;

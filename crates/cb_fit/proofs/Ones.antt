@@ -4,7 +4,6 @@ use Rattle.std.specs.Cmp.{first_so, nat_cmp_is, second_so, unsigned_Decides, uns
 use Rattle.std.specs.Cmp.Lexicographic.{pointwise, slice_cmp, texts_ties}
 use Rattle.std.specs.List.{list_all}
 use Rattle.std.specs.Ordering.{MatchOrdering, is_eq, nat_cmp, ordering_then}
-use Rattle.cb_fit.specs.CutsMixes.{cuts_mix, mixed, mixed_all}
 
 -- so many as there are
 pub ones_are : (xs : List ℕ) → list_all (nat_eq 1) xs ≡ true → replicate (length xs) 1 ≡ xs
@@ -34,12 +33,3 @@ pub first_counts : (r s : Ordering) → r ≢ Equal → ordering_then r s ≡ r
 first_counts Less s h = refl
 first_counts Equal s h = absurd (h refl)
 first_counts Greater s h = refl
-
-mixed_one : mixed 0 1 ≡ 0
-unfolding mixed
-mixed_one = refl
-
--- they leave 0 as it is
-pub mixed_ones : (n : ℕ) → 0 ≡ cuts_mix (replicate n 1)
-mixed_ones zero = refl
-mixed_ones (suc n) = mixed_ones n ∙ ap (λ mix. mixed_all mix (replicate n 1)) (sym mixed_one)

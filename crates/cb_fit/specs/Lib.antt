@@ -1,6 +1,5 @@
 pub mod Comparisons
 pub mod ConstantFields
-pub mod CutsMixes
 pub mod Decided
 pub mod Decisions
 pub mod FieldPlaces

@@ -4,7 +4,6 @@ ghost use Rattle.std.specs.Cmp.{partial_equiv_from_equiv, po};
 ghost use Rattle.std.specs.Cmp.Lexicographic.{nat_list_cmp_total, nat_list_eq_equiv, pointwise, slice_cmp, texts_ties};
 ghost use Rattle.std.specs.List.{list_all};
 ghost use Rattle.std.specs.Ordering.{as_partial_cmp, nat_cmp};
-ghost use Rattle.cb_fit.specs.CutsMixes.{cuts_mix, mixed};
 ghost use Rattle.cb_fit.specs.Internal.Lengths.{length_at, lengths_in};
 
 use crate::short_lengths::ShortLengths;
@@ -15,9 +14,6 @@ use std::alloc::{AllocError, Global};
 use std::cmp::Ordering;
 use std::marker::Model;
 use std::rc::Rc;
-
-/// By this the mix is multiplied where a length is mixed in.
-const MULTIPLIER: u64 = 11_400_714_819_323_198_485;
 
 /// The lengths of the segments into which a pattern cuts a fact, one for each constraint in the order in which they are written.
 ///
@@ -118,18 +114,6 @@ impl Cuts {
                 lengths: Lengths::Ones(*count),
             }),
             _ => None,
-        }
-    }
-
-    /// A number that depends on the lengths alone, and that few other lengths have. Lengths of 1 alone have 0, which takes constant time;
-    /// others take a step for each.
-    pub fn mix(&self) -> u64
-        ensures { result ≡ cuts_mix self.now }
-    {
-        match &self.lengths {
-            Lengths::Ones(_) => 0,
-            Lengths::Short(lengths) => lengths.mix(),
-            Lengths::Listed(lengths) => mix_of(lengths.as_slice()),
         }
     }
 }
@@ -248,25 +232,4 @@ fn in_turn(lengths: &Lengths, others: &Lengths) -> Ordering
         Some(_) => Ordering::Less,
         None => Ordering::Equal,
     }
-}
-
-/// The mix of listed lengths.
-fn mix_of(lengths: &[u64]) -> u64
-    ensures { result ≡ cuts_mix lengths.now }
-{
-    let mut mix = 0;
-    for length in lengths {
-        mix = mixed(mix, *length);
-    }
-    mix
-}
-
-/// One more length mixed in.
-#[tactic(auto, unfolding(crate::specs::CutsMixes::mixed))]
-pub(crate) fn mixed(mix: u64, length: u64) -> u64
-    ensures { result ≡ mixed mix length }
-{
-    mix.wrapping_add(length)
-        .wrapping_add(u64::MAX)
-        .wrapping_mul(MULTIPLIER)
 }

@@ -1,12 +1,13 @@
 //! The places of fields in a fact.
 ghost use Rattle.std.specs.Prelude.{◌≡◌, IfOk};
+ghost use Rattle.std.specs.Option.{option_map};
+ghost use Rattle.cb_constraints.specs.Holding.{tested_value};
 ghost use Rattle.cb_constraints.specs.Internal.RowFields.{row_fields};
 ghost use Rattle.cb_facts.specs.Facts.{content_of};
-ghost use Rattle.cb_facts.specs.Values.{fields_in};
 ghost use Rattle.cb_fit.specs.FieldPlaces.{field_at, field_value};
 
 use crate::slots::slot_value;
-use cb_constraints::Fields;
+use cb_constraints::{Fields, Tested};
 use cb_facts::{Content, Fact, Value};
 use cb_forms::NoMemory;
 
@@ -21,39 +22,34 @@ pub struct FieldPlace {
 }
 
 impl FieldPlace {
+    /// The field in a fact, borrowed, or `None` where the fact has no such field.
+    pub fn field_in<'a>(&self, fact: &'a Fact) -> Option<Tested<'a>>
+        ensures { option_map tested_value result ≡ field_value self.now.slot self.now.field fact.now.content }
+    {
+        match (fact.content(), self.slot) {
+            (Content::Fields(fields), None) => field_at(Fields::All(fields), self.field),
+            (Content::Slots(slots), Some(place)) => {
+                field_at(Fields::Slot(slot_value(slots, place)?), self.field)
+            }
+            _ => None,
+        }
+    }
+
     /// The value of the field in a fact, or `None` where the fact has no such field. It takes no memory, and is refused as `NoMemory`
     /// only where a count of sharers is full.
     pub fn value_in(&self, fact: &Fact) -> Result<Option<Value>, NoMemory>
         ensures { IfOk result (λ v. v ≡ field_value self.now.slot self.now.field fact.now.content) }
     {
-        match (fact.content(), self.slot) {
-            (Content::Fields(fields), None) => value_at(Fields::All(fields), self.field),
-            (Content::Slots(slots), Some(place)) => match slot_value(slots, place) {
-                Some(value) => field_of(value, self.field),
-                None => Ok(None),
-            },
-            _ => Ok(None),
+        match self.field_in(fact) {
+            Some(field) => Ok(Some(field.to_value()?)),
+            None => Ok(None),
         }
     }
 }
 
-/// The field of a slot's value at a place, or `None` after the last. Mostly the value is one field.
-fn field_of(value: &Value, at: usize) -> Result<Option<Value>, NoMemory>
-    ensures { IfOk result (λ v. v ≡ field_at at (fields_in value.now)) }
+/// The field at a place, or `None` after the last.
+fn field_at<'a>(fields: Fields<'a>, at: usize) -> Option<Tested<'a>>
+    ensures { option_map tested_value result ≡ field_at at (row_fields fields.entry) }
 {
-    match value {
-        Value::Int(number) if at == 0 => Ok(Some(Value::Int(*number))),
-        Value::Symbol(bytes) if at == 0 => Ok(Some(Value::Symbol(bytes.clone()?))),
-        _ => value_at(Fields::Slot(value), at),
-    }
-}
-
-/// The value of the field at a place, or `None` after the last.
-fn value_at(fields: Fields<'_>, at: usize) -> Result<Option<Value>, NoMemory>
-    ensures { IfOk result (λ v. v ≡ field_at at (row_fields fields.entry)) }
-{
-    match fields.get(at) {
-        Some(tested) => Ok(Some(tested.to_value()?)),
-        None => Ok(None),
-    }
+    fields.get(at)
 }

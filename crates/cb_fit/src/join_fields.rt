@@ -1,7 +1,9 @@
 //! The fields of a fact that have to be equal to variables, whatever else a pattern asks.
 ghost use Rattle.std.specs.Prelude.{◌≡◌, ◌++◌, ◌∷◌, [], IfOk, OnOk, map};
+ghost use Rattle.std.specs.Option.{option_map};
 ghost use Rattle.cb_constraints.specs.Binders.{binder, binders, binders_of};
 ghost use Rattle.cb_constraints.specs.Constraints.{check_of, demand_of};
+ghost use Rattle.cb_constraints.specs.Holding.{tested_value};
 ghost use Rattle.cb_constraints.specs.PartValues.{asked_parts};
 ghost use Rattle.cb_fit.specs.FieldPlaces.{field_value};
 ghost use Rattle.cb_fit.specs.JoinFields.{fields_for, giving_fields, join_fields, place_of, value_in};
@@ -9,7 +11,7 @@ ghost use Rattle.cb_fit.specs.JoinFields.{fields_for, giving_fields, join_fields
 use crate::field_place::FieldPlace;
 use crate::placed::placed_demands;
 use crate::variable_fields::VariableFields;
-use cb_constraints::{Check, Demand, PatternParts, Test};
+use cb_constraints::{Check, Demand, PatternParts, Test, Tested};
 use cb_facts::{Fact, Name, Value};
 use cb_forms::NoMemory;
 use std::alloc::Global;
@@ -28,6 +30,13 @@ pub struct JoinField {
 }
 
 impl JoinField {
+    /// The field in a fact, borrowed, or `None` where the fact has no such field.
+    pub fn field_in<'a>(&self, fact: &'a Fact) -> Option<Tested<'a>>
+        ensures { option_map tested_value result ≡ value_in self.now fact.now.content }
+    {
+        self.place().field_in(fact)
+    }
+
     /// The value of the field in a fact, or `None` where the fact has no such field. It takes no memory, and is refused as `NoMemory`
     /// only where a count of sharers is full.
     pub fn value_in(&self, fact: &Fact) -> Result<Option<Value>, NoMemory>

@@ -2,10 +2,8 @@
 ghost use Rattle.std.specs.Prelude.{◌≡◌, ◌+◌, ◌<◌, ◌^◌, IfOk, IfSome};
 ghost use Rattle.std.specs.Cmp.Lexicographic.{slice_cmp};
 ghost use Rattle.std.specs.Ordering.{nat_cmp};
-ghost use Rattle.cb_fit.specs.CutsMixes.{cuts_mix};
 ghost use Rattle.cb_fit.specs.Internal.Lengths.{length_at};
 
-use crate::cuts::mixed;
 use cb_forms::NoMemory;
 use std::alloc::Global;
 use std::cmp::Ordering;
@@ -87,17 +85,6 @@ impl ShortLengths {
             lengths.push(*length as u64)?;
         }
         Ok(lengths)
-    }
-
-    /// Their mix.
-    pub(crate) fn mix(&self) -> u64
-        ensures { result ≡ cuts_mix self.now }
-    {
-        let mut mix = 0;
-        for length in self.as_slice() {
-            mix = mixed(mix, *length as u64);
-        }
-        mix
     }
 
     /// Their order and that of others, by the first place where they differ.

@@ -27,16 +27,16 @@ use smallvec::SmallVec;
 /// What a join node asks of a fact.
 #[derive(Drop)]
 pub struct Joining<T> {
+    /// The fields of a fact that have to be equal to variables, by which partial matches and facts find each other.
+    pub fields: Vec<JoinField>,
+    /// The tests directly behind the pattern.
+    pub tests: Vec<Expr>,
+    /// How it is joined without a test of the pattern, where that is decided by values.
+    pub by_values: Option<ByValues>,
     /// The variable of the `?f <-` before the pattern.
     pub address: Option<Name>,
     /// The pattern.
     pub pattern: Pattern<T>,
-    /// The tests directly behind the pattern.
-    pub tests: Vec<Expr>,
-    /// The fields of a fact that have to be equal to variables, by which partial matches and facts find each other.
-    pub fields: Vec<JoinField>,
-    /// How it is joined without a test of the pattern, where that is decided by values.
-    pub by_values: Option<ByValues>,
 }
 
 /// Joins a partial match of a list with each of these facts. Where the pattern is joined by values, they meet it by those.
@@ -293,6 +293,22 @@ fn hold_after<T>(
     if tests.is_empty() {
         return Ok(true);
     }
+    hold_of(lists, from, asked, tests, number, index, given)
+}
+
+/// The same. It is apart so that the usual case, in which there are no tests, stays short.
+fn hold_of<T>(
+    lists: &TokenLists<'_>,
+    from: usize,
+    asked: &Joining<T>,
+    tests: &[Expr],
+    number: u32,
+    index: u64,
+    given: &Given,
+) -> Result<bool, NoMemory>
+    ensures { IfOk result (λ holds. holds ≡ all_hold (map term_of tests.now) (grown asked.now.address index
+        (partial_at lists.now.sources.now lists.now.lists.now from number) given.now)) }
+{
     let after = Grown {
         before: lists.reading(from, number),
         address: &asked.address,

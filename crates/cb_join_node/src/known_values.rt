@@ -9,7 +9,7 @@ use cb_exprs::Lookup;
 use cb_facts::{Fact, Value};
 use cb_fit::ComparedField;
 use cb_forms::NoMemory;
-use cb_scopes::compare_all;
+use cb_scopes::{compare_all, compare_both};
 use smallvec::SmallVec;
 use std::alloc::Global;
 
@@ -81,8 +81,8 @@ fn compare_with(field: &ComparedField, value: &Option<Value>, fact: &Fact) -> Re
     let Some(other) = value else {
         return Ok(false);
     };
-    match field.place.value_in(fact)? {
-        Some(own) => Ok(field.comparison.holds(&own, other)),
+    match field.place.field_in(fact) {
+        Some(own) => compare_both(field.comparison, own, other),
         None => Ok(false),
     }
 }

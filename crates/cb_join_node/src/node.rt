@@ -1,7 +1,7 @@
 //! A change of a join node.
 ghost use Rattle.std.specs.Prelude.{◌≡◌, ◌≢◌, ◌≤◌, ◌+◌, ◌*◌, ◌⊎◌, ℕ, [], IfOk, List, None, OnOk, Option, Some, length, slice_get, true};
 ghost use Rattle.cb_alpha.specs.AlphaMemories.{live};
-ghost use Rattle.cb_alpha.specs.Turning.{came_in};
+ghost use Rattle.cb_alpha.specs.Turning.{IsApart, came_in};
 ghost use Rattle.cb_beta.specs.BetaMemories.{BetaMemoryValue};
 ghost use Rattle.cb_facts.specs.FactLists.{IndexedFacts};
 ghost use Rattle.cb_facts.specs.Facts.{FactValue};
@@ -35,8 +35,6 @@ use std::alloc::Global;
 /// A pattern joined with the partial matches of the list before it.
 #[derive(Drop)]
 pub struct JoinNode<T> {
-    /// What is asked of a fact.
-    pub asked: Joining<T>,
     /// The number of the list before it.
     pub from: usize,
     /// The number of the join of the pattern's alpha memory that finds facts by the fields, where there are some.
@@ -45,6 +43,8 @@ pub struct JoinNode<T> {
     pub(crate) partials: Partials,
     /// The partial matches that have not all of these values, as one group, and all where no value is asked.
     pub(crate) strays: Groups,
+    /// What is asked of a fact.
+    pub asked: Joining<T>,
     alloc: Global,
 }
 
@@ -113,6 +113,7 @@ impl<T> JoinNode<T> {
         join_fact(
             lists,
             self.from,
+            self.join,
             &self.asked,
             &self.partials,
             &self.strays,
@@ -161,6 +162,7 @@ fn is_untouched(before: &BetaMemory, alpha: &AlphaMemory) -> bool
 fn join_fact<T>(
     lists: &TokenLists<'_>,
     from: usize,
+    join: usize,
     asked: &Joining<T>,
     partials: &Partials,
     strays: &Groups,
@@ -169,6 +171,7 @@ fn join_fact<T>(
     meter: &mut Meter<T>,
 ) -> Result<(), NoMemory>
     ensures come { OnOk result ((before : BetaMemoryValue)
+        → FindsFacts alpha.now join asked.now.fields.items → IsApart alpha.now
         → ArePartialsFiled asked.now.fields.items partials.now strays.now
         (partial_at lists.now.sources.now lists.now.lists.now from) (Stays before)
         → AreJoinFields asked.now.fields.items asked.now.address asked.now.pattern
@@ -177,6 +180,7 @@ fn join_fact<T>(
         → Comes own.old own.new (Joins asked.now.address asked.now.pattern (tests_of asked.now)
         (partial_at lists.now.sources.now lists.now.lists.now from) (Stays before) (came_in alpha.now))) }
     ensures probes { OnOk result ((before : BetaMemoryValue) (kept : ℕ)
+        → FindsFacts alpha.now join asked.now.fields.items → IsApart alpha.now
         → ArePartialsFiled asked.now.fields.items partials.now strays.now
         (partial_at lists.now.sources.now lists.now.lists.now from) (Stays before)
         → AreAtMost (Stays before) kept → meter.new ≤ meter.old + kept) }
@@ -190,7 +194,8 @@ fn join_fact<T>(
     let Some(one) = alpha.candidate(number) else {
         return Ok(());
     };
-    let beside = partials_beside(lists.alloc, asked.fields.as_slice(), partials, &one.fact)?;
+    let fields = asked.fields.as_slice();
+    let beside = partials_beside(lists.alloc, fields, partials, alpha, join, number);
     join_partials(lists, from, asked, beside, number, one, own, meter)?;
     join_partials(
         lists,

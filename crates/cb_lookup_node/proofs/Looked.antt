@@ -4,12 +4,12 @@ use Rattle.std.proofs.lemmas.Bool.{cases_eq, eqb-true}
 use Rattle.cb_alpha.proofs.ReadFacts.{is_its_number, live_read, not_both, number_is, read_live, read_were, same_some, were_read}
 use Rattle.cb_alpha.specs.AlphaMemories.{AlphaMemoryValue, AreFactsWith, AreSameFields, candidate_in, live, values_in}
 use Rattle.cb_alpha.specs.Buckets.{AreWithValues, Filing}
-use Rattle.cb_alpha.specs.Turning.{HasJoin, is_number, were_in}
+use Rattle.cb_alpha.specs.Turning.{HasJoin, IsApart, is_number, were_in}
 use Rattle.cb_beta.proofs.Members.{apart_of, contains_in, in_contains}
 use Rattle.cb_facts.specs.declared.value.Value.{Value}
 use Rattle.cb_fit.specs.declared.join_fields.JoinField.{JoinField}
 use Rattle.cb_lookup_node.proofs.Seen.{has_fact}
-use Rattle.cb_lookup_node.specs.Internal.{IsApart, IsFiledBy, IsGained, IsLost, values_under}
+use Rattle.cb_lookup_node.specs.Internal.{IsFiledBy, IsGained, IsLost, values_under}
 use Rattle.cb_lookup_node.specs.LookupNodes.{HasOne}
 use Rattle.cb_matches.proofs.Growth.{Fact}
 use Rattle.cb_matches.proofs.Lists.{by_test}

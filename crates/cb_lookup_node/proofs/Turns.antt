@@ -2,13 +2,13 @@
 use Rattle.std.proofs.Common.{◌≡◌, ◌∙◌, ◌⊎◌, ℕ, List, Option, Some, None, Result, Ok, Err, IfOk, ap, inl, inr, length, subst, sym}
 use Rattle.cb_alpha.proofs.ReadFacts.{is_its_number, not_both, same_some, were_read}
 use Rattle.cb_alpha.specs.AlphaMemories.{AlphaMemoryValue, live, values_in}
-use Rattle.cb_alpha.specs.Turning.{is_number, were_in}
+use Rattle.cb_alpha.specs.Turning.{IsApart, is_number, were_in}
 use Rattle.cb_facts.specs.declared.value.Value.{Value}
 use Rattle.cb_fit.specs.declared.comparison.Comparison.{Comparison}
 use Rattle.cb_fit.specs.declared.join_fields.JoinField.{JoinField}
 use Rattle.cb_lookup_node.proofs.Looked.{come_live, come_under, gone_was, live_was, under, was_live}
 use Rattle.cb_lookup_node.proofs.Seen.{as_many_fields, has_fact}
-use Rattle.cb_lookup_node.specs.Internal.{IsApart, IsGained, IsLost, values_under}
+use Rattle.cb_lookup_node.specs.Internal.{IsGained, IsLost, values_under}
 use Rattle.cb_lookup_node.specs.LookupNodes.{AreInOrder, HasSeen}
 use Rattle.cb_lookup_node.specs.Order.{IsSeenAlone}
 

@@ -4,7 +4,7 @@ use Rattle.std.specs.Option.{option_and_then}
 use Rattle.cb_alpha.specs.AlphaMemories.{AlphaMemoryValue, AreFactsWith, candidate_in, live, values_in}
 use Rattle.cb_alpha.specs.Buckets.{Filing, values_at}
 use Rattle.cb_alpha.specs.JoinValues.{variable_values}
-use Rattle.cb_alpha.specs.Turning.{HasJoin, were_in}
+use Rattle.cb_alpha.specs.Turning.{HasJoin, IsApart, were_in}
 use Rattle.cb_beta.specs.BetaMemories.{BetaMemoryValue, Loses}
 use Rattle.cb_beta.specs.Tokens.{TokenValue}
 use Rattle.cb_facts.specs.Facts.{FactValue}
@@ -25,10 +25,6 @@ use Rattle.cb_token_lists.specs.Turns.{IsThere, WasThere}
 -- the values of these fields in the fact of a number, if one is given, there is such a fact, and it has them all
 abbrev pub values_under : List JoinField → AlphaMemoryValue → Option ℕ → Option (List Value)
 values_under fields alpha number = option_and_then (λ n. values_in fields (candidate_in alpha.candidates n)) number
-
--- the fact that came isn't the one that went
-abbrev pub IsApart : AlphaMemoryValue → Type 0
-IsApart alpha = (n : ℕ) → alpha.come ≡ Some n → alpha.gone ≡ Some n → ⊥
 
 -- there was a fact that is seen by these values and there is none
 abbrev pub IsLost : Option Comparison → List JoinField → AlphaMemoryValue → List Value → Type 0

@@ -47,7 +47,7 @@ impl ByWitness {
         let compared = self.compared.as_slice();
         self.kept.forget(before.gone());
         let lost = self.kept.lose(lists, from, fields, compared, alpha, join)?;
-        let gained = self.kept.gain(lists, from, fields, compared, alpha)?;
+        let gained = self.kept.gain(lists, from, compared, alpha, join)?;
         pass_turned(positive, lost.as_slice(), gained.as_slice(), own)?;
         let come = before.come();
         let passed = self

@@ -27,14 +27,10 @@ use std::alloc::Global;
 /// they give to the fields" is `positive`.
 #[derive(Drop)]
 pub struct LookupNode<T> {
-    /// Where memory is from.
-    pub(crate) alloc: Global,
     /// The number of the list before it.
     pub from: usize,
     /// Whether it passes on where there is a fact, or where there is none.
     pub positive: bool,
-    /// The pattern.
-    pub pattern: Pattern<T>,
     /// The number of the join of the pattern's alpha memory that finds facts by the fields.
     pub join: usize,
     /// The fields of a fact by which facts are found: those that have to be equal to variables that have values before, and behind them
@@ -43,6 +39,10 @@ pub struct LookupNode<T> {
     /// How it is known for which of the partial matches before it there is a fact, in a block of its own, so that other nodes have no
     /// place for it.
     pub(crate) sight: Box<Sight>,
+    /// The pattern.
+    pub pattern: Pattern<T>,
+    /// Where memory is from.
+    pub(crate) alloc: Global,
 }
 
 impl<T> LookupNode<T> {

@@ -2,11 +2,11 @@
 ghost use Rattle.std.specs.Prelude.{◌≡◌, ◌≢◌, ◌↔◌, ℕ, IfOk, List, None, OnOk, Option, Some, if◌then◌else◌, length, true};
 ghost use Rattle.std.specs.Bool.{Decides};
 ghost use Rattle.cb_alpha.specs.AlphaMemories.{live};
-ghost use Rattle.cb_alpha.specs.Turning.{HasJoin};
+ghost use Rattle.cb_alpha.specs.Turning.{HasJoin, IsApart};
 ghost use Rattle.cb_beta.specs.BetaMemories.{BetaMemoryValue, Loses};
 ghost use Rattle.cb_facts.specs.declared.value.Value.{Value as Joined};
 ghost use Rattle.cb_fit.specs.declared.join_fields.JoinField.{JoinField as Field};
-ghost use Rattle.cb_lookup_node.specs.Internal.{AreOf, Asks, HasTurned, IsApart, IsFiledBy, IsGained, IsLost, IsSeenBy, is_ordered, values_under};
+ghost use Rattle.cb_lookup_node.specs.Internal.{AreOf, Asks, HasTurned, IsFiledBy, IsGained, IsLost, IsSeenBy, is_ordered, values_under};
 ghost use Rattle.cb_matches.specs.Chains.{Chain, In};
 ghost use Rattle.cb_token_lists.specs.Growth.{Comes};
 ghost use Rattle.cb_token_lists.specs.Keeping.{KeepsTokens};

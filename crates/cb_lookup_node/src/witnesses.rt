@@ -3,7 +3,7 @@ ghost use Rattle.std.specs.Prelude.{◌≡◌, ◌≢◌, ◌↔◌, ◌∷◌, 
 ghost use Rattle.std.specs.Bool.{Decides};
 ghost use Rattle.cb_alpha.specs.AlphaMemories.{live};
 ghost use Rattle.cb_alpha.specs.Buckets.{values_at};
-ghost use Rattle.cb_alpha.specs.Turning.{HasJoin};
+ghost use Rattle.cb_alpha.specs.Turning.{HasJoin, IsApart};
 ghost use Rattle.cb_fit.specs.declared.join_fields.JoinField.{JoinField as Field};
 ghost use Rattle.cb_groups.specs.Groups.{group_of};
 ghost use Rattle.cb_lookup_node.specs.Internal.{AreReplaced, GiveValuesOfGone, HasGained, HasItsFacts, HasLost, HasWitness, IsOut, IsPlaced};
@@ -93,11 +93,12 @@ impl Witnesses {
         &mut self,
         lists: &TokenLists<'_>,
         from: usize,
-        fields: &[JoinField],
         compared: &[ComparedField],
         alpha: &AlphaMemory,
+        join: usize,
     ) -> Result<Vec<u32>, NoMemory>
-        ensures { IfOk result (λ gained. HasGained compared.now fields.now alpha.now
+        ensures { IfOk result (λ gained. (fields : List Field) → HasJoin alpha.now join fields → IsApart alpha.now
+            → HasGained compared.now fields alpha.now
             (partial_at lists.now.sources.now lists.now.lists.now from) self.old self.new gained.items) }
     {
         let came = alpha.come();
@@ -107,11 +108,10 @@ impl Witnesses {
         if self.unseen.is_empty() {
             return Ok(Vec::new(lists.alloc));
         }
-        let found = values_of_number(lists.alloc, fields, alpha, Some(come))?;
-        let Some(values) = found else {
+        let Some(values) = alpha.values_of(join, come) else {
             return Ok(Vec::new(lists.alloc));
         };
-        let alike = self.unseen.members_with(&values);
+        let alike = self.unseen.members_with(values);
         let gained = seeing(lists, from, compared, alpha, come, alike)?;
         self.give(come, gained.as_slice())?;
         Ok(gained)

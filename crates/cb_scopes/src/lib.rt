@@ -7,4 +7,4 @@
 mod compared; // fields of a fact that are compared with variables
 pub mod laws; // laws of scopes
 
-pub use compared::compare_all;
+pub use compared::{compare_all, compare_both};

@@ -187,7 +187,7 @@ fn is_one_value(values: &[Value]) -> bool
 fn fill(alloc: Global, slots: &[Slot], given: &GivenSlots) -> Result<Vec<(Name, Value)>, Refused>
     ensures { Settles (λ content. content.items) result (filled slots.now given.now) }
 {
-    let mut content = Vec::new(alloc);
+    let mut content = Vec::with_capacity(alloc, slots.len())?;
     for slot in slots {
         let value = value_or_default(alloc, slot, given)?;
         content.push((slot.name().clone()?, value))?;

@@ -87,6 +87,7 @@ impl GivenSlots {
         ensures { IfOk result (λ given. given ≡ slots.items) }
     {
         let mut given = GivenSlots::new(alloc);
+        given.slots.reserve_exact(slots.len())?;
         for slot in slots {
             given.push(slot)?;
         }

@@ -57,12 +57,15 @@ impl Lookup for Grown<'_, '_> {
     fn variable(&self, name: &Name) -> Result<Option<Value>, NoMemory> {
         if self.before.list == 0 && self.given.is_none() {
             // nothing stands before the first pattern
-            return Ok(given_by_address(self.address, self.index, name));
+            return match given_by_address(self.address, self.index, name) {
+                Some(giver) => Ok(Some(giver.to_value()?)),
+                None => Ok(None),
+            };
         }
         let before = self.before;
         let name = Sought::new(name);
-        match given_with(self.given, self.address, self.index, &name)? {
-            Some(value) => Ok(Some(value)),
+        match given_with(self.given, self.address, self.index, &name) {
+            Some(giver) => Ok(Some(giver.to_value()?)),
             None => before.lists.value(before.list, before.number, &name),
         }
     }

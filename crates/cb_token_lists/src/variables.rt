@@ -30,8 +30,8 @@ impl<'a> TokenLists<'a> {
                 return Ok(None);
             };
             if may_be_given(source, token, name) {
-                if let Some(value) = given_by_token(source, token, name)? {
-                    return Ok(Some(value));
+                if let Some(giver) = given_by_token(source, token, name) {
+                    return Ok(Some(giver.to_value()?));
                 }
             }
             reached = source.from as usize;

@@ -52,7 +52,7 @@ returns-clause-after g c =
     let partials₂ : ArePartialsFiled js b₂ s₂ at (λ n. Stays m n ⊎ In n m.come) = subst (λ (it : List ℕ). ArePartialsFiled js b₂ s₂ at (λ n. Stays m n ⊎ In n it)) c.come.ensures (filed m partials₁) in
     let shape = are_selected node.asked.pattern alpha fs fs' b.facts in
     let known = subst (λ (it : List ℕ). (n : ℕ) → In n it → KnowsValues node.asked (at n)) (sym c.come.ensures) (came_known node at m old new b.turns b.by_values) in
-    let first : Comes own₁ own₂ (AreJoined node.asked at (Stays m) (came_in alpha)) = c.in_ok-join_fact.ensures.come m partials₁ b.ready.fields (stays_known node at m old new b.turns b.by_values) shape in
+    let first : Comes own₁ own₂ (AreJoined node.asked at (Stays m) (came_in alpha)) = c.in_ok-join_fact.ensures.come m b.has_join b.facts.apart partials₁ b.ready.fields (stays_known node at m old new b.turns b.by_values) shape in
     let once = subst (Chain (λ (i : ℕ) (j : ℕ). i ≡ j → ⊥)) (sym c.come.ensures) b.turns.come_once in
     let second : Comes own₂ own (AreJoined node.asked at (λ n. In n m.come) (live alpha)) =
     subst (λ (it : List ℕ). Comes own₂ own (AreJoined node.asked at (λ n. In n it) (live alpha))) c.come.ensures (come once b.has_join b.ready.fields known shape) in
@@ -87,7 +87,7 @@ returns-clause-keeps g c =
     let partials₁ : ArePartialsFiled js b₁ s₁ at (Stays m) = subst (λ (it : List ℕ). ArePartialsFiled js b₁ s₁ at (λ n. WasThere m n × (In n it → ⊥))) c.gone-3.ensures left in
     let shape = are_selected node.asked.pattern alpha fs fs' b.facts in
     let known = subst (λ (it : List ℕ). (n : ℕ) → In n it → KnowsValues node.asked (at n)) (sym c.come.ensures) (came_known node at m old new b.turns b.by_values) in
-    let first : Comes own₁ own₂ (AreJoined node.asked at (Stays m) (came_in alpha)) = c.in_ok-join_fact.ensures.come m partials₁ b.ready.fields (stays_known node at m old new b.turns b.by_values) shape in
+    let first : Comes own₁ own₂ (AreJoined node.asked at (Stays m) (came_in alpha)) = c.in_ok-join_fact.ensures.come m b.has_join b.facts.apart partials₁ b.ready.fields (stays_known node at m old new b.turns b.by_values) shape in
     let once = subst (Chain (λ (i : ℕ) (j : ℕ). i ≡ j → ⊥)) (sym c.come.ensures) b.turns.come_once in
     let second : Comes own₂ own (AreJoined node.asked at (λ n. In n m.come) (live alpha)) =
     subst (λ (it : List ℕ). Comes own₂ own (AreJoined node.asked at (λ n. In n it) (live alpha))) c.come.ensures (come once b.has_join b.ready.fields known shape) in
@@ -118,7 +118,7 @@ returns-clause-probes g c =
     let t = c.args.meter.now in
     let t₁ = c.join_fact.new.meter in
     let first : t₁ ≤ t + kept_probes p (added_fact alpha) kept =
-    added_bound p alpha fs fs' b.facts kept t t₁ (c.in_ok-join_fact.ensures.probes m kept partials₁ (kept_at_most at m old new b.turns)) c.in_ok-join_fact.ensures.untested in
+    added_bound p alpha fs fs' b.facts kept t t₁ (c.in_ok-join_fact.ensures.probes m kept b.has_join b.facts.apart partials₁ (kept_at_most at m old new b.turns)) c.in_ok-join_fact.ensures.untested in
     let most = length (filter (is_candidate p) fs') in
     let second = tested most b.has_join (facts_at_most p alpha fs fs' b.facts) in
     let come : length c.come.result.now ≤ length (partials_come old new) =

@@ -43,7 +43,7 @@ returns-clause-changed c =
     let out : AreReplaced me.kept w₁ m.gone IsOut = subst (λ (it : List ℕ). AreReplaced me.kept w₁ it IsOut) c.gone.ensures c.forget.ensures in
     let kept₁ : HaveWitnesses cs js w₁ at (Stays m) (were_in alpha) = witnesses_but cs js at (WasThere m) (were_in alpha) me.kept w₁ m.gone out b.kept in
     let left : HasLost cs js alpha at w₁ w₂ lost = subst (λ (it : List ComparedField). HasLost it js alpha at w₁ w₂ lost) cs_are (c.in_ok-lost.ensures b.has_join (gave_values cs js alpha at (Stays m) w₁ kept₁)) in
-    let given : HasGained cs js alpha at w₂ w₃ gained = subst (λ (it : List ComparedField). HasGained it js alpha at w₂ w₃ gained) cs_are c.in_ok-gained.ensures in
+    let given : HasGained cs js alpha at w₂ w₃ gained = subst (λ (it : List ComparedField). HasGained it js alpha at w₂ w₃ gained) cs_are (c.in_ok-gained.ensures js b.has_join b.apart) in
     let placed : AreReplaced w₃ w₄ m.come (IsPlaced cs js (live alpha) at) =
     subst (λ (it : List ComparedField). AreReplaced w₃ w₄ m.come (IsPlaced it js (live alpha) at)) cs_are
     (subst (λ (it : List ℕ). AreReplaced w₃ w₄ it (IsPlaced c.as_slice-compared.result.now js (live alpha) at)) c.come-come.ensures (c.in_ok-passed.ensures.placed b.has_join)) in

@@ -1,9 +1,9 @@
-use Rattle.std.proofs.Common.{ℕ, List, map, subst}
+use Rattle.std.proofs.Common.{ℕ, List, subst}
 use Rattle.std.proofs.lemmas.Result.{on_ok_weaker}
 use Rattle.cb_branch_end.proofs.Pairs.{pairs_in_order}
 use Rattle.cb_branch_end.specs.Internal.{AddsPairs, key_at}
 use Rattle.cb_matches.specs.Keys.{KeyValue}
-use Rattle.cb_branch_end.proofs.branch_end.BranchEnd.add_keys.Goals as goal
+use Rattle.cb_branch_end.proofs.branch_end.BranchEnd.add_some_keys.Goals as goal
 
 pub returns-in_ok-keys-in_default : goal.returns-in_ok-keys-in_default
 returns-in_ok-keys-in_default c =

@@ -3,7 +3,7 @@ use Rattle.cb_beta.proofs.Marking.{none_given}
 use Rattle.cb_beta.specs.GivenValues.{values_taken}
 use Rattle.cb_beta.specs.TakenFields.{TakenFieldsValue}
 use Rattle.cb_exprs.specs.Bindings.{no_bindings, value_at, with_variables}
-use Rattle.cb_beta.proofs.taken_fields.TakenFields.value.Goals as goal
+use Rattle.cb_beta.proofs.taken_fields.TakenFields.field.Goals as goal
 
 pub returns-then-not-is_marked : goal.returns-then-not-is_marked
 returns-then-not-is_marked c =

@@ -1,7 +1,7 @@
 use Rattle.std.proofs.Common.{◌≡◌, length}
 use Rattle.cb_beta.specs.GivenValues.{values_taken}
 use Rattle.cb_exprs.specs.Bindings.{no_bindings, value_at, with_variables}
-use Rattle.cb_beta.proofs.taken_fields.value_of_fields.Given as goal
+use Rattle.cb_beta.proofs.taken_fields.field_of.Given as goal
 
 abbrev pub invariant-loop-last : goal.invariant-loop-last
 invariant-loop-last l =
